@@ -1,0 +1,5 @@
+pub mod Points
+pub mod EachBelow
+pub mod Turns
+pub mod Neighbours
+pub mod Order

@@ -1,0 +1,4 @@
+pub mod Spot
+pub mod Grid
+pub mod Refusal
+pub mod Laws

@@ -1,0 +1,52 @@
+//! What is true of turns and neighbours at every point, and of the order of cells.
+//!
+//! Each law is the contract of a function that does nothing: the statement is over all points,
+//! so it is proved once and no call could test it. The tables that `Grid`'s functions answer
+//! from are what the laws speak of.
+
+ghost use Rattle.poly_grid.specs.Laws.{FirstTurnStays, TurnsCompose, TurnsAreUndone, TurnsDiffer, RotationsArePowers, ReflectionsFollow, NeighboursAreMutual, TurnsKeepNeighbours, CellsGoByRow};
+
+/// Turn 0 leaves each point where it is.
+pub fn first_turn_stays()
+    ensures { FirstTurnStays }
+{}
+
+/// One turn after another is again a turn, and one rotation after another a rotation.
+pub fn turns_compose()
+    ensures { TurnsCompose }
+{}
+
+/// Each turn is undone by a turn, and each rotation by a rotation.
+pub fn turns_are_undone()
+    ensures { TurnsAreUndone }
+{}
+
+/// No two turns of a grid do the same to every point: the square grid has eight, the hexagonal one twelve.
+pub fn turns_differ()
+    ensures { TurnsDiffer }
+{}
+
+/// The rotations are the powers of turn 1: by a quarter on the square grid, by a sixth on the hexagonal one.
+pub fn rotations_are_powers()
+    ensures { RotationsArePowers }
+{}
+
+/// The reflections are the first reflection followed by each rotation in turn.
+pub fn reflections_follow()
+    ensures { ReflectionsFollow }
+{}
+
+/// A point is a neighbour of each of its neighbours.
+pub fn neighbours_are_mutual()
+    ensures { NeighboursAreMutual }
+{}
+
+/// Each turn carries neighbours to neighbours, and points that are none to points that are none.
+pub fn turns_keep_neighbours()
+    ensures { TurnsKeepNeighbours }
+{}
+
+/// Cells are ordered by row, then by column, and no two different cells tie.
+pub fn cells_go_by_row()
+    ensures { CellsGoByRow }
+{}

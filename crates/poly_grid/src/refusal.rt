@@ -1,0 +1,242 @@
+//! Why a call of any crate of the workbench was refused: one type, so that a refusal keeps its number
+//! and its name on the way from the layer that saw it to the line that is printed.
+
+ghost use Rattle.std.specs.Prelude.{◌≡◌};
+ghost use Rattle.poly_grid.specs.Refusal.{code_of, name_of};
+ghost use Rattle.poly_grid.specs.declared.refusal.Refusal.TheVariants.{Memory};
+
+use std::alloc::{AllocError, AllocFailed};
+use thiserror::Error;
+
+/// Why a call was refused. The text that a refusal is displayed as says its cause.
+#[derive(Clone, Copy, Debug, PartialEq, Eq, Error)]
+pub enum Refusal {
+    #[error("the puzzle line is no JSON")]
+    BadJson,
+    #[error("a key is missing, unknown or of the wrong kind")]
+    BadField,
+    #[error("the format number is not known")]
+    BadFormat,
+    #[error("the grid's name is not known")]
+    BadGrid,
+    #[error("the board is too large or has another character")]
+    BadBoard,
+    #[error("not a name")]
+    BadName,
+    #[error("not a shape of this grid")]
+    BadShape,
+    #[error("a piece of that name is there")]
+    NameTaken,
+    #[error("no piece of that name")]
+    NoSuchPiece,
+    #[error("a coordinate outside 0 to 63")]
+    BadCell,
+    #[error("over 256 unblocked cells would stand")]
+    TooManyCells,
+    #[error("over 64 pieces would stand")]
+    TooManyPieces,
+    #[error("over 20,000 placements would stand")]
+    TooManyPlacements,
+    #[error("not a placement of the design")]
+    NotAPlacement,
+    #[error("the edit would change nothing")]
+    NoChange,
+    #[error("no undo step")]
+    NothingToUndo,
+    #[error("no redo step")]
+    NothingToRedo,
+    #[error("over 1,000,000 tilings would be listed")]
+    CatalogueFull,
+    #[error("the line is no command")]
+    BadCommand,
+    #[error("over 65,536 bytes")]
+    LineTooLong,
+    #[error("the turns are used up and a task is pending")]
+    Unfinished,
+    #[error("a growth was refused")]
+    Memory,
+    #[error("the task is not pending")]
+    Gone,
+    #[error("the report's tree does not hold for its task")]
+    DoesNotHold,
+    #[error("the report's tree is over a limit")]
+    TooLarge,
+    #[error("a counter would pass its last value")]
+    Spent,
+    #[error("seen {seen}, found {found}")]
+    Unsettled {
+        /// What the caller had seen, or handed in.
+        seen: u64,
+        /// What stands.
+        found: u64,
+    },
+    #[error("the change or its inverse has too many guards")]
+    TooWide,
+    #[error("{pending} tasks are pending")]
+    Busy {
+        /// How many tasks are pending, at least one.
+        pending: u64,
+    },
+}
+
+impl Refusal {
+    /// The number of the refusal, 1 to 29, in the order of the variants.
+    pub fn code(self) -> u8
+        ensures { result ≡ code_of self }
+    {
+        match self {
+            Refusal::BadJson => 1,
+            Refusal::BadField => 2,
+            Refusal::BadFormat => 3,
+            Refusal::BadGrid => 4,
+            Refusal::BadBoard => 5,
+            Refusal::BadName => 6,
+            Refusal::BadShape => 7,
+            Refusal::NameTaken => 8,
+            Refusal::NoSuchPiece => 9,
+            Refusal::BadCell => 10,
+            Refusal::TooManyCells => 11,
+            Refusal::TooManyPieces => 12,
+            Refusal::TooManyPlacements => 13,
+            Refusal::NotAPlacement => 14,
+            Refusal::NoChange => 15,
+            Refusal::NothingToUndo => 16,
+            Refusal::NothingToRedo => 17,
+            Refusal::CatalogueFull => 18,
+            Refusal::BadCommand => 19,
+            Refusal::LineTooLong => 20,
+            Refusal::Unfinished => 21,
+            Refusal::Memory => 22,
+            Refusal::Gone => 23,
+            Refusal::DoesNotHold => 24,
+            Refusal::TooLarge => 25,
+            Refusal::Spent => 26,
+            Refusal::Unsettled { .. } => 27,
+            Refusal::TooWide => 28,
+            Refusal::Busy { .. } => 29,
+        }
+    }
+
+    /// The name of the refusal, which is the variant's.
+    pub fn name(self) -> &'static str
+        ensures { result.now ≡ name_of self }
+    {
+        match self {
+            Refusal::BadJson => "BadJson",
+            Refusal::BadField => "BadField",
+            Refusal::BadFormat => "BadFormat",
+            Refusal::BadGrid => "BadGrid",
+            Refusal::BadBoard => "BadBoard",
+            Refusal::BadName => "BadName",
+            Refusal::BadShape => "BadShape",
+            Refusal::NameTaken => "NameTaken",
+            Refusal::NoSuchPiece => "NoSuchPiece",
+            Refusal::BadCell => "BadCell",
+            Refusal::TooManyCells => "TooManyCells",
+            Refusal::TooManyPieces => "TooManyPieces",
+            Refusal::TooManyPlacements => "TooManyPlacements",
+            Refusal::NotAPlacement => "NotAPlacement",
+            Refusal::NoChange => "NoChange",
+            Refusal::NothingToUndo => "NothingToUndo",
+            Refusal::NothingToRedo => "NothingToRedo",
+            Refusal::CatalogueFull => "CatalogueFull",
+            Refusal::BadCommand => "BadCommand",
+            Refusal::LineTooLong => "LineTooLong",
+            Refusal::Unfinished => "Unfinished",
+            Refusal::Memory => "Memory",
+            Refusal::Gone => "Gone",
+            Refusal::DoesNotHold => "DoesNotHold",
+            Refusal::TooLarge => "TooLarge",
+            Refusal::Spent => "Spent",
+            Refusal::Unsettled { .. } => "Unsettled",
+            Refusal::TooWide => "TooWide",
+            Refusal::Busy { .. } => "Busy",
+        }
+    }
+}
+
+/// Where a growth is refused, `?` answers `Refusal::Memory`.
+impl From<AllocError> for Refusal {
+    ghost from_gives = { λ _ e. e ≡ Memory };
+
+    fn from(_e: AllocError) -> Refusal {
+        Refusal::Memory
+    }
+}
+
+/// Where a growth is refused, `?` drops what was to be put in and answers `Refusal::Memory`.
+impl<T: Drop> From<AllocFailed<T>> for Refusal {
+    ghost from_gives = { λ _ e. e ≡ Memory };
+
+    fn from(_e: AllocFailed<T>) -> Refusal {
+        Refusal::Memory
+    }
+}
+
+#[cfg(test)]
+mod tests {
+    use super::*;
+    use std::test::Fail;
+
+    #[test]
+    fn each_has_its_number_and_name(rt: HostRuntime) {
+        for (refusal, code, name) in [
+            (Refusal::BadJson, 1, "BadJson"),
+            (Refusal::BadField, 2, "BadField"),
+            (Refusal::BadFormat, 3, "BadFormat"),
+            (Refusal::BadGrid, 4, "BadGrid"),
+            (Refusal::BadBoard, 5, "BadBoard"),
+            (Refusal::BadName, 6, "BadName"),
+            (Refusal::BadShape, 7, "BadShape"),
+            (Refusal::NameTaken, 8, "NameTaken"),
+            (Refusal::NoSuchPiece, 9, "NoSuchPiece"),
+            (Refusal::BadCell, 10, "BadCell"),
+            (Refusal::TooManyCells, 11, "TooManyCells"),
+            (Refusal::TooManyPieces, 12, "TooManyPieces"),
+            (Refusal::TooManyPlacements, 13, "TooManyPlacements"),
+            (Refusal::NotAPlacement, 14, "NotAPlacement"),
+            (Refusal::NoChange, 15, "NoChange"),
+            (Refusal::NothingToUndo, 16, "NothingToUndo"),
+            (Refusal::NothingToRedo, 17, "NothingToRedo"),
+            (Refusal::CatalogueFull, 18, "CatalogueFull"),
+            (Refusal::BadCommand, 19, "BadCommand"),
+            (Refusal::LineTooLong, 20, "LineTooLong"),
+            (Refusal::Unfinished, 21, "Unfinished"),
+            (Refusal::Memory, 22, "Memory"),
+            (Refusal::Gone, 23, "Gone"),
+            (Refusal::DoesNotHold, 24, "DoesNotHold"),
+            (Refusal::TooLarge, 25, "TooLarge"),
+            (Refusal::Spent, 26, "Spent"),
+            (Refusal::Unsettled { seen: 7, found: 5 }, 27, "Unsettled"),
+            (Refusal::TooWide, 28, "TooWide"),
+            (Refusal::Busy { pending: 3 }, 29, "Busy"),
+        ] {
+            assert_eq!(rt; refusal.code(), code);
+            assert_eq!(rt; refusal.name(), name);
+        }
+    }
+
+    #[test]
+    fn texts_say_the_cause(rt: HostRuntime) -> Result<(), Fail> {
+        let unsettled = Refusal::Unsettled { seen: 7, found: 5 };
+        let busy = Refusal::Busy { pending: 3 };
+        assert_eq!(rt;
+            format!(in rt.alloc(); "{unsettled}")?.as_str(),
+            "seen 7, found 5"
+        );
+        assert_eq!(rt;
+            format!(in rt.alloc(); "{busy}")?.as_str(),
+            "3 tasks are pending"
+        );
+        assert_eq!(rt;
+            format!(in rt.alloc(); "{}", Refusal::Memory)?.as_str(),
+            "a growth was refused"
+        );
+        Ok(())
+    }
+
+    #[test]
+    fn a_refused_growth_is_memory(rt: HostRuntime) {
+        assert_eq!(rt; Refusal::from(AllocError), Refusal::Memory);
+    }
+}
