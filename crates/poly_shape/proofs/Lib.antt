@@ -1,0 +1,14 @@
+pub mod Ascending
+pub mod Kept
+pub mod Taken
+pub mod Translated
+pub mod Choices
+pub mod Turns
+pub mod Corners
+pub mod Turned
+pub mod Flood
+pub mod Spread
+pub mod Moved
+pub mod Translates
+pub mod Orientations
+pub mod Orbits

@@ -1,0 +1,9 @@
+pub mod Order
+pub mod Cells
+pub mod Figure
+pub mod Shape
+pub mod Corner
+pub mod Connected
+pub mod Shapes
+pub mod Moves
+pub mod Laws

@@ -1,0 +1,14 @@
+//! Sets of cells, shapes and their orientations.
+//!
+//! A `Cells` is a small set of cells, in cell order. A `Shape` is such a set that is connected on its grid and stands at its
+//! normal place. The orientations of a shape are what the grid's turns make of it, each moved to its normal place.
+#![tactic(auto)]
+
+mod cells;
+mod connected;
+mod images;
+pub mod laws;
+mod shape;
+
+pub use cells::Cells;
+pub use shape::Shape;
