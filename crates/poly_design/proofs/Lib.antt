@@ -1,0 +1,11 @@
+pub mod Kept
+pub mod Sets
+pub mod Same
+pub mod Flags
+pub mod Shifts
+pub mod Rows
+pub mod PartsKept
+pub mod Entries
+pub mod Restored
+pub mod Puts
+pub mod Accepted

@@ -1,0 +1,58 @@
+use Rattle.std.proofs.Common.{◌≡◌, ◌∙◌, List, Some, inl, inr, refl, sym, ap, subst}
+use Rattle.std.specs.List.{Contains}
+use Rattle.std.specs.BTreeMap.{is_at}
+use Rattle.std.specs.Set.{remove_key}
+use Rattle.poly_grid.specs.Spot.{Spot}
+use Rattle.poly_shape.specs.Order.{cells_cmp, cells_total}
+use Rattle.poly_shape.proofs.Ascending.{same_cells}
+use mathlib.Core.Bool.{true≢false}
+use Rattle.poly_design.specs.declared.spec.Spec.{Spec}
+use Rattle.poly_design.specs.declared.edit.Edit.TheVariants as edit
+use Rattle.poly_design.specs.Layout.{Layout}
+use Rattle.poly_design.specs.Placements.{IsUnblocked, FewPlacements}
+use Rattle.poly_design.proofs.Entries.{remove_absent}
+use Rattle.poly_design.proofs.Accepted.{accept, few_here, is_idle, is_there, not_idle, refuse_many}
+use Rattle.poly_design.proofs.design.Design.check_allow.Goals as goal
+
+pub returns-then-not-contains-clause-why : goal.returns-then-not-contains-clause-why
+returns-then-not-contains-clause-why c =
+    let d : Layout = record { grid = c.self.inside.grid; cells = c.self.inside.cells.entries; pieces = c.self.inside.pieces.entries } in
+    let s = c.in-Some.spec.now in
+    let name = c.args.name in
+    let f : Spec → Spec = λ v. record v { forbidden = remove_key (is_at (cells_cmp c.args.cells)) v.forbidden } in
+    let found = sym c.in-Some.ensures.value in
+    let kept = remove_absent cells_total same_cells s.forbidden c.args.cells (λ h. true≢false (sym (c.if-not-contains.ensures.found.1 h))) in
+    rw (← c.self.view_is) (inr (inr (is_there d name s found, inl (refl, is_idle d name f s found (λ i. record s { forbidden = kept i })))))
+
+pub keeps_few-requires : goal.keeps_few-requires
+keeps_few-requires c = rw (← c.self.view_is) c.self.invariant.unblocked
+
+pub returns-in-Ok-clause-ok : goal.returns-in-Ok-clause-ok
+returns-in-Ok-clause-ok c =
+    let d : Layout = record { grid = c.self.inside.grid; cells = c.self.inside.cells.entries; pieces = c.self.inside.pieces.entries } in
+    let s = c.in-Some.spec.now in
+    let name = c.args.name in
+    let f : Spec → Spec = λ v. record v { forbidden = remove_key (is_at (cells_cmp c.args.cells)) v.forbidden } in
+    let found = sym c.in-Some.ensures.value in
+    let list : c.remove.new.self ≡ remove_key (is_at (cells_cmp c.args.cells)) s.forbidden = c.remove.ensures.list ∙ ap (λ (l : List (List Spot)). remove_key (is_at (cells_cmp c.args.cells)) l) c.in_ok-forbidden.ensures.ok in
+    let same : c.with_forbidden-after.result ≡ f s = c.with_forbidden-after.ensures ∙ (λ i. record s { forbidden = list i }) in
+    let gone : s ≡ f s → ⊥ = λ e.
+    let there : Contains c.remove.new.self c.args.cells = subst (λ (l : List (List Spot)). Contains l c.args.cells) (ap (λ (v : Spec). v.forbidden) e ∙ sym list) (c.if-not-contains.ensures.found.0 refl) in
+    ((c.remove.ensures.takes c.args.cells).0 there).1 refl in
+    let few = few_here d name (Some c.in_ok-before.before) f s _ found same (rw (← c.self.view_is) at c.in-Ok.ensures.ok) in
+    rw (← c.self.view_is) (accept d (edit.Allow name c.args.cells) name f s c.in_ok-before.before _ c.self.invariant found refl c.in_ok-before.ensures.ok same
+    (is_there d name s found, (not_idle d name f s found gone, (λ no. no few, tt))) refl few)
+
+pub returns-in-Err-clause-why : goal.returns-in-Err-clause-why
+returns-in-Err-clause-why c =
+    let d : Layout = record { grid = c.self.inside.grid; cells = c.self.inside.cells.entries; pieces = c.self.inside.pieces.entries } in
+    let s = c.in-Some.spec.now in
+    let name = c.args.name in
+    let f : Spec → Spec = λ v. record v { forbidden = remove_key (is_at (cells_cmp c.args.cells)) v.forbidden } in
+    let found = sym c.in-Some.ensures.value in
+    let list : c.remove.new.self ≡ remove_key (is_at (cells_cmp c.args.cells)) s.forbidden = c.remove.ensures.list ∙ ap (λ (l : List (List Spot)). remove_key (is_at (cells_cmp c.args.cells)) l) c.in_ok-forbidden.ensures.ok in
+    let same : c.with_forbidden-after.result ≡ f s = c.with_forbidden-after.ensures ∙ (λ i. record s { forbidden = list i }) in
+    let gone : s ≡ f s → ⊥ = λ e.
+    let there : Contains c.remove.new.self c.args.cells = subst (λ (l : List (List Spot)). Contains l c.args.cells) (ap (λ (v : Spec). v.forbidden) e ∙ sym list) (c.if-not-contains.ensures.found.0 refl) in
+    ((c.remove.ensures.takes c.args.cells).0 there).1 refl in
+    rw (← c.self.view_is) (refuse_many d name (Some c.in_ok-before.before) f s _ c.in-Err.refusal found gone same (rw (← c.self.view_is) at c.in-Err.ensures.why))

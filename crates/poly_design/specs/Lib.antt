@@ -1,0 +1,12 @@
+pub mod Name
+pub mod NameKept
+pub mod Bounds
+pub mod Listed
+pub mod PlacementOrder
+pub mod Layout
+pub mod Placements
+pub mod Limits
+pub mod Unblocked
+pub mod Moved
+pub mod Changes
+pub mod Edits

@@ -1,0 +1,30 @@
+-- What holds of every design.
+use Rattle.std.specs.Prelude.{◌≡◌, ◌≢◌, ℕ, ◌≤◌, List, length}
+use Rattle.std.specs.List.{Contains}
+use Rattle.std.specs.Map.{keys_of}
+use Rattle.poly_grid.specs.declared.grid.Grid.{Grid}
+use Rattle.poly_grid.specs.Spot.{Spot}
+use Rattle.poly_shape.specs.Order.{IsAscending, spot_cmp}
+use Rattle.poly_design.specs.Name.{name_cmp}
+use Rattle.poly_design.specs.declared.mode.Mode.{Mode}
+use Rattle.poly_design.specs.declared.mode.Mode.TheVariants.{Blocked}
+use Rattle.poly_design.specs.declared.spec.Spec.{Spec}
+use Rattle.poly_design.specs.Layout.{Layout}
+use Rattle.poly_design.specs.Placements.{FewPlacements}
+
+-- no entry says that its cell is blocked
+abbrev pub NoneBlocked : List (Spot × Mode) → Type 0
+NoneBlocked cells = (c : Spot) (m : Mode) → Contains cells (c, m) → m ≢ Blocked
+
+-- each shape is one of the grid
+abbrev pub AreOfGrid : Grid → List (List ℕ × Spec) → Type 0
+AreOfGrid grid pieces = (name : List ℕ) (spec : Spec) → Contains pieces (name, spec) → spec.shape.grid ≡ grid
+
+pub record IsDesign (d : Layout) : Type 0 where
+  pub cells_ascend : IsAscending spot_cmp (keys_of d.cells)
+  pub few_cells : length d.cells ≤ 256
+  pub unblocked : NoneBlocked d.cells
+  pub pieces_ascend : IsAscending name_cmp (keys_of d.pieces)
+  pub few_pieces : length d.pieces ≤ 64
+  pub of_grid : AreOfGrid d.grid d.pieces
+  pub few_placements : FewPlacements d

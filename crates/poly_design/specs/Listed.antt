@@ -1,0 +1,30 @@
+-- Sets as the ascending lists of their members.
+use Rattle.std.specs.Prelude.{◌≡◌, ◌↔◌, ◌⊎◌, ◌<◌, ◌≤◌, ℕ, List, length, slice_index_or}
+use Rattle.std.specs.declared.cmp.Ordering.{Ordering}
+use Rattle.std.specs.declared.cmp.Ordering.TheVariants.{Less, Greater}
+use Rattle.std.specs.List.{AllWithin, Contains}
+use Rattle.poly_shape.specs.Order.{IsAscending}
+
+-- the list has each x that P says, once, in ascending order
+pub record IsListOf {X : Type 0} (cmp : X → X → Ordering) (P : X → Type 0) (list : List X) : Type 0 where
+  pub ascending : IsAscending cmp list
+  pub exact : (x : X) → Contains list x ↔ P x
+
+-- the new list has what the old one has, and each x that P says
+abbrev pub AddsAll : {X : Type 0} → (X → Type 0) → List X → List X → Type 0
+AddsAll {X} P old new = (x : X) → Contains new x ↔ (Contains old x ⊎ P x)
+
+-- the new list has what the old one has, but not x
+abbrev pub TakesAway : {X : Type 0} → X → List X → List X → Type 0
+TakesAway {X} x old new = (y : X) → Contains new y ↔ (Contains old y × (¬ (x ≡ y)))
+
+-- the list has x at that place
+pub record HasAt {X : Type 0} (list : List X) (at : ℕ) (x : X) : Type 0 where
+  pub within : at < length list
+  pub is : (d : X) → slice_index_or list at d ≡ x
+
+-- what stands before that place is below x, and what stands from there on is above it
+pub record IsGapFor {X : Type 0} (cmp : X → X → Ordering) (x : X) (list : List X) (at : ℕ) : Type 0 where
+  pub within : at ≤ length list
+  pub below : AllWithin (λ y. cmp y x ≡ Less) list 0 at
+  pub above : AllWithin (λ y. cmp y x ≡ Greater) list at (length list)

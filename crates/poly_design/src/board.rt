@@ -1,0 +1,93 @@
+//! The cells of a board that are not blocked, kept so that a test of a cell is one look.
+ghost use Rattle.std.specs.Prelude.{◌≡◌, ◌↔◌, ◌++◌, ◌∷◌, [], IsTrue, OnOk, IfOk, IfErr, replicate, false};
+ghost use Rattle.std.specs.BTreeMap.{keys};
+ghost use Rattle.poly_shape.specs.Order.{IsAscending, spot_cmp};
+ghost use Rattle.poly_design.specs.Moved.{LandsOn};
+
+use crate::mode::Mode;
+use poly_grid::{Cell, Refusal};
+use std::alloc::Global;
+use std::collections::BTreeMap;
+use std::marker::Model;
+
+const WIDTH: usize = 64;
+
+#[derive(Drop)]
+pub(crate) struct Board {
+    cells: Vec<Cell>,
+    flags: Vec<bool>,
+}
+
+impl Model for Board {
+    ghost use Rattle.std.specs.Prelude.{List};
+    ghost use Rattle.poly_grid.specs.Spot.{Spot};
+
+    ghost Value = { List Spot };
+
+    ghost use Rattle.poly_design.specs.Unblocked.{AreFlagsOf};
+
+    ghost view = { λ b. b.cells.items };
+
+    ghost invariant = { λ b. AreFlagsOf b.cells.items b.flags.items };
+}
+
+impl Board {
+    /// The cells that have an entry.
+    pub(crate) fn of(alloc: Global, modes: &BTreeMap<Cell, Mode>) -> Result<Board, Refusal>
+        ensures ok { IfOk result (λ board. board ≡ keys modes.now) }
+        ensures ascending { OnOk result (IsAscending spot_cmp (keys modes.now)) }
+        ensures why { IfErr result (λ e. e ≡ Refusal.Memory) }
+    {
+        let mut board = Board::empty(alloc)?;
+        for (cell, _) in modes {
+            board.add(*cell)?;
+        }
+        Ok(board)
+    }
+
+    fn empty(alloc: Global) -> Result<Board, Refusal>
+        ensures ok { IfOk result (λ board. board ≡ []) }
+        ensures why { IfErr result (λ e. e ≡ Refusal.Memory) }
+    {
+        let flags = lowered(alloc, WIDTH * WIDTH)?;
+        Ok(Board {
+            cells: Vec::new(alloc),
+            flags,
+        })
+    }
+
+    fn add(&mut self, cell: Cell) -> Result<(), Refusal>
+        ensures ok { OnOk result (self.new ≡ self.old ++ cell ∷ []) }
+        ensures why { IfErr result (λ e. e ≡ Refusal.Memory) }
+    {
+        let at = WIDTH * usize::from(cell.y()) + usize::from(cell.x());
+        self.cells.push(cell)?;
+        self.flags[at] = true;
+        Ok(())
+    }
+
+    pub(crate) fn cells(&self) -> &[Cell]
+        ensures { result.now ≡ self.now }
+    {
+        &self.cells
+    }
+
+    /// Whether the cell, moved right and down, is a cell of the board.
+    pub(crate) fn has_moved(&self, cell: Cell, right: u8, down: u8) -> bool
+        ensures { IsTrue result ↔ LandsOn self.now right down cell }
+    {
+        let x = usize::from(cell.x()) + usize::from(right);
+        let y = usize::from(cell.y()) + usize::from(down);
+        if x >= WIDTH || y >= WIDTH {
+            return false;
+        }
+        self.flags[WIDTH * y + x]
+    }
+}
+
+fn lowered(alloc: Global, len: usize) -> Result<Vec<bool>, Refusal>
+    ensures ok { IfOk result (λ flags. flags.items ≡ replicate len false) }
+    ensures why { IfErr result (λ e. e ≡ Refusal.Memory) }
+{
+    Ok(vec![in alloc; false; len]?)
+}

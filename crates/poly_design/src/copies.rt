@@ -1,0 +1,60 @@
+//! How often a tiling uses a piece.
+ghost use Rattle.std.specs.Prelude.{◌≡◌, ◌≤◌, SomeIff};
+
+use std::marker::Model;
+
+/// The least and the most copies of a piece: 0 to 16, and the least is at most the most.
+#[derive(Clone, Copy, Debug, PartialEq, Eq)]
+pub struct Copies {
+    least: u8,
+    most: u8,
+}
+
+impl Model for Copies {
+    ghost use Rattle.std.specs.Prelude.{◌≤◌};
+    ghost use Rattle.poly_design.specs.Bounds.{Bounds};
+
+    ghost Value = { Bounds };
+
+    ghost view = { λ c. record { least = c.least; most = c.most } };
+
+    ghost invariant = { λ c. (c.least ≤ c.most) × (c.most ≤ 16) };
+
+    ghost inverse = { λ b. record { least = b.least; most = b.most } };
+}
+
+impl Copies {
+    /// Exactly one copy.
+    pub const ONE: Copies = Copies { least: 1, most: 1 };
+
+    /// One copy or none.
+    pub const AT_MOST_ONE: Copies = Copies { least: 0, most: 1 };
+
+    /// The copies with these bounds, where the least is at most the most and neither is over 16.
+    pub fn new(least: u64, most: u64) -> Option<Copies>
+        ensures { SomeIff result ((least ≤ most) × (most ≤ 16)) (record { least = least; most = most }) }
+    {
+        if least <= most && most <= 16 {
+            Some(Copies {
+                least: least as u8,
+                most: most as u8,
+            })
+        } else {
+            None
+        }
+    }
+
+    pub fn least(self) -> u8
+        ensures value { result ≡ self.least }
+        ensures bounded { (self.least ≤ self.most) × (self.most ≤ 16) }
+    {
+        self.least
+    }
+
+    pub fn most(self) -> u8
+        ensures value { result ≡ self.most }
+        ensures bounded { (self.least ≤ self.most) × (self.most ≤ 16) }
+    {
+        self.most
+    }
+}

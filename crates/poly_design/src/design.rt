@@ -1,0 +1,202 @@
+//! The design: a board and named pieces, within limits that its type keeps.
+ghost use Rattle.std.specs.Prelude.{◌≡◌, ◌↔◌, ◌⊎◌, ◌≤◌, [], None, Err, IsOk, IfOk, IfErr, OnOk, OnErr, length};
+ghost use Rattle.std.specs.List.{Contains};
+ghost use Rattle.std.specs.Option.{option_copied};
+ghost use Rattle.std.specs.BTreeMap.{btree_map_len};
+ghost use Rattle.poly_design.specs.Layout.{mode_of, spec_of};
+ghost use Rattle.poly_design.specs.Listed.{IsListOf};
+ghost use Rattle.poly_design.specs.PlacementOrder.{placement_cmp};
+ghost use Rattle.poly_design.specs.Placements.{FewPlacements, IsPlacement};
+ghost use Rattle.poly_design.specs.Changes.{changed};
+ghost use Rattle.poly_design.specs.Limits.{AreOfGrid, IsDesign, NoneBlocked};
+
+mod check;
+
+use crate::change::Change;
+use crate::listing::{all_placements, placements_of, placements_on};
+use crate::mode::Mode;
+use crate::name::Name;
+use crate::parts::{copy_cells, copy_pieces, put_mode, put_spec};
+use crate::placement::Placement;
+use crate::spec::Spec;
+use poly_grid::{Cell, Grid, Refusal};
+use std::alloc::Global;
+use std::collections::BTreeMap;
+use std::marker::Model;
+
+/// A puzzle's design. It has at most 256 cells that are not blocked, 64 pieces and 20,000 placements, and all of its
+/// shapes are of its grid.
+#[derive(Drop)]
+pub struct Design {
+    alloc: Global,
+    grid: Grid,
+    cells: BTreeMap<Cell, Mode>,
+    pieces: BTreeMap<Name, Spec>,
+}
+
+impl Model for Design {
+    ghost use Rattle.poly_design.specs.Layout.{Layout};
+    ghost use Rattle.poly_design.specs.Limits.{IsDesign};
+
+    ghost Value = { Layout };
+
+    ghost view = { λ d. record { grid = d.grid; cells = d.cells.entries; pieces = d.pieces.entries } };
+
+    ghost invariant = { λ d. IsDesign (record { grid = d.grid; cells = d.cells.entries; pieces = d.pieces.entries }) };
+}
+
+impl Design {
+    /// The design without cells and pieces.
+    pub fn empty(alloc: Global, grid: Grid) -> Design
+        ensures { result ≡ record { grid = grid; cells = []; pieces = [] } }
+    {
+        Design {
+            alloc,
+            grid,
+            cells: BTreeMap::new(alloc),
+            pieces: BTreeMap::new(alloc),
+        }
+    }
+
+    /// The design of these parts.
+    ///
+    /// Refused with `TooManyPlacements` where it would have over 20,000 placements, and else only with `Memory`.
+    pub fn of_parts(
+        alloc: Global,
+        grid: Grid,
+        cells: BTreeMap<Cell, Mode>,
+        pieces: BTreeMap<Name, Spec>,
+    ) -> Result<Design, Refusal>
+        requires few_cells { btree_map_len cells ≤ 256 }
+        requires unblocked { NoneBlocked cells.entries }
+        requires few_pieces { btree_map_len pieces ≤ 64 }
+        requires of_grid { AreOfGrid grid pieces.entries }
+        ensures ok { IfOk result (λ d. d ≡ record { grid = grid; cells = cells.entries; pieces = pieces.entries }) }
+        ensures few { IsOk result → FewPlacements (record { grid = grid; cells = cells.entries; pieces = pieces.entries }) }
+        ensures many { result ≡ Err Refusal.TooManyPlacements → ¬ FewPlacements (record { grid = grid; cells = cells.entries; pieces = pieces.entries }) }
+        ensures why { IfErr result (λ e. (e ≡ Refusal.TooManyPlacements) ⊎ (e ≡ Refusal.Memory)) }
+    {
+        match all_placements(alloc, &cells, &pieces) {
+            Ok(_) => Ok(Design {
+                alloc,
+                grid,
+                cells,
+                pieces,
+            }),
+            Err(refusal) => Err(refusal),
+        }
+    }
+
+    pub fn grid(&self) -> Grid
+        ensures value { result ≡ self.now.grid }
+        ensures design { IsDesign self.now }
+    {
+        self.grid
+    }
+
+    /// The cells that are not blocked, with their modes, in cell order.
+    pub fn cells(&self) -> &BTreeMap<Cell, Mode>
+        ensures value { result.now.entries ≡ self.now.cells }
+        ensures design { IsDesign self.now }
+    {
+        &self.cells
+    }
+
+    /// The pieces by name, in the order of the names.
+    pub fn pieces(&self) -> &BTreeMap<Name, Spec>
+        ensures value { result.now.entries ≡ self.now.pieces }
+        ensures design { IsDesign self.now }
+    {
+        &self.pieces
+    }
+
+    /// How many cells are not blocked.
+    pub fn cell_count(&self) -> usize
+        ensures value { result ≡ length self.now.cells }
+        ensures few { result ≤ 256 }
+    {
+        self.cells.len()
+    }
+
+    pub fn piece_count(&self) -> usize
+        ensures value { result ≡ length self.now.pieces }
+        ensures few { result ≤ 64 }
+    {
+        self.pieces.len()
+    }
+
+    pub fn mode(&self, cell: Cell) -> Mode
+        ensures { result ≡ mode_of self.now cell }
+    {
+        self.cells.get(&cell).copied().unwrap_or(Mode::Blocked)
+    }
+
+    /// The piece of that name.
+    pub fn spec(&self, name: Name) -> Option<&Spec>
+        ensures { option_copied result ≡ spec_of self.now name }
+    {
+        self.pieces.get(&name)
+    }
+
+    /// All placements, in ascending order. The only refusal is `Memory`.
+    pub fn places(&self) -> Result<Vec<Placement>, Refusal>
+        ensures ok { IfOk result (λ list. IsListOf placement_cmp (IsPlacement self.now) list.items) }
+        ensures few { IfOk result (λ list. length list.items ≤ 20000) }
+        ensures why { IfErr result (λ e. e ≡ Refusal.Memory) }
+    {
+        all_placements(self.alloc, &self.cells, &self.pieces)
+    }
+
+    /// The placements of the piece, in ascending order.
+    ///
+    /// Refused with `NoSuchPiece` where no piece has that name, and else only with `Memory`.
+    pub fn places_of(&self, name: Name) -> Result<Vec<Placement>, Refusal>
+        ensures ok { IfOk result (λ list. IsListOf placement_cmp (λ p. IsPlacement self.now p × (p.name ≡ name)) list.items) }
+        ensures unknown { (result ≡ Err Refusal.NoSuchPiece) ↔ (spec_of self.now name ≡ None) }
+        ensures why { IfErr result (λ e. (e ≡ Refusal.NoSuchPiece) ⊎ (e ≡ Refusal.Memory)) }
+    {
+        let Some(spec) = self.pieces.get(&name) else {
+            return Err(Refusal::NoSuchPiece);
+        };
+        placements_of(self.alloc, &self.cells, name, spec)
+    }
+
+    /// The placements that cover the cell, in ascending order. The only refusal is `Memory`.
+    pub fn places_on(&self, cell: Cell) -> Result<Vec<Placement>, Refusal>
+        ensures ok { IfOk result (λ list. IsListOf placement_cmp (λ p. IsPlacement self.now p × Contains p.cells cell) list.items) }
+        ensures why { IfErr result (λ e. e ≡ Refusal.Memory) }
+    {
+        placements_on(self.alloc, &self.cells, &self.pieces, cell)
+    }
+
+    /// Makes the change: its after side is put in, whatever stood there.
+    ///
+    /// The only refusal is `Memory`, and leaves the design as it was.
+    pub fn make(&mut self, change: &Change) -> Result<(), Refusal>
+        requires { IsDesign (changed self.old change.now) }
+        ensures ok { OnOk result (self.new ≡ changed self.old change.now) }
+        ensures err { OnErr result (self.new ≡ self.old) }
+        ensures why { IfErr result (λ e. e ≡ Refusal.Memory) }
+    {
+        match change {
+            Change::Cell { cell, after, .. } => put_mode(&mut self.cells, *cell, *after)?,
+            Change::Piece { name, after, .. } => put_spec(&mut self.pieces, *name, after)?,
+        }
+        Ok(())
+    }
+
+    /// An equal design. The only refusal is `Memory`.
+    pub fn copy(&self) -> Result<Design, Refusal>
+        ensures ok { IfOk result (λ design. design ≡ self.now) }
+        ensures why { IfErr result (λ e. e ≡ Refusal.Memory) }
+    {
+        let cells = copy_cells(self.alloc, &self.cells)?;
+        let pieces = copy_pieces(self.alloc, &self.pieces)?;
+        Ok(Design {
+            alloc: self.alloc,
+            grid: self.grid,
+            cells,
+            pieces,
+        })
+    }
+}

@@ -1,0 +1,371 @@
+//! Whether an edit is accepted, and the change that it asks for.
+ghost use Rattle.std.specs.Prelude.{◌≡◌, ◌≢◌, ◌≤◌, length, ◌⊎◌, ◌↔◌, None, Some, OnOk, IfOk, IfErr, IsTrue};
+ghost use Rattle.poly_design.specs.Limits.{IsDesign, NoneBlocked};
+ghost use Rattle.poly_design.specs.Changes.{changed, set_mode};
+ghost use Rattle.poly_design.specs.Placements.{FewPlacements, IsPlacement};
+ghost use Rattle.poly_design.specs.Edits.{IsAccepted, IsRefused};
+
+use super::Design;
+use crate::cells_set::CellsSet;
+use crate::change::Change;
+use crate::copies::Copies;
+use crate::edit::Edit;
+use crate::listing::are_few;
+use crate::mode::Mode;
+use crate::name::Name;
+use crate::need::Need;
+use crate::parts::{copy_cells, copy_pieces, put_mode, put_spec};
+use crate::placement::Placement;
+use crate::spec::Spec;
+use poly_grid::{Cell, Grid, Refusal};
+use poly_shape::{Cells, Shape};
+
+const MAX_CELLS: usize = 256;
+
+const MAX_PIECES: usize = 64;
+
+impl Design {
+    /// The change that the edit asks for; its before side is what the design holds.
+    ///
+    /// Refused in this order with `NameTaken`, `BadShape`, `TooManyPieces`, `TooManyPlacements` for a new piece; with
+    /// `NoSuchPiece` for another edit of a piece; with `NoChange` where the edit would change nothing; and last with
+    /// `TooManyCells`, `TooManyPlacements` or `NotAPlacement`. `Memory` may come in place of any of them.
+    pub fn check(&self, edit: &Edit) -> Result<Change, Refusal>
+        ensures ok { IfOk result (λ change. IsAccepted self.now edit.now change) }
+        ensures why { IfErr result (λ e. (e ≡ Refusal.Memory) ⊎ IsRefused self.now edit.now e) }
+    {
+        match *edit {
+            Edit::Add {
+                name,
+                shape,
+                need,
+                mirror,
+            } => self.check_add(name, shape, need, mirror),
+            Edit::Drop { name } => self.check_drop(name),
+            Edit::Need { name, need } => self.check_need(name, need),
+            Edit::Copies { name, copies } => self.check_copies(name, copies),
+            Edit::Mirror { name, mirror } => self.check_mirror(name, mirror),
+            Edit::Cell { cell, mode } => self.check_cell(cell, mode),
+            Edit::Pin { name, cells } => self.check_pin(name, cells),
+            Edit::Unpin { name } => self.check_unpin(name),
+            Edit::Forbid { name, cells } => self.check_forbid(name, cells),
+            Edit::Allow { name, cells } => self.check_allow(name, cells),
+        }
+    }
+
+    fn check_drop(&self, name: Name) -> Result<Change, Refusal>
+        ensures ok { IfOk result (λ change. IsAccepted self.now (Edit.Drop name) change) }
+        ensures why { IfErr result (λ e. (e ≡ Refusal.Memory) ⊎ IsRefused self.now (Edit.Drop name) e) }
+    {
+        let Some(spec) = self.pieces.get(&name) else {
+            return Err(Refusal::NoSuchPiece);
+        };
+        let before = spec.copy()?;
+        Ok(Change::Piece {
+            name,
+            before: Some(before),
+            after: None,
+        })
+    }
+
+    fn check_need(&self, name: Name, need: Need) -> Result<Change, Refusal>
+        ensures ok { IfOk result (λ change. IsAccepted self.now (Edit.Need name need) change) }
+        ensures why { IfErr result (λ e. (e ≡ Refusal.Memory) ⊎ IsRefused self.now (Edit.Need name need) e) }
+    {
+        self.check_copies(name, need.copies())
+    }
+
+    fn check_copies(&self, name: Name, copies: Copies) -> Result<Change, Refusal>
+        ensures ok { IfOk result (λ change. IsAccepted self.now (Edit.Copies name copies) change) }
+        ensures why { IfErr result (λ e. (e ≡ Refusal.Memory) ⊎ IsRefused self.now (Edit.Copies name copies) e) }
+    {
+        let Some(spec) = self.pieces.get(&name) else {
+            return Err(Refusal::NoSuchPiece);
+        };
+        if is_same(spec.copies, copies) {
+            return Err(Refusal::NoChange);
+        }
+        let before = spec.copy()?;
+        let mut after = spec.copy()?;
+        after.copies = copies;
+        Ok(Change::Piece {
+            name,
+            before: Some(before),
+            after: Some(after),
+        })
+    }
+
+    fn check_pin(&self, name: Name, cells: Cells) -> Result<Change, Refusal>
+        ensures ok { IfOk result (λ change. IsAccepted self.now (Edit.Pin name cells) change) }
+        ensures why { IfErr result (λ e. (e ≡ Refusal.Memory) ⊎ IsRefused self.now (Edit.Pin name cells) e) }
+    {
+        let Some(spec) = self.pieces.get(&name) else {
+            return Err(Refusal::NoSuchPiece);
+        };
+        if has_pin(spec, &cells) {
+            return Err(Refusal::NoChange);
+        }
+        if !self.is_placement(name, &cells)? {
+            return Err(Refusal::NotAPlacement);
+        }
+        let before = spec.copy()?;
+        let mut after = spec.copy()?;
+        after.pin = Some(cells);
+        Ok(Change::Piece {
+            name,
+            before: Some(before),
+            after: Some(after),
+        })
+    }
+
+    fn check_unpin(&self, name: Name) -> Result<Change, Refusal>
+        ensures ok { IfOk result (λ change. IsAccepted self.now (Edit.Unpin name) change) }
+        ensures why { IfErr result (λ e. (e ≡ Refusal.Memory) ⊎ IsRefused self.now (Edit.Unpin name) e) }
+    {
+        let Some(spec) = self.pieces.get(&name) else {
+            return Err(Refusal::NoSuchPiece);
+        };
+        if !is_pinned(spec) {
+            return Err(Refusal::NoChange);
+        }
+        let before = spec.copy()?;
+        let mut after = spec.copy()?;
+        after.pin = None;
+        Ok(Change::Piece {
+            name,
+            before: Some(before),
+            after: Some(after),
+        })
+    }
+
+    fn check_forbid(&self, name: Name, cells: Cells) -> Result<Change, Refusal>
+        ensures ok { IfOk result (λ change. IsAccepted self.now (Edit.Forbid name cells) change) }
+        ensures why { IfErr result (λ e. (e ≡ Refusal.Memory) ⊎ IsRefused self.now (Edit.Forbid name cells) e) }
+    {
+        let Some(spec) = self.pieces.get(&name) else {
+            return Err(Refusal::NoSuchPiece);
+        };
+        if spec.forbidden.contains(&cells) {
+            return Err(Refusal::NoChange);
+        }
+        if !self.is_placement(name, &cells)? {
+            return Err(Refusal::NotAPlacement);
+        }
+        let before = spec.copy()?;
+        let mut forbidden = spec.forbidden.copy()?;
+        forbidden.insert(cells)?;
+        let after = with_forbidden(spec, forbidden);
+        Ok(Change::Piece {
+            name,
+            before: Some(before),
+            after: Some(after),
+        })
+    }
+
+    fn check_allow(&self, name: Name, cells: Cells) -> Result<Change, Refusal>
+        ensures ok { IfOk result (λ change. IsAccepted self.now (Edit.Allow name cells) change) }
+        ensures why { IfErr result (λ e. (e ≡ Refusal.Memory) ⊎ IsRefused self.now (Edit.Allow name cells) e) }
+    {
+        let Some(spec) = self.pieces.get(&name) else {
+            return Err(Refusal::NoSuchPiece);
+        };
+        if !spec.forbidden.contains(&cells) {
+            return Err(Refusal::NoChange);
+        }
+        let before = spec.copy()?;
+        let mut forbidden = spec.forbidden.copy()?;
+        forbidden.remove(&cells);
+        let after = with_forbidden(spec, forbidden);
+        let change = Change::Piece {
+            name,
+            before: Some(before),
+            after: Some(after),
+        };
+        match self.keeps_few(&change) {
+            Ok(()) => Ok(change),
+            Err(refusal) => Err(refusal),
+        }
+    }
+
+    fn check_mirror(&self, name: Name, mirror: bool) -> Result<Change, Refusal>
+        ensures ok { IfOk result (λ change. IsAccepted self.now (Edit.Mirror name mirror) change) }
+        ensures why { IfErr result (λ e. (e ≡ Refusal.Memory) ⊎ IsRefused self.now (Edit.Mirror name mirror) e) }
+    {
+        let Some(spec) = self.pieces.get(&name) else {
+            return Err(Refusal::NoSuchPiece);
+        };
+        if has_mirror(spec, mirror) {
+            return Err(Refusal::NoChange);
+        }
+        let before = spec.copy()?;
+        let mut after = spec.copy()?;
+        after.mirror = mirror;
+        let change = Change::Piece {
+            name,
+            before: Some(before),
+            after: Some(after),
+        };
+        match self.keeps_few(&change) {
+            Ok(()) => Ok(change),
+            Err(refusal) => Err(refusal),
+        }
+    }
+
+    fn check_add(
+        &self,
+        name: Name,
+        shape: Shape,
+        need: Need,
+        mirror: bool,
+    ) -> Result<Change, Refusal>
+        ensures ok { IfOk result (λ change. IsAccepted self.now (Edit.Add name shape need mirror) change) }
+        ensures why { IfErr result (λ e. (e ≡ Refusal.Memory) ⊎ IsRefused self.now (Edit.Add name shape need mirror) e) }
+    {
+        if self.pieces.contains_key(&name) {
+            return Err(Refusal::NameTaken);
+        }
+        if !is_of(&shape, self.grid) {
+            return Err(Refusal::BadShape);
+        }
+        if self.pieces.len() >= MAX_PIECES {
+            return Err(Refusal::TooManyPieces);
+        }
+        let spec = Spec {
+            shape,
+            copies: need.copies(),
+            mirror,
+            pin: None,
+            forbidden: CellsSet::new(self.alloc),
+        };
+        let change = Change::Piece {
+            name,
+            before: None,
+            after: Some(spec),
+        };
+        match self.keeps_few(&change) {
+            Ok(()) => Ok(change),
+            Err(refusal) => Err(refusal),
+        }
+    }
+
+    fn check_cell(&self, cell: Cell, mode: Mode) -> Result<Change, Refusal>
+        ensures ok { IfOk result (λ change. IsAccepted self.now (Edit.Cell cell mode) change) }
+        ensures why { IfErr result (λ e. (e ≡ Refusal.Memory) ⊎ IsRefused self.now (Edit.Cell cell mode) e) }
+    {
+        let before = self.mode(cell);
+        if is_mode(before, mode) {
+            return Err(Refusal::NoChange);
+        }
+        if !self.has_room(cell, mode) {
+            return Err(Refusal::TooManyCells);
+        }
+        let change = Change::Cell {
+            cell,
+            before,
+            after: mode,
+        };
+        match self.keeps_few(&change) {
+            Ok(()) => Ok(change),
+            Err(refusal) => Err(refusal),
+        }
+    }
+
+    // Whether there is room for the cell, if it is not blocked.
+    fn has_room(&self, cell: Cell, mode: Mode) -> bool
+        ensures room { IsTrue result ↔ (length (set_mode self.now.cells cell mode) ≤ 256) }
+        ensures design { IsDesign self.now }
+    {
+        if self.cells.len() < MAX_CELLS {
+            return true;
+        }
+        if self.cells.contains_key(&cell) {
+            return true;
+        }
+        is_mode(mode, Mode::Blocked)
+    }
+
+    // Whether there are few enough placements after the change.
+    fn keeps_few(&self, change: &Change) -> Result<(), Refusal>
+        requires { NoneBlocked (changed self.now change.now).cells }
+        ensures ok { OnOk result (FewPlacements (changed self.now change.now)) }
+        ensures why { IfErr result (λ e. (e ≡ Refusal.Memory) ⊎ ((e ≡ Refusal.TooManyPlacements) × (¬ FewPlacements (changed self.now change.now)))) }
+    {
+        match change {
+            Change::Cell { cell, after, .. } => {
+                let mut cells = copy_cells(self.alloc, &self.cells)?;
+                put_mode(&mut cells, *cell, *after)?;
+                are_few(self.alloc, &cells, &self.pieces)
+            }
+            Change::Piece { name, after, .. } => {
+                let mut pieces = copy_pieces(self.alloc, &self.pieces)?;
+                put_spec(&mut pieces, *name, after)?;
+                are_few(self.alloc, &self.cells, &pieces)
+            }
+        }
+    }
+
+    fn is_placement(&self, name: Name, cells: &Cells) -> Result<bool, Refusal>
+        ensures ok { IfOk result (λ there. IsTrue there ↔ IsPlacement self.now (record { name = name; cells = cells.now })) }
+        ensures why { IfErr result (λ e. e ≡ Refusal.Memory) }
+    {
+        let list = self.places_on(cells.as_slice()[0])?;
+        Ok(list.contains(&Placement {
+            name,
+            cells: *cells,
+        }))
+    }
+}
+
+fn is_same(a: Copies, b: Copies) -> bool
+    ensures { IsTrue result ↔ (a ≡ b) }
+{
+    a.least() == b.least() && a.most() == b.most()
+}
+
+fn has_pin(spec: &Spec, cells: &Cells) -> bool
+    ensures { IsTrue result ↔ (spec.now.pin ≡ Some cells.now) }
+{
+    match spec.pin {
+        Some(pin) => pin == *cells,
+        None => false,
+    }
+}
+
+fn with_forbidden(spec: &Spec, forbidden: CellsSet) -> Spec
+    ensures { result ≡ record spec.now { forbidden = forbidden } }
+{
+    Spec {
+        shape: spec.shape,
+        copies: spec.copies,
+        mirror: spec.mirror,
+        pin: spec.pin,
+        forbidden,
+    }
+}
+
+fn is_of(shape: &Shape, grid: Grid) -> bool
+    ensures { IsTrue result ↔ (shape.now.grid ≡ grid) }
+{
+    shape.grid() == grid
+}
+
+fn is_mode(a: Mode, b: Mode) -> bool
+    ensures { IsTrue result ↔ (a ≡ b) }
+{
+    a == b
+}
+
+fn has_mirror(spec: &Spec, mirror: bool) -> bool
+    ensures { IsTrue result ↔ (spec.now.mirror ≡ mirror) }
+{
+    spec.mirror == mirror
+}
+
+fn is_pinned(spec: &Spec) -> bool
+    ensures { IsTrue result ↔ (spec.now.pin ≢ None) }
+{
+    match spec.pin {
+        Some(_) => true,
+        None => false,
+    }
+}

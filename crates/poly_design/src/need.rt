@@ -1,0 +1,24 @@
+//! Whether a piece has to be used.
+ghost use Rattle.std.specs.Prelude.{◌≡◌};
+ghost use Rattle.poly_design.specs.Edits.{copies_of};
+
+use crate::copies::Copies;
+
+/// Whether a tiling has to use a piece once, or may use it once.
+#[derive(Clone, Copy, Debug, PartialEq, Eq)]
+pub enum Need {
+    Required,
+    Optional,
+}
+
+impl Need {
+    /// One and one, or none and one.
+    pub fn copies(self) -> Copies
+        ensures { result ≡ copies_of self }
+    {
+        match self {
+            Need::Required => Copies::ONE,
+            Need::Optional => Copies::AT_MOST_ONE,
+        }
+    }
+}

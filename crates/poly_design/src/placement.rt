@@ -1,0 +1,11 @@
+//! Where a piece lies.
+
+use crate::name::Name;
+use poly_shape::Cells;
+
+/// A piece's name with the cells that the piece covers. Placements are ordered by name, then by cells.
+#[derive(Clone, Copy, Debug, PartialEq, Eq, PartialOrd, Ord, Hash)]
+pub struct Placement {
+    pub name: Name,
+    pub cells: Cells,
+}
