@@ -1,0 +1,40 @@
+-- Numbers that stand in the order of their placements stand once.
+use Rattle.std.proofs.Common.{Bool, List, None, Option, Some, [], ap, cond, eqb, false, refl, slice_get, subst, sym, true, ℕ, ◌∙◌, ◌∷◌, ◌≡◌}
+use Rattle.std.proofs.Common.{rules}
+use Rattle.std.proofs.lemmas.Bool.{and_from, and_parts, both_ways, ne_eqb}
+use Rattle.std.specs.List.{list_all}
+use Rattle.std.specs.Ordering.{is_lt, on, then_cmp}
+use Rattle.std.specs.Cmp.{IsTotalOrder, tied_itself}
+use Rattle.std.specs.Cmp.Rules.{comparing}
+use Rattle.poly_shape.specs.Order.{cells_total}
+use Rattle.poly_design.specs.declared.placement.Placement.{Placement}
+use Rattle.poly_tiling.specs.Lists.{distinct}
+use Rattle.poly_tiling.specs.Puzzle.{View}
+use Rattle.poly_tiling.specs.Names.{WellNamed, below, in_order, placed_below, placement_cmp}
+use Rattle.poly_tiling.proofs.Lists.{In, all_from, all_in}
+
+pub placement_total : IsTotalOrder placement_cmp
+placement_total = search (comparing, rules, cells_total)
+
+never_below : (o : Option Placement) → placed_below o o ≡ false
+never_below None = refl
+never_below (Some x) = ap is_lt (tied_itself placement_total x)
+
+below_other : (v : View) (p q : ℕ) → below v p q ≡ true → p ≡ q → ⊥
+below_other v p q h e = both_ways (placed_below (slice_get v.placements p) (slice_get v.placements p)) (never_below (slice_get v.placements p))
+    (subst (λ n. placed_below (slice_get v.placements p) (slice_get v.placements n) ≡ true) (sym e) h)
+
+pub in_order_once : (v : View) (ps : List ℕ) → in_order v ps ≡ true → distinct ps ≡ true
+in_order_once v [] h = refl
+in_order_once v (p ∷ ps) h =
+    let hs = and_parts (list_all (λ q. below v p q) ps) (in_order v ps) h in
+    and_from _ _
+    (all_from (λ y. cond (eqb p y) false true) ps (λ q i. ap (λ b. cond b false true) (ne_eqb p q (below_other v p q (all_in (λ q. below v p q) ps hs.0 q i)))))
+    (in_order_once v ps hs.1)
+
+-- each number of the design's stands once
+pub live_once : (v : View) → WellNamed v → distinct v.live ≡ true
+live_once v w = in_order_once v v.live w.live_up
+
+pub pins_once : (v : View) → WellNamed v → distinct v.pins ≡ true
+pins_once v w = in_order_once v v.pins w.pins_up

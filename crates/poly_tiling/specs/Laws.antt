@@ -1,0 +1,32 @@
+-- What is proved of tilings and their numbers.
+use Rattle.std.specs.Prelude.{List, true, ℕ, ◌↔◌, ◌≡◌}
+use Rattle.poly_shape.specs.Order.{HasSame}
+use Rattle.poly_design.specs.Layout.{Layout}
+use Rattle.poly_design.specs.declared.placement.Placement.{Placement}
+use Rattle.poly_tiling.specs.Lists.{ascending}
+use Rattle.poly_tiling.specs.Puzzle.{View, is_tiling}
+use Rattle.poly_tiling.specs.Names.{Grown, WellNamed}
+use Rattle.poly_tiling.specs.Tilings.{IsTiling}
+use Rattle.poly_tiling.specs.Shows.{Shows, given, names}
+
+-- Giving numbers out changes no tiling.
+abbrev pub NumbersMayGrow : Type 0
+NumbersMayGrow = (v w : View) (T : List ℕ) → WellNamed v → Grown v w → is_tiling w T ≡ is_tiling v T
+
+-- Where a view shows a design, an ascending list of given numbers is a tiling of the view exactly if the placements that
+-- it names are a tiling of the design.
+abbrev pub NumbersShow : Type 0
+NumbersShow = (v : View) (d : Layout) (T : List ℕ) → WellNamed v → Shows v d → ascending T ≡ true → given v T ≡ true →
+    (is_tiling v T ≡ true) ↔ IsTiling d (names v T)
+
+-- the only ascending list of given numbers that names just these placements
+pub record IsNumbered (v : View) (S : List Placement) (T : List ℕ) : Type 0 where
+  pub ascends : ascending T ≡ true
+  pub given_out : given v T ≡ true
+  pub same : HasSame (names v T) S
+  pub only : (U : List ℕ) → ascending U ≡ true → given v U ≡ true → HasSame (names v U) S → U ≡ T
+
+-- Each tiling of the design, as a set of placements, has exactly one ascending list of numbers.
+abbrev pub NumbersReach : Type 0
+NumbersReach = (v : View) (d : Layout) (S : List Placement) → WellNamed v → Shows v d → IsTiling d S →
+    (T : List ℕ) × (is_tiling v T ≡ true) × IsNumbered v S T

@@ -1,0 +1,45 @@
+-- The tilings of a view that are left once some numbers are chosen and others are ruled out.
+use Rattle.std.specs.List.{filter, list_all, list_any}
+use Rattle.std.specs.Prelude.{Bool, List, None, Option, Some, length, nat_le, not, true, ℕ, ◌&&◌, ◌+◌, ◌<◌, ◌||◌, ◌≡◌, ◌≤◌}
+use Rattle.poly_tiling.specs.declared.item.Item.{Item}
+use Rattle.poly_tiling.specs.Lists.{distinct, mem, one, same_list, tally}
+use Rattle.poly_tiling.specs.Puzzle.{View, clash, count, has_item, is_piece, is_tiling, items, most}
+
+-- the list has each tiling of the view once, and nothing else
+abbrev pub HasEachOnce : View → List (List ℕ) → Type 0
+HasEachOnce v list = (T : List ℕ) → tally (same_list T) list ≡ one (is_tiling v T)
+
+-- there are more than n tilings: a list of tilings, none of them twice, is longer
+pub record HasOver (n : ℕ) (v : View) : Type 0 where
+  pub list : List (List ℕ)
+  pub once : (T : List ℕ) → tally (same_list T) list ≤ one (is_tiling v T)
+  pub long : n < length list
+
+-- a tiling that has all the chosen numbers, and else only free ones
+unfoldable pub is_left : View → List ℕ → List ℕ → List ℕ → Bool
+is_left v chosen free T = is_tiling v T && list_all (λ p. mem T p) chosen && list_all (λ p. mem chosen p || mem free p) T
+
+-- the new list has all that the old one has, and each of the tilings that are left once more
+abbrev pub AddsLeft : View → List ℕ → List ℕ → List (List ℕ) → List (List ℕ) → Type 0
+AddsLeft v chosen free old new = (T : List ℕ) → tally (same_list T) new ≡ tally (same_list T) old + one (is_left v chosen free T)
+
+-- of the tilings that are left, the new list may lack some
+abbrev pub AddsAtMost : View → List ℕ → List ℕ → List (List ℕ) → List (List ℕ) → Type 0
+AddsAtMost v chosen free old new = (T : List ℕ) → tally (same_list T) new ≤ tally (same_list T) old + one (is_left v chosen free T)
+
+-- q is none of the chosen, is in conflict with none of them, and its piece is not in as many of them as it may be
+unfoldable pub fits_beside : View → List ℕ → ℕ → Bool
+fits_beside v chosen q =
+    not (mem chosen q)
+    && not (list_any (λ p. clash v q p) chosen)
+    && not (list_any (λ i. is_piece i && nat_le (most v i) (count v chosen i)) (items v q))
+
+-- where an item is given, the number has it
+abbrev pub is_option : View → Option Item → ℕ → Bool
+is_option v None p = true
+is_option v (Some i) p = has_item v p i
+
+-- no chosen number stands twice, and none of them is free
+pub record AreApart (chosen free : List ℕ) : Type 0 where
+  pub once : distinct chosen ≡ true
+  pub apart : list_all (λ p. not (mem chosen p)) free ≡ true

@@ -1,0 +1,62 @@
+-- What every view keeps, and how numbers go on from one view to the next.
+use Rattle.std.specs.List.{list_all, list_any, AllPairs}
+use Rattle.std.specs.Ordering.{is_lt, on, then_cmp}
+use Rattle.std.specs.Prelude.{Bool, List, None, Option, Some, false, length, nat_le, nat_lt, slice_get, true, ℕ, ◌&&◌, [], ◌++◌, ◌∷◌, ◌≡◌, ◌≢◌}
+use Rattle.std.specs.declared.cmp.Ordering.{Ordering}
+use Rattle.std.specs.declared.cmp.Ordering.TheVariants.{Less, Greater}
+use Rattle.poly_shape.specs.Order.{cells_cmp, spot_cmp}
+use Rattle.poly_design.specs.Name.{name_cmp}
+use Rattle.poly_design.specs.declared.placement.Placement.{Placement}
+use Rattle.poly_tiling.specs.declared.item.Item.{Item}
+use Rattle.poly_tiling.specs.declared.item.Item.TheVariants.{Cell, Piece}
+use Rattle.poly_tiling.specs.Puzzle.{View, items, same_item}
+
+-- by name, then by the list of cells
+abbrev pub placement_cmp : Placement → Placement → Ordering
+placement_cmp = then_cmp (on (λ p. p.name) name_cmp) (on (λ p. p.cells) cells_cmp)
+
+-- cells in their order, then pieces in theirs
+abbrev pub item_cmp : Item → Item → Ordering
+item_cmp (Cell a) (Cell b) = spot_cmp a b
+item_cmp (Cell a) (Piece n) = Less
+item_cmp (Piece m) (Cell b) = Greater
+item_cmp (Piece m) (Piece n) = name_cmp m n
+
+abbrev pub placed_below : Option Placement → Option Placement → Bool
+placed_below None q = false
+placed_below (Some x) None = false
+placed_below (Some x) (Some y) = is_lt (placement_cmp x y)
+
+-- the placement of p comes before that of q
+abbrev pub below : View → ℕ → ℕ → Bool
+below v p q = placed_below (slice_get v.placements p) (slice_get v.placements q)
+
+-- the numbers stand in the order of their placements
+abbrev pub in_order : View → List ℕ → Bool
+in_order v [] = true
+in_order v (p ∷ ps) = list_all (λ q. below v p q) ps && in_order v ps
+
+-- the items ascend
+abbrev pub items_ascend : List (Item × ℕ × ℕ) → Bool
+items_ascend [] = true
+items_ascend (b ∷ bs) = list_all (λ c. is_lt (item_cmp b.0 c.0)) bs && items_ascend bs
+
+-- each number that is a placement of the design or a pin is named; placements differ; numbers and items stand in
+-- their orders; the items of the design's placements are items of the design; bounds are at most 16
+pub record WellNamed (v : View) : Type 0 where
+  pub apart : AllPairs (λ x y. x ≢ y) v.placements
+  pub named : list_all (λ p. nat_lt p (length v.placements)) v.live ≡ true
+  pub pins_named : list_all (λ p. nat_lt p (length v.placements)) v.pins ≡ true
+  pub live_up : in_order v v.live ≡ true
+  pub pins_up : in_order v v.pins ≡ true
+  pub items_up : items_ascend v.bounds ≡ true
+  pub listed : list_all (λ p. list_all (λ i. list_any (λ b. same_item b.0 i) v.bounds) (items v p)) v.live ≡ true
+  pub small : list_all (λ b. nat_le b.1 b.2 && nat_le b.2 16) v.bounds ≡ true
+
+-- The later view names what the earlier one names, by the same numbers, and perhaps more.
+abbrev pub Names : View → View → Type 0
+Names old new = (more : List Placement) × (new.placements ≡ old.placements ++ more)
+
+-- the same design under numbers that go on
+abbrev pub Grown : View → View → Type 0
+Grown v w = Names v w × (w.live ≡ v.live) × (w.bounds ≡ v.bounds) × (w.pins ≡ v.pins)

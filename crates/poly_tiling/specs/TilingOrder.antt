@@ -1,0 +1,27 @@
+-- The order of tilings: a tiling is its placements in placement order, and tilings are compared as such lists.
+use Rattle.std.specs.Cmp.Lexicographic.{slice_cmp}
+use Rattle.std.specs.List.{filter}
+use Rattle.std.specs.Ordering.{nat_cmp}
+use Rattle.std.specs.Prelude.{List, cond, ℕ, [], ◌+◌, ◌∷◌, ◌≡◌}
+use Rattle.std.specs.declared.cmp.Ordering.{Ordering}
+use Rattle.poly_design.specs.declared.placement.Placement.{Placement}
+use Rattle.poly_tiling.specs.Lists.{mem}
+use Rattle.poly_tiling.specs.Puzzle.{View}
+use Rattle.poly_tiling.specs.Names.{WellNamed, placement_cmp}
+use Rattle.poly_tiling.specs.Shows.{names}
+
+-- the placements of the tiling in placement order, in which the live numbers stand
+abbrev pub placed : View → List ℕ → List Placement
+placed v T = names v (filter (λ n. mem T n) v.live)
+
+abbrev pub tiling_cmp : View → List ℕ → List ℕ → Ordering
+tiling_cmp v A B = slice_cmp placement_cmp (placed v A) (placed v B)
+
+-- the places in the list of those of its numbers that T has, counted from a first one
+abbrev pub ranks_from : ℕ → List ℕ → List ℕ → List ℕ
+ranks_from first [] T = []
+ranks_from first (n ∷ numbers) T = cond (mem T n) (first ∷ ranks_from (first + 1) numbers T) (ranks_from (first + 1) numbers T)
+
+-- Tilings are in the order of the places that their numbers have among the live ones.
+abbrev pub RanksCompare : Type 0
+RanksCompare = (v : View) (A B : List ℕ) → WellNamed v → slice_cmp nat_cmp (ranks_from 0 v.live A) (ranks_from 0 v.live B) ≡ tiling_cmp v A B

@@ -1,0 +1,22 @@
+//! The items that a tiling covers.
+ghost use Rattle.std.specs.Prelude.{◌≡◌};
+ghost use Rattle.poly_tiling.specs.Puzzle.{same_item};
+
+use poly_design::Name;
+use poly_grid::Cell;
+
+/// What a placement covers: its cells and its piece. Cells come first, each kind in its own order.
+#[derive(Clone, Copy, Debug, PartialEq, Eq, PartialOrd, Ord)]
+pub enum Item {
+    Cell(Cell),
+    Piece(Name),
+}
+
+impl Item {
+    /// Whether both are the same item.
+    pub fn is(&self, other: &Item) -> bool
+        ensures { result ≡ same_item self.now other.now }
+    {
+        self == other
+    }
+}

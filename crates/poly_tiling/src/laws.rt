@@ -1,0 +1,24 @@
+//! Laws of the definitions, each the contract of a function that does nothing.
+ghost use Rattle.poly_tiling.specs.Laws.{NumbersMayGrow, NumbersReach, NumbersShow};
+ghost use Rattle.poly_tiling.specs.TilingOrder.{RanksCompare};
+
+/// Giving numbers out changes no tiling.
+pub fn numbers_may_grow()
+    ensures { NumbersMayGrow }
+{}
+
+/// Where a view shows a design, an ascending list of numbers is a tiling of the view exactly if the placements that it
+/// names are a tiling of the design.
+pub fn numbers_show()
+    ensures { NumbersShow }
+{}
+
+/// Where a view shows a design, each tiling of the design, as a set, has exactly one ascending list of numbers.
+pub fn numbers_reach()
+    ensures { NumbersReach }
+{}
+
+/// Two tilings of a view are in the order of the lists of the places that their numbers have in `View::live`.
+pub fn ranks_compare()
+    ensures { RanksCompare }
+{}

@@ -1,0 +1,22 @@
+//! What a tiling is: an exact cover with primary and secondary items and with multiplicities.
+#![tactic(auto)]
+
+mod conflicts;
+mod item;
+mod laws;
+mod lister;
+mod numbering;
+mod numbers;
+mod tiling;
+mod view;
+
+pub use conflicts::conflict;
+pub use item::Item;
+pub use laws::{numbers_may_grow, numbers_reach, numbers_show, ranks_compare};
+pub use lister::list_tilings;
+pub use numbers::{ascends, has_all, has_number};
+pub use tiling::Tiling;
+pub use view::View;
+
+#[cfg(test)]
+mod tests;

@@ -1,0 +1,34 @@
+//! Lists of placement numbers.
+ghost use Rattle.std.specs.Prelude.{◌≡◌, nat_lt};
+ghost use Rattle.std.specs.List.{list_all};
+ghost use Rattle.poly_tiling.specs.Lists.{ascending, mem};
+
+/// Whether the number stands in the list.
+pub fn has_number(numbers: &[u32], number: u32) -> bool
+    ensures { result ≡ mem numbers.now number }
+{
+    numbers.iter().any(|n| *n == number)
+}
+
+/// Whether each number is below all that follow it.
+pub fn ascends(numbers: &[u32]) -> bool
+    ensures { result ≡ ascending numbers.now }
+{
+    match numbers {
+        [] => true,
+        [first, rest @ ..] => all_above(*first, rest) && ascends(rest),
+    }
+}
+
+fn all_above(first: u32, rest: &[u32]) -> bool
+    ensures { result ≡ list_all (λ y. nat_lt first y) rest.now }
+{
+    rest.iter().all(|n| first < *n)
+}
+
+/// Whether all members stand in the list.
+pub fn has_all(numbers: &[u32], members: &[u32]) -> bool
+    ensures { result ≡ list_all (λ p. mem numbers.now p) members.now }
+{
+    members.iter().all(|p| has_number(numbers, *p))
+}

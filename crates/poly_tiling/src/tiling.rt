@@ -1,0 +1,51 @@
+//! A tiling, by numbers.
+ghost use Rattle.std.specs.Prelude.{true, IfOk, IfErr, ◌≡◌};
+ghost use Rattle.poly_tiling.specs.Lists.{ascending};
+
+use poly_grid::Refusal;
+use std::alloc::Global;
+use std::marker::Model;
+
+/// The numbers of a tiling's placements, ascending and each once.
+#[derive(Drop)]
+pub struct Tiling {
+    numbers: Vec<u32>,
+}
+
+impl Model for Tiling {
+    ghost use Rattle.std.specs.Prelude.{List, true, ℕ, ◌≡◌};
+    ghost use Rattle.poly_tiling.specs.Lists.{ascending};
+
+    ghost Value = { List ℕ };
+
+    ghost view = { λ t. t.numbers.items };
+
+    ghost invariant = { λ t. ascending t.numbers.items ≡ true };
+}
+
+impl Tiling {
+    /// The tiling of these numbers, which ascend.
+    pub fn new(numbers: Vec<u32>) -> Tiling
+        requires { ascending numbers.items ≡ true }
+        ensures { result ≡ numbers.items }
+    {
+        Tiling { numbers }
+    }
+
+    pub fn numbers(&self) -> &[u32]
+        ensures value { result.now ≡ self.now }
+        ensures ascends { ascending self.now ≡ true }
+    {
+        &self.numbers
+    }
+
+    /// An equal tiling. The only refusal is `Memory`.
+    pub fn copy(&self, alloc: Global) -> Result<Tiling, Refusal>
+        ensures ok { IfOk result (λ tiling. tiling ≡ self.now) }
+        ensures why { IfErr result (λ e. e ≡ Refusal.Memory) }
+    {
+        Ok(Tiling {
+            numbers: Vec::from_slice(alloc, self.numbers())?,
+        })
+    }
+}
