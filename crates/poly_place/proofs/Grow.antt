@@ -1,0 +1,72 @@
+-- A table whose numbers go on shows the same.
+use Rattle.std.proofs.Common.{Bool, List, None, Option, Some, [], ap, arith, inl, inr, length, refl, slice_get, subst, sym, true, ℕ, ◌&&◌, ◌++◌, ◌<◌, ◌∙◌, ◌∷◌, ◌≡◌, ◌↔◌}
+use Rattle.std.specs.Prelude.{nat_lt}
+use Rattle.std.specs.List.{Contains, list_all, list_any}
+use Rattle.std.proofs.lemmas.Bool.{lt-ltb, ltb-true}
+use Rattle.std.proofs.lemmas.List.{length-append}
+use Rattle.poly_design.specs.Layout.{Layout}
+use Rattle.poly_design.specs.declared.placement.Placement.{Placement}
+use Rattle.poly_tiling.specs.Names.{Grown, WellNamed, below, in_order, placed_below}
+use Rattle.poly_tiling.specs.Puzzle.{View, items, items_of, same_item}
+use Rattle.poly_tiling.specs.Shows.{IsNamed, Shows}
+use Rattle.poly_tiling.proofs.Contained.{contains_in}
+use Rattle.poly_tiling.proofs.Lists.{In, all_from, all_in, slice_get_front}
+use Rattle.poly_place.specs.Interned.{GoesOn}
+
+abbrev pub grown : View → List Placement → View
+grown t all = record { placements = all; live = t.live; bounds = t.bounds; pins = t.pins }
+
+-- a number that was given out keeps its placement
+stays : (old all : List Placement) → GoesOn old all → (n : ℕ) → nat_lt n (length old) ≡ true → slice_get all n ≡ slice_get old n
+stays old all g n low = ap (λ l. slice_get l n) g.appended ∙ slice_get_front old g.more n (ltb-true n (length old) low)
+
+low_still : (old all : List Placement) → GoesOn old all → (ns : List ℕ) → list_all (λ n. nat_lt n (length old)) ns ≡ true → list_all (λ n. nat_lt n (length all)) ns ≡ true
+low_still old all g ns low = all_from (λ n. nat_lt n (length all)) ns (λ n i.
+    let l = ltb-true n (length old) (all_in (λ n. nat_lt n (length old)) ns low n i) in
+    lt-ltb n (length all) (omega (arith, l, ap length g.appended, length-append old g.more)))
+
+all_same_in : {X : Type 0} (f h : X → Bool) (xs : List X) → ((x : X) → In x xs → f x ≡ h x) → list_all f xs ≡ list_all h xs
+all_same_in f h [] e = refl
+all_same_in f h (x ∷ xs) e = ap (λ b. b && list_all f xs) (e x (inl refl)) ∙ ap (λ b. h x && b) (all_same_in f h xs (λ y i. e y (inr i)))
+
+pub order_same : (v w : View) (ns : List ℕ) → ((n : ℕ) → In n ns → slice_get w.placements n ≡ slice_get v.placements n) → in_order w ns ≡ in_order v ns
+order_same v w [] e = refl
+order_same v w (n ∷ ns) e =
+    ap (λ b. b && in_order w ns) (all_same_in (λ m. below w n m) (λ m. below v n m) ns
+    (λ m i. ap (λ o. placed_below o (slice_get w.placements m)) (e n (inl refl)) ∙ ap (λ o. placed_below (slice_get v.placements n) o) (e m (inr i))))
+    ∙ ap (λ b. list_all (λ m. below v n m) ns && b) (order_same v w ns (λ m i. e m (inr i)))
+
+pub grown_well : (t : View) (all : List Placement) → WellNamed t → GoesOn t.placements all → WellNamed (grown t all)
+grown_well t all w g =
+    let same : (ns : List ℕ) → list_all (λ n. nat_lt n (length t.placements)) ns ≡ true → (n : ℕ) → In n ns → slice_get all n ≡ slice_get t.placements n =
+    λ ns low n i. stays t.placements all g n (all_in (λ n. nat_lt n (length t.placements)) ns low n i) in
+    record {
+      apart = g.apart w.apart;
+      named = low_still t.placements all g t.live w.named;
+      pins_named = low_still t.placements all g t.pins w.pins_named;
+      live_up = order_same t (grown t all) t.live (same t.live w.named) ∙ w.live_up;
+      pins_up = order_same t (grown t all) t.pins (same t.pins w.pins_named) ∙ w.pins_up;
+      items_up = w.items_up;
+      listed = all_same_in (λ n. list_all (λ i. list_any (λ b. same_item b.0 i) t.bounds) (items (grown t all) n)) (λ n. list_all (λ i. list_any (λ b. same_item b.0 i) t.bounds) (items t n)) t.live
+          (λ n i. ap (λ o. list_all (λ j. list_any (λ b. same_item b.0 j) t.bounds) (items_of o)) (same t.live w.named n i))
+          ∙ w.listed;
+      small = w.small;
+    }
+
+named_still : (t : View) (all : List Placement) → GoesOn t.placements all → (ns : List ℕ) → list_all (λ n. nat_lt n (length t.placements)) ns ≡ true → (p : Placement) → IsNamed (grown t all) ns p ↔ IsNamed t ns p
+named_still t all g ns low p =
+    let same : (n : ℕ) → Contains ns n → slice_get all n ≡ slice_get t.placements n =
+    λ n h. stays t.placements all g n (all_in (λ n. nat_lt n (length t.placements)) ns low n (contains_in ns n h)) in (
+      λ h. record { number = h.number; stands = h.stands; names = sym (same h.number h.stands) ∙ h.names },
+      λ h. record { number = h.number; stands = h.stands; names = same h.number h.stands ∙ h.names },
+    )
+
+pub grown_shows : (t : View) (all : List Placement) (d : Layout) → WellNamed t → GoesOn t.placements all → Shows t d → Shows (grown t all) d
+grown_shows t all d w g s = record {
+  places = λ p. let a = named_still t all g t.live w.named p in let b = s.places p in (λ h. b.0 (a.0 h), λ h. a.1 (b.1 h));
+  pins = λ p. let a = named_still t all g t.pins w.pins_named p in let b = s.pins p in (λ h. b.0 (a.0 h), λ h. a.1 (b.1 h));
+  bounds = s.bounds;
+}
+
+pub grows_on : (t : View) (all : List Placement) → GoesOn t.placements all → Grown t (grown t all)
+grows_on t all g = ((g.more, g.appended), refl, refl, refl)

@@ -1,0 +1,8 @@
+pub mod Numbers
+pub mod Pinned
+pub mod Listed
+pub mod Righted
+pub mod Differences
+pub mod Grow
+pub mod Planned
+pub mod Marks

@@ -1,0 +1,18 @@
+use Rattle.std.proofs.Common.{[], refl, subst, sym}
+use Rattle.std.specs.Arc.{arc_value}
+use Rattle.std.specs.Prelude.{IfOk}
+use Rattle.std.proofs.lemmas.List.{append-nil}
+use Rattle.poly_design.specs.Layout.{Layout}
+use Rattle.poly_place.specs.declared.plan.Plan.{Plan}
+use Rattle.poly_place.specs.Delta.{IsPlanFor}
+use Rattle.poly_place.proofs.table.Table.plan.Goals as goal
+
+pub returns-in-Ok-clause-ok : goal.returns-in-Ok-clause-ok
+returns-in-Ok-clause-ok c =
+    subst (λ (d : Layout). IfOk c.plan_to.result (λ (p : Plan). IsPlanFor c.args.self.now c.args.design.now d (arc_value p.view) p.delta)) c.in-Ok.ensures.ok (c.plan_to.ensures.ok c.args.design.now c.requires.standing)
+
+pub returns-in-Ok-clause-right : goal.returns-in-Ok-clause-right
+returns-in-Ok-clause-right c = c.plan_to.ensures.right c.args.design.now c.requires.standing
+
+pub returns-in-Err-clause-stays : goal.returns-in-Err-clause-stays
+returns-in-Err-clause-stays c = (([], sym (append-nil c.args.self.now.placements)), refl, refl, refl)

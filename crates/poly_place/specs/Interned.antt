@@ -1,0 +1,41 @@
+-- Placements in the order of their numbers, and how such a list goes on.
+use Rattle.std.specs.Prelude.{ℕ, ◌+◌, ◌^◌, ◌<◌, ◌≤◌, ◌≡◌, ◌≢◌, ◌⊎◌, List, [], ◌∷◌, ◌++◌, Some, length, map, slice_get}
+use Rattle.std.specs.List.{AllPairs, Contains}
+use Rattle.poly_shape.specs.Order.{IsAscending}
+use Rattle.poly_design.specs.PlacementOrder.{placement_cmp}
+use Rattle.poly_design.specs.declared.placement.Placement.{Placement}
+
+-- all different, and not more than there are numbers
+pub record AreNumbered (placements : List Placement) : Type 0 where
+  pub apart : AllPairs (λ x y. x ≢ y) placements
+  pub few : length placements ≤ 2 ^ 32
+
+-- the numbers name the placements, one after another
+abbrev pub AreNumbersOf : List Placement → List ℕ → List Placement → Type 0
+AreNumbersOf all numbers placements = map (λ n. slice_get all n) numbers ≡ map Some placements
+
+-- the placement has a number afterwards: the one that it had, or the next
+abbrev pub Gives : List Placement → Placement → List Placement → Type 0
+Gives old p new = (new ≡ old) ⊎ ((¬ Contains old p) × (new ≡ old ++ p ∷ []))
+
+-- the list goes on with some of the placements, those that it lacked, in their order
+pub record GoesOnWith (old placements new : List Placement) : Type 0 where
+  pub more : List Placement
+  pub appended : new ≡ old ++ more
+  pub lacked : (p : Placement) → Contains more p → (¬ Contains old p) × Contains placements p
+  pub ordered : IsAscending placement_cmp placements → IsAscending placement_cmp more
+  pub few : length more ≤ length placements
+
+-- the list goes on, and its placements stay different
+pub record GoesOn (old new : List Placement) : Type 0 where
+  pub more : List Placement
+  pub appended : new ≡ old ++ more
+  pub apart : AllPairs (λ x y. x ≢ y) old → AllPairs (λ x y. x ≢ y) new
+
+-- there are more different placements than numbers
+pub record AreTooMany (old placements : List Placement) : Type 0 where
+  pub all : List Placement
+  pub apart : AllPairs (λ x y. x ≢ y) all
+  pub among : (p : Placement) → Contains all p → Contains old p ⊎ Contains placements p
+  pub many : 2 ^ 32 < length all
+  pub sum : 2 ^ 32 < length old + length placements

@@ -1,0 +1,195 @@
+//! What a change does to numbers, items and pieces.
+ghost use Rattle.std.specs.Prelude.{◌≡◌, ◌<◌, true, false, not, length, map, filter, nat_lt, replicate, slice_index_or, slice_set, ℕ, IfOk, IfErr};
+ghost use Rattle.std.specs.List.{filter_map, list_all, list_any};
+ghost use Rattle.poly_tiling.specs.Lists.{mem};
+ghost use Rattle.poly_tiling.specs.Puzzle.{bound_in, same_item};
+ghost use Rattle.poly_place.specs.Falls.{falls};
+ghost use Rattle.poly_place.specs.Differences.{AreDifferences};
+
+use crate::sides::Sides;
+use poly_design::Name;
+use poly_grid::Refusal;
+use poly_tiling::Item;
+use std::alloc::{AllocError, Global};
+
+/// What a change does: the differences between the design before and the design after. Numbers are in the order of their
+/// placements, items and names in their own order.
+#[derive(Drop)]
+pub struct Delta {
+    /// The numbers that are no placement any more.
+    pub gone: Vec<u32>,
+    /// The numbers that are a placement now and were none.
+    pub fresh: Vec<u32>,
+    /// The items whose least rose.
+    pub needed: Vec<Item>,
+    /// The items whose least fell.
+    pub unneeded: Vec<Item>,
+    /// The pieces of both designs whose most fell.
+    pub narrowed: Vec<Name>,
+    /// The pieces of both designs whose most rose.
+    pub widened: Vec<Name>,
+    /// The pins that were set.
+    pub pinned: Vec<u32>,
+    /// The pins that are no longer set.
+    pub unpinned: Vec<u32>,
+}
+
+// The numbers of the first list that are not in the second. All numbers are below the count.
+fn without(
+    alloc: Global,
+    count: usize,
+    numbers: &[u32],
+    others: &[u32],
+) -> Result<Vec<u32>, Refusal>
+    requires { list_all (λ n. nat_lt n count) others.now ≡ true }
+    ensures ok { IfOk result (λ list. list.items ≡ filter (λ n. not (mem others.now n)) numbers.now) }
+    ensures why { IfErr result (λ e. e ≡ Refusal.Memory) }
+{
+    let marks = marks_of(alloc, count, others)?;
+    let list = unmarked(alloc, numbers, &marks)?;
+    Ok(list)
+}
+
+fn unmarked(alloc: Global, numbers: &[u32], marks: &[bool]) -> Result<Vec<u32>, AllocError>
+    ensures { IfOk result (λ list. list.items ≡ filter (λ n. not (slice_index_or marks.now n false)) numbers.now) }
+{
+    numbers
+        .iter()
+        .filter(|n| !is_marked(marks, **n))
+        .copied()
+        .collect(alloc)
+}
+
+fn is_marked(marks: &[bool], number: u32) -> bool
+    ensures { result ≡ slice_index_or marks.now number false }
+{
+    match marks.get(number as usize) {
+        Some(mark) => *mark,
+        None => false,
+    }
+}
+
+// A mark for each number of the list.
+fn marks_of(alloc: Global, count: usize, numbers: &[u32]) -> Result<Vec<bool>, Refusal>
+    requires { list_all (λ n. nat_lt n count) numbers.now ≡ true }
+    ensures ok { IfOk result (λ marks. (n : ℕ) → slice_index_or marks.items n false ≡ mem numbers.now n) }
+    ensures why { IfErr result (λ e. e ≡ Refusal.Memory) }
+{
+    let mut marks = unset(alloc, count)?;
+    for number in numbers {
+        mark(&mut marks, *number);
+    }
+    Ok(marks)
+}
+
+fn unset(alloc: Global, count: usize) -> Result<Vec<bool>, Refusal>
+    ensures ok { IfOk result (λ marks. marks.items ≡ replicate count false) }
+    ensures why { IfErr result (λ e. e ≡ Refusal.Memory) }
+{
+    Ok(vec![in alloc; false; count]?)
+}
+
+fn mark(marks: &mut Vec<bool>, number: u32)
+    requires { number < length marks.old.items }
+    ensures { marks.new.items ≡ slice_set marks.old.items number true }
+{
+    marks[number as usize] = true;
+}
+
+// The least and the most of an item, 0 and 0 where it is not there.
+fn bounds_in(bounds: &[(Item, u8, u8)], item: &Item) -> (u8, u8)
+    ensures least { result.0 ≡ bound_in bounds.now item.now (λ b. b.1) }
+    ensures most { result.1 ≡ bound_in bounds.now item.now (λ b. b.2) }
+{
+    match bounds {
+        [] => (0, 0),
+        [first, rest @ ..] => {
+            if first.0.is(item) {
+                (first.1, first.2)
+            } else {
+                bounds_in(rest, item)
+            }
+        }
+    }
+}
+
+fn has_item(bounds: &[(Item, u8, u8)], item: &Item) -> bool
+    ensures { result ≡ list_any (λ b. same_item b.0 item.now) bounds.now }
+{
+    bounds.iter().any(|b| b.0.is(item))
+}
+
+// The items whose least is higher in the second list.
+fn risen(
+    alloc: Global,
+    from: &[(Item, u8, u8)],
+    to: &[(Item, u8, u8)],
+) -> Result<Vec<Item>, AllocError>
+    ensures { IfOk result (λ list. list.items ≡ map (λ b. b.0) (filter (λ b. nat_lt (bound_in from.now b.0 (λ c. c.1)) b.1) to.now)) }
+{
+    to.iter()
+        .filter(|b| bounds_in(from, &b.0).0 < b.1)
+        .map(|b| b.0)
+        .collect(alloc)
+}
+
+// The pieces of both lists whose most is lower in the second.
+fn fallen(
+    alloc: Global,
+    from: &[(Item, u8, u8)],
+    to: &[(Item, u8, u8)],
+) -> Result<Vec<Name>, AllocError>
+    ensures { IfOk result (λ list. list.items ≡ filter_map (falls to.now) from.now) }
+{
+    from.iter().filter_map(|b| falls(to, b)).collect(alloc)
+}
+
+// The piece of the bound, where the list has it with a lower most.
+fn falls(to: &[(Item, u8, u8)], bound: &(Item, u8, u8)) -> Option<Name>
+    ensures { result ≡ falls to.now bound.now }
+{
+    match bound.0 {
+        Item::Cell(_) => None,
+        Item::Piece(name) => {
+            if has_item(to, &bound.0) && bounds_in(to, &bound.0).1 < bound.2 {
+                Some(name)
+            } else {
+                None
+            }
+        }
+    }
+}
+
+/// The differences of two designs by numbers, all of them below the count.
+pub(crate) fn differences(
+    alloc: Global,
+    count: usize,
+    old: &Sides,
+    new: &Sides,
+) -> Result<Delta, Refusal>
+    requires live_before { list_all (λ n. nat_lt n count) old.now.live.items ≡ true }
+    requires live_after { list_all (λ n. nat_lt n count) new.now.live.items ≡ true }
+    requires pins_before { list_all (λ n. nat_lt n count) old.now.pins.items ≡ true }
+    requires pins_after { list_all (λ n. nat_lt n count) new.now.pins.items ≡ true }
+    ensures ok { IfOk result (AreDifferences old.now new.now) }
+    ensures why { IfErr result (λ e. e ≡ Refusal.Memory) }
+{
+    let gone = without(alloc, count, &old.live, &new.live)?;
+    let fresh = without(alloc, count, &new.live, &old.live)?;
+    let needed = risen(alloc, &old.bounds, &new.bounds)?;
+    let unneeded = risen(alloc, &new.bounds, &old.bounds)?;
+    let narrowed = fallen(alloc, &old.bounds, &new.bounds)?;
+    let widened = fallen(alloc, &new.bounds, &old.bounds)?;
+    let pinned = without(alloc, count, &new.pins, &old.pins)?;
+    let unpinned = without(alloc, count, &old.pins, &new.pins)?;
+    Ok(Delta {
+        gone,
+        fresh,
+        needed,
+        unneeded,
+        narrowed,
+        widened,
+        pinned,
+        unpinned,
+    })
+}

@@ -1,0 +1,182 @@
+//! Numbers for placements.
+ghost use Rattle.std.specs.Prelude.{◌≡◌, ◌↔◌, ◌⊎◌, ◌^◌, ◌<◌, ◌++◌, ◌∷◌, [], Some, Err, IfSome, IsNone, IsTrue, IfOk, IfErr, OnOk, OnErr, length, slice_get, take};
+ghost use Rattle.std.specs.List.{Contains};
+ghost use Rattle.poly_place.specs.Interned.{AreNumbersOf, AreTooMany, Gives, GoesOnWith};
+
+use crate::key::Key;
+use indexmap::IndexSet;
+use poly_design::Placement;
+use poly_grid::Refusal;
+use std::alloc::Global;
+use std::marker::Model;
+
+/// A number for each placement that was ever given one. Numbers count up from 0, and a number never changes its placement.
+#[derive(Drop)]
+pub struct Interner {
+    all: IndexSet<Key>,
+}
+
+impl Model for Interner {
+    ghost use Rattle.std.specs.Prelude.{List};
+    ghost use Rattle.poly_design.specs.declared.placement.Placement.{Placement};
+    ghost use Rattle.poly_place.specs.Interned.{AreNumbered};
+
+    ghost Value = { List Placement };
+
+    ghost view = { λ i. i.all.keys };
+
+    ghost invariant = { λ i. AreNumbered i.all.keys };
+}
+
+impl Interner {
+    ghost use Rattle.poly_place.specs.Interned.{AreNumbered};
+
+    /// Without numbers.
+    pub fn new(alloc: Global) -> Interner
+        ensures { result ≡ [] }
+    {
+        Interner {
+            all: IndexSet::new(alloc),
+        }
+    }
+
+    /// How many numbers were given out, which is the next number.
+    pub fn len(&self) -> usize
+        ensures value { result ≡ length self.now }
+        ensures numbered { AreNumbered self.now }
+    {
+        self.all.len()
+    }
+
+    /// Whether no number was given out.
+    pub fn is_empty(&self) -> bool
+        ensures { IsTrue result ↔ (length self.now ≡ 0) }
+    {
+        self.all.is_empty()
+    }
+
+    /// The number of the placement, if it has one.
+    pub fn number(&self, placement: &Placement) -> Option<u32>
+        ensures found { IfSome result (λ n. slice_get self.now n ≡ Some placement.now) }
+        ensures none { IsNone result ↔ (¬ Contains self.now placement.now) }
+        ensures numbered { AreNumbered self.now }
+    {
+        match self.all.get_index_of(&Key::new(*placement)) {
+            Some(at) => Some(at as u32),
+            None => None,
+        }
+    }
+
+    /// The placement of the number, if it was given out.
+    pub fn placement(&self, number: u32) -> Option<Placement>
+        ensures { result ≡ slice_get self.now number }
+    {
+        match self.all.get_index(number as usize) {
+            Some(key) => Some(key.placement()),
+            None => None,
+        }
+    }
+
+    /// All placements, in the order of their numbers. The only refusal is `Memory`.
+    pub fn placements(&self, alloc: Global) -> Result<Vec<Placement>, Refusal>
+        ensures ok { IfOk result (λ list. list.items ≡ self.now) }
+        ensures why { IfErr result (λ e. e ≡ Refusal.Memory) }
+    {
+        let mut list = Vec::with_capacity(alloc, self.len())?;
+        for key in self.all.as_slice() {
+            list.push(key.placement())?;
+        }
+        Ok(list)
+    }
+
+    /// Makes room for so many more numbers.
+    ///
+    /// The only refusal is `Memory`.
+    pub fn reserve(&mut self, more: usize) -> Result<(), Refusal>
+        ensures same { self.new ≡ self.old }
+        ensures why { IfErr result (λ e. e ≡ Refusal.Memory) }
+    {
+        self.all.reserve(more)?;
+        Ok(())
+    }
+
+    /// The number of the placement, which is the next number where it has none yet.
+    ///
+    /// Refused with `Spent` where the placement has no number and all are given out, and else only with `Memory`. A
+    /// refused call gives nothing out.
+    pub fn give(&mut self, placement: &Placement) -> Result<u32, Refusal>
+        ensures ok { IfOk result (λ n. slice_get self.new n ≡ Some placement.now) }
+        ensures gives { OnOk result (Gives self.old placement.now self.new) }
+        ensures numbered { OnOk result (AreNumbered self.new) }
+        ensures err { OnErr result (self.new ≡ self.old) }
+        ensures spent { result ≡ Err Refusal.Spent → (length self.old ≡ 2 ^ 32) × (¬ Contains self.old placement.now) }
+        ensures why { IfErr result (λ e. (e ≡ Refusal.Spent) ⊎ (e ≡ Refusal.Memory)) }
+    {
+        match self.number(placement) {
+            Some(number) => Ok(number),
+            None => self.give_next(placement),
+        }
+    }
+
+    fn give_next(&mut self, placement: &Placement) -> Result<u32, Refusal>
+        requires lacks { ¬ Contains self.old placement.now }
+        ensures ok { IfOk result (λ n. slice_get self.new n ≡ Some placement.now) }
+        ensures gives { OnOk result (self.new ≡ self.old ++ placement.now ∷ []) }
+        ensures numbered { OnOk result (AreNumbered self.new) }
+        ensures err { OnErr result (self.new ≡ self.old) }
+        ensures spent { result ≡ Err Refusal.Spent → length self.old ≡ 2 ^ 32 }
+        ensures why { IfErr result (λ e. (e ≡ Refusal.Spent) ⊎ (e ≡ Refusal.Memory)) }
+    {
+        if self.len() > u32::MAX as usize {
+            return Err(Refusal::Spent);
+        }
+        self.add(Key::new(*placement))
+    }
+
+    fn add(&mut self, key: Key) -> Result<u32, Refusal>
+        requires room { length self.old < 2 ^ 32 }
+        requires lacks { ¬ Contains self.old key }
+        ensures ok { IfOk result (λ n. slice_get self.new n ≡ Some key) }
+        ensures gives { OnOk result (self.new ≡ self.old ++ key ∷ []) }
+        ensures numbered { OnOk result (AreNumbered self.new) }
+        ensures err { OnErr result (self.new ≡ self.old) }
+        ensures why { IfErr result (λ e. e ≡ Refusal.Memory) }
+    {
+        let (at, _) = self.all.insert_full(key)?;
+        Ok(at as u32)
+    }
+
+    /// The numbers of the placements, in their order. Those that have none yet are given the next numbers.
+    ///
+    /// Refused with `Spent` where there are more placements than numbers, and else only with `Memory`. A refused call
+    /// gives nothing out.
+    pub fn give_all(&mut self, alloc: Global, placements: &[Placement]) -> Result<Vec<u32>, Refusal>
+        ensures ok { IfOk result (λ numbers. AreNumbersOf self.new numbers.items placements.now) }
+        ensures gives { OnOk result (GoesOnWith self.old placements.now self.new) }
+        ensures numbered { OnOk result (AreNumbered self.new) }
+        ensures err { OnErr result (self.new ≡ self.old) }
+        ensures spent { result ≡ Err Refusal.Spent → AreTooMany self.old placements.now }
+        ensures why { IfErr result (λ e. (e ≡ Refusal.Spent) ⊎ (e ≡ Refusal.Memory)) }
+    {
+        self.reserve(placements.len())?;
+        let before = self.len();
+        let mut numbers = Vec::with_capacity(alloc, placements.len())?;
+        for placement in placements {
+            match self.give(placement) {
+                Ok(number) => numbers.push_reserved(number),
+                Err(refusal) => {
+                    self.forget_from(before);
+                    return Err(refusal);
+                }
+            }
+        }
+        Ok(numbers)
+    }
+
+    // Takes back the numbers that a refused call gave out.
+    fn forget_from(&mut self, number: usize)
+        ensures { self.new ≡ take number self.old }
+    {
+        self.all.truncate(number);
+    }
+}

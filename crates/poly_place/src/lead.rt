@@ -1,0 +1,77 @@
+//! How a plan is made.
+ghost use Rattle.std.specs.Prelude.{◌≡◌, ◌⊎◌, ◌<◌, ◌+◌, ◌^◌, Err, IfOk, IfErr, length};
+ghost use Rattle.std.specs.Arc.{arc_value};
+ghost use Rattle.poly_design.specs.Layout.{Layout};
+ghost use Rattle.poly_tiling.specs.Names.{WellNamed};
+ghost use Rattle.poly_tiling.specs.Shows.{Shows};
+ghost use Rattle.poly_place.specs.Delta.{IsDelta, IsPlanFor};
+ghost use Rattle.poly_place.specs.Interned.{GoesOn};
+ghost use Rattle.poly_place.specs.Sides.{by_sides};
+
+use crate::delta::differences;
+use crate::interner::Interner;
+use crate::parts::Parts;
+use crate::plan::Plan;
+use crate::sides::Sides;
+use poly_design::Design;
+use poly_grid::Refusal;
+use poly_tiling::View;
+use std::alloc::Global;
+use std::sync::Arc;
+
+/// The plan that leads from the sides to the design after.
+///
+/// Refused with `Spent` where there are more placements than numbers, and else only with `Memory`.
+pub(crate) fn lead(
+    alloc: Global,
+    names: &mut Interner,
+    sides: &Sides,
+    after: &Design,
+) -> Result<Plan, Refusal>
+    requires { WellNamed (by_sides names.old sides.now) }
+    ensures grows { GoesOn names.old names.new }
+    ensures ok { (before : Layout) → Shows (by_sides names.old sides.now) before → IfOk result (λ p. IsPlanFor (by_sides names.old sides.now) before after.now (arc_value p.view) p.delta) }
+    ensures given { IfOk result (λ p. (arc_value p.view).placements ≡ names.new) }
+    ensures spent { result ≡ Err Refusal.Spent → 2 ^ 32 < length names.old + 20064 }
+    ensures why { IfErr result (λ e. (e ≡ Refusal.Spent) ⊎ (e ≡ Refusal.Memory)) }
+{
+    let parts = Parts::of(alloc, after)?;
+    let next = Sides::of(alloc, names, parts)?;
+    let plan = plan_between(alloc, names, sides, next)?;
+    Ok(plan)
+}
+
+fn plan_between(
+    alloc: Global,
+    names: &Interner,
+    sides: &Sides,
+    next: Sides,
+) -> Result<Plan, Refusal>
+    requires standing { WellNamed (by_sides names.now sides.now) }
+    requires next { WellNamed (by_sides names.now next) }
+    ensures view { IfOk result (λ p. arc_value p.view ≡ by_sides names.now next) }
+    ensures delta { (before after : Layout) → Shows (by_sides names.now sides.now) before → Shows (by_sides names.now next) after → IfOk result (λ p. IsDelta (by_sides names.now next) before after p.delta) }
+    ensures why { IfErr result (λ e. e ≡ Refusal.Memory) }
+{
+    let delta = differences(alloc, names.len(), sides, &next)?;
+    let view = view_of(alloc, names, &next)?;
+    let shared = Arc::new(alloc, view)?;
+    Ok(Plan {
+        delta,
+        view: shared,
+        sides: next,
+    })
+}
+
+/// The view of the sides. The only refusal is `Memory`.
+pub(crate) fn view_of(alloc: Global, names: &Interner, sides: &Sides) -> Result<View, Refusal>
+    requires { WellNamed (by_sides names.now sides.now) }
+    ensures ok { IfOk result (λ v. v ≡ by_sides names.now sides.now) }
+    ensures why { IfErr result (λ e. e ≡ Refusal.Memory) }
+{
+    let placements = names.placements(alloc)?;
+    let live = Vec::from_slice(alloc, &sides.live)?;
+    let bounds = Vec::from_slice(alloc, &sides.bounds)?;
+    let pins = Vec::from_slice(alloc, &sides.pins)?;
+    Ok(View::with(placements, live, bounds, pins))
+}

@@ -1,0 +1,16 @@
+//! Numbers for placements, kept while a design changes.
+#![tactic(auto)]
+
+mod delta;
+mod interner;
+mod key;
+mod lead;
+mod parts;
+mod plan;
+mod sides;
+mod table;
+
+pub use delta::Delta;
+pub use interner::Interner;
+pub use plan::Plan;
+pub use table::Table;

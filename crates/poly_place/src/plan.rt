@@ -1,0 +1,21 @@
+//! Plans: what a change would do to a table.
+ghost use Rattle.std.specs.Prelude.{◌≡◌, IfOk, IfErr};
+ghost use Rattle.std.specs.Arc.{arc_value};
+ghost use Rattle.poly_tiling.specs.Names.{WellNamed};
+
+use crate::delta::Delta;
+use crate::sides::Sides;
+use poly_tiling::View;
+use std::sync::Arc;
+
+/// What a change of the design does to a table, made ready so that it can be put in without memory.
+#[derive(Drop)]
+pub struct Plan {
+    /// The differences between the design before and the design after.
+    pub delta: Delta,
+    /// The design after.
+    pub view: Arc<View>,
+    pub(crate) sides: Sides,
+    ghost well: { WellNamed (arc_value view) },
+    ghost shown: { arc_value view ≡ record { placements = (arc_value view).placements; live = sides.live.items; bounds = sides.bounds.items; pins = sides.pins.items } },
+}

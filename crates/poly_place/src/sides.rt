@@ -1,0 +1,43 @@
+//! A design by numbers.
+ghost use Rattle.std.specs.Prelude.{◌≡◌, ◌⊎◌, ◌+◌, ◌<◌, ◌^◌, Err, OnOk, IfOk, IfErr, List, length};
+ghost use Rattle.poly_design.specs.Layout.{Layout};
+ghost use Rattle.poly_design.specs.declared.placement.Placement.{Placement as Place};
+ghost use Rattle.poly_place.specs.Interned.{GoesOn, GoesOnWith};
+ghost use Rattle.poly_place.specs.Parts.{ArePartsOf};
+ghost use Rattle.poly_place.specs.Right.{IsRight};
+
+use crate::interner::Interner;
+use crate::parts::Parts;
+use poly_grid::Refusal;
+use poly_tiling::Item;
+use std::alloc::Global;
+
+/// A design's placements and pins by their numbers, both in placement order, and its items with their bounds, in item
+/// order.
+#[derive(Drop)]
+pub(crate) struct Sides {
+    pub(crate) live: Vec<u32>,
+    pub(crate) bounds: Vec<(Item, u8, u8)>,
+    pub(crate) pins: Vec<u32>,
+}
+
+impl Sides {
+    /// The parts by numbers. New numbers go to placements first, then to pins.
+    ///
+    /// Refused with `Spent` where there are more placements than numbers, and else only with `Memory`.
+    pub(crate) fn of(alloc: Global, names: &mut Interner, parts: Parts) -> Result<Sides, Refusal>
+        ensures right { (d : Layout) → ArePartsOf d parts.places.items parts.pins.items parts.bounds.items → IfOk result (λ s. IsRight (record { placements = names.new; live = s.live.items; bounds = s.bounds.items; pins = s.pins.items }) d) }
+        ensures grows { GoesOn names.old names.new }
+        ensures gives { OnOk result ((between : List Place) × GoesOnWith names.old parts.places.items between × GoesOnWith between parts.pins.items names.new) }
+        ensures spent { result ≡ Err Refusal.Spent → 2 ^ 32 < length names.old + length parts.places.items + length parts.pins.items }
+        ensures why { IfErr result (λ e. (e ≡ Refusal.Spent) ⊎ (e ≡ Refusal.Memory)) }
+    {
+        let live = names.give_all(alloc, &parts.places)?;
+        let pins = names.give_all(alloc, &parts.pins)?;
+        Ok(Sides {
+            live,
+            bounds: parts.bounds,
+            pins,
+        })
+    }
+}

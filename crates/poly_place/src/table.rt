@@ -1,0 +1,124 @@
+//! The table: a design by numbers that outlast its changes.
+ghost use Rattle.std.specs.Prelude.{◌≡◌, ◌⊎◌, ◌<◌, ◌+◌, ◌^◌, Err, IfOk, IfErr, length};
+ghost use Rattle.std.specs.Arc.{arc_value};
+ghost use Rattle.poly_design.specs.Changes.{changed};
+ghost use Rattle.poly_design.specs.Layout.{Layout};
+ghost use Rattle.poly_design.specs.Limits.{IsDesign};
+ghost use Rattle.poly_tiling.specs.Names.{Grown};
+ghost use Rattle.poly_place.specs.Delta.{IsPlanFor};
+ghost use Rattle.poly_place.specs.Right.{IsRight};
+
+use crate::interner::Interner;
+use crate::lead::{lead, view_of};
+use crate::parts::Parts;
+use crate::plan::Plan;
+use crate::sides::Sides;
+use poly_design::{Change, Design};
+use poly_grid::Refusal;
+use poly_tiling::View;
+use std::alloc::Global;
+use std::marker::Model;
+
+/// A design by numbers. A number that was given out names its placement for good, also after the placement has gone.
+#[derive(Drop)]
+pub struct Table {
+    alloc: Global,
+    names: Interner,
+    sides: Sides,
+}
+
+impl Model for Table {
+    ghost use Rattle.poly_tiling.specs.Puzzle.{View};
+    ghost use Rattle.poly_tiling.specs.Names.{WellNamed};
+    ghost use Rattle.poly_place.specs.Sides.{by_sides};
+
+    ghost Value = { View };
+
+    ghost view = { λ t. by_sides t.names t.sides };
+
+    ghost invariant = { λ t. WellNamed (by_sides t.names t.sides) };
+}
+
+impl Table {
+    /// The table of the design. Numbers go to the placements first, in their order, then to pins that are no placements.
+    ///
+    /// The only refusal is `Memory`.
+    pub fn of(alloc: Global, design: &Design) -> Result<Table, Refusal>
+        ensures right { IfOk result (λ t. IsRight t design.now) }
+        ensures why { IfErr result (λ e. e ≡ Refusal.Memory) }
+    {
+        let mut names = Interner::new(alloc);
+        let parts = Parts::of(alloc, design)?;
+        match Sides::of(alloc, &mut names, parts) {
+            Ok(sides) => Ok(Table {
+                alloc,
+                names,
+                sides,
+            }),
+            Err(refusal) => Err(refusal),
+        }
+    }
+
+    /// The design as the numbers show it now. The only refusal is `Memory`.
+    pub fn view(&self) -> Result<View, Refusal>
+        ensures ok { IfOk result (λ v. v ≡ self.now) }
+        ensures why { IfErr result (λ e. e ≡ Refusal.Memory) }
+    {
+        view_of(self.alloc, &self.names, &self.sides)
+    }
+
+    /// The plan that leads from the design that the table is right for to the design after.
+    ///
+    /// Refused with `Spent` where there are more placements than numbers, and else only with `Memory`. Used or not, and
+    /// also where it is refused, the table shows what it showed; numbers that were given out stay given out.
+    pub fn plan_to(&mut self, after: &Design) -> Result<Plan, Refusal>
+        ensures ok { (before : Layout) → IsRight self.old before → IfOk result (λ p. IsPlanFor self.old before after.now (arc_value p.view) p.delta) }
+        ensures last { IfOk result (λ p. (arc_value p.view).placements ≡ self.new.placements) }
+        ensures stays { Grown self.old self.new }
+        ensures right { (before : Layout) → IsRight self.old before → IsRight self.new before }
+        ensures spent { result ≡ Err Refusal.Spent → 2 ^ 32 < length self.old.placements + 20064 }
+        ensures why { IfErr result (λ e. (e ≡ Refusal.Spent) ⊎ (e ≡ Refusal.Memory)) }
+    {
+        lead(self.alloc, &mut self.names, &self.sides, after)
+    }
+
+    /// The plan of a change of the design that the table is right for.
+    ///
+    /// Refused with `Spent` where there are more placements than numbers, and else only with `Memory`. Used or not, and
+    /// also where it is refused, the table stays right for the design before; numbers that were given out stay given out.
+    pub fn plan(&mut self, design: &Design, change: &Change) -> Result<Plan, Refusal>
+        requires standing { IsRight self.old design.now }
+        requires limits { IsDesign (changed design.now change.now) }
+        ensures ok { IfOk result (λ p. IsPlanFor self.old design.now (changed design.now change.now) (arc_value p.view) p.delta) }
+        ensures last { IfOk result (λ p. (arc_value p.view).placements ≡ self.new.placements) }
+        ensures stays { Grown self.old self.new }
+        ensures right { IsRight self.new design.now }
+        ensures spent { result ≡ Err Refusal.Spent → 2 ^ 32 < length self.old.placements + 20064 }
+        ensures why { IfErr result (λ e. (e ≡ Refusal.Spent) ⊎ (e ≡ Refusal.Memory)) }
+    {
+        match after(design, change) {
+            Ok(after) => self.plan_to(&after),
+            Err(refusal) => Err(refusal),
+        }
+    }
+
+    /// Puts the plan in, without memory. It has to be the last plan that the table made.
+    pub fn make(&mut self, plan: Plan)
+        requires { (arc_value plan.view).placements ≡ self.old.placements }
+        ensures now { self.new ≡ arc_value plan.view }
+        ensures right { (d : Layout) → IsRight (arc_value plan.view) d → IsRight self.new d }
+    {
+        self.sides = plan.sides;
+    }
+}
+
+// The design after the change.
+fn after(design: &Design, change: &Change) -> Result<Design, Refusal>
+    requires { IsDesign (changed design.now change.now) }
+    ensures ok { IfOk result (λ d. d ≡ changed design.now change.now) }
+    ensures why { IfErr result (λ e. e ≡ Refusal.Memory) }
+{
+    let mut copy = design.copy()?;
+    copy.make(change)?;
+    Ok(copy)
+}
