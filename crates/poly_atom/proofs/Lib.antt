@@ -1,0 +1,13 @@
+pub mod Bases
+pub mod GuardKinds
+pub mod Stairs
+pub mod Walks
+pub mod EmptyFamilies
+pub mod Stays
+pub mod Small
+pub mod Offsets
+pub mod Merge
+pub mod Halves
+pub mod Counted
+pub mod Opposites
+pub mod Grows

@@ -1,0 +1,275 @@
+-- What a walk over two lists in one order finds.
+use Rattle.std.proofs.Common.{Bool, List, None, Option, Some, [], ap, append_assoc, cond, drop, eqb, false, get_or, inl, inr, length, map, nat_lt, not, refl, slice_get, sym, true, ℕ, ◌&&◌, ◌++◌, ◌+◌, ◌<◌, ◌||◌, ◌∙◌, ◌∷◌, ◌≡◌, ◌≤◌}
+use Rattle.std.proofs.lemmas.Bool.{and_from, and_parts, both_ways, cond-false, cond-true, eqb-true, false_from_ne_true, ltb-true, true≢false}
+use Rattle.std.proofs.lemmas.List.{append-nil, at_drop_more, drop_all}
+use Rattle.std.specs.Cmp.{tied_itself}
+use Rattle.std.specs.Cmp.Lexicographic.{nat_list_cmp_total}
+use Rattle.std.specs.List.{filter, find, list_all}
+use Rattle.std.specs.Option.{is_some}
+use Rattle.std.specs.Ordering.{is_lt}
+use Rattle.std.specs.declared.cmp.Ordering.{Ordering}
+use Rattle.std.specs.declared.cmp.Ordering.TheVariants.{Equal, Greater, Less}
+use Rattle.poly_shape.specs.Order.{spot_total}
+use Rattle.poly_design.specs.declared.placement.Placement.{Placement}
+use Rattle.poly_tiling.specs.Lists.{mem}
+use Rattle.poly_tiling.specs.declared.item.Item.{Item}
+use Rattle.poly_tiling.specs.declared.item.Item.TheVariants.{Cell, Piece}
+use Rattle.poly_tiling.specs.Names.{Names, WellNamed, below, in_order, item_cmp, items_ascend, placed_below}
+use Rattle.poly_tiling.specs.Puzzle.{Bound, View, bound_in, found_or, least, most, same_item}
+use Rattle.poly_tiling.proofs.Lists.{In, all_from, all_in, filter_in, slice_get_front}
+use Rattle.poly_tiling.proofs.Orders.{placement_total}
+use Rattle.poly_tiling.proofs.Tilings.{same_item_is, same_item_self}
+use Rattle.poly_atom.specs.declared.atom.Atom.TheVariants.{AtLeast, AtMost}
+use Rattle.poly_atom.specs.Guards.{guards_least, guards_most}
+use Rattle.poly_atom.specs.Merge.{behind, front}
+
+-- each element is below all that follow it
+abbrev pub sorted : {X : Type 0} → (X → X → Bool) → List X → Bool
+sorted lt [] = true
+sorted lt (x ∷ xs) = list_all (λ y. lt x y) xs && sorted lt xs
+
+-- those elements of the first list that pass with what stands for them in the second
+abbrev pub walk : {X A : Type 0} → (X → X → Bool) → (X → X → Bool) → (X → Option X → Bool) → (X → A) → List X → List X → List A
+walk lt eq test make [] ys = []
+walk lt eq test make (x ∷ xs) ys =
+    cond (test x (front (λ y. eq y x) (behind (λ y. lt y x) ys))) (make x ∷ walk lt eq test make xs (behind (λ y. lt y x) ys)) (walk lt eq test make xs (behind (λ y. lt y x) ys))
+
+-- an order, and which elements have the same place in it
+pub record IsOrder {X : Type 0} (lt eq : X → X → Bool) : Type 0 where
+  pub trans : (x y z : X) → lt x y ≡ true → lt y z ≡ true → lt x z ≡ true
+  pub apart : (x y : X) → lt x y ≡ true → eq x y ≡ true → ⊥
+  pub along : (x y z : X) → lt x y ≡ true → eq y z ≡ true → lt x z ≡ true
+
+pub filter_same_in : {X : Type 0} (f g : X → Bool) (xs : List X) → ((x : X) → In x xs → f x ≡ g x) → filter f xs ≡ filter g xs
+filter_same_in f g [] h = refl
+filter_same_in f g (x ∷ xs) h = ap (λ b. cond b (x ∷ filter f xs) (filter f xs)) (h x (inl refl)) ∙ ap (λ t. cond (g x) (x ∷ t) t) (filter_same_in f g xs (λ y i. h y (inr i)))
+
+pub map_same_in : {X Y : Type 0} (f g : X → Y) (xs : List X) → ((x : X) → In x xs → f x ≡ g x) → map f xs ≡ map g xs
+map_same_in f g [] h = refl
+map_same_in f g (x ∷ xs) h = ap (λ y. y ∷ map f xs) (h x (inl refl)) ∙ ap (λ t. g x ∷ t) (map_same_in f g xs (λ y i. h y (inr i)))
+
+first_none : {X : Type 0} (f : X → Bool) (xs : List X) → ((x : X) → In x xs → f x ≡ true → ⊥) → find f xs ≡ None
+first_none f [] h = refl
+first_none f (x ∷ xs) h = cond-false (f x) (Some x) (find f xs) (false_from_ne_true (f x) (h x (inl refl))) ∙ first_none f xs (λ y i. h y (inr i))
+
+sorted_at : {X : Type 0} (lt : X → X → Bool) (y : X) (ys : List X) (zs : List X) (b : Bool) → sorted lt (y ∷ ys) ≡ true → sorted lt zs ≡ true → sorted lt (cond b zs (y ∷ ys)) ≡ true
+sorted_at lt y ys zs true h k = k
+sorted_at lt y ys zs false h k = h
+
+pub sorted_behind : {X : Type 0} (lt : X → X → Bool) (f : X → Bool) (ys : List X) → sorted lt ys ≡ true → sorted lt (behind f ys) ≡ true
+sorted_behind lt f [] h = refl
+sorted_behind lt f (y ∷ ys) h = sorted_at lt y ys (behind f ys) (f y) h (sorted_behind lt f ys (and_parts (list_all (λ z. lt y z) ys) (sorted lt ys) h).1)
+
+map_cond : {X Y : Type 0} (f : X → Y) (b : Bool) (x : X) (xs : List X) → cond b (f x ∷ map f xs) (map f xs) ≡ map f (cond b (x ∷ xs) xs)
+map_cond f true x xs = refl
+map_cond f false x xs = refl
+
+module _ {X : Type 0} (lt eq : X → X → Bool) (o : IsOrder lt eq) where
+  front_at : (x y : X) (ys : List X) (b : Bool) → sorted lt (y ∷ ys) ≡ true → lt y x ≡ b → front (λ z. eq z x) (behind (λ z. lt z x) ys) ≡ find (λ z. eq z x) ys →
+      front (λ z. eq z x) (cond b (behind (λ z. lt z x) ys) (y ∷ ys)) ≡ find (λ z. eq z x) (y ∷ ys)
+  front_at x y ys true h e ih = ih ∙ sym (cond-false (eq y x) (Some y) (find (λ z. eq z x) ys) (false_from_ne_true (eq y x) (o.apart y x e)))
+  front_at x y ys false h e ih =
+      let hs = and_parts (list_all (λ z. lt y z) ys) (sorted lt ys) h in
+      let none = first_none (λ z. eq z x) ys (λ z i s. both_ways (lt y x) e (o.along y z x (all_in (λ z. lt y z) ys hs.0 z i) s)) in
+      ap (λ t. cond (eq y x) (Some y) t) (sym none)
+
+  pub front_first : (x : X) (ys : List X) → sorted lt ys ≡ true → front (λ z. eq z x) (behind (λ z. lt z x) ys) ≡ find (λ z. eq z x) ys
+  front_first x [] h = refl
+  front_first x (y ∷ ys) h = front_at x y ys (lt y x) h refl (front_first x ys (and_parts (list_all (λ z. lt y z) ys) (sorted lt ys) h).1)
+
+  kept_at : (x z y : X) (ys : List X) (b : Bool) → lt x z ≡ true → lt y x ≡ b → find (λ t. eq t z) (behind (λ t. lt t x) ys) ≡ find (λ t. eq t z) ys →
+      find (λ t. eq t z) (cond b (behind (λ t. lt t x) ys) (y ∷ ys)) ≡ find (λ t. eq t z) (y ∷ ys)
+  kept_at x z y ys true l e ih = ih ∙ sym (cond-false (eq y z) (Some y) (find (λ t. eq t z) ys) (false_from_ne_true (eq y z) (o.apart y z (o.trans y x z e l))))
+  kept_at x z y ys false l e ih = refl
+
+  first_kept : (x z : X) (ys : List X) → lt x z ≡ true → find (λ t. eq t z) (behind (λ t. lt t x) ys) ≡ find (λ t. eq t z) ys
+  first_kept x z [] l = refl
+  first_kept x z (y ∷ ys) l = kept_at x z y ys (lt y x) l refl (first_kept x z ys l)
+
+  pub walk_is : {A : Type 0} (test : X → Option X → Bool) (make : X → A) (xs ys : List X) → sorted lt xs ≡ true → sorted lt ys ≡ true →
+      walk lt eq test make xs ys ≡ map make (filter (λ x. test x (find (λ y. eq y x) ys)) xs)
+  walk_is test make [] ys hx hy = refl
+  walk_is test make (x ∷ xs) ys hx hy =
+      let hs = and_parts (list_all (λ z. lt x z) xs) (sorted lt xs) hx in
+      let rest = walk_is test make xs (behind (λ y. lt y x) ys) hs.1 (sorted_behind lt (λ y. lt y x) ys hy)
+      ∙ ap (λ t. map make t) (filter_same_in (λ z. test z (find (λ y. eq y z) (behind (λ y. lt y x) ys))) (λ z. test z (find (λ y. eq y z) ys)) xs
+      (λ z i. ap (λ t. test z t) (first_kept x z ys (all_in (λ z. lt x z) xs hs.0 z i)))) in
+      ap (λ t. cond (test x t) (make x ∷ walk lt eq test make xs (behind (λ y. lt y x) ys)) (walk lt eq test make xs (behind (λ y. lt y x) ys))) (front_first x ys hy)
+      ∙ ap (λ t. cond (test x (find (λ y. eq y x) ys)) (make x ∷ t) t) rest
+      ∙ map_cond make (test x (find (λ y. eq y x) ys)) x (filter (λ z. test z (find (λ y. eq y z) ys)) xs)
+
+-- in_order and items_ascend say that a list is sorted
+pub sorted_numbers : (v : View) (ps : List ℕ) → in_order v ps ≡ true → sorted (below v) ps ≡ true
+sorted_numbers v [] h = refl
+sorted_numbers v (p ∷ ps) h = let hs = and_parts (list_all (λ q. below v p q) ps) (in_order v ps) h in and_from _ _ hs.0 (sorted_numbers v ps hs.1)
+
+abbrev pub bound_below : Bound → Bound → Bool
+bound_below b c = is_lt (item_cmp b.0 c.0)
+
+abbrev pub same_bound : Bound → Bound → Bool
+same_bound b c = same_item b.0 c.0
+
+pub sorted_items : (bs : List Bound) → items_ascend bs ≡ true → sorted bound_below bs ≡ true
+sorted_items [] h = refl
+sorted_items (b ∷ bs) h = let hs = and_parts (list_all (λ c. bound_below b c) bs) (items_ascend bs) h in and_from _ _ hs.0 (sorted_items bs hs.1)
+
+lt_less : (r : Ordering) → is_lt r ≡ true → r ≡ Less
+lt_less Less h = refl
+lt_less Equal h = cc
+lt_less Greater h = cc
+
+placed_trans : (a b c : Option Placement) → placed_below a b ≡ true → placed_below b c ≡ true → placed_below a c ≡ true
+placed_trans None b c h k = absurd (true≢false (sym h))
+placed_trans (Some x) None c h k = absurd (true≢false (sym h))
+placed_trans (Some x) (Some y) None h k = absurd (true≢false (sym k))
+placed_trans (Some x) (Some y) (Some z) h k = ap is_lt (placement_total.trans x y z (lt_less _ h) (lt_less _ k))
+
+pub below-trans : (v : View) (p q r : ℕ) → below v p q ≡ true → below v q r ≡ true → below v p r ≡ true
+below-trans v p q r h k = placed_trans (slice_get v.placements p) (slice_get v.placements q) (slice_get v.placements r) h k
+
+placed_self : (o : Option Placement) → placed_below o o ≡ false
+placed_self None = refl
+placed_self (Some x) = ap is_lt (tied_itself placement_total x)
+
+pub below_self : (v : View) (p : ℕ) → below v p p ≡ false
+below_self v p = placed_self (slice_get v.placements p)
+
+pub numbers_order : (v : View) → IsOrder (below v) (λ p q. eqb p q)
+numbers_order v = record {
+  trans = λ p q r h k. below-trans v p q r h k;
+  apart = λ p q h e. both_ways (below v p q) (ap (λ n. below v p n) (sym (eqb-true p q e)) ∙ below_self v p) h;
+  along = λ p q r h e. ap (λ n. below v p n) (sym (eqb-true q r e)) ∙ h;
+}
+
+pub item_trans : (a b c : Item) → item_cmp a b ≡ Less → item_cmp b c ≡ Less → item_cmp a c ≡ Less
+item_trans (Cell a) (Cell b) (Cell c) h k = spot_total.trans a b c h k
+item_trans (Cell a) (Cell b) (Piece n) h k = refl
+item_trans (Cell a) (Piece m) (Cell c) h k = cc
+item_trans (Cell a) (Piece m) (Piece n) h k = refl
+item_trans (Piece l) (Cell b) c h k = cc
+item_trans (Piece l) (Piece m) (Cell c) h k = cc
+item_trans (Piece l) (Piece m) (Piece n) h k = nat_list_cmp_total.trans l m n h k
+
+pub item_self : (a : Item) → item_cmp a a ≡ Equal
+item_self (Cell a) = tied_itself spot_total a
+item_self (Piece n) = tied_itself nat_list_cmp_total n
+
+pub items_order : IsOrder bound_below same_bound
+items_order = record {
+  trans = λ b c d h k. ap is_lt (item_trans b.0 c.0 d.0 (lt_less _ h) (lt_less _ k));
+  apart = λ b c h e. both_ways (is_lt (item_cmp b.0 c.0)) (ap (λ i. is_lt (item_cmp b.0 i)) (sym (same_item_is b.0 c.0 e)) ∙ ap is_lt (item_self b.0)) h;
+  along = λ b c d h e. ap (λ i. is_lt (item_cmp b.0 i)) (sym (same_item_is c.0 d.0 e)) ∙ h;
+}
+
+some_or : (b : Bool) (y : ℕ) (o : Option ℕ) → is_some (cond b (Some y) o) ≡ (b || is_some o)
+some_or true y o = refl
+some_or false y o = refl
+
+first_mem : (xs : List ℕ) (x : ℕ) → is_some (find (λ y. eqb y x) xs) ≡ mem xs x
+first_mem [] x = refl
+first_mem (y ∷ xs) x = some_or (eqb y x) y (find (λ z. eqb z x) xs) ∙ ap (λ b. eqb y x || b) (first_mem xs x)
+
+found_cond : (f : Bound → ℕ) (t : Bool) (b : Bound) (o : Option Bound) → found_or f (cond t (Some b) o) ≡ cond t (f b) (found_or f o)
+found_cond f true b o = refl
+found_cond f false b o = refl
+
+first_bound : (bs : List Bound) (i : Item) (f : Bound → ℕ) → found_or f (find (λ b. same_item b.0 i) bs) ≡ bound_in bs i f
+first_bound [] i f = refl
+first_bound (b ∷ bs) i f = found_cond f (same_item b.0 i) b (find (λ c. same_item c.0 i) bs) ∙ ap (λ n. cond (same_item b.0 i) (f b) n) (first_bound bs i f)
+
+abbrev pub is_missing : ℕ → Option ℕ → Bool
+is_missing p o = not (is_some o)
+
+abbrev pub fell : Bound → Option Bound → Bool
+fell b o = nat_lt (found_or (λ c. c.1) o) b.1
+
+abbrev pub rose : Bound → Option Bound → Bool
+rose b o = nat_lt b.2 (found_or (λ c. c.2) o)
+
+pub walk_missing : {A : Type 0} (v : View) (make : ℕ → A) (xs ys : List ℕ) → in_order v xs ≡ true → in_order v ys ≡ true →
+    walk (below v) (λ p q. eqb p q) is_missing make xs ys ≡ map make (filter (λ p. not (mem ys p)) xs)
+walk_missing v make xs ys hx hy =
+    walk_is (below v) (λ p q. eqb p q) (numbers_order v) is_missing make xs ys (sorted_numbers v xs hx) (sorted_numbers v ys hy)
+    ∙ ap (λ t. map make t) (filter_same_in (λ p. not (is_some (find (λ y. eqb y p) ys))) (λ p. not (mem ys p)) xs (λ p i. ap not (first_mem ys p)))
+
+pub walk_fell : {A : Type 0} (make : Bound → A) (xs ys : List Bound) → items_ascend xs ≡ true → items_ascend ys ≡ true →
+    walk bound_below same_bound fell make xs ys ≡ map make (filter (λ b. nat_lt (bound_in ys b.0 (λ c. c.1)) b.1) xs)
+walk_fell make xs ys hx hy =
+    walk_is bound_below same_bound items_order fell make xs ys (sorted_items xs hx) (sorted_items ys hy)
+    ∙ ap (λ t. map make t) (filter_same_in (λ b. fell b (find (λ c. same_item c.0 b.0) ys)) (λ b. nat_lt (bound_in ys b.0 (λ c. c.1)) b.1) xs (λ b i. ap (λ n. nat_lt n b.1) (first_bound ys b.0 (λ c. c.1))))
+
+pub walk_rose : {A : Type 0} (make : Bound → A) (xs ys : List Bound) → items_ascend xs ≡ true → items_ascend ys ≡ true →
+    walk bound_below same_bound rose make xs ys ≡ map make (filter (λ b. nat_lt b.2 (bound_in ys b.0 (λ c. c.2))) xs)
+walk_rose make xs ys hx hy =
+    walk_is bound_below same_bound items_order rose make xs ys (sorted_items xs hx) (sorted_items ys hy)
+    ∙ ap (λ t. map make t) (filter_same_in (λ b. rose b (find (λ c. same_item c.0 b.0) ys)) (λ b. nat_lt b.2 (bound_in ys b.0 (λ c. c.2))) xs (λ b i. ap (λ n. nat_lt b.2 n) (first_bound ys b.0 (λ c. c.2))))
+
+-- the walk over what is left from a place on
+pub walk_more : {X A : Type 0} (lt eq : X → X → Bool) (test : X → Option X → Bool) (make : X → A) (xs : List X) (i : ℕ) (x : X) (ys zs : List X) →
+    i < length xs → x ≡ get_or xs i x → zs ≡ behind (λ y. lt y x) ys →
+    walk lt eq test make (drop i xs) ys ≡ cond (test x (front (λ y. eq y x) zs)) (make x ∷ walk lt eq test make (drop (i + 1) xs) zs) (walk lt eq test make (drop (i + 1) xs) zs)
+walk_more lt eq test make xs i x ys zs h is rest =
+    at_drop_more (λ t. walk lt eq test make t ys) xs i x h
+    ∙ ap (λ y. walk lt eq test make (y ∷ drop (i + 1) xs) ys) (sym is)
+    ∙ ap (λ t. cond (test x (front (λ y. eq y x) t)) (make x ∷ walk lt eq test make (drop (i + 1) xs) t) (walk lt eq test make (drop (i + 1) xs) t)) (sym rest)
+
+add_at : {A : Type 0} (b : Bool) (out rest : List A) (x : A) → cond b (out ++ x ∷ []) out ++ rest ≡ out ++ cond b (x ∷ rest) rest
+add_at true out rest x = append_assoc out (x ∷ []) rest
+add_at false out rest x = refl
+
+-- one step of the walk
+pub walk_step : {X A : Type 0} (lt eq : X → X → Bool) (test : X → Option X → Bool) (make : X → A) (xs : List X) (i : ℕ) (x : X) (ys zs : List X) (out : List A) (b : Bool) →
+    i < length xs → x ≡ get_or xs i x → zs ≡ behind (λ y. lt y x) ys → b ≡ test x (front (λ y. eq y x) zs) →
+    cond b (out ++ make x ∷ []) out ++ walk lt eq test make (drop (i + 1) xs) zs ≡ out ++ walk lt eq test make (drop i xs) ys
+walk_step lt eq test make xs i x ys zs out b h is rest t =
+    ap (λ c. cond c (out ++ make x ∷ []) out ++ walk lt eq test make (drop (i + 1) xs) zs) t
+    ∙ add_at (test x (front (λ y. eq y x) zs)) out (walk lt eq test make (drop (i + 1) xs) zs) (make x)
+    ∙ ap (λ w. out ++ w) (sym (walk_more lt eq test make xs i x ys zs h is rest))
+
+-- nothing is left to walk over
+pub walk_done : {X A : Type 0} (lt eq : X → X → Bool) (test : X → Option X → Bool) (make : X → A) (xs : List X) (i : ℕ) (ys : List X) (out : List A) →
+    length xs ≤ i → out ++ walk lt eq test make (drop i xs) ys ≡ out
+walk_done lt eq test make xs i ys out h = ap (λ t. out ++ walk lt eq test make t ys) (drop_all i xs h) ∙ append-nil out
+
+-- a later view keeps the order of an earlier one's numbers
+pub slot_same : (old new : View) → Names old new → (p : ℕ) → p < length old.placements → slice_get new.placements p ≡ slice_get old.placements p
+slot_same old new names p h = ap (λ xs. slice_get xs p) names.1 ∙ slice_get_front old.placements names.0 p h
+
+below_same : (old new : View) → Names old new → (p q : ℕ) → p < length old.placements → q < length old.placements → below new p q ≡ below old p q
+below_same old new names p q hp hq =
+    ap (λ o. placed_below o (slice_get new.placements q)) (slot_same old new names p hp) ∙ ap (λ o. placed_below (slice_get old.placements p) o) (slot_same old new names q hq)
+
+pub order_kept : (old new : View) → Names old new → (ps : List ℕ) → list_all (λ p. nat_lt p (length old.placements)) ps ≡ true → in_order old ps ≡ true → in_order new ps ≡ true
+order_kept old new names [] h up = refl
+order_kept old new names (p ∷ ps) h up =
+    let hs = and_parts (nat_lt p (length old.placements)) (list_all (λ q. nat_lt q (length old.placements)) ps) h in
+    let ups = and_parts (list_all (λ q. below old p q) ps) (in_order old ps) up in
+    and_from _ _
+    (all_from (λ q. below new p q) ps (λ q i.
+    below_same old new names p q (ltb-true _ _ hs.0) (ltb-true _ _ (all_in (λ r. nat_lt r (length old.placements)) ps hs.1 q i)) ∙ all_in (λ r. below old p r) ps ups.0 q i))
+    (order_kept old new names ps hs.1 ups.1)
+
+-- an item's bounds are those that stand beside it
+not_itself : (b : Bound) (bs : List Bound) (c : Bound) → list_all (λ d. bound_below b d) bs ≡ true → In c bs → same_item b.0 c.0 ≡ false
+not_itself b bs c h i = false_from_ne_true (same_item b.0 c.0) (items_order.apart b c (all_in (λ d. bound_below b d) bs h c i))
+
+pub bound_of : (bs : List Bound) (f : Bound → ℕ) → items_ascend bs ≡ true → (c : Bound) → In c bs → bound_in bs c.0 f ≡ f c
+bound_of [] f h c i = absurd i
+bound_of (b ∷ bs) f h c (inl e) = cond-true (same_item b.0 c.0) (f b) (bound_in bs c.0 f) (ap (λ d. same_item b.0 d.0) (sym e) ∙ same_item_self b.0) ∙ ap f e
+bound_of (b ∷ bs) f h c (inr i) =
+    let hs = and_parts (list_all (λ d. bound_below b d) bs) (items_ascend bs) h in
+    cond-false (same_item b.0 c.0) (f b) (bound_in bs c.0 f) (not_itself b bs c hs.0 i) ∙ bound_of bs f hs.1 c i
+
+pub least_walked : (old new : View) → WellNamed old → map (λ b. AtLeast b.0 b.1) (filter (λ b. nat_lt (bound_in new.bounds b.0 (λ c. c.1)) b.1) old.bounds) ≡ guards_least old new
+least_walked old new w =
+    let own : (b : Bound) → In b old.bounds → least old b.0 ≡ b.1 = λ b i. bound_of old.bounds (λ c. c.1) w.items_up b i in
+    ap (λ bs. map (λ b. AtLeast b.0 b.1) bs) (filter_same_in (λ b. nat_lt (least new b.0) b.1) (λ b. nat_lt (least new b.0) (least old b.0)) old.bounds (λ b i. ap (λ n. nat_lt (least new b.0) n) (sym (own b i))))
+    ∙ map_same_in (λ b. AtLeast b.0 b.1) (λ b. AtLeast b.0 (least old b.0)) (filter (λ b. nat_lt (least new b.0) (least old b.0)) old.bounds)
+    (λ b i. ap (λ n. AtLeast b.0 n) (sym (own b (filter_in (λ c. nat_lt (least new c.0) (least old c.0)) old.bounds b i).0)))
+
+pub most_walked : (old new : View) → WellNamed old → map (λ b. AtMost b.0 b.2) (filter (λ b. nat_lt b.2 (bound_in new.bounds b.0 (λ c. c.2))) old.bounds) ≡ guards_most old new
+most_walked old new w =
+    let own : (b : Bound) → In b old.bounds → most old b.0 ≡ b.2 = λ b i. bound_of old.bounds (λ c. c.2) w.items_up b i in
+    ap (λ bs. map (λ b. AtMost b.0 b.2) bs) (filter_same_in (λ b. nat_lt b.2 (most new b.0)) (λ b. nat_lt (most old b.0) (most new b.0)) old.bounds (λ b i. ap (λ n. nat_lt n (most new b.0)) (sym (own b i))))
+    ∙ map_same_in (λ b. AtMost b.0 b.2) (λ b. AtMost b.0 (most old b.0)) (filter (λ b. nat_lt (most old b.0) (most new b.0)) old.bounds)
+    (λ b i. ap (λ n. AtMost b.0 n) (sym (own b (filter_in (λ c. nat_lt (most old c.0) (most new c.0)) old.bounds b i).0)))

@@ -1,0 +1,5 @@
+use Rattle.poly_atom.proofs.Opposites.{negation_is_undone_lem}
+use Rattle.poly_atom.proofs.laws.negation_is_undone.Goals as goal
+
+pub returns : goal.returns
+returns c = negation_is_undone_lem

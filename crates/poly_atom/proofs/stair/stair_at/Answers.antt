@@ -1,0 +1,13 @@
+use Rattle.std.proofs.Common.{ap, subst, sym, take, ◌++◌, ◌∙◌, ◌∷◌, []}
+use Rattle.poly_atom.specs.Atoms.{IsSmall, negated}
+use Rattle.poly_atom.proofs.Walks.{small_at, stairs_at}
+use Rattle.poly_atom.proofs.stair.stair_at.Goals as goal
+
+pub negated-requires : goal.negated-requires
+negated-requires c = subst IsSmall (sym c.index-atoms-index.is) (small_at c.args.atoms.now c.args.index c.index-atoms-index.result c.requires.small c.requires.inside)
+
+pub returns : goal.returns
+returns c =
+    c.in_ok-push.ensures.items ∙ ap (λ s. s ++ c.negated.result ∷ []) (c.in_ok-extend_from_slice.ensures.items ∙ ap (λ s. s ++ take c.args.index c.args.atoms.now) c.in_ok-stair.ensures.items)
+    ∙ ap (λ a. take c.args.index c.args.atoms.now ++ a ∷ []) (c.negated.ensures ∙ ap negated c.index-atoms-index.is)
+    ∙ sym (stairs_at c.args.atoms.now c.args.index c.index-atoms-index.result c.requires.inside)

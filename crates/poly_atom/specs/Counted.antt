@@ -1,0 +1,20 @@
+-- Counting what each tiling of a family has, without building the list of it.
+use Rattle.std.specs.Prelude.{Bool, List, [], false, not, ℕ, ◌&&◌, ◌+◌, ◌∷◌}
+use Rattle.poly_tiling.specs.Lists.{mem, one}
+use Rattle.poly_tiling.specs.declared.item.Item.{Item}
+use Rattle.poly_tiling.specs.Puzzle.{View, has_item}
+use Rattle.poly_atom.specs.declared.atom.Atom.{Atom}
+use Rattle.poly_atom.specs.declared.atom.Atom.TheVariants.{AtLeast, AtMost, Has, Lacks}
+use Rattle.poly_atom.specs.Hopeless.{asked}
+
+-- the atom asks for a placement that has the item, is no pin, and is not asked for later
+abbrev pub adds : View → Atom → List Atom → Item → Bool
+adds v (Has p) A i = has_item v p i && not (mem (asked A) p) && not (mem v.pins p)
+adds v (Lacks p) A i = false
+adds v (AtLeast j n) A i = false
+adds v (AtMost j n) A i = false
+
+-- how many of the atoms add one
+abbrev pub extra : View → List Atom → Item → ℕ
+extra v [] i = 0
+extra v (a ∷ A) i = one (adds v a A i) + extra v A i

@@ -1,0 +1,23 @@
+-- The guards of a change.
+use Rattle.std.specs.List.{filter}
+use Rattle.std.specs.Prelude.{List, map, nat_lt, not, ◌++◌}
+use Rattle.poly_tiling.specs.Lists.{mem}
+use Rattle.poly_tiling.specs.Puzzle.{View, least, most}
+use Rattle.poly_atom.specs.declared.atom.Atom.{Atom}
+use Rattle.poly_atom.specs.declared.atom.Atom.TheVariants.{AtLeast, AtMost, Has, Lacks}
+
+abbrev pub guards_fresh : View → View → List Atom
+guards_fresh old new = map (λ p. Lacks p) (filter (λ p. not (mem old.live p)) new.live)
+
+abbrev pub guards_least : View → View → List Atom
+guards_least old new = map (λ b. AtLeast b.0 (least old b.0)) (filter (λ b. nat_lt (least new b.0) (least old b.0)) old.bounds)
+
+abbrev pub guards_most : View → View → List Atom
+guards_most old new = map (λ b. AtMost b.0 (most old b.0)) (filter (λ b. nat_lt (most old b.0) (most new b.0)) old.bounds)
+
+abbrev pub guards_pins : View → View → List Atom
+guards_pins old new = map (λ p. Has p) (filter (λ p. not (mem new.pins p)) old.pins)
+
+-- what the tilings of the old design have among those of the new one
+abbrev pub guards : View → View → List Atom
+guards old new = guards_fresh old new ++ (guards_least old new ++ (guards_most old new ++ guards_pins old new))

@@ -1,0 +1,37 @@
+-- Lists of atoms that no tiling can meet.
+use Rattle.std.specs.List.{list_any}
+use Rattle.std.specs.Prelude.{Bool, List, [], false, nat_lt, not, ℕ, ◌&&◌, ◌==◌, ◌||◌, ◌∷◌}
+use Rattle.poly_tiling.specs.Lists.{mem, put_all}
+use Rattle.poly_tiling.specs.Puzzle.{View, is_piece, clash, count, items, least, most, same_item}
+use Rattle.poly_atom.specs.declared.atom.Atom.{Atom}
+use Rattle.poly_atom.specs.declared.atom.Atom.TheVariants.{AtLeast, AtMost, Has, Lacks}
+
+-- the placements that Has atoms name
+abbrev pub asked : List Atom → List ℕ
+asked [] = []
+asked (Has p ∷ A) = p ∷ asked A
+asked (Lacks p ∷ A) = asked A
+asked (AtLeast i n ∷ A) = asked A
+asked (AtMost i n ∷ A) = asked A
+
+-- what each member of the family has: what is asked for, and the pins
+abbrev pub base : View → List Atom → List ℕ
+base v A = put_all (asked A) (put_all v.pins [])
+
+abbrev pub lacks : Atom → ℕ → Bool
+lacks (Has q) p = false
+lacks (Lacks q) p = q == p
+lacks (AtLeast i n) p = false
+lacks (AtMost i n) p = false
+
+-- an atom that no tiling of the family can meet
+abbrev pub bad : View → List Atom → Atom → Bool
+bad v A (Has p) =
+    not (mem v.live p) || list_any (λ a. lacks a p) A || list_any (λ q. clash v p q) (base v A)
+    || list_any (λ i. is_piece i && nat_lt (most v i) (count v (base v A) i)) (items v p)
+bad v A (Lacks p) = mem v.pins p
+bad v A (AtLeast i n) = list_any (λ b. same_item b.0 i) v.bounds && nat_lt (most v i) n
+bad v A (AtMost i n) = nat_lt n (least v i)
+
+abbrev pub hopeless : View → List Atom → Bool
+hopeless v A = list_any (λ a. bad v A a) A

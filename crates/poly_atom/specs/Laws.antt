@@ -1,0 +1,66 @@
+-- What is proved of atoms.
+use Rattle.std.specs.List.{list_all}
+use Rattle.std.specs.Prelude.{List, [], false, not, true, ℕ, ◌++◌, ◌+◌, ◌∷◌, ◌≡◌}
+use Rattle.poly_tiling.specs.Lists.{one, tally}
+use Rattle.poly_tiling.specs.Puzzle.{View, is_tiling}
+use Rattle.poly_tiling.specs.Names.{Grown, Names, WellNamed}
+use Rattle.poly_atom.specs.declared.atom.Atom.{Atom}
+use Rattle.poly_atom.specs.Atoms.{in_family, meets, meets_all, negated, proper}
+use Rattle.poly_atom.specs.Guards.{guards}
+use Rattle.poly_atom.specs.Stairs.{stairs}
+use Rattle.poly_atom.specs.Hopeless.{hopeless}
+use Rattle.poly_atom.specs.Logs.{without_last}
+
+-- Of the stairs of any guards, a set that breaks a guard meets one, and a set that meets all meets none.
+abbrev pub StairsShareOut : Type 0
+StairsShareOut = (v : View) (T : List ℕ) (g : List Atom) → list_all proper g ≡ true →
+    one (meets_all v T g) + tally (λ A. meets_all v T A) (stairs g) ≡ 1
+
+-- A hopeless list has an empty family.
+abbrev pub HopelessIsEmpty : Type 0
+HopelessIsEmpty = (v : View) (A : List Atom) (T : List ℕ) → hopeless v A ≡ true → in_family v A T ≡ false
+
+-- A tiling of the new design is one of the old exactly if it meets the guards.
+abbrev pub GuardsTell : Type 0
+GuardsTell = (old new : View) (T : List ℕ) → WellNamed old → Names old new → is_tiling new T ≡ true →
+    is_tiling old T ≡ meets_all new T (guards old new)
+
+-- Each stair of a change's guards is hopeless in the design before it.
+abbrev pub StairsWereHopeless : Type 0
+StairsWereHopeless = (old new : View) → list_all (λ A. hopeless old A) (stairs (guards old new)) ≡ true
+
+-- A hopeless list stays hopeless with more atoms, and with more numbers given out.
+abbrev pub HopelessStays : Type 0
+HopelessStays = (v w : View) (A B : List Atom) → Grown v w → hopeless v A ≡ true → hopeless w (A ++ B) ≡ true
+
+-- The same design has no guards.
+abbrev pub SameHasNoGuards : Type 0
+SameHasNoGuards = (v w : View) → Grown v w → guards v w ≡ []
+
+-- Giving numbers out changes no answer of a tiling's.
+abbrev pub AnswersMayGrow : Type 0
+AnswersMayGrow = (v w : View) (T : List ℕ) (A : List Atom) → WellNamed v → Grown v w → is_tiling v T ≡ true → meets_all w T A ≡ meets_all v T A
+
+-- The negation of a negation is the atom itself.
+abbrev pub NegationIsUndone : Type 0
+NegationIsUndone = (a : Atom) → proper a ≡ true → negated (negated a) ≡ a
+
+-- A set meets the negation of an atom exactly if it does not meet the atom.
+abbrev pub NegationIsOpposite : Type 0
+NegationIsOpposite = (v : View) (T : List ℕ) (a : Atom) → proper a ≡ true → meets v T (negated a) ≡ not (meets v T a)
+
+-- Giving numbers out changes no family.
+abbrev pub FamiliesMayGrow : Type 0
+FamiliesMayGrow = (v w : View) (A : List Atom) (T : List ℕ) → WellNamed v → Grown v w → in_family w A T ≡ in_family v A T
+
+-- Giving numbers out changes nothing of what is hopeless.
+abbrev pub HopelessMayGrow : Type 0
+HopelessMayGrow = (v w : View) (A : List Atom) → WellNamed v → Grown v w → hopeless w A ≡ hopeless v A
+
+-- Giving numbers out in either design changes no guard.
+abbrev pub GuardsMayGrow : Type 0
+GuardsMayGrow = (old more new most : View) → Grown old more → Grown new most → guards more most ≡ guards old new
+
+-- Taking the last change's guards back undoes laying them.
+abbrev pub TakenBackIsUndone : Type 0
+TakenBackIsUndone = (log : List (List Atom)) (g : List Atom) → without_last (log ++ g ∷ []) ≡ log

@@ -1,0 +1,9 @@
+pub mod Atoms
+pub mod Guards
+pub mod Stairs
+pub mod Logs
+pub mod LogKept
+pub mod Merge
+pub mod Hopeless
+pub mod Counted
+pub mod Laws

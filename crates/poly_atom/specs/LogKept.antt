@@ -1,0 +1,26 @@
+-- How a log of guards stands as one list and the place where each change's guards start.
+use Rattle.std.specs.Prelude.{List, [], drop, length, take, ℕ, ◌+◌, ◌-◌, ◌∷◌, ◌≡◌}
+use Rattle.poly_atom.specs.declared.atom.Atom.{Atom}
+use Rattle.poly_atom.specs.Atoms.{AllSmall}
+use Rattle.poly_atom.specs.Logs.{flat}
+
+-- where a part ends: where the next one starts, or at the end
+abbrev pub end_of : List ℕ → ℕ → ℕ
+end_of [] n = n
+end_of (s ∷ ss) n = s
+
+-- the parts of a list that start at these places
+abbrev pub rows : List ℕ → List Atom → List (List Atom)
+rows [] all = []
+rows (s ∷ ss) all = take (end_of ss (length all) - s) (drop s all) ∷ rows ss all
+
+-- where each list starts, when they stand one after another behind so many elements
+abbrev pub offsets : ℕ → List (List Atom) → List ℕ
+offsets n [] = []
+offsets n (g ∷ gs) = n ∷ offsets (n + length g) gs
+
+-- the parts are the whole list, and each can be negated
+pub record IsKept (starts : List ℕ) (all : List Atom) : Type 0 where
+  pub starts_are : starts ≡ offsets 0 (rows starts all)
+  pub all_are : all ≡ flat (rows starts all)
+  pub small : AllSmall all

@@ -1,0 +1,12 @@
+-- Two lists in one order, gone through side by side.
+use Rattle.std.specs.Prelude.{Bool, List, None, Option, Some, [], cond, ◌∷◌}
+
+-- the rest of a list from its first element that does not pass
+abbrev pub behind : {X : Type 0} → (X → Bool) → List X → List X
+behind f [] = []
+behind f (x ∷ xs) = cond (f x) (behind f xs) (x ∷ xs)
+
+-- the first element, if it passes
+abbrev pub front : {X : Type 0} → (X → Bool) → List X → Option X
+front f [] = None
+front f (x ∷ xs) = cond (f x) (Some x) None

@@ -1,0 +1,114 @@
+//! The guards of a change: what the tilings of the earlier design have among those of the later one. Each list is found
+//! by going through the two designs' lists side by side, since both stand in one order.
+ghost use Rattle.std.specs.Prelude.{IfErr, IfOk, OnOk, [], if◌then◌else◌, map, nat_lt, not, true, ◌++◌, ◌∷◌, ◌≡◌};
+ghost use Rattle.std.specs.List.{filter};
+ghost use Rattle.poly_atom.specs.Atoms.{AllSmall};
+ghost use Rattle.poly_atom.specs.Guards.{guards};
+ghost use Rattle.poly_tiling.specs.Lists.{mem};
+ghost use Rattle.poly_tiling.specs.Names.{Names, in_order, items_ascend};
+ghost use Rattle.poly_tiling.specs.Puzzle.{bound_in};
+ghost use Rattle.poly_atom.specs.declared.atom.Atom.TheVariants.{AtLeast, AtMost, Has, Lacks};
+
+use crate::atom::Atom;
+use crate::order::{bounds_at, skip_items, skip_numbers, stands_at};
+use poly_grid::Refusal;
+use poly_tiling::{Item, View};
+use std::alloc::{AllocError, Global};
+
+/// The guards of the change from one design to another: `Lacks` of each new placement in placement order, `AtLeast` of
+/// each item whose least fell in item order, `AtMost` of each item whose most rose in item order, `Has` of each pin that
+/// went in the order of the pins. It asks that each number of the earlier view names the same placement in the later one;
+/// only memory refuses.
+pub fn guards(alloc: Global, before: &View, after: &View) -> Result<Vec<Atom>, Refusal>
+    requires { Names before.now after.now }
+    ensures ok { IfOk result (λ atoms. atoms.items ≡ guards before.now after.now) }
+    ensures small { IfOk result (λ atoms. AllSmall atoms.items) }
+    ensures why { IfErr result (λ e. e ≡ Refusal.Memory) }
+{
+    let fresh = missing(alloc, after, after.live(), before.live())?;
+    let atoms = lacks_all(alloc, &fresh)?;
+    let atoms = with_fallen(before.items(), after.items(), atoms)?;
+    let mut atoms = with_risen(before.items(), after.items(), atoms)?;
+    let freed = missing(alloc, after, before.pins(), after.pins())?;
+    let asked = has_all(alloc, &freed)?;
+    atoms.extend_from_slice(&asked)?;
+    Ok(atoms)
+}
+
+// The numbers that aren't among the others.
+fn missing(
+    alloc: Global,
+    view: &View,
+    numbers: &[u32],
+    others: &[u32],
+) -> Result<Vec<u32>, AllocError>
+    requires numbers_up { in_order view.now numbers.now ≡ true }
+    requires others_up { in_order view.now others.now ≡ true }
+    ensures { IfOk result (λ rest. rest.items ≡ filter (λ p. not (mem others.now p)) numbers.now) }
+{
+    let mut rest = Vec::new(alloc);
+    let mut at = 0;
+    for p in numbers {
+        at = skip_numbers(view, others, at, *p);
+        let is_missing = !stands_at(others, at, *p);
+        add_if(is_missing, *p, &mut rest)?;
+    }
+    Ok(rest)
+}
+
+fn lacks_all(alloc: Global, numbers: &[u32]) -> Result<Vec<Atom>, AllocError>
+    ensures { IfOk result (λ atoms. atoms.items ≡ map (λ p. Lacks p) numbers.now) }
+{
+    numbers.iter().map(|p| Atom::Lacks(*p)).collect(alloc)
+}
+
+fn has_all(alloc: Global, numbers: &[u32]) -> Result<Vec<Atom>, AllocError>
+    ensures { IfOk result (λ atoms. atoms.items ≡ map (λ p. Has p) numbers.now) }
+{
+    numbers.iter().map(|p| Atom::Has(*p)).collect(alloc)
+}
+
+fn with_fallen(
+    old: &[(Item, u8, u8)],
+    new: &[(Item, u8, u8)],
+    mut atoms: Vec<Atom>,
+) -> Result<Vec<Atom>, AllocError>
+    requires old_up { items_ascend old.now ≡ true }
+    requires new_up { items_ascend new.now ≡ true }
+    ensures { IfOk result (λ all. all.items ≡ atoms.items ++ map (λ b. AtLeast b.0 b.1) (filter (λ b. nat_lt (bound_in new.now b.0 (λ c. c.1)) b.1) old.now)) }
+{
+    let mut at = 0;
+    for bound in old {
+        at = skip_items(new, at, &bound.0);
+        let fell = bounds_at(new, at, &bound.0).0 < bound.1;
+        add_if(fell, Atom::AtLeast(bound.0, bound.1), &mut atoms)?;
+    }
+    Ok(atoms)
+}
+
+fn with_risen(
+    old: &[(Item, u8, u8)],
+    new: &[(Item, u8, u8)],
+    mut atoms: Vec<Atom>,
+) -> Result<Vec<Atom>, AllocError>
+    requires old_up { items_ascend old.now ≡ true }
+    requires new_up { items_ascend new.now ≡ true }
+    ensures { IfOk result (λ all. all.items ≡ atoms.items ++ map (λ b. AtMost b.0 b.2) (filter (λ b. nat_lt b.2 (bound_in new.now b.0 (λ c. c.2))) old.now)) }
+{
+    let mut at = 0;
+    for bound in old {
+        at = skip_items(new, at, &bound.0);
+        let rose = bound.2 < bounds_at(new, at, &bound.0).1;
+        add_if(rose, Atom::AtMost(bound.0, bound.2), &mut atoms)?;
+    }
+    Ok(atoms)
+}
+
+fn add_if<T: Drop>(wanted: bool, item: T, items: &mut Vec<T>) -> Result<(), AllocError>
+    ensures { OnOk result (items.new.items ≡ (if wanted then items.old.items ++ item ∷ [] else items.old.items)) }
+{
+    if wanted {
+        items.push(item)?;
+    }
+    Ok(())
+}

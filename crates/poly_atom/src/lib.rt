@@ -1,0 +1,23 @@
+//! Atoms, guards, stairs and hopeless lists: the words in which search tasks are said.
+#![tactic(auto)]
+
+mod atom;
+mod change;
+mod doom;
+mod laws;
+mod log;
+mod order;
+mod stair;
+#[cfg(test)]
+mod tests;
+
+pub use atom::Atom;
+pub use change::guards;
+pub use doom::hopeless;
+pub use laws::{
+    answers_may_grow, families_may_grow, guards_may_grow, guards_tell, hopeless_is_empty,
+    hopeless_may_grow, hopeless_stays, negation_is_opposite, negation_is_undone,
+    same_has_no_guards, stairs_share_out, stairs_were_hopeless, taken_back_is_undone,
+};
+pub use log::GuardLog;
+pub use stair::{Stair, staircase};

@@ -1,0 +1,140 @@
+//! The guards of all changes, each change's laid once.
+ghost use Rattle.std.specs.Prelude.{IfErr, List, OnErr, OnOk, [], drop, length, slice_index_or, take, ◌++◌, ◌+◌, ◌<◌, ◌≤◌, ◌∷◌, ◌≡◌};
+ghost use Rattle.poly_atom.specs.Atoms.{AllSmall};
+ghost use Rattle.poly_atom.specs.LogKept.{IsKept, rows};
+ghost use Rattle.poly_atom.specs.Logs.{flat, without_last};
+ghost use Rattle.poly_atom.specs.Stairs.{stairs};
+
+use crate::atom::Atom;
+use poly_grid::Refusal;
+use std::alloc::Global;
+use std::marker::Model;
+
+/// The guards of each change, by edition: those of the change that led from edition 0 first. All of them can be
+/// negated.
+#[derive(Debug, Drop)]
+pub struct GuardLog {
+    guards: Vec<Atom>,
+    starts: Vec<usize>,
+}
+
+impl Model for GuardLog {
+    ghost use Rattle.std.specs.Prelude.{List};
+    ghost use Rattle.poly_atom.specs.declared.atom.Atom.{Atom};
+    ghost use Rattle.poly_atom.specs.LogKept.{IsKept, rows};
+
+    ghost Value = { List (List Atom) };
+
+    ghost view = { λ l. rows l.starts.items l.guards.items };
+
+    ghost invariant = { λ l. IsKept l.starts.items l.guards.items };
+}
+
+impl GuardLog {
+    /// No changes yet.
+    pub fn new(alloc: Global) -> GuardLog
+        ensures { result ≡ [] }
+    {
+        GuardLog {
+            guards: Vec::new(alloc),
+            starts: Vec::new(alloc),
+        }
+    }
+
+    /// How many changes there were.
+    pub fn len(&self) -> usize
+        ensures { result ≡ length self.now }
+    {
+        self.starts.len()
+    }
+
+    /// The guards of every change after the edition, in order; none at the last edition and beyond.
+    pub fn since(&self, edition: u64) -> &[Atom]
+        ensures { result.now ≡ flat (drop edition self.now) }
+    {
+        rest(&self.guards, &self.starts, edition as usize)
+    }
+
+    /// The guards of the change that led from the edition; none where there was no such change.
+    pub fn guards_of(&self, edition: u64) -> &[Atom]
+        ensures value { result.now ≡ slice_index_or self.now edition [] }
+        ensures small { AllSmall result.now }
+    {
+        part(&self.guards, &self.starts, edition as usize)
+    }
+
+    /// How many stairs the guards of the change that led from the edition have.
+    pub fn stair_count(&self, edition: u64) -> usize
+        ensures { result ≡ length (stairs (slice_index_or self.now edition [])) }
+    {
+        self.guards_of(edition).len()
+    }
+
+    /// Adds the guards of one more change. A refusal is for memory, and leaves the log as it was.
+    pub fn push(&mut self, guards: Vec<Atom>) -> Result<(), Refusal>
+        requires { AllSmall guards.items }
+        ensures ok { OnOk result (self.new ≡ self.old ++ guards.items ∷ []) }
+        ensures err { OnErr result (self.new ≡ self.old) }
+        ensures why { IfErr result (λ e. e ≡ Refusal.Memory) }
+    {
+        let start = self.guards.len();
+        self.starts.reserve(1)?;
+        self.guards.extend_from_slice(&guards)?;
+        self.starts.push_reserved(start);
+        Ok(())
+    }
+
+    /// Takes the last change's guards back.
+    pub fn pop(&mut self)
+        requires { 0 < length self.old }
+        ensures { self.new ≡ without_last self.old }
+    {
+        if let Some(start) = self.starts.pop() {
+            self.guards.truncate(start);
+        }
+    }
+}
+
+fn rest<'a>(guards: &'a [Atom], starts: &'a [usize], edition: usize) -> &'a [Atom]
+    requires { IsKept starts.now guards.now }
+    ensures { result.now ≡ flat (drop edition (rows starts.now guards.now)) }
+{
+    let start = start_of(guards, starts, edition);
+    &guards[start..]
+}
+
+fn part<'a>(guards: &'a [Atom], starts: &'a [usize], edition: usize) -> &'a [Atom]
+    requires { IsKept starts.now guards.now }
+    ensures value { result.now ≡ slice_index_or (rows starts.now guards.now) edition [] }
+    ensures small { AllSmall result.now }
+{
+    let start = start_of(guards, starts, edition);
+    let end = end_of(guards, starts, edition);
+    &guards[start..end]
+}
+
+// Where the guards of the edition start.
+fn start_of(guards: &[Atom], starts: &[usize], edition: usize) -> usize
+    requires { IsKept starts.now guards.now }
+    ensures value { result ≡ length (flat (take edition (rows starts.now guards.now))) }
+    ensures inside { result ≤ length guards.now }
+{
+    if edition < starts.len() {
+        starts[edition]
+    } else {
+        guards.len()
+    }
+}
+
+// Where the guards of the edition end.
+fn end_of(guards: &[Atom], starts: &[usize], edition: usize) -> usize
+    requires { IsKept starts.now guards.now }
+    ensures value { result ≡ length (flat (take (edition + 1) (rows starts.now guards.now))) }
+    ensures inside { result ≤ length guards.now }
+{
+    if edition < starts.len() {
+        start_of(guards, starts, edition + 1)
+    } else {
+        guards.len()
+    }
+}

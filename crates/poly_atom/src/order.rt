@@ -1,0 +1,141 @@
+//! Numbers in the order of their placements and items in theirs: how to compare two, and how to go on to one.
+ghost use Rattle.std.specs.Prelude.{drop, is_some, length, true, ℕ, ◌==◌, ◌≡◌, ◌≤◌};
+ghost use Rattle.std.specs.List.{list_any};
+ghost use Rattle.std.specs.Ordering.{is_lt};
+ghost use Rattle.poly_atom.specs.Merge.{behind, front};
+ghost use Rattle.poly_tiling.specs.Lists.{mem};
+ghost use Rattle.poly_tiling.specs.Names.{below, in_order, item_cmp, items_ascend, placement_cmp};
+ghost use Rattle.poly_tiling.specs.Puzzle.{Bound, bound_in, found_or, same_item};
+
+use poly_design::Placement;
+use poly_tiling::{Item, View};
+
+/// Whether the placement of the first number comes before that of the second.
+pub fn is_below(view: &View, first: u32, second: u32) -> bool
+    ensures { result ≡ below view.now first second }
+{
+    if first == second {
+        return false;
+    }
+    are_in_order(view, first, second)
+}
+
+fn are_in_order(view: &View, first: u32, second: u32) -> bool
+    ensures { result ≡ below view.now first second }
+{
+    match view.placement(first) {
+        None => false,
+        Some(a) => match view.placement(second) {
+            None => false,
+            Some(b) => comes_before(&a, &b),
+        },
+    }
+}
+
+fn comes_before(a: &Placement, b: &Placement) -> bool
+    ensures { result ≡ is_lt (placement_cmp a.now b.now) }
+{
+    a < b
+}
+
+/// Whether the first item comes before the second.
+pub fn is_item_below(first: &Item, second: &Item) -> bool
+    ensures { result ≡ is_lt (item_cmp first.now second.now) }
+{
+    first < second
+}
+
+/// The first place from there on whose number isn't below this one.
+pub fn skip_numbers(view: &View, numbers: &[u32], from: usize, number: u32) -> usize
+    requires { from ≤ length numbers.now }
+    ensures rest { drop result numbers.now ≡ behind (λ p. below view.now p number) (drop from numbers.now) }
+    ensures inside { result ≤ length numbers.now }
+{
+    for at in from..numbers.len() {
+        if !is_below(view, numbers[at], number) {
+            return at;
+        }
+    }
+    numbers.len()
+}
+
+/// Whether the number stands at the place.
+pub fn stands_at(numbers: &[u32], at: usize, number: u32) -> bool
+    ensures { result ≡ is_some (front (λ p. p == number) (drop at numbers.now)) }
+{
+    at < numbers.len() && numbers[at] == number
+}
+
+/// The first place from there on whose item isn't below this one.
+pub fn skip_items(bounds: &[(Item, u8, u8)], from: usize, item: &Item) -> usize
+    requires { from ≤ length bounds.now }
+    ensures rest { drop result bounds.now ≡ behind (λ b. is_lt (item_cmp b.0 item.now)) (drop from bounds.now) }
+    ensures inside { result ≤ length bounds.now }
+{
+    for at in from..bounds.len() {
+        if !is_item_below(&bounds[at].0, item) {
+            return at;
+        }
+    }
+    bounds.len()
+}
+
+/// The least and the most of the item, 0 and 0 if it doesn't stand at the place.
+pub fn bounds_at(bounds: &[(Item, u8, u8)], at: usize, item: &Item) -> (u8, u8)
+    ensures least { result.0 ≡ found_or (λ b. b.1) (front (λ b. same_item b.0 item.now) (drop at bounds.now)) }
+    ensures most { result.1 ≡ found_or (λ b. b.2) (front (λ b. same_item b.0 item.now) (drop at bounds.now)) }
+{
+    if at >= bounds.len() {
+        return (0, 0);
+    }
+    let bound = bounds[at];
+    if bound.0.is(item) {
+        return (bound.1, bound.2);
+    }
+    (0, 0)
+}
+
+/// Whether the number stands in the list.
+pub fn stands_in(view: &View, numbers: &[u32], number: u32) -> bool
+    requires { in_order view.now numbers.now ≡ true }
+    ensures { result ≡ mem numbers.now number }
+{
+    let mut low = 0;
+    let mut high = numbers.len();
+    while low < high {
+        let middle = low + (high - low) / 2;
+        let here = numbers[middle];
+        if here == number {
+            return true;
+        }
+        if is_below(view, here, number) {
+            low = middle + 1;
+        } else {
+            high = middle;
+        }
+    }
+    false
+}
+
+/// The item with its bounds, where it is there.
+pub fn find_item(bounds: &[(Item, u8, u8)], item: &Item) -> Option<(Item, u8, u8)>
+    requires { items_ascend bounds.now ≡ true }
+    ensures bounds { (f : Bound → ℕ) → bound_in bounds.now item.now f ≡ found_or f result }
+    ensures there { is_some result ≡ list_any (λ b. same_item b.0 item.now) bounds.now }
+{
+    let mut low = 0;
+    let mut high = bounds.len();
+    while low < high {
+        let middle = low + (high - low) / 2;
+        let here = bounds[middle];
+        if here.0.is(item) {
+            return Some(here);
+        }
+        if is_item_below(&here.0, item) {
+            low = middle + 1;
+        } else {
+            high = middle;
+        }
+    }
+    None
+}

@@ -1,0 +1,59 @@
+//! Stairs: for each guard the guards before it and its negation, so that a set that breaks some guard meets exactly one.
+ghost use Rattle.std.specs.Prelude.{IfErr, IfOk, [], length, map, slice_index_or, ◌<◌, ◌≡◌};
+ghost use Rattle.poly_atom.specs.Atoms.{AllSmall};
+ghost use Rattle.poly_atom.specs.Logs.{IsStairOf, stair_of};
+ghost use Rattle.poly_atom.specs.Stairs.{stairs};
+
+use crate::atom::Atom;
+use crate::log::GuardLog;
+use poly_grid::Refusal;
+use std::alloc::{AllocError, Global};
+
+/// One stair of a change: the guards of the change from the edition, up to the index, and the negation of the guard
+/// there.
+#[derive(Clone, Copy, Debug, PartialEq, Eq)]
+pub struct Stair {
+    /// The edition that the change led from.
+    pub edition: u64,
+    /// The place of the negated guard among the change's guards, from 0 on.
+    pub index: usize,
+}
+
+impl Stair {
+    /// The atoms of the stair. It asks that the log has the edition and that edition's guards the index; only memory
+    /// refuses.
+    pub fn atoms(&self, alloc: Global, log: &GuardLog) -> Result<Vec<Atom>, Refusal>
+        requires { IsStairOf log.now self.now }
+        ensures ok { IfOk result (λ atoms. atoms.items ≡ stair_of log.now self.now) }
+        ensures why { IfErr result (λ e. e ≡ Refusal.Memory) }
+    {
+        let atoms = stair_at(alloc, log.guards_of(self.edition), self.index)?;
+        Ok(atoms)
+    }
+}
+
+/// For each atom the list of those before it and its negation, in order. It asks that each can be negated; only memory
+/// refuses.
+pub fn staircase(alloc: Global, atoms: &[Atom]) -> Result<Vec<Vec<Atom>>, Refusal>
+    requires { AllSmall atoms.now }
+    ensures ok { IfOk result (λ all. map (λ stair. stair.items) all.items ≡ stairs atoms.now) }
+    ensures why { IfErr result (λ e. e ≡ Refusal.Memory) }
+{
+    let mut all = Vec::new(alloc);
+    for i in 0..atoms.len() {
+        let stair = stair_at(alloc, atoms, i)?;
+        all.push(stair)?;
+    }
+    Ok(all)
+}
+
+fn stair_at(alloc: Global, atoms: &[Atom], index: usize) -> Result<Vec<Atom>, AllocError>
+    requires inside { index < length atoms.now }
+    requires small { AllSmall atoms.now }
+    ensures { IfOk result (λ stair. stair.items ≡ slice_index_or (stairs atoms.now) index []) }
+{
+    let mut stair = Vec::with_capacity(alloc, index + 1)?;
+    stair.extend_from_slice(&atoms[..index])?;
+    stair.push(atoms[index].negated())?;
+    Ok(stair)
+}
