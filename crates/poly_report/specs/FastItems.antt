@@ -1,0 +1,28 @@
+-- Items by their places among the items of a view.
+use Rattle.std.specs.Prelude.{List, length, nat_lt, slice_index_or, true, ℕ, ◌<◌, ◌==◌, ◌≡◌, ◌≤◌}
+use Rattle.std.specs.List.{list_all, list_any}
+use Rattle.poly_grid.specs.Spot.{Spot}
+use Rattle.poly_tiling.specs.declared.item.Item.{Item}
+use Rattle.poly_tiling.specs.declared.item.Item.TheVariants.{Cell}
+use Rattle.poly_tiling.specs.Lists.{one, tally}
+use Rattle.poly_tiling.specs.Puzzle.{Bound, View, same_item}
+
+abbrev pub no_bound : Bound
+no_bound = (Cell (record { x = 0; y = 0 }), 0, 0)
+
+abbrev pub item_at : List Bound → ℕ → Item
+item_at bounds b = (slice_index_or bounds b no_bound).0
+
+-- the item at a place of the view's items
+abbrev pub item_of : View → ℕ → Item
+item_of v b = item_at v.bounds b
+
+-- how often a number stands in a list
+abbrev pub times : List ℕ → ℕ → ℕ
+times xs b = tally (λ x. x == b) xs
+
+-- the places of those items that are items of the view, each once
+pub record Noted (bounds : List Bound) (is : List Item) (places : List ℕ) : Type 0 where
+  pub few : length places ≤ length is
+  pub low : list_all (λ b. nat_lt b (length bounds)) places ≡ true
+  pub once : (b : ℕ) → b < length bounds → times places b ≡ one (list_any (λ i. same_item i (item_at bounds b)) is)

@@ -1,0 +1,17 @@
+pub mod Trees
+pub mod Shapes
+pub mod Sizes
+pub mod Holds
+pub mod Leaves
+pub mod Walk
+pub mod Plain
+pub mod Frames
+pub mod Lending
+pub mod Gather
+pub mod Laws
+pub mod Bits
+pub mod FastItems
+pub mod FastTable
+pub mod FastSteps
+pub mod FastFrame
+pub mod FastLending

@@ -1,0 +1,264 @@
+//! Whether a tree holds, and what it leaves: one walk over a frame tells both.
+ghost use Rattle.std.specs.Prelude.{IfErr, IfOk, MatchOption, [], false, length, true, ◌+◌, ◌++◌, ◌<◌, ◌≡◌, ◌≤◌, ◌∷◌, OnOk};
+ghost use Rattle.poly_tiling.specs.Lists.{distinct};
+ghost use Rattle.poly_atom.specs.declared.atom.Atom.TheVariants.{Has as HasAtom};
+ghost use Rattle.poly_report.specs.Trees.{Finds, heads};
+ghost use Rattle.poly_report.specs.Shapes.{arms_list, plan_of};
+ghost use Rattle.poly_report.specs.Sizes.{arms_total, fits, total};
+ghost use Rattle.poly_report.specs.Holds.{arms_hold, holds};
+ghost use Rattle.poly_report.specs.Leaves.{arms_rests, arms_tilings, rests, tilings};
+ghost use Rattle.poly_report.specs.Gather.{IsCutUp, lists, taken_holds, taken_rests, taken_tilings};
+
+use crate::frame::Frame;
+use crate::leaf::Leaves;
+use crate::tree::{Arm, Tree};
+use poly_atom::Atom;
+use poly_grid::Refusal;
+use poly_tiling::View;
+use std::alloc::Global;
+
+fn push_found(alloc: Global, frame: &Frame<'_>, out: &mut Leaves) -> Result<(), Refusal>
+    ensures tilings { OnOk result (lists out.new.tilings.items ≡ lists out.old.tilings.items ++ tilings frame.now.scene frame.now.atoms Finds) }
+    ensures rests { OnOk result (out.new.rests.items ≡ out.old.rests.items) }
+    ensures why { IfErr result (λ e. e ≡ Refusal.Memory) }
+{
+    if let Some(tiling) = frame.found(alloc)? {
+        out.tilings.push(tiling)?;
+    }
+    Ok(())
+}
+
+fn push_rest(alloc: Global, frame: &Frame<'_>, out: &mut Leaves) -> Result<(), Refusal>
+    ensures tilings { OnOk result (out.new.tilings.items ≡ out.old.tilings.items) }
+    ensures rests { OnOk result (lists out.new.rests.items ≡ lists out.old.rests.items ++ frame.now.atoms ∷ []) }
+    ensures why { IfErr result (λ e. e ≡ Refusal.Memory) }
+{
+    let rest = Vec::from_slice(alloc, frame.atoms())?;
+    out.rests.push(rest)?;
+    Ok(())
+}
+
+// The rest of a placement that would be taken: the step itself is spared.
+fn push_rest_with(
+    alloc: Global,
+    frame: &Frame<'_>,
+    placement: u32,
+    out: &mut Leaves,
+) -> Result<(), Refusal>
+    ensures tilings { OnOk result (out.new.tilings.items ≡ out.old.tilings.items) }
+    ensures rests { OnOk result (lists out.new.rests.items ≡ lists out.old.rests.items ++ (frame.now.atoms ++ HasAtom placement ∷ []) ∷ []) }
+    ensures why { IfErr result (λ e. e ≡ Refusal.Memory) }
+{
+    let mut rest = Vec::from_slice(alloc, frame.atoms())?;
+    rest.push(Atom::Has(placement))?;
+    out.rests.push(rest)?;
+    Ok(())
+}
+
+// Walks a tree at the frame's atoms. A tree that holds leaves the frame as it was, and its leaves are kept on demand.
+#[cycle(walk)]
+fn walk(
+    alloc: Global,
+    frame: &mut Frame<'_>,
+    tree: &Tree,
+    keep: bool,
+    out: &mut Leaves,
+) -> Result<bool, Refusal>
+    requires begun { frame.old.given ≤ length frame.old.atoms }
+    requires steps { length frame.old.atoms + total (plan_of tree.now) ≤ frame.old.given + 4097 }
+    ensures same { IfOk result (λ yes. yes ≡ true → frame.new ≡ frame.old) }
+    ensures says { IfOk result (λ yes. yes ≡ holds frame.old.scene frame.old.atoms (plan_of tree.now)) }
+    ensures tilings { IfOk result (λ yes. yes ≡ true → keep ≡ true → lists out.new.tilings.items ≡ lists out.old.tilings.items ++ tilings frame.old.scene frame.old.atoms (plan_of tree.now)) }
+    ensures rests { IfOk result (λ yes. yes ≡ true → keep ≡ true → lists out.new.rests.items ≡ lists out.old.rests.items ++ rests frame.old.scene frame.old.atoms (plan_of tree.now)) }
+    ensures why { IfErr result (λ e. e ≡ Refusal.Memory) }
+{
+    match tree {
+        Tree::Rest => {
+            if keep {
+                push_rest(alloc, frame, out)?;
+            }
+            Ok(true)
+        }
+        Tree::Found => {
+            if !frame.none_open() {
+                return Ok(false);
+            }
+            if keep {
+                push_found(alloc, frame, out)?;
+            }
+            Ok(true)
+        }
+        Tree::Branch { item, arms } => {
+            if !frame.arms_fit(*item, arms) {
+                return Ok(false);
+            }
+            let yes = walk_arms(alloc, frame, arms, keep, out)?;
+            Ok(yes)
+        }
+        Tree::Split {
+            placement,
+            taken,
+            left,
+        } => {
+            let yes = walk_taken(alloc, frame, *placement, taken, keep, out)?;
+            if !yes {
+                return Ok(false);
+            }
+            frame.leave(*placement);
+            let both = walk(alloc, frame, left, keep, out)?;
+            if !both {
+                return Ok(false);
+            }
+            frame.back();
+            Ok(true)
+        }
+    }
+}
+
+// Walks the trees of a Branch's arms, each behind the leaving of the arms before it.
+#[cycle(walk)]
+fn walk_arms(
+    alloc: Global,
+    frame: &mut Frame<'_>,
+    arms: &[Arm],
+    keep: bool,
+    out: &mut Leaves,
+) -> Result<bool, Refusal>
+    requires begun { frame.old.given ≤ length frame.old.atoms }
+    requires steps { length frame.old.atoms + arms_total (arms_list arms.now) ≤ frame.old.given + 4096 }
+    requires once { distinct (heads (arms_list arms.now)) ≡ true }
+    ensures same { IfOk result (λ yes. yes ≡ true → frame.new ≡ frame.old) }
+    ensures says { IfOk result (λ yes. yes ≡ arms_hold frame.old.scene frame.old.atoms [] (arms_list arms.now)) }
+    ensures tilings { IfOk result (λ yes. yes ≡ true → keep ≡ true → lists out.new.tilings.items ≡ lists out.old.tilings.items ++ arms_tilings frame.old.scene frame.old.atoms [] (arms_list arms.now)) }
+    ensures rests { IfOk result (λ yes. yes ≡ true → keep ≡ true → lists out.new.rests.items ≡ lists out.old.rests.items ++ arms_rests frame.old.scene frame.old.atoms [] (arms_list arms.now)) }
+    ensures why { IfErr result (λ e. e ≡ Refusal.Memory) }
+{
+    let mark = frame.mark();
+    for arm in arms {
+        let yes = walk_taken(alloc, frame, arm.placement, &arm.tree, keep, out)?;
+        if !yes {
+            return Ok(false);
+        }
+        frame.leave(arm.placement);
+    }
+    frame.back_to(mark);
+    Ok(true)
+}
+
+// Walks the tree that hangs under a placement to take; what hangs under a dead one is not looked at.
+#[cycle(walk)]
+fn walk_taken(
+    alloc: Global,
+    frame: &mut Frame<'_>,
+    placement: u32,
+    tree: &Tree,
+    keep: bool,
+    out: &mut Leaves,
+) -> Result<bool, Refusal>
+    requires begun { frame.old.given ≤ length frame.old.atoms }
+    requires steps { length frame.old.atoms + total (plan_of tree.now) ≤ frame.old.given + 4096 }
+    ensures same { IfOk result (λ yes. yes ≡ true → frame.new ≡ frame.old) }
+    ensures says { IfOk result (λ yes. yes ≡ taken_holds frame.old.scene frame.old.atoms placement (plan_of tree.now)) }
+    ensures tilings { IfOk result (λ yes. yes ≡ true → keep ≡ true → lists out.new.tilings.items ≡ lists out.old.tilings.items ++ taken_tilings frame.old.scene frame.old.atoms placement (plan_of tree.now)) }
+    ensures rests { IfOk result (λ yes. yes ≡ true → keep ≡ true → lists out.new.rests.items ≡ lists out.old.rests.items ++ taken_rests frame.old.scene frame.old.atoms placement (plan_of tree.now)) }
+    ensures why { IfErr result (λ e. e ≡ Refusal.Memory) }
+{
+    if frame.dead(placement) {
+        return Ok(true);
+    }
+    if let Tree::Rest = tree {
+        if keep {
+            push_rest_with(alloc, frame, placement, out)?;
+        }
+        return Ok(true);
+    }
+    frame.pick(placement);
+    let yes = walk(alloc, frame, tree, keep, out)?;
+    if !yes {
+        return Ok(false);
+    }
+    frame.back();
+    Ok(true)
+}
+
+/// Whether a tree holds: whether it accounts for each tiling that meets the atoms, by a tiling or by a rest.
+#[tactic(auto, using(crate::proofs::Measures::fits_total))]
+pub fn holds(alloc: Global, view: &View, atoms: &[Atom], tree: &Tree) -> Result<bool, Refusal>
+    requires { fits (plan_of tree.now) ≡ true }
+    ensures value { IfOk result (λ yes. yes ≡ holds view.now atoms.now (plan_of tree.now)) }
+    ensures why { IfErr result (λ e. e ≡ Refusal.Memory) }
+{
+    let mut frame = Frame::new(alloc, view, atoms)?;
+    let mut none = no_leaves(alloc);
+    let yes = walk(alloc, &mut frame, tree, false, &mut none)?;
+    Ok(yes)
+}
+
+/// The leaves of a tree that holds, in the order of the tree: what is taken before what is left.
+#[tactic(auto, using(crate::proofs::Measures::fits_total))]
+pub fn leaves(alloc: Global, view: &View, atoms: &[Atom], tree: &Tree) -> Result<Leaves, Refusal>
+    requires small { fits (plan_of tree.now) ≡ true }
+    requires right { holds view.now atoms.now (plan_of tree.now) ≡ true }
+    ensures tilings { IfOk result (λ l. lists l.tilings.items ≡ tilings view.now atoms.now (plan_of tree.now)) }
+    ensures rests { IfOk result (λ l. lists l.rests.items ≡ rests view.now atoms.now (plan_of tree.now)) }
+    ensures why { IfErr result (λ e. e ≡ Refusal.Memory) }
+{
+    let mut frame = Frame::new(alloc, view, atoms)?;
+    let mut all = no_leaves(alloc);
+    let _ = walk(alloc, &mut frame, tree, true, &mut all)?;
+    Ok(all)
+}
+
+/// The leaves of a tree, where it holds; none where it does not. One walk does what `holds` and `leaves` do.
+#[tactic(auto, using(crate::proofs::Measures::fits_total))]
+pub fn cut_up(
+    alloc: Global,
+    view: &View,
+    atoms: &[Atom],
+    tree: &Tree,
+) -> Result<Option<Leaves>, Refusal>
+    requires { fits (plan_of tree.now) ≡ true }
+    ensures value { IfOk result (λ o. MatchOption o (holds view.now atoms.now (plan_of tree.now) ≡ false) (λ l. IsCutUp view.now atoms.now (plan_of tree.now) (lists l.tilings.items) (lists l.rests.items))) }
+    ensures why { IfErr result (λ e. e ≡ Refusal.Memory) }
+{
+    let mut frame = Frame::new(alloc, view, atoms)?;
+    let mut all = no_leaves(alloc);
+    let yes = walk(alloc, &mut frame, tree, true, &mut all)?;
+    if !yes {
+        return Ok(None);
+    }
+    Ok(Some(all))
+}
+
+fn no_leaves(alloc: Global) -> Leaves
+    ensures tilings { result.tilings.items ≡ [] }
+    ensures rests { result.rests.items ≡ [] }
+{
+    Leaves {
+        tilings: Vec::new(alloc),
+        rests: Vec::new(alloc),
+    }
+}
+
+#[cfg(test)]
+mod tests {
+    use super::*;
+    use std::test::Fail;
+
+    #[test]
+    fn the_empty_design_has_one_tiling(rt: HostRuntime) -> Result<(), Fail> {
+        let alloc = rt.alloc();
+        let view = View::with(
+            Vec::new(alloc),
+            Vec::new(alloc),
+            Vec::new(alloc),
+            Vec::new(alloc),
+        );
+        assert!(rt; holds(alloc, &view, &[], &Tree::Found)?);
+        let found = cut_up(alloc, &view, &[], &Tree::Found)?.ok_or("it holds")?;
+        assert_eq!(rt; (found.tilings.len(), found.rests.len()), (1, 0));
+        let left = leaves(alloc, &view, &[Atom::Lacks(0)], &Tree::Rest)?;
+        assert_eq!(rt; (left.tilings.len(), left.rests.len()), (0, 1));
+        Ok(())
+    }
+}

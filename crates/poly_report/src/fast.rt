@@ -1,0 +1,249 @@
+//! A place in a search, kept as bits: rows of words for the placements that were open at the start. A step copies the
+//! last row and takes out what it closes, so nothing is searched and no memory is taken after the start. Bits in place of
+//! the linked lists of Knuth's dancing links (The Art of Computer Programming, volume 4B, section 7.2.2.1).
+ghost use Rattle.std.specs.Prelude.{IfErr, IfOk, MatchOption, false, length, not, true, ℕ, ◌&&◌, ◌+◌, ◌-◌, ◌<◌, ◌≡◌, ◌≤◌};
+ghost use Rattle.std.specs.List.{list_all};
+ghost use Rattle.poly_tiling.specs.Lists.{distinct, mem};
+ghost use Rattle.poly_tiling.specs.Names.{WellNamed};
+ghost use Rattle.poly_atom.specs.Atoms.{in_family};
+ghost use Rattle.poly_atom.specs.Hopeless.{base};
+ghost use Rattle.poly_report.specs.Holds.{arms_fit, dead};
+ghost use Rattle.poly_report.specs.Trees.{heads};
+ghost use Rattle.poly_report.specs.Shapes.{arms_list};
+ghost use Rattle.poly_report.specs.Walk.{back_to, is_due, is_open, is_option, with_step};
+
+mod items;
+mod looks;
+mod steps;
+mod table;
+
+use crate::fast::items::guess_cells;
+use crate::fast::steps::{Steps, start};
+use crate::fast::table::{Table, counts_of, table_of};
+use crate::frame::STEPS;
+use crate::plain;
+use crate::tree::Arm;
+use poly_atom::Atom;
+use poly_grid::Refusal;
+use poly_tiling::{Item, View};
+use std::alloc::Global;
+use std::marker::Model;
+
+/// A place in a search. Steps are taken and taken back without memory.
+#[derive(Drop)]
+pub struct Fast<'a> {
+    view: &'a View,
+    path: Vec<Atom>,
+    given: usize,
+    members: Vec<u32>,
+    options: Vec<u32>,
+    table: Table,
+    steps: Steps,
+}
+
+impl<'a> Model for Fast<'a> {
+    ghost use Rattle.poly_report.specs.Walk.{Walk};
+    ghost use Rattle.poly_report.specs.FastFrame.{IsFast};
+
+    ghost Value = { Walk };
+
+    ghost view = { λ f. record { scene = f.view.now; atoms = f.path.items; given = f.given } };
+
+    ghost invariant = { λ f. IsFast f.view.now f.path f.given f.members f.options f.table f.steps };
+}
+
+impl<'a> Fast<'a> {
+    ghost use Rattle.std.specs.Borrow.{sem};
+    ghost use Rattle.poly_report.specs.FastLending.{StaysSame};
+
+    /// A frame of the view with these atoms and no step.
+    #[tactic(auto, using(poly_tiling::proofs::Orders::live_once))]
+    pub fn new(alloc: Global, view: &'a View, atoms: &[Atom]) -> Result<Fast<'a>, Refusal>
+        ensures made { IfOk result (λ f. f ≡ record { scene = view.now; atoms = atoms.now; given = length atoms.now }) }
+        ensures why { IfErr result (λ e. e ≡ Refusal.Memory) }
+        ensures well { WellNamed view.now }
+        ensures once { distinct view.now.live ≡ true }
+    {
+        let pins = view.pins().len();
+        let live = view.live().len();
+        let given = atoms.len();
+        let mut path = Vec::with_capacity(alloc, given.saturating_add(STEPS))?;
+        path.extend_from_slice(atoms)?;
+        let mut members = Vec::with_capacity(alloc, pins + given + STEPS)?;
+        plain::make_base(view, atoms, &mut members);
+        let options = Vec::with_capacity(alloc, live)?;
+        let cells = guess_cells(alloc, view.items())?;
+        let mut raised = Vec::with_capacity(alloc, STEPS * 17)?;
+        let have = counts_of(alloc, view, &members, &cells, &mut raised)?;
+        let table = table_of(alloc, view, atoms, &members, cells, &have, &mut raised)?;
+        let steps = start(alloc, view, atoms, &table, have, raised)?;
+        Ok(Fast {
+            view,
+            path,
+            given,
+            members,
+            options,
+            table,
+            steps,
+        })
+    }
+
+    /// How many atoms are on the path.
+    pub fn mark(&self) -> usize
+        ensures { result ≡ length self.now.atoms }
+    {
+        self.path.len()
+    }
+
+    /// Takes the placement: the atoms have one more, that it is in.
+    pub fn pick(&mut self, placement: u32)
+        requires { length self.old.atoms < self.old.given + 4096 }
+        ensures { self.new ≡ with_step self.old (Atom.Has placement) }
+    {
+        steps::pick(
+            self.view,
+            &self.path,
+            self.given,
+            &self.table,
+            &self.members,
+            &mut self.steps,
+            placement,
+        );
+        self.path.push_reserved(Atom::Has(placement));
+        plain::make_base(self.view, &self.path, &mut self.members);
+    }
+
+    /// Leaves the placement: the atoms have one more, that it is out.
+    pub fn leave(&mut self, placement: u32)
+        requires { length self.old.atoms < self.old.given + 4096 }
+        ensures { self.new ≡ with_step self.old (Atom.Lacks placement) }
+    {
+        steps::leave(
+            self.view,
+            &self.path,
+            self.given,
+            &self.table,
+            &mut self.steps,
+            placement,
+        );
+        self.path.push_reserved(Atom::Lacks(placement));
+        plain::make_base(self.view, &self.path, &mut self.members);
+    }
+
+    /// Takes the last step back.
+    pub fn back(&mut self)
+        requires { self.old.given < length self.old.atoms }
+        ensures { self.new ≡ back_to self.old (length self.old.atoms - 1) }
+    {
+        let mark = self.path.len() - 1;
+        steps::back(
+            self.view,
+            &self.path,
+            self.given,
+            &self.table,
+            &mut self.steps,
+            mark - self.given,
+        );
+        self.path.truncate(mark);
+        plain::make_base(self.view, &self.path, &mut self.members);
+    }
+
+    /// Takes back the steps after a mark.
+    pub fn back_to(&mut self, mark: usize)
+        requires { self.old.given ≤ mark }
+        ensures { self.new ≡ back_to self.old mark }
+    {
+        if mark < self.path.len() {
+            steps::back(
+                self.view,
+                &self.path,
+                self.given,
+                &self.table,
+                &mut self.steps,
+                mark - self.given,
+            );
+            self.path.truncate(mark);
+            plain::make_base(self.view, &self.path, &mut self.members);
+        }
+    }
+
+    /// The open placements that have the item, each once, in any order. They are read before the frame is used again;
+    /// the frame stays as it was.
+    pub fn options(&mut self, item: Item) -> &[u32]
+        ensures* same { sem 𝓛 (StaysSame self.entry) }
+        ensures once { distinct result.now ≡ true }
+        ensures members { (p : ℕ) → mem result.now p ≡ (mem self.old.scene.live p && is_option self.old item p) }
+    {
+        looks::list_options(
+            self.view,
+            &self.path,
+            self.given,
+            &self.table,
+            &self.steps,
+            item,
+            &mut self.options,
+        );
+        &self.options
+    }
+
+    /// Some open placement; none where no placement is open.
+    pub fn first_open(&self) -> Option<u32>
+        ensures { MatchOption result (list_all (λ p. not (is_open self.now p)) self.now.scene.live ≡ true) (λ p. (mem self.now.scene.live p ≡ true) × (is_open self.now p ≡ true)) }
+    {
+        looks::first_open(self.view, &self.path, self.given, &self.table, &self.steps)
+    }
+
+    /// Whether no placement is open.
+    pub fn none_open(&self) -> bool
+        ensures { result ≡ list_all (λ p. not (is_open self.now p)) self.now.scene.live }
+    {
+        match self.first_open() {
+            None => true,
+            Some(_) => false,
+        }
+    }
+
+    /// An item of which the base has fewer than the design and the atoms ask for, one with the fewest options beyond
+    /// what it still needs; none where no item is short.
+    pub fn next_due(&self) -> Option<Item>
+        ensures { MatchOption result ((i : Item) → is_due self.now i ≡ false) (λ i. is_due self.now i ≡ true) }
+    {
+        match looks::next_listed(self.view, &self.path, self.given, &self.table, &self.steps) {
+            Some(b) => Some(self.view.items()[b].0),
+            None => looks::next_other(
+                self.view,
+                &self.path,
+                self.given,
+                &self.table,
+                &self.steps,
+                &self.members,
+            ),
+        }
+    }
+
+    /// Whether the placement is dead: no placement of the design now, or out by an atom.
+    pub fn dead(&self, placement: u32) -> bool
+        ensures { result ≡ dead self.now.scene self.now.atoms placement }
+    {
+        plain::is_dead(self.view, &self.path, placement)
+    }
+
+    /// Whether the arms of a Branch on the item are right, whatever trees hang under them.
+    pub fn arms_fit(&self, item: Item, arms: &[Arm]) -> bool
+        ensures { result ≡ arms_fit self.now.scene self.now.atoms item (heads (arms_list arms.now)) }
+    {
+        plain::arms_are_right(self.view, &self.path, &self.members, &item, arms)
+    }
+
+    /// The base, where it is a tiling that meets the atoms: all that a Found stands for.
+    pub fn found(&self, alloc: Global) -> Result<Option<Vec<u32>>, Refusal>
+        ensures value { IfOk result (λ o. MatchOption o (in_family self.now.scene self.now.atoms (base self.now.scene self.now.atoms) ≡ false) (λ t. (t.items ≡ base self.now.scene self.now.atoms) × (in_family self.now.scene self.now.atoms (base self.now.scene self.now.atoms) ≡ true))) }
+        ensures why { IfErr result (λ e. e ≡ Refusal.Memory) }
+    {
+        if !plain::is_member(self.view, &self.path, &self.members) {
+            return Ok(None);
+        }
+        let tiling = Vec::from_slice(alloc, &self.members)?;
+        Ok(Some(tiling))
+    }
+}

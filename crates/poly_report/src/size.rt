@@ -1,0 +1,91 @@
+//! How large a tree may be.
+ghost use Rattle.std.specs.Prelude.{IfNone, IfSome, ◌+◌, ◌<◌, ◌≡◌, ◌≤◌};
+ghost use Rattle.poly_report.specs.Shapes.{plan_of};
+ghost use Rattle.poly_report.specs.Sizes.{deep, fits, total};
+
+use crate::tree::Tree;
+
+/// The greatest number of nodes of a tree that is handed in.
+pub const NODES: u32 = 4096;
+
+/// The greatest depth of a tree that is handed in; a tree of one node has depth 1.
+pub const DEPTH: u32 = 512;
+
+/// Whether a tree has at most 4,096 nodes and at most the depth 512. A tree that is larger is left where the limit is
+/// passed, however large it is.
+pub fn fits(tree: &Tree) -> bool
+    ensures { result ≡ fits (plan_of tree.now) }
+{
+    nodes_left(tree, NODES, DEPTH).is_some()
+}
+
+// How many of the nodes are left when the tree has taken its own, if it needs no more and is not too deep.
+fn nodes_left(tree: &Tree, nodes: u32, depth: u32) -> Option<u32>
+    ensures left { IfSome result (λ left. (left + total (plan_of tree.now) ≡ nodes) × (deep (plan_of tree.now) ≤ depth)) }
+    ensures none { IfNone result (total (plan_of tree.now) ≤ nodes → depth < deep (plan_of tree.now)) }
+{
+    if nodes == 0 || depth == 0 {
+        return None;
+    }
+    match tree {
+        Tree::Rest => Some(nodes - 1),
+        Tree::Found => Some(nodes - 1),
+        Tree::Branch { arms, .. } => {
+            let mut left = nodes - 1;
+            for arm in arms {
+                left = nodes_left(&arm.tree, left, depth - 1)?;
+            }
+            Some(left)
+        }
+        Tree::Split { taken, left, .. } => {
+            let more = nodes_left(taken, nodes - 1, depth - 1)?;
+            nodes_left(left, more, depth - 1)
+        }
+    }
+}
+
+#[cfg(test)]
+mod tests {
+    use super::*;
+    use crate::tree::Arm;
+    use poly_grid::{Cell, Refusal};
+    use poly_tiling::Item;
+    use std::alloc::Global;
+    use std::test::Fail;
+
+    // A Branch of so many arms with a Rest.
+    fn wide(alloc: Global, count: u32) -> Result<Tree, Refusal> {
+        let mut arms = Vec::new(alloc);
+        for placement in 0..count {
+            let tree = Tree::Rest;
+            arms.push(Arm { placement, tree })?;
+        }
+        let item = Item::Cell(Cell::ORIGIN);
+        Ok(Tree::Branch { item, arms })
+    }
+
+    // So many Splits, each to the left of the one before.
+    fn tall(alloc: Global, count: u32) -> Result<Tree, Refusal> {
+        let mut tree = Tree::Rest;
+        for placement in 0..count {
+            let taken = Box::new(alloc, Tree::Rest)?;
+            let left = Box::new(alloc, tree)?;
+            tree = Tree::Split {
+                placement,
+                taken,
+                left,
+            };
+        }
+        Ok(tree)
+    }
+
+    #[test]
+    fn the_limits_are_exact(rt: HostRuntime) -> Result<(), Fail> {
+        let alloc = rt.alloc();
+        assert!(rt; fits(&wide(alloc, 4095)?));
+        assert!(rt; !fits(&wide(alloc, 4096)?));
+        assert!(rt; fits(&tall(alloc, 511)?));
+        assert!(rt; !fits(&tall(alloc, 512)?));
+        Ok(())
+    }
+}
