@@ -1,0 +1,132 @@
+-- A chain of Splits over arms, one arm after another.
+use Rattle.std.proofs.Common.{◌≡◌, ℕ, ◌+◌, ◌-◌, ◌<◌, ◌≤◌, Bool, true, false, cond, ◌&&◌, ◌||◌, List, [], ◌∷◌, ◌++◌, inl, inr, refl, sym, ap, subst, ◌∙◌, arith, map, append_assoc, length, take, get_or, max, zero, suc}
+use Rattle.std.specs.Prelude.{nat_lt}
+use Rattle.std.specs.List.{list_all}
+use Rattle.std.proofs.lemmas.List.{append-nil, map-append, take_more}
+use Rattle.std.proofs.lemmas.Bool.{and_parts, and_from, or_right, lt-ltb}
+use Rattle.poly_atom.specs.declared.atom.Atom.{Atom}
+use Rattle.poly_atom.specs.declared.atom.Atom.TheVariants.{Has, Lacks}
+use Rattle.poly_tiling.specs.Lists.{mem, distinct}
+use Rattle.poly_tiling.specs.Puzzle.{View}
+use Rattle.poly_tiling.proofs.Lists.{In, in_append_right, in_map}
+use Rattle.poly_report.specs.declared.tree.Arm.{Arm}
+use Rattle.poly_report.specs.Trees.{Plan, Rests, Splits, Arms, NoArms, OneArm, heads}
+use Rattle.poly_report.specs.Shapes.{plan_of, arms_list}
+use Rattle.poly_report.specs.Holds.{dead, holds, open_in, arm_atoms}
+use Rattle.poly_report.specs.Leaves.{rests}
+use Rattle.poly_report.specs.Sizes.{total, arms_total, inner, arms_inner, deep, is_rest, all_fewer, Grown}
+use Rattle.poly_report.specs.Walk.{Walk, with_step, is_option, is_open, open_count}
+use Rattle.poly_tiling.specs.declared.item.Item.{Item}
+use Rattle.poly_search.specs.Chains.{chain, Serves, Ends, Chains}
+use Rattle.poly_search.proofs.Nodes.{snoc, list_snoc, heads_snoc, both, cut, child_at, option_at}
+use Rattle.poly_search.proofs.Opens.{fewer_has, fewer_lacks}
+
+pub chain_snoc : (arms : Arms) (p : ℕ) (t end : Plan) → chain (snoc arms p t) end ≡ chain arms (Splits p t end)
+chain_snoc NoArms p t end = refl
+chain_snoc (OneArm q u arms) p t end = ap (Splits q u) (chain_snoc arms p t end)
+
+-- the last arm of a list goes under the chain of the others
+pub chain_last : (arms : List Arm) (p : ℕ) (taken : Plan) (a : Arm) (end : Plan) → a.placement ≡ p → plan_of a.tree ≡ taken → chain (arms_list (arms ++ a ∷ [])) end ≡ chain (arms_list arms) (Splits p taken end)
+chain_last arms p taken a end e t =
+    ap (λ x. chain x end) (list_snoc arms a) ∙ chain_snoc (arms_list arms) a.placement (plan_of a.tree) end
+    ∙ ap (λ n. chain (arms_list arms) (Splits n (plan_of a.tree) end)) e ∙ ap (λ x. chain (arms_list arms) (Splits p x end)) t
+
+pub total_chain : (arms : Arms) (end : Plan) → total (chain arms end) ≡ arms_total arms + length (heads arms) + total end
+total_chain NoArms end = omega arith
+total_chain (OneArm p t arms) end = omega (arith, total_chain arms end)
+
+pub inner_chain : (arms : Arms) (end : Plan) → inner (chain arms end) ≡ arms_inner arms + length (heads arms) + inner end
+inner_chain NoArms end = omega arith
+inner_chain (OneArm p t arms) end = omega (arith, inner_chain arms end)
+
+-- no arm yet
+pub no_chain : (v : View) (A : List Atom) (d : ℕ) → Chains v A d NoArms
+no_chain v A d end e =
+    let path : A ++ [] ≡ A = append-nil A in
+    record {
+      right = subst (λ B. holds v B end ≡ true) path e.right;
+      low = let l = e.low in omega arith;
+      less = subst (λ B. all_fewer v A (rests v B end) ≡ true) path e.less;
+    }
+
+-- one more arm: what ends the longer chain, under a Split on the arm, ends the shorter one
+pub more_chain : (v : View) (A : List Atom) (d : ℕ) (arms : Arms) (p : ℕ) (t : Plan) → distinct v.live ≡ true → mem v.live p ≡ true → open_in v A p ≡ true →
+    Chains v A d arms → Grown v (A ++ arm_atoms (heads arms) p) (d - 1 - length (heads arms)) t → length (heads arms) < d → Chains v A d (snoc arms p t)
+more_chain v A d arms p t dis m o links g fits end e =
+    let ps = heads arms in
+    let L = map (λ q. Lacks q) ps in
+    let names : heads (snoc arms p t) ≡ ps ++ p ∷ [] = heads_snoc arms p t in
+    let left : A ++ map (λ q. Lacks q) (heads (snoc arms p t)) ≡ (A ++ L) ++ Lacks p ∷ [] =
+    ap (λ xs. A ++ map (λ q. Lacks q) xs) names ∙ ap (λ xs. A ++ xs) (map-append (λ q. Lacks q) ps (p ∷ [])) ∙ sym (append_assoc A L (Lacks p ∷ [])) in
+    let taken : A ++ arm_atoms ps p ≡ (A ++ L) ++ Has p ∷ [] = sym (append_assoc A L (Has p ∷ [])) in
+    let count : length (heads (snoc arms p t)) ≡ length ps + 1 = ap length names ∙ more_length ps p in
+    let under : Ends v A d ps (Splits p t end) = record {
+      right = and_from _ _ (subst (λ B. holds v B end ≡ true) left e.right) (or_right (dead v (A ++ L) p) _ (subst (λ B. holds v B t ≡ true) taken g.right));
+      low = let a = g.low in let b = e.low in omega arith;
+      less = both (λ B. nat_lt (open_count v B) (open_count v A)) (cond (dead v (A ++ L) p) [] (rests v ((A ++ L) ++ Has p ∷ []) t)) (rests v ((A ++ L) ++ Lacks p ∷ []) end)
+          (cut (λ B. nat_lt (open_count v B) (open_count v A)) (dead v (A ++ L) p) (rests v ((A ++ L) ++ Has p ∷ []) t)
+          (subst (λ B. all_fewer v A (rests v B t) ≡ true) taken
+          (child_at v A (A ++ arm_atoms ps p) t (fewer_has v A (arm_atoms ps p) p dis m o (in_append_right (Has p) A (arm_atoms ps p) (in_append_right (Has p) L (Has p ∷ []) (inl refl)))) g.less)))
+          (subst (λ B. all_fewer v A (rests v B end) ≡ true) left e.less);
+    } in
+    subst (λ x. Serves v A d x) (sym (chain_snoc arms p t end)) (links (Splits p t end) under)
+  where
+    more_length : (xs : List ℕ) (x : ℕ) → length (xs ++ x ∷ []) ≡ length xs + 1
+    more_length [] x = refl
+    more_length (y ∷ ys) x = omega (arith, more_length ys x)
+
+-- Rest ends a chain over placements of which one is open
+pub rest_ends : (v : View) (A : List Atom) (d : ℕ) (ps : List ℕ) (p : ℕ) → In p ps → distinct v.live ≡ true → mem v.live p ≡ true → open_in v A p ≡ true → length ps < d → Ends v A d ps Rests
+rest_ends v A d ps p i dis m o h = record {
+  right = refl;
+  low = omega arith;
+  less = and_from _ _ (lt-ltb _ _ (fewer_lacks v A (map (λ q. Lacks q) ps) p dis m o (in_append_right (Lacks p) A (map (λ q. Lacks q) ps) (in_map (λ q. Lacks q) ps p i)))) refl;
+}
+
+in_front : (ps : List ℕ) (n : ℕ) → 1 ≤ n → n ≤ length ps → In (get_or ps 0 0) (take n ps)
+in_front [] n a b = absurd (omega arith)
+in_front (q ∷ qs) zero a b = absurd (omega arith)
+in_front (q ∷ qs) (suc n) a b = inl refl
+
+pub heads_length : (arms : List Arm) → length (heads (arms_list arms)) ≡ length arms
+heads_length [] = refl
+heads_length (a ∷ arms) = omega (arith, heads_length arms)
+
+-- a chain over the options that were walked, with Rest for the others
+pub chain_grown : (w : Walk) (d : ℕ) (i : Item) (arms : List Arm) (ps : List ℕ) → distinct w.scene.live ≡ true → ((p : ℕ) → mem ps p ≡ (mem w.scene.live p && is_option w i p)) →
+    heads (arms_list arms) ≡ take (length arms) ps → length arms ≤ length ps → 1 ≤ length arms → length arms < d → Chains w.scene w.atoms d (arms_list arms) →
+    Grown w.scene w.atoms d (chain (arms_list arms) Rests)
+chain_grown w d i arms ps dis m names few some deep links =
+    let o = option_at w i ps 0 (omega arith) m in
+    let here = subst (λ xs. In (get_or ps 0 0) xs) (sym names) (in_front ps (length arms) some few) in
+    let s = links Rests (rest_ends w.scene w.atoms d (heads (arms_list arms)) (get_or ps 0 0) here dis o.0 o.1 (omega (arith, heads_length arms))) in
+    record { right = s.right; low = s.low; less = or_right (is_rest (chain (arms_list arms) Rests)) _ s.less }
+
+pub chain_total : (arms : List Arm) (t : Plan) → t ≡ chain (arms_list arms) Rests → total t ≡ arms_total (arms_list arms) + length arms + 1
+chain_total arms t e = omega (arith, ap total e, total_chain (arms_list arms) Rests, heads_length arms)
+
+pub chain_inner : (arms : List Arm) (t : Plan) → t ≡ chain (arms_list arms) Rests → inner t ≡ arms_inner (arms_list arms) + length arms
+chain_inner arms t e = omega (arith, ap inner e, inner_chain (arms_list arms) Rests, heads_length arms)
+
+pub chain_no_rest : (arms : List Arm) (t : Plan) → t ≡ chain (arms_list arms) Rests → 1 ≤ length arms → is_rest t ≡ false
+chain_no_rest [] t e h = absurd (omega arith)
+chain_no_rest (a ∷ arms) t e h = ap is_rest e
+
+-- the next arm of a walk that may become a chain
+pub linked_next : (w wl wp : Walk) (d : ℕ) (i : Item) (arms next : List Arm) (a : Arm) (ps : List ℕ) (j : ℕ) → j < length ps → distinct w.scene.live ≡ true →
+    ((p : ℕ) → mem ps p ≡ (mem w.scene.live p && is_option w i p)) → wl ≡ record w { atoms = w.atoms ++ map (λ q. Lacks q) (take j ps) } → wp ≡ with_step wl (Has (get_or ps j 0)) →
+    heads (arms_list arms) ≡ take j ps → length arms ≡ j → next ≡ arms ++ a ∷ [] → a.placement ≡ get_or ps j 0 → j < d →
+    Chains w.scene w.atoms d (arms_list arms) → Grown wp.scene wp.atoms (d - 1 - j) (plan_of a.tree) → Chains w.scene w.atoms d (arms_list next)
+linked_next w wl wp d i arms next a ps j h dis m el ep hs len en ea deep links gt =
+    let p = get_or ps j 0 in
+    let o = option_at w i ps j h m in
+    let n : length (heads (arms_list arms)) ≡ j = omega (arith, heads_length arms, len) in
+    let path : wp ≡ record w { atoms = w.atoms ++ arm_atoms (heads (arms_list arms)) p } =
+    ep ∙ ap (λ x. with_step x (Has p)) el ∙ ap (λ xs. record w { atoms = xs }) (append_assoc w.atoms (map (λ q. Lacks q) (take j ps)) (Has p ∷ []) ∙ ap (λ xs. w.atoms ++ arm_atoms xs p) (sym hs)) in
+    let g = subst (λ k. Grown w.scene (w.atoms ++ arm_atoms (heads (arms_list arms)) p) (d - 1 - k) (plan_of a.tree)) (sym n)
+    (subst (λ x. Grown x.scene x.atoms (d - 1 - j) (plan_of a.tree)) path gt) in
+    let more = more_chain w.scene w.atoms d (arms_list arms) p (plan_of a.tree) dis o.0 o.1 links g (omega arith) in
+    subst (λ x. Chains w.scene w.atoms d x) (sym (ap arms_list en ∙ list_snoc arms a ∙ ap (λ x. snoc (arms_list arms) x (plan_of a.tree)) ea)) more
+
+pub grown_deeper : (v : View) (A : List Atom) (d e : ℕ) (t : Plan) → d ≤ e → Grown v A d t → Grown v A e t
+grown_deeper v A d e t h g = record { right = g.right; low = let l = g.low in omega arith; less = g.less }

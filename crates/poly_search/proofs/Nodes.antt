@@ -1,0 +1,192 @@
+-- How a tree that holds is grown, node by node.
+use Rattle.std.proofs.Common.{◌≡◌, ℕ, ◌<◌, ◌≤◌, ◌+◌, Bool, true, false, cond, not, ◌&&◌, ◌||◌, List, [], ◌∷◌, ◌++◌, inl, inr, refl, sym, ap, subst, ◌∙◌, arith, max, nat_lt, map, append_assoc, length, take, get_or, ◌-◌, zero, suc}
+use Rattle.std.specs.List.{list_all}
+use Rattle.std.proofs.lemmas.List.{append-nil, take_at, take_more, map-append}
+use Rattle.std.proofs.lemmas.Bool.{and_parts, and_from, or_right, or_cases, lt-ltb, ltb-true}
+use Rattle.poly_tiling.specs.declared.item.Item.{Item}
+use Rattle.poly_atom.specs.declared.atom.Atom.{Atom}
+use Rattle.poly_atom.specs.declared.atom.Atom.TheVariants.{Has, Lacks}
+use Rattle.poly_tiling.specs.Lists.{mem, distinct}
+use Rattle.poly_tiling.specs.Puzzle.{View, has_item}
+use Rattle.poly_report.specs.Trees.{Plan, Rests, Finds, Branches, Splits, Arms, NoArms, OneArm, heads}
+use Rattle.poly_report.specs.Holds.{open_in, dead, arms_fit, arm_atoms, holds, arms_hold}
+use Rattle.poly_report.specs.Leaves.{rests, arms_rests}
+use Rattle.poly_report.specs.Walk.{Walk, with_step, back_to, is_open, is_option, is_due, open_count}
+use Rattle.poly_tiling.proofs.Lists.{In, all_in, all_from, all_append, in_append_right, in_mem}
+use Rattle.poly_report.specs.declared.tree.Arm.{Arm}
+use Rattle.poly_report.specs.Shapes.{plan_of, arms_list}
+use Rattle.poly_report.specs.Sizes.{total, arms_total, inner, arms_inner, deep, arms_deep, is_rest, all_fewer, Grown, ArmsGrown}
+use Rattle.poly_search.proofs.Opens.{fewer_has, fewer_lacks, options_fit}
+
+-- one more arm at the end
+abbrev pub snoc : Arms → ℕ → Plan → Arms
+snoc NoArms p t = OneArm p t NoArms
+snoc (OneArm q u arms) p t = OneArm q u (snoc arms p t)
+
+pub list_snoc : (xs : List Arm) (a : Arm) → arms_list (xs ++ a ∷ []) ≡ snoc (arms_list xs) a.placement (plan_of a.tree)
+list_snoc [] a = refl
+list_snoc (x ∷ xs) a = ap (OneArm x.placement (plan_of x.tree)) (list_snoc xs a)
+
+pub heads_snoc : (arms : Arms) (p : ℕ) (t : Plan) → heads (snoc arms p t) ≡ heads arms ++ p ∷ []
+heads_snoc NoArms p t = refl
+heads_snoc (OneArm q u arms) p t = ap (λ xs. q ∷ xs) (heads_snoc arms p t)
+
+pub total_snoc : (arms : Arms) (p : ℕ) (t : Plan) → arms_total (snoc arms p t) ≡ arms_total arms + total t
+total_snoc NoArms p t = omega arith
+total_snoc (OneArm q u arms) p t = omega (arith, total_snoc arms p t)
+
+pub inner_snoc : (arms : Arms) (p : ℕ) (t : Plan) → arms_inner (snoc arms p t) ≡ arms_inner arms + inner t
+inner_snoc NoArms p t = omega arith
+inner_snoc (OneArm q u arms) p t = omega (arith, inner_snoc arms p t)
+
+deep_snoc : (arms : Arms) (p : ℕ) (t : Plan) (d : ℕ) → arms_deep arms ≤ d → deep t ≤ d → arms_deep (snoc arms p t) ≤ d
+deep_snoc NoArms p t d h k = omega arith
+deep_snoc (OneArm q u arms) p t d h k = omega (arith, deep_snoc arms p t d (omega arith) k)
+
+hold_snoc : (v : View) (A : List Atom) (before : List ℕ) (arms : Arms) (p : ℕ) (t : Plan) → arms_hold v A before arms ≡ true → holds v (A ++ arm_atoms (before ++ heads arms) p) t ≡ true → arms_hold v A before (snoc arms p t) ≡ true
+hold_snoc v A before NoArms p t h k = and_from _ _ (or_right (dead v A p) _ (subst (λ xs. holds v (A ++ arm_atoms xs p) t ≡ true) (append-nil before) k)) refl
+hold_snoc v A before (OneArm q u arms) p t h k =
+    let hs = and_parts (dead v A q || holds v (A ++ arm_atoms before q) u) (arms_hold v A (before ++ q ∷ []) arms) h in
+    and_from _ _ hs.0 (hold_snoc v A (before ++ q ∷ []) arms p t hs.1 (subst (λ xs. holds v (A ++ arm_atoms xs p) t ≡ true) (sym (append_assoc before (q ∷ []) (heads arms))) k))
+
+pub cut : (f : List Atom → Bool) (d : Bool) (xs : List (List Atom)) → list_all f xs ≡ true → list_all f (cond d [] xs) ≡ true
+cut f true xs h = refl
+cut f false xs h = h
+
+cut_parts : (f : List Atom → Bool) (xs ys : List (List Atom)) → list_all f (xs ++ ys) ≡ true → (list_all f xs ≡ true) × (list_all f ys ≡ true)
+cut_parts f xs ys h = and_parts (list_all f xs) (list_all f ys) (sym (all_append f xs ys) ∙ h)
+
+pub both : (f : List Atom → Bool) (xs ys : List (List Atom)) → list_all f xs ≡ true → list_all f ys ≡ true → list_all f (xs ++ ys) ≡ true
+both f xs ys h k = all_append f xs ys ∙ and_from _ _ h k
+
+rests_snoc : (f : List Atom → Bool) (v : View) (A : List Atom) (before : List ℕ) (arms : Arms) (p : ℕ) (t : Plan) → list_all f (arms_rests v A before arms) ≡ true → list_all f (rests v (A ++ arm_atoms (before ++ heads arms) p) t) ≡ true → list_all f (arms_rests v A before (snoc arms p t)) ≡ true
+rests_snoc f v A before NoArms p t h k =
+    both f (cond (dead v A p) [] (rests v (A ++ arm_atoms before p) t)) [] (cut f (dead v A p) (rests v (A ++ arm_atoms before p) t) (subst (λ xs. list_all f (rests v (A ++ arm_atoms xs p) t) ≡ true) (append-nil before) k)) refl
+rests_snoc f v A before (OneArm q u arms) p t h k =
+    let hs = cut_parts f (cond (dead v A q) [] (rests v (A ++ arm_atoms before q) u)) (arms_rests v A (before ++ q ∷ []) arms) h in
+    both f (cond (dead v A q) [] (rests v (A ++ arm_atoms before q) u)) (arms_rests v A (before ++ q ∷ []) (snoc arms p t)) hs.0
+    (rests_snoc f v A (before ++ q ∷ []) arms p t hs.1 (subst (λ xs. list_all f (rests v (A ++ arm_atoms xs p) t) ≡ true) (sym (append_assoc before (q ∷ []) (heads arms))) k))
+
+-- the rests of a tree under fewer open placements are fewer
+pub child_at : (v : View) (A B : List Atom) (t : Plan) → open_count v B < open_count v A → (is_rest t || all_fewer v B (rests v B t)) ≡ true → all_fewer v A (rests v B t) ≡ true
+child_at v A B Rests l h = and_from _ _ (lt-ltb (open_count v B) (open_count v A) l) refl
+child_at v A B Finds l h = refl
+child_at v A B (Branches i arms) l h = all_from (λ C. nat_lt (open_count v C) (open_count v A)) (rests v B (Branches i arms)) (λ C k. let a = ltb-true _ _ (all_in (λ C. nat_lt (open_count v C) (open_count v B)) (rests v B (Branches i arms)) h C k) in lt-ltb (open_count v C) (open_count v A) (omega arith))
+child_at v A B (Splits q u w) l h = all_from (λ C. nat_lt (open_count v C) (open_count v A)) (rests v B (Splits q u w)) (λ C k. let a = ltb-true _ _ (all_in (λ C. nat_lt (open_count v C) (open_count v B)) (rests v B (Splits q u w)) h C k) in lt-ltb (open_count v C) (open_count v A) (omega arith))
+
+pub rest_grown : (v : View) (A : List Atom) (d : ℕ) → 1 ≤ d → Grown v A d Rests
+rest_grown v A d h = record { right = refl; low = h; less = refl }
+
+pub found_grown : (v : View) (A : List Atom) (d : ℕ) → 1 ≤ d → list_all (λ p. not (open_in v A p)) v.live ≡ true → Grown v A d Finds
+found_grown v A d h k = record { right = k; low = h; less = refl }
+
+pub split_grown : (v : View) (A : List Atom) (d : ℕ) (q : ℕ) (t u : Plan) → distinct v.live ≡ true → mem v.live q ≡ true → open_in v A q ≡ true →
+    Grown v (A ++ Has q ∷ []) d t → Grown v (A ++ Lacks q ∷ []) d u → Grown v A (d + 1) (Splits q t u)
+split_grown v A d q t u dis m o gt gu = record {
+  right = and_from _ _ gu.right (or_right (dead v A q) _ gt.right);
+  low = let a = gt.low in let b = gu.low in omega arith;
+  less = both (λ B. nat_lt (open_count v B) (open_count v A)) (cond (dead v A q) [] (rests v (A ++ Has q ∷ []) t)) (rests v (A ++ Lacks q ∷ []) u)
+      (cut (λ B. nat_lt (open_count v B) (open_count v A)) (dead v A q) (rests v (A ++ Has q ∷ []) t) (child_at v A (A ++ Has q ∷ []) t (fewer_has v A (Has q ∷ []) q dis m o (in_append_right (Has q) A (Has q ∷ []) (inl refl))) gt.less))
+      (child_at v A (A ++ Lacks q ∷ []) u (fewer_lacks v A (Lacks q ∷ []) q dis m o (in_append_right (Lacks q) A (Lacks q ∷ []) (inl refl))) gu.less);
+}
+
+pub no_arms_grown : (v : View) (A : List Atom) (d : ℕ) → ArmsGrown v A d NoArms
+no_arms_grown v A d = record { right = refl; low = omega arith; less = refl }
+
+pub arm_grown : (v : View) (A : List Atom) (d : ℕ) (arms : Arms) (p : ℕ) (t : Plan) → distinct v.live ≡ true → mem v.live p ≡ true → open_in v A p ≡ true →
+    ArmsGrown v A d arms → Grown v (A ++ arm_atoms (heads arms) p) d t → ArmsGrown v A d (snoc arms p t)
+arm_grown v A d arms p t dis m o ga gt =
+    let X = arm_atoms (heads arms) p in
+    record {
+      right = hold_snoc v A [] arms p t ga.right gt.right;
+      low = deep_snoc arms p t d ga.low gt.low;
+      less = rests_snoc (λ B. nat_lt (open_count v B) (open_count v A)) v A [] arms p t ga.less
+          (child_at v A (A ++ X) t (fewer_has v A X p dis m o (in_append_right (Has p) A X (in_append_right (Has p) (map (λ q. Lacks q) (heads arms)) (Has p ∷ []) (inl refl)))) gt.less);
+    }
+
+pub branch_grown : (v : View) (A : List Atom) (d : ℕ) (i : Item) (arms : Arms) → arms_fit v A i (heads arms) ≡ true → ArmsGrown v A d arms → Grown v A (d + 1) (Branches i arms)
+branch_grown v A d i arms f g = record { right = and_from _ _ f g.right; low = let a = g.low in omega arith; less = g.less }
+
+-- a step that was taken back
+pub back_is : (w wp wq wb : Walk) (a : Atom) (m : ℕ) → m ≡ length w.atoms → wp ≡ with_step w a → wq ≡ wp → wb ≡ back_to wq m → wb ≡ w
+back_is w wp wq wb a m e p q b =
+    let t = take_at w.atoms (a ∷ []) m (sym e) in
+    b ∙ ap (λ x. back_to x m) (q ∙ p) ∙ ap (λ xs. record w { atoms = xs }) t
+
+pub split_of : (w wp wl : Walk) (d : ℕ) (q : ℕ) (t u : Plan) → 2 ≤ d → distinct w.scene.live ≡ true → mem w.scene.live q ≡ true → is_open w q ≡ true →
+    wp ≡ with_step w (Has q) → wl ≡ with_step w (Lacks q) → Grown wp.scene wp.atoms (d - 1) t → Grown wl.scene wl.atoms (d - 1) u → Grown w.scene w.atoms d (Splits q t u)
+split_of w wp wl d q t u h dis m o ep el gt gu =
+    let e : (d - 1) + 1 ≡ d = omega arith in
+    subst (λ k. Grown w.scene w.atoms k (Splits q t u)) e
+    (split_grown w.scene w.atoms (d - 1) q t u dis m o (subst (λ x. Grown x.scene x.atoms (d - 1) t) ep gt) (subst (λ x. Grown x.scene x.atoms (d - 1) u) el gu))
+
+-- the path at the next arm
+abbrev pub past : Walk → List ℕ → Walk
+past w ps = record w { atoms = w.atoms ++ map (λ q. Lacks q) ps }
+
+pub past_next : (w wl wn : Walk) (ps : List ℕ) (j : ℕ) → j < length ps → wl ≡ past w (take j ps) → wn ≡ with_step wl (Lacks (get_or ps j 0)) → wn ≡ past w (take (j + 1) ps)
+past_next w wl wn ps j h e n =
+    let p = get_or ps j 0 in
+    n ∙ ap (λ x. with_step x (Lacks p)) e ∙ ap (λ xs. record w { atoms = xs }) (append_assoc w.atoms (map (λ q. Lacks q) (take j ps)) (Lacks p ∷ []) ∙ ap (λ xs. w.atoms ++ xs) (sym (map-append (λ q. Lacks q) (take j ps) (p ∷ [])) ∙ ap (λ xs. map (λ q. Lacks q) xs) (sym (take_more ps j 0 h))))
+
+pub names_next : (arms next : List Arm) (a : Arm) (ps : List ℕ) (j : ℕ) → j < length ps → next ≡ arms ++ a ∷ [] → a.placement ≡ get_or ps j 0 → heads (arms_list arms) ≡ take j ps → heads (arms_list next) ≡ take (j + 1) ps
+names_next arms next a ps j h e p n = ap (λ xs. heads (arms_list xs)) e ∙ ap heads (list_snoc arms a) ∙ heads_snoc (arms_list arms) a.placement (plan_of a.tree) ∙ ap (λ xs. xs ++ a.placement ∷ []) n ∙ ap (λ x. take j ps ++ x ∷ []) p ∙ sym (take_more ps j 0 h)
+
+pub total_next : (arms next : List Arm) (a : Arm) → next ≡ arms ++ a ∷ [] → arms_total (arms_list next) ≡ arms_total (arms_list arms) + total (plan_of a.tree)
+total_next arms next a e = ap (λ xs. arms_total (arms_list xs)) e ∙ ap arms_total (list_snoc arms a) ∙ total_snoc (arms_list arms) a.placement (plan_of a.tree)
+
+pub inner_next : (arms next : List Arm) (a : Arm) → next ≡ arms ++ a ∷ [] → arms_inner (arms_list next) ≡ arms_inner (arms_list arms) + inner (plan_of a.tree)
+inner_next arms next a e = ap (λ xs. arms_inner (arms_list xs)) e ∙ ap arms_inner (list_snoc arms a) ∙ inner_snoc (arms_list arms) a.placement (plan_of a.tree)
+
+in_at : (xs : List ℕ) (j : ℕ) → j < length xs → In (get_or xs j 0) xs
+in_at [] j h = absurd (omega arith)
+in_at (x ∷ xs) zero h = inl refl
+in_at (x ∷ xs) (suc j) h = inr (in_at xs j (omega arith))
+
+-- an option that stands at an index
+pub option_at : (w : Walk) (i : Item) (ps : List ℕ) (j : ℕ) → j < length ps → ((p : ℕ) → mem ps p ≡ (mem w.scene.live p && is_option w i p)) → (mem w.scene.live (get_or ps j 0) ≡ true) × (is_open w (get_or ps j 0) ≡ true)
+option_at w i ps j h m =
+    let p = get_or ps j 0 in
+    let e = and_parts (mem w.scene.live p) (is_option w i p) (sym (m p) ∙ in_mem ps p (in_at ps j h)) in
+    (e.0, (and_parts (is_open w p) (has_item w.scene p i) e.1).0)
+
+pub grown_next : (w wl wp : Walk) (d : ℕ) (i : Item) (arms next : List Arm) (a : Arm) (ps : List ℕ) (j : ℕ) → j < length ps → distinct w.scene.live ≡ true → ((p : ℕ) → mem ps p ≡ (mem w.scene.live p && is_option w i p)) →
+    wl ≡ past w (take j ps) → wp ≡ with_step wl (Has (get_or ps j 0)) → heads (arms_list arms) ≡ take j ps → next ≡ arms ++ a ∷ [] → a.placement ≡ get_or ps j 0 →
+    ArmsGrown w.scene w.atoms d (arms_list arms) → Grown wp.scene wp.atoms d (plan_of a.tree) → ArmsGrown w.scene w.atoms d (arms_list next)
+grown_next w wl wp d i arms next a ps j h dis m el ep hs en ea ga gt =
+    let p = get_or ps j 0 in
+    let o = option_at w i ps j h m in
+    let path : wp ≡ record w { atoms = w.atoms ++ arm_atoms (heads (arms_list arms)) p } =
+    ep ∙ ap (λ x. with_step x (Has p)) el ∙ ap (λ xs. record w { atoms = xs }) (append_assoc w.atoms (map (λ q. Lacks q) (take j ps)) (Has p ∷ []) ∙ ap (λ xs. w.atoms ++ arm_atoms xs p) (sym hs)) in
+    let more = arm_grown w.scene w.atoms d (arms_list arms) p (plan_of a.tree) dis o.0 o.1 ga (subst (λ x. Grown x.scene x.atoms d (plan_of a.tree)) path gt) in
+    subst (λ x. ArmsGrown w.scene w.atoms d x) (sym (ap arms_list en ∙ list_snoc arms a ∙ ap (λ x. snoc (arms_list arms) x (plan_of a.tree)) ea)) more
+
+-- a whole Branch
+pub branch_of : (w : Walk) (d : ℕ) (i : Item) (arms : List Arm) (ps : List ℕ) (t : Plan) → 2 ≤ d → distinct w.scene.live ≡ true → distinct ps ≡ true →
+    ((p : ℕ) → mem ps p ≡ (mem w.scene.live p && is_option w i p)) → is_due w i ≡ true → heads (arms_list arms) ≡ ps → ArmsGrown w.scene w.atoms (d - 1) (arms_list arms) → t ≡ Branches i (arms_list arms) → Grown w.scene w.atoms d t
+branch_of w d i arms ps t h dis dps m due hs g et =
+    let e : (d - 1) + 1 ≡ d = omega arith in
+    let fit = subst (λ xs. arms_fit w.scene w.atoms i xs ≡ true) (sym hs) (options_fit w.scene w.atoms i ps dis dps m due) in
+    subst (λ x. Grown w.scene w.atoms d x) (sym et) (subst (λ k. Grown w.scene w.atoms k (Branches i (arms_list arms))) e (branch_grown w.scene w.atoms (d - 1) i (arms_list arms) fit g))
+
+pub total_some : (t : Plan) → 1 ≤ total t
+total_some Rests = omega arith
+total_some Finds = omega arith
+total_some (Branches i arms) = omega arith
+total_some (Splits q t u) = omega arith
+
+pub take_whole : (xs : List ℕ) (n : ℕ) → length xs ≤ n → take n xs ≡ xs
+take_whole [] zero h = refl
+take_whole [] (suc n) h = refl
+take_whole (x ∷ xs) zero h = absurd (omega arith)
+take_whole (x ∷ xs) (suc n) h = ap (λ ys. x ∷ ys) (take_whole xs n (omega arith))
+
+pub heads_map : (xs : List Arm) → heads (arms_list xs) ≡ map (λ a. a.placement) xs
+heads_map [] = refl
+heads_map (x ∷ xs) = ap (λ ps. x.placement ∷ ps) (heads_map xs)
+
+pub walk_no : (v : View) (A : List Atom) (i : Item) (arms : Arms) (t : Plan) (ps : List ℕ) (fit : Bool) → t ≡ Branches i arms → heads arms ≡ ps → fit ≡ arms_fit v A i ps → fit ≡ false → false ≡ holds v A t
+walk_no v A i arms t ps fit et eh ef ey = sym (ap (holds v A) et ∙ ap (λ xs. arms_fit v A i xs && arms_hold v A [] arms) eh ∙ ap (λ b. b && arms_hold v A [] arms) (sym ef ∙ ey))
+
+pub walk_yes : (v : View) (A : List Atom) (i : Item) (arms : Arms) (t : Plan) (ps : List ℕ) (fit : Bool) → t ≡ Branches i arms → heads arms ≡ ps → fit ≡ arms_fit v A i ps → fit ≡ true → holds v A t ≡ arms_hold v A [] arms
+walk_yes v A i arms t ps fit et eh ef ey = ap (holds v A) et ∙ ap (λ xs. arms_fit v A i xs && arms_hold v A [] arms) eh ∙ ap (λ b. b && arms_hold v A [] arms) (sym ef ∙ ey)

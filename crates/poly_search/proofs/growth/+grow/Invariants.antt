@@ -1,0 +1,38 @@
+use Rattle.std.proofs.Common.{◌≡◌, ◌+◌, ◌*◌, ◌-◌, ◌≤◌, ◌++◌, take, map, length, true}
+use Rattle.poly_atom.specs.declared.atom.Atom.TheVariants.{Lacks}
+use Rattle.poly_report.specs.Trees.{heads}
+use Rattle.poly_report.specs.Shapes.{arms_list}
+use Rattle.poly_report.specs.Sizes.{arms_total, arms_inner, ArmsGrown}
+use Rattle.poly_search.specs.Chains.{Chains}
+use Rattle.poly_search.proofs.growth.+grow.Given as goal
+
+abbrev pub decreases-grow : goal.decreases-grow
+decreases-grow l = 4 * l.depth + 2
+
+abbrev pub decreases-child : goal.decreases-child
+decreases-child l = 4 * l.depth + 3
+
+abbrev pub decreases-branch : goal.decreases-branch
+decreases-branch l = 4 * l.depth + 1
+
+abbrev pub decreases-walk_arms : goal.decreases-walk_arms
+decreases-walk_arms l = 4 * l.depth
+
+abbrev pub decreases-split : goal.decreases-split
+decreases-split l = 4 * l.depth
+
+-- the options before j were walked: their arms, and what they cost
+abbrev pub invariant-walk_arms-loop-j : goal.invariant-walk_arms-loop-j
+invariant-walk_arms-loop-j l = record {
+  path : l.frame ≡ record l.fn.frame { atoms = l.fn.frame.atoms ++ map (λ q. Lacks q) (take l.j l.options) };
+  many : length l.arms.items ≡ l.j;
+  names : heads (arms_list l.arms.items) ≡ take l.j l.options;
+  nodes : l.budget.nodes + arms_total (arms_list l.arms.items) ≡ l.fn.budget.nodes;
+  inner : l.budget.inner + arms_inner (arms_list l.arms.items) + l.held ≤ l.fn.budget.inner;
+  counted : l.j ≤ arms_total (arms_list l.arms.items);
+  room : l.kept + length l.options ≤ l.budget.nodes + l.j;
+  grown : ArmsGrown l.fn.frame.scene l.fn.frame.atoms (l.depth - 1) (arms_list l.arms.items);
+  linked : l.chained ≡ true → Chains l.fn.frame.scene l.fn.frame.atoms l.depth (arms_list l.arms.items);
+  short : l.chained ≡ true → length l.options + 2 ≤ l.depth;
+  held : l.held ≤ l.j;
+}

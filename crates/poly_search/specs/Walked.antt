@@ -1,0 +1,24 @@
+-- What a walk over the options of an item brings back.
+use Rattle.std.specs.Prelude.{◌≡◌, ℕ, ◌+◌, ◌-◌, ◌<◌, ◌≤◌, List, length, take}
+use Rattle.poly_report.specs.declared.tree.Arm.{Arm}
+use Rattle.poly_report.specs.Trees.{heads}
+use Rattle.poly_report.specs.Shapes.{arms_list}
+use Rattle.poly_report.specs.Sizes.{ArmsGrown}
+use Rattle.poly_report.specs.Walk.{Walk}
+use Rattle.poly_search.specs.Chains.{Chains}
+
+-- where the walk stopped early: a chain over the arms can be paid for
+pub record CanChain (w : Walk) (depth kept nodes held : ℕ) (arms : List Arm) : Type 0 where
+  pub some : 1 ≤ length arms
+  pub paid : length arms ≤ held + 1
+  pub room : kept + length arms ≤ nodes
+  pub shallow : length arms < depth
+  pub linked : Chains w.scene w.atoms depth (arms_list arms)
+
+-- the arms for the first of the options; `nodes` are left, and `held` of those that aren't Rest are held back
+pub record Walked (w : Walk) (depth kept : ℕ) (options : List ℕ) (nodes held : ℕ) (arms : List Arm) : Type 0 where
+  pub few : length arms ≤ length options
+  pub names : heads (arms_list arms) ≡ take (length arms) options
+  pub room : kept + length options ≤ nodes + length arms
+  pub grown : ArmsGrown w.scene w.atoms (depth - 1) (arms_list arms)
+  pub early : length arms < length options → CanChain w depth kept nodes held arms

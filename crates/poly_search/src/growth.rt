@@ -1,0 +1,331 @@
+//! Growing a tree for a task: depth first on the item with the fewest options (Knuth, The Art of Computer Programming,
+//! volume 4B, section 7.2.2.1), until the budget of nodes is used up.
+//!
+//! A budget that ends in the middle of a Branch would leave many small tasks. So one node is held back for each arm after
+//! the first; where the budget ends with several arms untouched, the arms that were walked become a chain of Splits whose
+//! one Rest has all the others; and a small subtree that has a Rest becomes that Rest.
+ghost use Rattle.std.specs.Prelude.{◌≡◌, ◌&&◌, ◌^◌, ℕ, true, false, ◌+◌, ◌-◌, ◌≤◌, ◌<◌, IfOk, IfErr, OnOk, length, if◌then◌else◌};
+ghost use Rattle.poly_tiling.specs.Lists.{distinct, mem};
+ghost use Rattle.poly_report.specs.Trees.{Rests};
+ghost use Rattle.poly_report.specs.Shapes.{plan_of, arms_list};
+ghost use Rattle.poly_report.specs.Sizes.{total, arms_total, inner, arms_inner, is_rest, Grown};
+ghost use Rattle.poly_report.specs.Walk.{is_due, is_open, is_option};
+ghost use Rattle.poly_search.specs.Chains.{chain};
+ghost use Rattle.poly_search.specs.Walked.{Walked};
+
+use poly_grid::Refusal;
+use poly_report::{Arm, Frame, Tree};
+use poly_tiling::Item;
+use std::alloc::Global;
+
+/// What may still be made.
+#[derive(Debug, Drop)]
+pub struct Budget {
+    /// Nodes of any kind.
+    pub nodes: u32,
+    /// Nodes that aren't Rest.
+    pub inner: u32,
+    /// How many nodes that aren't Rest there were to begin with.
+    pub whole: u32,
+    /// How many times Rest was made.
+    pub rests: u32,
+}
+
+fn rest(budget: &mut Budget) -> Tree
+    requires { 1 ≤ budget.old.nodes }
+    ensures tree { plan_of result ≡ Rests }
+    ensures nodes { budget.new.nodes + 1 ≡ budget.old.nodes }
+    ensures inner { budget.new.inner ≡ budget.old.inner }
+{
+    budget.nodes -= 1;
+    budget.rests = budget.rests.saturating_add(1);
+    Tree::Rest
+}
+
+/// Grows a tree for the frame's atoms, no deeper than `depth`; it leaves `kept` of the nodes. The frame stays as it was.
+#[cycle(grow)]
+pub fn grow(
+    alloc: Global,
+    frame: &mut Frame<'_>,
+    budget: &mut Budget,
+    kept: u32,
+    depth: u32,
+    root: bool,
+) -> Result<Tree, Refusal>
+    requires room { kept < budget.old.nodes }
+    requires low { 1 ≤ depth }
+    requires steps { length frame.old.atoms + budget.old.nodes ≤ frame.old.given + 4096 + kept }
+    requires begun { frame.old.given ≤ length frame.old.atoms }
+    requires once { distinct frame.old.scene.live ≡ true }
+    ensures same { OnOk result (frame.new ≡ frame.old) }
+    ensures grown { IfOk result (λ t. Grown frame.old.scene frame.old.atoms depth (plan_of t)) }
+    ensures nodes { IfOk result (λ t. budget.new.nodes + total (plan_of t) ≡ budget.old.nodes) }
+    ensures inner { IfOk result (λ t. budget.new.inner + inner (plan_of t) ≤ budget.old.inner) }
+    ensures kept { OnOk result (kept ≤ budget.new.nodes) }
+    ensures root { IfOk result (λ t. root ≡ true → kept + 3 ≤ budget.old.nodes → 1 ≤ budget.old.inner → 2 ≤ depth → is_rest (plan_of t) ≡ false) }
+    ensures why { IfErr result (λ e. e ≡ Refusal.Memory) }
+{
+    if budget.inner == 0 {
+        return Ok(rest(budget));
+    }
+    let open = match frame.first_open() {
+        None => {
+            budget.nodes -= 1;
+            budget.inner -= 1;
+            return Ok(Tree::Found);
+        }
+        Some(p) => p,
+    };
+    if depth < 2 {
+        return Ok(rest(budget));
+    }
+    if let Some(item) = frame.next_due() {
+        let options = Vec::from_slice(alloc, frame.options(item))?;
+        if options.len() < (budget.nodes - kept) as usize {
+            if !root && budget.inner < 2 && !options.is_empty() {
+                return Ok(rest(budget));
+            }
+            return branch(alloc, frame, budget, kept, depth, &item, &options);
+        }
+    }
+    if budget.nodes - kept < 3 {
+        return Ok(rest(budget));
+    }
+    split(alloc, frame, budget, kept, depth, open)
+}
+
+// A tree below the root: where little of the budget went into it and it has a Rest, it becomes that Rest.
+#[cycle(grow)]
+fn child(
+    alloc: Global,
+    frame: &mut Frame<'_>,
+    budget: &mut Budget,
+    kept: u32,
+    depth: u32,
+) -> Result<Tree, Refusal>
+    requires room { kept < budget.old.nodes }
+    requires low { 1 ≤ depth }
+    requires steps { length frame.old.atoms + budget.old.nodes ≤ frame.old.given + 4096 + kept }
+    requires begun { frame.old.given ≤ length frame.old.atoms }
+    requires once { distinct frame.old.scene.live ≡ true }
+    ensures same { OnOk result (frame.new ≡ frame.old) }
+    ensures grown { IfOk result (λ t. Grown frame.old.scene frame.old.atoms depth (plan_of t)) }
+    ensures nodes { IfOk result (λ t. budget.new.nodes + total (plan_of t) ≡ budget.old.nodes) }
+    ensures inner { IfOk result (λ t. budget.new.inner + inner (plan_of t) ≤ budget.old.inner) }
+    ensures kept { OnOk result (kept ≤ budget.new.nodes) }
+    ensures why { IfErr result (λ e. e ≡ Refusal.Memory) }
+{
+    let nodes = budget.nodes;
+    let inner = budget.inner;
+    let rests = budget.rests;
+    let tree = grow(alloc, frame, budget, kept, depth, false)?;
+    if rests < budget.rests && inner - budget.inner < budget.whole / 8 {
+        budget.nodes = nodes;
+        budget.rests = rests;
+        return Ok(rest(budget));
+    }
+    Ok(tree)
+}
+
+// The arms that were walked, and how many nodes are held back for a chain over them.
+#[derive(Debug, Drop)]
+struct Arms {
+    arms: Vec<Arm>,
+    held: u32,
+}
+
+// Walks the options one after another; it may stop before the last where the budget ends and a chain can be made.
+#[cycle(grow)]
+fn walk_arms(
+    alloc: Global,
+    frame: &mut Frame<'_>,
+    budget: &mut Budget,
+    kept: u32,
+    depth: u32,
+    item: &Item,
+    options: &[u32],
+) -> Result<Arms, Refusal>
+    requires room { kept + length options.now ≤ budget.old.nodes }
+    requires low { 2 ≤ depth }
+    requires steps { length frame.old.atoms + budget.old.nodes + 1 ≤ frame.old.given + 4096 + kept }
+    requires begun { frame.old.given ≤ length frame.old.atoms }
+    requires once { distinct frame.old.scene.live ≡ true }
+    requires members { (p : ℕ) → mem options.now p ≡ (mem frame.old.scene.live p && is_option frame.old item.now p) }
+    ensures same { OnOk result (frame.new ≡ frame.old) }
+    ensures walked { IfOk result (λ a. Walked frame.old depth kept options.now budget.new.nodes a.held a.arms.items) }
+    ensures nodes { IfOk result (λ a. budget.new.nodes + arms_total (arms_list a.arms.items) ≡ budget.old.nodes) }
+    ensures inner { IfOk result (λ a. budget.new.inner + arms_inner (arms_list a.arms.items) + a.held ≤ budget.old.inner) }
+    ensures why { IfErr result (λ e. e ≡ Refusal.Memory) }
+{
+    let start = frame.mark();
+    let chained = budget.inner > 0 && options.len() < (depth / 2) as usize;
+    let mut arms = Vec::with_capacity(alloc, options.len())?;
+    let mut held: u32 = 0;
+    for j in 0..options.len() {
+        if chained && j > 0 {
+            if budget.inner > 1 {
+                budget.inner -= 1;
+                held += 1;
+            } else if options.len() - j > 1
+                && j <= held as usize + 1
+                && j <= (budget.nodes - kept) as usize
+            {
+                frame.back_to(start);
+                return Ok(Arms { arms, held });
+            }
+        }
+        let placement = options[j];
+        let after = (options.len() - j - 1) as u32;
+        let deeper = if chained {
+            depth - 1 - j as u32
+        } else {
+            depth - 1
+        };
+        let mark = frame.mark();
+        frame.pick(placement);
+        let tree = child(alloc, frame, budget, kept + after, deeper)?;
+        frame.back_to(mark);
+        frame.leave(placement);
+        arms.push(Arm { placement, tree })?;
+    }
+    frame.back_to(start);
+    Ok(Arms { arms, held })
+}
+
+// A Branch on an item that is due, with its options for arms; or a chain over the arms that were walked.
+#[cycle(grow)]
+fn branch(
+    alloc: Global,
+    frame: &mut Frame<'_>,
+    budget: &mut Budget,
+    kept: u32,
+    depth: u32,
+    item: &Item,
+    options: &[u32],
+) -> Result<Tree, Refusal>
+    requires room { kept + length options.now < budget.old.nodes }
+    requires inner { 1 ≤ budget.old.inner }
+    requires low { 2 ≤ depth }
+    requires steps { length frame.old.atoms + budget.old.nodes ≤ frame.old.given + 4096 + kept }
+    requires begun { frame.old.given ≤ length frame.old.atoms }
+    requires once { distinct frame.old.scene.live ≡ true }
+    requires due { is_due frame.old item.now ≡ true }
+    requires each_once { distinct options.now ≡ true }
+    requires members { (p : ℕ) → mem options.now p ≡ (mem frame.old.scene.live p && is_option frame.old item.now p) }
+    ensures same { OnOk result (frame.new ≡ frame.old) }
+    ensures grown { IfOk result (λ t. Grown frame.old.scene frame.old.atoms depth (plan_of t)) }
+    ensures nodes { IfOk result (λ t. budget.new.nodes + total (plan_of t) ≡ budget.old.nodes) }
+    ensures inner { IfOk result (λ t. budget.new.inner + inner (plan_of t) ≤ budget.old.inner) }
+    ensures kept { OnOk result (kept ≤ budget.new.nodes) }
+    ensures root { IfOk result (λ t. is_rest (plan_of t) ≡ false) }
+    ensures why { IfErr result (λ e. e ≡ Refusal.Memory) }
+{
+    budget.nodes -= 1;
+    budget.inner -= 1;
+    let walked = walk_arms(alloc, frame, budget, kept, depth, item, options)?;
+    let tree = finish(alloc, frame, budget, kept, depth, item, options, walked)?;
+    Ok(tree)
+}
+
+// A Branch where all options were walked, and else a chain over those that were.
+fn finish(
+    alloc: Global,
+    frame: &Frame<'_>,
+    budget: &mut Budget,
+    kept: u32,
+    depth: u32,
+    item: &Item,
+    options: &[u32],
+    walked: Arms,
+) -> Result<Tree, Refusal>
+    requires low { 2 ≤ depth }
+    requires once { distinct frame.now.scene.live ≡ true }
+    requires due { is_due frame.now item.now ≡ true }
+    requires each_once { distinct options.now ≡ true }
+    requires members { (p : ℕ) → mem options.now p ≡ (mem frame.now.scene.live p && is_option frame.now item.now p) }
+    requires fits { budget.old.inner + walked.held < 2 ^ 32 }
+    requires walked { Walked frame.now depth kept options.now budget.old.nodes walked.held walked.arms.items }
+    ensures grown { IfOk result (λ t. Grown frame.now.scene frame.now.atoms depth (plan_of t)) }
+    ensures nodes { IfOk result (λ t. budget.new.nodes + total (plan_of t) ≡ budget.old.nodes + arms_total (arms_list walked.arms.items) + 1) }
+    ensures inner { IfOk result (λ t. budget.new.inner + inner (plan_of t) ≤ budget.old.inner + arms_inner (arms_list walked.arms.items) + walked.held + 1) }
+    ensures kept { OnOk result (kept ≤ budget.new.nodes) }
+    ensures root { IfOk result (λ t. is_rest (plan_of t) ≡ false) }
+    ensures why { IfErr result (λ e. e ≡ Refusal.Memory) }
+{
+    let Arms { arms, held } = walked;
+    if arms.len() == options.len() {
+        budget.inner += held;
+        return Ok(Tree::Branch { item: *item, arms });
+    }
+    budget.nodes -= arms.len() as u32;
+    budget.rests = budget.rests.saturating_add(1);
+    let tree = link(alloc, arms)?;
+    Ok(tree)
+}
+
+// The chain of Splits over the arms, with Rest at its end.
+fn link(alloc: Global, arms: Vec<Arm>) -> Result<Tree, Refusal>
+    ensures tree { IfOk result (λ t. plan_of t ≡ chain (arms_list arms.items) Rests) }
+    ensures why { IfErr result (λ e. e ≡ Refusal.Memory) }
+{
+    let mut arms = arms;
+    let mut tree = Tree::Rest;
+    while let Some(arm) = arms.pop() {
+        let Arm {
+            placement,
+            tree: taken,
+        } = arm;
+        let taken = Box::new(alloc, taken)?;
+        let left = Box::new(alloc, tree)?;
+        tree = Tree::Split {
+            placement,
+            taken,
+            left,
+        };
+    }
+    Ok(tree)
+}
+
+// A Split on an open placement.
+#[cycle(grow)]
+fn split(
+    alloc: Global,
+    frame: &mut Frame<'_>,
+    budget: &mut Budget,
+    kept: u32,
+    depth: u32,
+    placement: u32,
+) -> Result<Tree, Refusal>
+    requires room { kept + 3 ≤ budget.old.nodes }
+    requires inner { 1 ≤ budget.old.inner }
+    requires low { 2 ≤ depth }
+    requires steps { length frame.old.atoms + budget.old.nodes ≤ frame.old.given + 4096 + kept }
+    requires begun { frame.old.given ≤ length frame.old.atoms }
+    requires once { distinct frame.old.scene.live ≡ true }
+    requires place { mem frame.old.scene.live placement ≡ true }
+    requires open { is_open frame.old placement ≡ true }
+    ensures same { OnOk result (frame.new ≡ frame.old) }
+    ensures grown { IfOk result (λ t. Grown frame.old.scene frame.old.atoms depth (plan_of t)) }
+    ensures nodes { IfOk result (λ t. budget.new.nodes + total (plan_of t) ≡ budget.old.nodes) }
+    ensures inner { IfOk result (λ t. budget.new.inner + inner (plan_of t) ≤ budget.old.inner) }
+    ensures kept { OnOk result (kept ≤ budget.new.nodes) }
+    ensures root { IfOk result (λ t. is_rest (plan_of t) ≡ false) }
+    ensures why { IfErr result (λ e. e ≡ Refusal.Memory) }
+{
+    budget.nodes -= 1;
+    budget.inner -= 1;
+    let mark = frame.mark();
+    frame.pick(placement);
+    let taken = child(alloc, frame, budget, kept + 1, depth - 1)?;
+    frame.back_to(mark);
+    frame.leave(placement);
+    let left = child(alloc, frame, budget, kept, depth - 1)?;
+    frame.back_to(mark);
+    let taken = Box::new(alloc, taken)?;
+    let left = Box::new(alloc, left)?;
+    Ok(Tree::Split {
+        placement,
+        taken,
+        left,
+    })
+}

@@ -1,0 +1,9 @@
+//! Search: the worker's step and the plain solver.
+#![tactic(auto)]
+
+mod growth;
+mod step;
+mod whole;
+
+pub use step::explore;
+pub use whole::search_all;
