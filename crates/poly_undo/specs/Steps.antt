@@ -1,0 +1,31 @@
+-- The steps of a history as contracts see them.
+use Rattle.std.specs.Prelude.{◌≡◌, ◌+◌, ◌-◌, ◌∷◌, ◌++◌, ◌≤◌, [], length, drop, slice_get, vec_capacity, List, Option, Vec}
+use Rattle.circular_buffer.specs.Buffer.{Buffer}
+use Rattle.poly_undo.specs.declared.step.Step.{Step}
+
+-- the steps that can be undone and those that can be redone; each list ends with the step whose turn is next
+pub record Steps (C K : Type 0) : Type 0 where
+  pub undo : List (Step C K)
+  pub redo : List (Step C K)
+
+-- the last 256 of a list
+abbrev pub newest : {X : Type 0} → List X → List X
+newest xs = drop (length xs - 256) xs
+
+-- the step whose turn is next, if there is one
+abbrev pub next_of : {X : Type 0} → List X → Option X
+next_of xs = slice_get xs (length xs - 1)
+
+-- The step whose turn is next in one list goes to the end of the other, with `kept` beside it, and what stood beside it
+-- is given out. Nothing else changes.
+pub record Moves {C K : Type 0} (from to left made : List (Step C K)) (kept stood : Option K) : Type 0 where
+  pub step : Step C K
+  pub taken : from ≡ left ++ step ∷ []
+  pub put : made ≡ to ++ (record step { kept = kept }) ∷ []
+  pub given : stood ≡ step.kept
+
+-- what holds of the two containers: room for all steps, and never more of them
+pub record HasRoom {X A : Type 0} (undo : Buffer X) (redo : Vec X A) : Type 0 where
+  pub undo_room : undo.capacity ≡ 256
+  pub redo_room : 256 ≤ vec_capacity redo
+  pub few : length undo.items + length redo.items ≤ 256
