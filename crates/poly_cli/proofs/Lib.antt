@@ -1,0 +1,15 @@
+pub mod Cuts
+pub mod Known
+pub mod Next
+pub mod Going
+pub mod Answered
+pub mod Digits
+pub mod Lists
+pub mod Testing
+pub mod Boards
+pub mod Naming
+pub mod CellsRead
+pub mod PiecesRead
+pub mod Texts
+pub mod Puzzles
+pub mod FirstLine

@@ -1,0 +1,16 @@
+pub mod Cutting
+pub mod Buffered
+pub mod Runs
+pub mod Replies
+pub mod Gives
+pub mod Json
+pub mod Views
+pub mod Outer
+pub mod Board
+pub mod Head
+pub mod Names
+pub mod Words
+pub mod Fields
+pub mod Piece
+pub mod Puzzle
+pub mod Sessions

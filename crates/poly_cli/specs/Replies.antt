@@ -1,0 +1,41 @@
+-- The text of replies.
+use Rattle.std.specs.Prelude.{◌≡◌, ℕ, ◌+◌, List, [], ◌∷◌, ◌++◌, length, codes, sum_by}
+use Rattle.std.specs.List.{flat_map, join_by}
+use Rattle.std.specs.Fmt.{decimal}
+use Rattle.poly_grid.specs.Spot.{Spot}
+use Rattle.poly_grid.specs.Refusal.{code_of, name_of}
+use Rattle.poly_grid.specs.declared.refusal.Refusal.{Refusal}
+use Rattle.poly_design.specs.declared.placement.Placement.{Placement}
+
+abbrev pub refusal_text : Refusal → List ℕ
+refusal_text e = codes "no " ++ decimal (code_of e) ++ 32 ∷ name_of e ++ 10 ∷ []
+
+abbrev pub ok_text : ℕ → List ℕ
+ok_text edition = codes "ok " ++ decimal edition ++ 10 ∷ []
+
+abbrev pub tilings_text : ℕ → List ℕ
+tilings_text n = codes "tilings " ++ decimal n ++ 10 ∷ []
+
+-- a cell: its column and its row with a comma between
+abbrev pub cell_text : Spot → List ℕ
+cell_text c = decimal c.x ++ 44 ∷ decimal c.y
+
+-- cells with a slash between each two
+abbrev pub cells_text : List Spot → List ℕ
+cells_text cells = join_by cell_text (47 ∷ []) cells
+
+-- the name, an equals sign and the cells
+abbrev pub placement_text : Placement → List ℕ
+placement_text p = p.name ++ 61 ∷ cells_text p.cells
+
+-- each placement after a space, or a dash where there is none
+abbrev pub placements_text : List Placement → List ℕ
+placements_text [] = codes " -"
+placements_text (p ∷ ps) = flat_map (λ q. 32 ∷ placement_text q) (p ∷ ps)
+
+abbrev pub tiling_text : List Placement → List ℕ
+tiling_text ps = codes "tiling" ++ placements_text ps ++ 10 ∷ []
+
+-- how many cells the placements cover, each counted for each placement
+abbrev pub covered : List Placement → ℕ
+covered ps = sum_by (λ p. length p.cells) ps

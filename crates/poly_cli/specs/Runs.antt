@@ -1,0 +1,40 @@
+-- Runs over lines: to each line some output, and the next state.
+use Rattle.std.specs.Prelude.{◌≡◌, ◌≤◌, ℕ, List, [], ◌∷◌, ◌++◌, length, take, Option, Some, None, Result, Ok, Err}
+use Rattle.std.specs.Io.KnownBytes.{Appends, IsAtEnd}
+use Rattle.poly_cli.specs.declared.serving.Fault.{Fault}
+use Rattle.poly_cli.specs.declared.serving.Fault.TheVariants.{Read, Write}
+use Rattle.poly_cli.specs.declared.lines.Lines.{Lines}
+use Rattle.poly_cli.specs.Buffered.{room}
+use Rattle.poly_cli.specs.Cutting.{lines_of, lines_before}
+
+abbrev pub Runs : {S : Type 0} → (S → Option (List ℕ) → List ℕ → S → Type 0) → S → List (Option (List ℕ)) → List ℕ → Type 0
+Runs {S} Says s [] out = out ≡ []
+Runs {S} Says s (line ∷ lines) out = (first rest : List ℕ) × (t : S) × Says s line first t × Runs Says t lines rest × (out ≡ first ++ rest)
+
+-- what was written of out: all of it, or at a fault a first part
+abbrev pub Writes : Result (Unit {0}) Fault → Option (List ℕ) → Option (List ℕ) → List ℕ → Type 0
+Writes (Ok x) old new out = Appends old new out
+Writes (Err e) old new out = (e ≡ Write) × (wrote rest : List ℕ) × Appends old new wrote × (wrote ++ rest ≡ out)
+
+-- how long a line, how many bytes and how many lines there may be
+pub record Limits : Type 0 where
+  pub line : ℕ
+  pub bytes : ℕ
+  pub lines : ℕ
+
+-- the limits from here on, with so many lines
+abbrev pub limits_from : ℕ → Lines → Limits
+limits_from most b = record { line = b.limit; bytes = room b; lines = most }
+
+-- the lines of the bytes that were read whole before a fault, as far as the limits go
+abbrev pub lines_heard : Limits → List ℕ → List (Option (List ℕ))
+lines_heard m bytes = take m.lines (lines_before m.line (take m.bytes bytes))
+
+-- What a session says of the bytes that it took. At the end, which is within the limits, its output is a run on all their lines. At a
+-- read fault it is one on the lines read whole before. At a write fault the writer took a first part of a run's output on the first of the lines.
+abbrev pub Serves : {S : Type 0} → Limits → (S → Option (List ℕ) → List ℕ → S → Type 0) → S → List ℕ → Result (Unit {0}) Fault → Option (List ℕ) → Option (List ℕ) → Option (List ℕ) → Type 0
+Serves m Says s bytes (Ok x) left old new =
+    IsAtEnd left × (length bytes ≤ m.bytes) × (length (lines_of m.line bytes) ≤ m.lines) × ((out : List ℕ) × Appends old new out × Runs Says s (lines_of m.line bytes) out)
+Serves m Says s bytes (Err Read) left old new = (out : List ℕ) × Appends old new out × Runs Says s (lines_heard m bytes) out
+Serves m Says s bytes (Err Write) left old new =
+    (out rest : List ℕ) × (lines more : List (Option (List ℕ))) × Appends old new out × Runs Says s lines (out ++ rest) × (take m.lines (lines_of m.line (take m.bytes bytes)) ≡ lines ++ more)

@@ -1,0 +1,196 @@
+//! Lines cut from any reader, in one buffer that is taken once.
+//!
+//! A reader may give any number of bytes at a time, and a line may be far longer than what is kept of it. So each byte goes through
+//! the chunk once, and of a line only the first bytes are kept, one more than a line may have: enough to tell that it is too long.
+ghost use Rattle.std.specs.Prelude.{◌↔◌, ◌^◌, IsTrue, option_map, ◌≡◌, ◌+◌, ◌<◌, ◌≤◌, ◌++◌, ◌∷◌, [], ℕ, List, take, drop, length, IfOk, IfErr, IfSome, OnOk, MatchOption, MatchResult, vec_len, vec_capacity};
+ghost use Rattle.std.specs.Io.KnownBytes.{Consumes, IsAtEnd};
+ghost use Rattle.poly_cli.specs.Cutting.{ended, unended, without_return};
+ghost use Rattle.poly_cli.specs.Buffered.{ahead, IsReady, kept, EndsLine, EndsNone, Cuts, Reads, NextLine};
+
+use poly_grid::Refusal;
+use std::alloc::Global;
+use std::io::Read;
+
+/// The most bytes of a line before its line feed.
+pub const LINE_LIMIT: usize = 65_536;
+
+/// The most bytes of an input.
+pub const INPUT_LIMIT: u64 = 1 << 30;
+
+const CHUNK: usize = 8192;
+
+/// What was read and not yet cut, the line that was cut last, and how many bytes may still be read.
+#[derive(Drop)]
+pub struct Lines {
+    limit: usize,
+    left: u64,
+    chunk: Vec<u8>,
+    at: usize,
+    end: usize,
+    line: Vec<u8>,
+}
+
+/// What came of looking for the next line.
+#[derive(Debug, Drop, Clone, Copy, PartialEq, Eq)]
+pub enum Event {
+    /// A line that ended with a line feed.
+    Line,
+    /// The end of the input; what had begun before it, if anything, is the last line.
+    End,
+    /// The reader failed, or gave a byte over the limit of the input.
+    Fault,
+}
+
+impl Lines {
+    /// A buffer for lines of up to `limit` bytes out of an input of up to `input` bytes. It takes all the memory that it ever needs;
+    /// the only error is `Memory`.
+    pub fn new(alloc: Global, limit: usize, input: u64) -> Result<Lines, Refusal>
+        requires { limit + 1 < 2 ^ 64 }
+        ensures ready { IfOk result IsReady }
+        ensures limits { IfOk result (λ l. (l.limit ≡ limit) × (l.left ≡ input)) }
+        ensures fresh { IfOk result (λ l. ahead l ≡ []) }
+        ensures why { IfErr result (λ e. e ≡ Refusal.Memory) }
+    {
+        Ok(Lines {
+            limit,
+            left: input,
+            chunk: Vec::from_elem(alloc, 0u8, CHUNK)?,
+            at: 0,
+            end: 0,
+            line: Vec::with_capacity(alloc, limit + 1)?,
+        })
+    }
+
+    /// Looks for the next line, and keeps its first bytes. A read that was interrupted is a fault too.
+    pub fn next_line<R: Read>(&mut self, reader: &mut R) -> Event
+        requires ready { IsReady self.old }
+        ensures ready { IsReady self.new }
+        ensures limit { self.new.limit ≡ self.old.limit }
+        ensures next { NextLine result self.old self.new (R.remaining reader.old) (R.remaining reader.new) }
+    {
+        self.line.clear();
+        loop {
+            if self.cut() {
+                return Event::Line;
+            }
+            match self.refill(reader) {
+                Event::Line => {}
+                Event::End => return Event::End,
+                Event::Fault => return Event::Fault,
+            }
+        }
+    }
+
+    /// What the line says that was cut last, without a carriage return at its end; nothing where it is too long.
+    pub fn ended(&self) -> Option<&[u8]>
+        ensures { (bytes : List ℕ) → self.now.line.items ≡ kept self.now.limit bytes → option_map (λ l. l.now) result ≡ ended self.now.limit bytes }
+    {
+        if self.line.len() > self.limit {
+            return None;
+        }
+        Some(without_return(self.line.as_slice()))
+    }
+
+    /// What the last line says, which ended with the input; nothing where it is too long.
+    pub fn unended(&self) -> Option<&[u8]>
+        ensures { (bytes : List ℕ) → self.now.line.items ≡ kept self.now.limit bytes → option_map (λ l. l.now) result ≡ unended self.now.limit bytes }
+    {
+        if self.line.len() > self.limit {
+            return None;
+        }
+        Some(self.line.as_slice())
+    }
+
+    /// Whether the line has no byte.
+    pub fn is_empty(&self) -> bool
+        ensures { IsTrue result ↔ (self.now.line.items ≡ []) }
+    {
+        self.line.is_empty()
+    }
+
+    // Cuts what was read up to the next line feed, and answers whether there is one.
+    fn cut(&mut self) -> bool
+        requires ready { IsReady self.old }
+        ensures ready { IsReady self.new }
+        ensures left { (self.new.left ≡ self.old.left) × (self.new.limit ≡ self.old.limit) }
+        ensures cut { (begun : List ℕ) → self.old.line.items ≡ kept self.old.limit begun → (piece : List ℕ) × (ahead self.old ≡ piece ++ ahead self.new)
+            × Cuts self.old.limit result begun piece self.new.line.items (ahead self.new) }
+    {
+        match gather(self.limit, &mut self.line, &self.chunk[self.at..self.end]) {
+            Some(taken) => {
+                self.at += taken;
+                true
+            }
+            None => {
+                self.at = self.end;
+                false
+            }
+        }
+    }
+
+    // Reads more, where nothing is left of what was read, and answers whether something came.
+    fn refill<R: Read>(&mut self, reader: &mut R) -> Event
+        requires ready { IsReady self.old }
+        ensures ready { IsReady self.new }
+        ensures line { (self.new.line ≡ self.old.line) × (self.new.limit ≡ self.old.limit) }
+        ensures less { result ≡ Event.Line → self.new.left < self.old.left }
+        ensures read { Reads result self.old.left self.new.left (R.remaining reader.old) (R.remaining reader.new) (ahead self.new) }
+    {
+        self.at = 0;
+        self.end = 0;
+        // Near the limit the chunk shrinks, so that no byte past it is read beside others.
+        if self.left == 0 {
+            self.chunk.truncate(1);
+        } else if self.left < self.chunk.len() as u64 {
+            self.chunk.truncate(self.left as usize);
+        }
+        match reader.read(self.chunk.as_mut_slice()) {
+            Ok(0) => Event::End,
+            Ok(n) if n as u64 <= self.left => {
+                self.left -= n as u64;
+                self.end = n;
+                Event::Line
+            }
+            _ => Event::Fault,
+        }
+    }
+}
+
+// Takes bytes into the line up to a line feed, and answers how many were taken with it.
+fn gather(limit: usize, line: &mut Vec<u8>, bytes: &[u8]) -> Option<usize>
+    requires room { limit + 1 ≤ vec_capacity line.old }
+    ensures room { vec_capacity line.new ≡ vec_capacity line.old }
+    ensures within { IfSome result (λ n. n ≤ length bytes.now) }
+    ensures gathered { (begun : List ℕ) → line.old.items ≡ kept limit begun → MatchOption result
+        (EndsNone limit begun bytes.now line.new.items)
+        (λ n. EndsLine limit begun (take n bytes.now) line.new.items) }
+{
+    for i in 0..bytes.len() {
+        let byte = bytes[i];
+        if byte == b'\n' {
+            return Some(i + 1);
+        }
+        keep(limit, line, byte);
+    }
+    None
+}
+
+// Keeps one more byte of the line, where it has room.
+fn keep(limit: usize, line: &mut Vec<u8>, byte: u8)
+    requires room { limit + 1 ≤ vec_capacity line.old }
+    ensures room { vec_capacity line.new ≡ vec_capacity line.old }
+    ensures line { (b : List ℕ) → line.old.items ≡ kept limit b → line.new.items ≡ kept limit (b ++ byte ∷ []) }
+{
+    if line.len() <= limit {
+        line.push_reserved(byte);
+    }
+}
+
+fn without_return(bytes: &[u8]) -> &[u8]
+    ensures { result.now ≡ without_return bytes.now }
+{
+    if bytes.is_empty() || bytes[bytes.len() - 1] != b'\r' {
+        return bytes;
+    }
+    &bytes[..bytes.len() - 1]
+}
