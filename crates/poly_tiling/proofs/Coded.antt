@@ -1,5 +1,5 @@
 -- Words of the definitions as loops of the code meet them.
-use Rattle.std.proofs.Common.{Bool, List, [], ap, arith, map, ◌++◌, ◌+◌, ◌||◌, ◌&&◌, ◌∷◌, ◌≡◌, refl, ℕ, false}
+use Rattle.std.proofs.Common.{Bool, List, [], ap, arith, map, ◌++◌, ◌+◌, ◌||◌, ◌&&◌, ◌∷◌, ◌≡◌, refl, false}
 use Rattle.std.specs.List.{list_all, list_any}
 use Rattle.poly_tiling.specs.declared.item.Item.{Item}
 use Rattle.poly_grid.specs.Spot.{Spot}

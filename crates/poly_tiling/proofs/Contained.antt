@@ -1,5 +1,5 @@
 -- Elements by their places and by recursion, and facts about each element and each later one.
-use Rattle.std.proofs.Common.{List, None, Option, Some, [], ap, arith, get_or, inl, inr, length, refl, slice_get, subst, suc, sym, zero, ℕ, ◌+◌, ◌<◌, ◌∙◌, ◌∷◌, ◌≡◌, ◌≢◌, ◌⊎◌}
+use Rattle.std.proofs.Common.{List, Some, [], ap, arith, get_or, inl, inr, length, refl, slice_get, subst, suc, zero, ℕ, ◌<◌, ◌∷◌, ◌≡◌, ◌≢◌}
 use Rattle.std.specs.List.{AllPairs, Contains}
 use Rattle.poly_tiling.proofs.Lists.{In}
 

@@ -14,7 +14,7 @@ use Rattle.poly_tiling.proofs.Ascending.{ascending_same, distinct_rest, not_head
 use Rattle.poly_tiling.proofs.Counts.{ascending_distinct, tally_within}
 use Rattle.poly_tiling.proofs.Coded.{tally_push}
 use Rattle.poly_tiling.proofs.Orders.{pins_once}
-use Rattle.poly_tiling.proofs.Tilings.{IsTiling, parts, same_item_self}
+use Rattle.poly_tiling.proofs.Tilings.{parts, same_item_self}
 
 -- a tiling that is left, in plain facts
 pub record IsLeft (v : View) (chosen free T : List ℕ) : Type 0 where

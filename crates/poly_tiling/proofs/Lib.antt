@@ -16,3 +16,5 @@ pub mod Families
 pub mod Sorting
 pub mod Plain
 pub mod Ranks
+pub mod Places
+pub mod Listings

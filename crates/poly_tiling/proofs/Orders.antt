@@ -1,20 +1,15 @@
 -- Numbers that stand in the order of their placements stand once.
-use Rattle.std.proofs.Common.{Bool, List, None, Option, Some, [], ap, cond, eqb, false, refl, slice_get, subst, sym, true, ℕ, ◌∙◌, ◌∷◌, ◌≡◌}
-use Rattle.std.proofs.Common.{rules}
+use Rattle.std.proofs.Common.{List, None, Option, Some, [], ap, cond, eqb, false, refl, slice_get, subst, sym, true, ℕ, ◌∷◌, ◌≡◌}
 use Rattle.std.proofs.lemmas.Bool.{and_from, and_parts, both_ways, ne_eqb}
 use Rattle.std.specs.List.{list_all}
-use Rattle.std.specs.Ordering.{is_lt, on, then_cmp}
-use Rattle.std.specs.Cmp.{IsTotalOrder, tied_itself}
-use Rattle.std.specs.Cmp.Rules.{comparing}
-use Rattle.poly_shape.specs.Order.{cells_total}
+use Rattle.std.specs.Ordering.{is_lt}
+use Rattle.std.specs.Cmp.{tied_itself}
+pub use Rattle.poly_design.specs.PlacementOrder.{placement_total}
 use Rattle.poly_design.specs.declared.placement.Placement.{Placement}
 use Rattle.poly_tiling.specs.Lists.{distinct}
 use Rattle.poly_tiling.specs.Puzzle.{View}
-use Rattle.poly_tiling.specs.Names.{WellNamed, below, in_order, placed_below, placement_cmp}
-use Rattle.poly_tiling.proofs.Lists.{In, all_from, all_in}
-
-pub placement_total : IsTotalOrder placement_cmp
-placement_total = search (comparing, rules, cells_total)
+use Rattle.poly_tiling.specs.Names.{WellNamed, below, in_order, placed_below}
+use Rattle.poly_tiling.proofs.Lists.{all_from, all_in}
 
 never_below : (o : Option Placement) → placed_below o o ≡ false
 never_below None = refl

@@ -1,10 +1,10 @@
 -- The view of a design by itself.
-use Rattle.std.proofs.Common.{Bool, List, None, Option, Some, [], ap, append_assoc, arith, cond, false, get_or, inl, inr, leb, length, length-append, ltb, map, refl, slice_get, subst, suc, sym, true, zero, ℕ, ◌&&◌, ◌++◌, ◌+◌, ◌<◌, ◌||◌, ◌∙◌, ◌∷◌, ◌≡◌, ◌≢◌, ◌≤◌, ◌⊎◌}
+use Rattle.std.proofs.Common.{Bool, List, None, Option, Some, [], ap, append_assoc, arith, cond, false, get_or, inl, inr, leb, length, length-append, ltb, map, refl, slice_get, subst, suc, sym, true, zero, ℕ, ◌&&◌, ◌++◌, ◌+◌, ◌||◌, ◌∙◌, ◌∷◌, ◌≡◌, ◌≢◌, ◌≤◌, ◌⊎◌}
 use Rattle.std.proofs.lemmas.Bool.{and_from, cases_Bool, lt-ltb, ltb-false, or_left}
 use Rattle.std.proofs.lemmas.List.Quantifiers.{all_pairs_push, position-Some}
 use Rattle.std.proofs.lemmas.List.Sums.{fails_before_first}
 use Rattle.std.proofs.lemmas.List.{append-nil}
-use Rattle.std.specs.List.{AllPairs, Contains, cons_option, filter_map, list_all, list_any, position, position_or_len, range_with_len}
+use Rattle.std.specs.List.{AllPairs, Contains, cons_option, list_all, list_any, position, position_or_len, range_with_len}
 use Rattle.std.specs.Map.{keys_of, lookup}
 use Rattle.std.specs.BTreeMap.{is_at}
 use Rattle.std.specs.Option.{option_map}
@@ -24,11 +24,9 @@ use Rattle.poly_design.specs.declared.mode.Mode.{Mode}
 use Rattle.poly_design.specs.declared.mode.Mode.TheVariants.{Blocked, Optional, Required}
 use Rattle.poly_design.specs.declared.placement.Placement.{Placement}
 use Rattle.poly_design.specs.declared.spec.Spec.{Spec}
-use Rattle.poly_tiling.specs.declared.item.Item.{Item}
 use Rattle.poly_tiling.specs.declared.item.Item.TheVariants.{Cell, Piece}
 use Rattle.poly_tiling.specs.Puzzle.{Bound, View, items, items_of, same_item}
 use Rattle.poly_tiling.specs.Names.{WellNamed, item_cmp, items_ascend}
-use Rattle.poly_tiling.specs.Tilings.{IsPin}
 use Rattle.poly_tiling.specs.Shows.{AddsPins, HasNumber, IsNamed, IsPlain, PutsPin, Shows, StandFor, cell_bound, item_bounds, piece_bound, pin_of, pins_of}
 use Rattle.poly_tiling.proofs.Lists.{In, all_append, all_from, any_append, any_from, in_append_cases, in_append_left, in_append_right, in_map, map_in}
 use Rattle.poly_tiling.proofs.Contained.{at_in, contains_in, get_low, in_contains, low_get, pairs_cons, pairs_head, pairs_none, pairs_rest}

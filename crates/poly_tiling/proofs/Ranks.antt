@@ -1,5 +1,5 @@
 -- Tilings are compared by the places of their numbers.
-use Rattle.std.proofs.Common.{Bool, List, None, Option, Some, [], ap, arith, cond, eqb, false, inl, inr, length, ltb, refl, slice_get, subst, sym, true, ℕ, ◌&&◌, ◌+◌, ◌<◌, ◌∙◌, ◌∷◌, ◌≡◌, ◌≤◌}
+use Rattle.std.proofs.Common.{Bool, List, Some, [], ap, arith, cond, eqb, false, inl, inr, length, ltb, refl, slice_get, sym, true, ℕ, ◌+◌, ◌<◌, ◌∙◌, ◌∷◌, ◌≡◌, ◌≤◌}
 use Rattle.std.proofs.lemmas.Bool.{and_parts, eq-eqb, le-ltb, lt-ltb, ne_eqb}
 use Rattle.std.specs.Cmp.{tied_itself}
 use Rattle.std.specs.Cmp.Lexicographic.{slice_cmp}
@@ -8,13 +8,12 @@ use Rattle.std.specs.Ordering.{is_lt, nat_cmp, ordering_reverse, ordering_then}
 use Rattle.std.specs.declared.cmp.Ordering.{Ordering}
 use Rattle.std.specs.declared.cmp.Ordering.TheVariants.{Equal, Greater, Less}
 use Rattle.poly_design.specs.declared.placement.Placement.{Placement}
-use Rattle.poly_tiling.specs.Lists.{ascending, mem}
+use Rattle.poly_tiling.specs.Lists.{mem}
 use Rattle.poly_tiling.specs.Puzzle.{View}
-use Rattle.poly_tiling.specs.Names.{WellNamed, below, in_order, placed_below, placement_cmp}
+use Rattle.poly_tiling.specs.Names.{below, in_order, placed_below, placement_cmp}
 use Rattle.poly_tiling.specs.Shows.{names}
 use Rattle.poly_tiling.specs.TilingOrder.{RanksCompare, ranks_from}
 use Rattle.poly_tiling.proofs.Lists.{In, all_in, filter_in}
-use Rattle.poly_tiling.proofs.Ascending.{ascending_from}
 use Rattle.poly_tiling.proofs.Orders.{placement_total}
 use Rattle.poly_tiling.proofs.Shown.{is_given, names_in}
 
@@ -75,7 +74,7 @@ even_all : (v : View) (s : ℕ) (ns T : List ℕ) → ((n : ℕ) → In n ns →
 even_all v s [] T g = refl
 even_all v s (n ∷ ns) T g = let x = g n (inl refl) in even_at v s n ns T x.0 x.1 (even_all v (s + 1) ns T (λ m i. g m (inr i))) (mem T n)
 
-lt_less : (o : Ordering) → is_lt o ≡ true → o ≡ Less
+pub lt_less : (o : Ordering) → is_lt o ≡ true → o ≡ Less
 lt_less Less h = refl
 lt_less Equal h = cc
 lt_less Greater h = cc

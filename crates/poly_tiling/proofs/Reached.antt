@@ -1,19 +1,17 @@
 -- Each tiling of the design has just one list of numbers.
-use Rattle.std.proofs.Common.{Bool, List, Some, [], ap, arith, cond, eqb, false, inl, inr, length, ltb, map, refl, slice_get, subst, sym, true, ℕ, ◌<◌, ◌∙◌, ◌∷◌, ◌≡◌, ◌≢◌}
+use Rattle.std.proofs.Common.{Bool, List, Some, [], ap, arith, cond, eqb, false, inl, inr, length, ltb, map, refl, slice_get, subst, sym, true, ℕ, ◌∙◌, ◌∷◌, ◌≡◌, ◌≢◌}
 use Rattle.std.proofs.lemmas.Bool.{and_from, false_from_ne_true, lt-ltb, ne_eqb}
 use Rattle.std.specs.List.{AllPairs, Contains, list_any}
-use Rattle.poly_shape.specs.Order.{HasSame}
 use Rattle.poly_design.specs.Layout.{Layout}
 use Rattle.poly_design.specs.declared.placement.Placement.{Placement}
 use Rattle.poly_tiling.specs.declared.item.Item.{Item}
-use Rattle.poly_tiling.specs.Lists.{ascending, distinct, one, put_all, tally}
+use Rattle.poly_tiling.specs.Lists.{distinct, one, put_all, tally}
 use Rattle.poly_tiling.specs.Puzzle.{View, clash, count, has_item, items_of, same_item}
 use Rattle.poly_tiling.specs.Names.{WellNamed}
 use Rattle.poly_tiling.specs.Tilings.{how_many}
-use Rattle.poly_tiling.specs.Tilings.{IsTiling as IsTilingOf}
 use Rattle.poly_tiling.specs.Shows.{Shows, StandFor, given, names}
-use Rattle.poly_tiling.specs.Laws.{IsNumbered, NumbersReach}
-use Rattle.poly_tiling.proofs.Lists.{In, all_from, in_map, map_in}
+use Rattle.poly_tiling.specs.Laws.{NumbersReach}
+use Rattle.poly_tiling.proofs.Lists.{In, all_from}
 use Rattle.poly_tiling.proofs.Ascending.{ascending_same, in_put_all_left, put_all_in, put_all_up}
 use Rattle.poly_tiling.proofs.Counts.{ascending_distinct, tally_within}
 use Rattle.poly_tiling.proofs.Contained.{contains_in, get_low, in_contains, pairs_head, pairs_rest}

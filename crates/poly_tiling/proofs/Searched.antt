@@ -1,21 +1,21 @@
 -- A binary search over items that ascend finds an item's bound.
-use Rattle.std.proofs.Common.{Bool, Err, List, None, Ok, Option, Ordering, Result, Some, [], add-one, ap, arith, cond, false, get_or, inl, inr, length, refl, rules, subst, suc, sym, true, zero, ℕ, ◌+◌, ◌<◌, ◌∙◌, ◌∷◌, ◌≡◌, ◌≤◌}
-use Rattle.std.proofs.lemmas.Bool.{and_parts, both_ways, cases_Bool, cases_lt, cond-false, false_from_ne_true}
+use Rattle.std.proofs.Common.{List, Ordering, [], add-one, ap, arith, cond, false, get_or, inl, inr, length, refl, subst, suc, sym, true, zero, ℕ, ◌+◌, ◌<◌, ◌∙◌, ◌∷◌, ◌≡◌}
+use Rattle.std.proofs.lemmas.Bool.{and_parts, cases_lt, cond-false}
 use Rattle.std.proofs.lemmas.List.Sorted.{searchable_from_sorted}
-use Rattle.std.specs.List.{HoldsAt, list_all, list_any}
-use Rattle.std.specs.List.Sorted.{IsBinarySearchResult, IsNonDecreasingBy, IsPartitionPoint, IsSortedBy}
+use Rattle.std.specs.List.{HoldsAt, list_all}
+use Rattle.std.specs.List.Sorted.{IsNonDecreasingBy, IsPartitionPoint}
 use Rattle.std.specs.Ordering.{is_eq, is_lt, ordering_index, ordering_reverse}
 use Rattle.std.specs.declared.cmp.Ordering.TheVariants.{Equal, Greater, Less}
-use Rattle.std.specs.Cmp.{IsTotalOrder, tied_itself}
+use Rattle.std.specs.Cmp.{IsTotalOrder}
 use Rattle.std.specs.Cmp.Lexicographic.{nat_list_cmp_total, texts_ties}
 use Rattle.poly_shape.specs.Order.{spot_ties, spot_total}
 use Rattle.poly_tiling.specs.declared.item.Item.{Item}
 use Rattle.poly_tiling.specs.declared.item.Item.TheVariants.{Cell, Piece}
-use Rattle.poly_tiling.specs.Puzzle.{Bound, bound_in, found_or, same_item}
+use Rattle.poly_tiling.specs.Puzzle.{Bound, bound_in, same_item}
 use Rattle.poly_tiling.specs.Names.{item_cmp, items_ascend}
 use Rattle.poly_tiling.proofs.Lists.{In, all_in, any_none}
 use Rattle.poly_tiling.proofs.Contained.{at_in, in_contains}
-use Rattle.poly_tiling.proofs.Tilings.{bound_none, same_item_is, same_item_self}
+use Rattle.poly_tiling.proofs.Tilings.{bound_none, same_item_is}
 
 pub same_item_ties : (i j : Item) → same_item i j ≡ is_eq (item_cmp i j)
 same_item_ties (Cell c) (Cell d) = spot_ties c d

@@ -1,7 +1,7 @@
 -- Tilings by numbers are tilings of the design that the view shows.
-use Rattle.std.proofs.Common.{List, None, Option, Some, [], ap, arith, eqb, false, inl, inr, length, ltb, not, refl, slice_get, subst, sym, true, ℕ, ◌&&◌, ◌+◌, ◌<◌, ◌∙◌, ◌∷◌, ◌≡◌, ◌≢◌}
-use Rattle.std.proofs.lemmas.Bool.{and_from, and_parts, both_ways, eq-eqb, eqb-true, false_from_ne_true, lt-ltb, ltb-true, ne_eqb, not-true, not_from_false}
-use Rattle.std.specs.List.{AllPairs, Contains, cons_option, list_all, list_any}
+use Rattle.std.proofs.Common.{List, None, Option, Some, [], ap, arith, eqb, false, inl, inr, length, ltb, not, refl, slice_get, subst, sym, true, ℕ, ◌+◌, ◌∙◌, ◌∷◌, ◌≡◌, ◌≢◌}
+use Rattle.std.proofs.lemmas.Bool.{and_from, and_parts, both_ways, eq-eqb, false_from_ne_true, ltb-true, ne_eqb, not-true, not_from_false}
+use Rattle.std.specs.List.{AllPairs, Contains, cons_option, list_any}
 use Rattle.poly_grid.specs.Spot.{Spot}
 use Rattle.poly_shape.specs.Order.{spot_eq, spot_equiv}
 use Rattle.poly_design.specs.Layout.{Layout}
@@ -10,13 +10,13 @@ use Rattle.poly_tiling.specs.declared.item.Item.{Item}
 use Rattle.poly_tiling.specs.Lists.{ascending, one}
 use Rattle.poly_tiling.specs.Puzzle.{View, bound_in, clash, count, has_cell, items_of, least, most, same_item, share_cell}
 use Rattle.poly_tiling.specs.Names.{WellNamed}
-use Rattle.poly_tiling.specs.Tilings.{Conflict, IsPin, bounds_of, how_many}
+use Rattle.poly_tiling.specs.Tilings.{Conflict, bounds_of, how_many}
 use Rattle.poly_tiling.specs.Tilings.{IsTiling as IsTilingOf}
 use Rattle.poly_tiling.specs.Shows.{IsNamed, Shows, given, names}
 use Rattle.poly_tiling.specs.Laws.{NumbersShow}
-use Rattle.poly_tiling.proofs.Lists.{In, all_from, all_in, any_from, any_in}
+use Rattle.poly_tiling.proofs.Lists.{In, all_in, any_from, any_in}
 use Rattle.poly_tiling.proofs.Ascending.{ascending_rest, below_all}
-use Rattle.poly_tiling.proofs.Contained.{contains_in, get_low, in_contains, low_get, one_place, pairs_cons, pairs_none}
+use Rattle.poly_tiling.proofs.Contained.{contains_in, in_contains, low_get, one_place, pairs_cons, pairs_none}
 use Rattle.poly_tiling.proofs.Bounded.{shown_bounds}
 use Rattle.poly_tiling.proofs.Tilings.{IsTiling, parts, same_spot_is, whole}
 

@@ -1,5 +1,5 @@
 -- Lists of numbers that stand for lists of placements.
-use Rattle.std.proofs.Common.{List, None, Option, Some, [], add-one, ap, append_assoc, arith, length, length-append, map, refl, slice_get, subst, suc, sym, true, zero, ℕ, ◌++◌, ◌+◌, ◌∙◌, ◌∷◌, ◌≡◌}
+use Rattle.std.proofs.Common.{List, Some, [], add-one, ap, append_assoc, arith, length, length-append, map, refl, slice_get, subst, suc, sym, true, zero, ℕ, ◌++◌, ◌+◌, ◌∙◌, ◌∷◌, ◌≡◌}
 use Rattle.std.proofs.lemmas.Bool.{and_from}
 use Rattle.std.specs.List.{list_all, range_with_len}
 use Rattle.std.specs.Ordering.{is_lt}

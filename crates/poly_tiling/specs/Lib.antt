@@ -6,3 +6,4 @@ pub mod Shows
 pub mod Lister
 pub mod Laws
 pub mod TilingOrder
+pub mod Listings

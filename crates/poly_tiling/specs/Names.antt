@@ -1,19 +1,16 @@
 -- What every view keeps, and how numbers go on from one view to the next.
 use Rattle.std.specs.List.{list_all, list_any, AllPairs}
-use Rattle.std.specs.Ordering.{is_lt, on, then_cmp}
+use Rattle.std.specs.Ordering.{is_lt}
 use Rattle.std.specs.Prelude.{Bool, List, None, Option, Some, false, length, nat_le, nat_lt, slice_get, true, ℕ, ◌&&◌, [], ◌++◌, ◌∷◌, ◌≡◌, ◌≢◌}
 use Rattle.std.specs.declared.cmp.Ordering.{Ordering}
 use Rattle.std.specs.declared.cmp.Ordering.TheVariants.{Less, Greater}
-use Rattle.poly_shape.specs.Order.{cells_cmp, spot_cmp}
+use Rattle.poly_shape.specs.Order.{spot_cmp}
 use Rattle.poly_design.specs.Name.{name_cmp}
+pub use Rattle.poly_design.specs.PlacementOrder.{placement_cmp}
 use Rattle.poly_design.specs.declared.placement.Placement.{Placement}
 use Rattle.poly_tiling.specs.declared.item.Item.{Item}
 use Rattle.poly_tiling.specs.declared.item.Item.TheVariants.{Cell, Piece}
 use Rattle.poly_tiling.specs.Puzzle.{View, items, same_item}
-
--- by name, then by the list of cells
-abbrev pub placement_cmp : Placement → Placement → Ordering
-placement_cmp = then_cmp (on (λ p. p.name) name_cmp) (on (λ p. p.cells) cells_cmp)
 
 -- cells in their order, then pieces in theirs
 abbrev pub item_cmp : Item → Item → Ordering

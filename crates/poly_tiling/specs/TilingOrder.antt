@@ -2,7 +2,8 @@
 use Rattle.std.specs.Cmp.Lexicographic.{slice_cmp}
 use Rattle.std.specs.List.{filter}
 use Rattle.std.specs.Ordering.{nat_cmp}
-use Rattle.std.specs.Prelude.{List, cond, ℕ, [], ◌+◌, ◌∷◌, ◌≡◌}
+use Rattle.std.specs.Option.{option_flatten}
+use Rattle.std.specs.Prelude.{List, Option, Some, cond, slice_get, ℕ, [], ◌+◌, ◌↔◌, ◌∷◌, ◌≡◌}
 use Rattle.std.specs.declared.cmp.Ordering.{Ordering}
 use Rattle.poly_design.specs.declared.placement.Placement.{Placement}
 use Rattle.poly_tiling.specs.Lists.{mem}
@@ -25,3 +26,10 @@ ranks_from first (n ∷ numbers) T = cond (mem T n) (first ∷ ranks_from (first
 -- Tilings are in the order of the places that their numbers have among the live ones.
 abbrev pub RanksCompare : Type 0
 RanksCompare = (v : View) (A B : List ℕ) → WellNamed v → slice_cmp nat_cmp (ranks_from 0 v.live A) (ranks_from 0 v.live B) ≡ tiling_cmp v A B
+
+-- the table has the place of each number among the live ones, and no other place
+abbrev pub ArePlaces : List ℕ → List (Option ℕ) → Type 0
+ArePlaces live table = (n k : ℕ) → (slice_get table n ≡ Some (Some k)) ↔ (slice_get live k ≡ Some n)
+
+abbrev pub place_at : List (Option ℕ) → ℕ → Option ℕ
+place_at table n = option_flatten (slice_get table n)

@@ -1,5 +1,6 @@
 //! Laws of the definitions, each the contract of a function that does nothing.
 ghost use Rattle.poly_tiling.specs.Laws.{NumbersMayGrow, NumbersReach, NumbersShow};
+ghost use Rattle.poly_tiling.specs.Listings.{ListingsShow, OverShow};
 ghost use Rattle.poly_tiling.specs.TilingOrder.{RanksCompare};
 
 /// Giving numbers out changes no tiling.
@@ -21,4 +22,15 @@ pub fn numbers_reach()
 /// Two tilings of a view are in the order of the lists of the places that their numbers have in `View::live`.
 pub fn ranks_compare()
     ensures { RanksCompare }
+{}
+
+/// Where a view shows a design, the view's tilings in their order, each once, are the design's: each as its placements
+/// in placement order, in the order of such lists, each once, and nothing else.
+pub fn listings_show()
+    ensures { ListingsShow }
+{}
+
+/// Where a view shows a design and has over so many tilings, so has the design.
+pub fn over_shows()
+    ensures { OverShow }
 {}

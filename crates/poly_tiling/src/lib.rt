@@ -7,14 +7,18 @@ mod laws;
 mod lister;
 mod numbering;
 mod numbers;
+mod order;
 mod tiling;
 mod view;
 
 pub use conflicts::conflict;
 pub use item::Item;
-pub use laws::{numbers_may_grow, numbers_reach, numbers_show, ranks_compare};
+pub use laws::{
+    listings_show, numbers_may_grow, numbers_reach, numbers_show, over_shows, ranks_compare,
+};
 pub use lister::list_tilings;
 pub use numbers::{ascends, has_all, has_number};
+pub use order::sort_tilings;
 pub use tiling::Tiling;
 pub use view::View;
 

@@ -84,6 +84,13 @@ impl View {
         self.placements.get(number as usize).copied()
     }
 
+    // How many numbers were given out.
+    pub(crate) fn number_count(&self) -> usize
+        ensures { result ≡ length self.now.placements }
+    {
+        self.placements.len()
+    }
+
     /// Whether the number's placement has the item.
     pub fn covers(&self, number: u32, item: Item) -> bool
         ensures { result ≡ has_item self.now number item }

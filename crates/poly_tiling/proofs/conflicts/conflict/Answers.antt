@@ -1,4 +1,4 @@
-use Rattle.std.proofs.Common.{ap, sym, ◌∙◌}
+use Rattle.std.proofs.Common.{sym, ◌∙◌}
 use Rattle.std.proofs.lemmas.Bool.{true≢false}
 use Rattle.poly_design.proofs.Same.{placement_itself, placement_same}
 use Rattle.poly_tiling.proofs.Shown.{conflict_from, conflict_shares}

@@ -1,4 +1,4 @@
-use Rattle.std.proofs.Common.{List, [], ap, arith, sym, ℕ, ◌++◌, ◌∙◌, ◌∷◌, ◌≡◌}
+use Rattle.std.proofs.Common.{[], ap, arith, sym, ◌++◌, ◌∙◌, ◌∷◌, ◌≡◌}
 use Rattle.poly_tiling.specs.Lists.{same_list, tally}
 use Rattle.poly_tiling.specs.Puzzle.{is_tiling}
 use Rattle.poly_tiling.proofs.Families.{add_none, add_one}

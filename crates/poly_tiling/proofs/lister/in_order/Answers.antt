@@ -1,4 +1,3 @@
-use Rattle.std.proofs.Common.{sym, ◌∙◌}
 use Rattle.poly_tiling.proofs.Sorting.{sorted_ascend, sorted_same}
 use Rattle.poly_tiling.proofs.lister.in_order.Goals as goal
 

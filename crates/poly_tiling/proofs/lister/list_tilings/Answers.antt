@@ -1,10 +1,9 @@
-use Rattle.std.proofs.Common.{Err, List, [], ap, arith, refl, subst, sym, true, ℕ, ◌∙◌, ◌≡◌}
+use Rattle.std.proofs.Common.{Err, ap, arith, subst, sym, true, ◌∙◌, ◌≡◌}
 use Rattle.std.proofs.lemmas.Result.{err_from_is_err_and}
 use Rattle.std.specs.List.{filter}
 use Rattle.poly_grid.specs.declared.refusal.Refusal.TheVariants.{CatalogueFull}
 use Rattle.poly_tiling.specs.Lists.{distinct, one, same_list, tally}
-use Rattle.poly_tiling.specs.Puzzle.{is_tiling}
-use Rattle.poly_tiling.specs.Lister.{AreApart, fits_beside, is_left}
+use Rattle.poly_tiling.specs.Lister.{AreApart, fits_beside}
 use Rattle.poly_tiling.proofs.Families.{first_left, narrowed_apart}
 use Rattle.poly_tiling.proofs.Orders.{pins_once}
 use Rattle.poly_tiling.proofs.lister.list_tilings.Goals as goal

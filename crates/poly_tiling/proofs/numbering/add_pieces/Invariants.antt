@@ -1,4 +1,3 @@
-use Rattle.std.proofs.Common.{List}
 use Rattle.poly_tiling.proofs.Plain.{AddsPieces}
 use Rattle.poly_tiling.proofs.numbering.add_pieces.Given as goal
 

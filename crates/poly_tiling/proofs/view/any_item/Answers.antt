@@ -1,4 +1,4 @@
-use Rattle.std.proofs.Common.{arith, rules, ap, ◌∙◌, sym}
+use Rattle.std.proofs.Common.{rules}
 use Rattle.poly_tiling.specs.Puzzle.{same_item}
 use Rattle.poly_tiling.specs.declared.item.Item.TheVariants.{Cell}
 use Rattle.poly_tiling.proofs.Coded.{any_map}

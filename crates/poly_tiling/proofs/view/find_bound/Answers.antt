@@ -1,4 +1,4 @@
-use Rattle.std.proofs.Common.{refl, rules, ◌≡◌}
+use Rattle.std.proofs.Common.{rules, ◌≡◌}
 use Rattle.std.proofs.lemmas.List.Sorted.{answers_always}
 use Rattle.poly_tiling.specs.contracts.item.ItemOrd.TheImpl.{ghosts}
 use Rattle.poly_tiling.specs.declared.item.Item.{Item}

@@ -1,7 +1,7 @@
-use Rattle.std.proofs.Common.{arith, rules, ap, ◌∙◌, sym, ◌&&◌}
+use Rattle.std.proofs.Common.{rules}
 use Rattle.std.specs.Prelude.{nat_le}
 use Rattle.poly_tiling.specs.Puzzle.{count, most}
-use Rattle.poly_tiling.specs.declared.item.Item.TheVariants.{Cell, Piece}
+use Rattle.poly_tiling.specs.declared.item.Item.TheVariants.{Cell}
 use Rattle.poly_tiling.proofs.Coded.{all_map_is}
 use Rattle.poly_tiling.proofs.view.View.all_fit.Goals as goal
 

@@ -1,4 +1,4 @@
-use Rattle.std.proofs.Common.{arith, rules, ap, ◌∙◌, sym, ◌||◌, ◌&&◌}
+use Rattle.std.proofs.Common.{rules}
 use Rattle.std.specs.Prelude.{nat_le}
 use Rattle.poly_tiling.specs.Puzzle.{count, most}
 use Rattle.poly_tiling.proofs.Coded.{no_cell}

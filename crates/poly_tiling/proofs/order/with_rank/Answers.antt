@@ -1,0 +1,13 @@
+use Rattle.std.proofs.Common.{ap, subst, ◌∙◌, ◌≡◌}
+use Rattle.std.specs.List.{filter_map}
+use Rattle.std.specs.List.Sorted.{IsPermutation}
+use Rattle.poly_tiling.specs.TilingOrder.{place_at}
+use Rattle.poly_tiling.proofs.Places.{ranks_are}
+use Rattle.poly_tiling.proofs.order.with_rank.Goals as goal
+
+pub returns-clause-ranks : goal.returns-clause-ranks
+returns-clause-ranks c =
+    let table = c.args.places.now in
+    let is : c.in_ok-ranks.ranks.items ≡ filter_map (place_at table) c.args.tiling.now = c.in_ok-ranks.ensures.ok ∙ ap (λ l. filter_map (place_at table) l) c.numbers.ensures.value in
+    ranks_are c.args.view.now.live c.args.tiling.now table c.sort_unstable.new.self.items c.dedup.new.self.items c.requires.places
+    (subst (λ l. IsPermutation l c.sort_unstable.new.self.items) is c.sort_unstable.ensures.permutation) c.sort_unstable.ensures.sorted c.dedup.ensures.filtered
