@@ -1,7 +1,7 @@
 ghost use Rattle.std.specs.Prelude.{IfOk, ◌≡◌, ◌≢◌};
 ghost use Rattle.poly_design.specs.Limits.{AreOfGrid, NoneBlocked};
 
-use crate::{Item, Tiling, View, conflict, list_tilings};
+use crate::{Item, Tiling, View, conflict, list_tilings, sort_tilings};
 use poly_design::{CellsSet, Copies, Design, Mode, Name, Placement, Spec};
 use poly_grid::{Cell, Grid, Refusal};
 use poly_shape::{Cells, Shape};
@@ -218,5 +218,24 @@ fn copied_tilings(rt: HostRuntime) -> Result<(), Fail> {
     let alloc = rt.alloc();
     let tiling = Tiling::new(vec![in alloc; 1, 6]?);
     assert_eq!(rt; tiling.copy(alloc)?.numbers(), [1, 6].as_slice());
+    Ok(())
+}
+
+#[test]
+fn sorted_tilings(rt: HostRuntime) -> Result<(), Fail> {
+    let alloc = rt.alloc();
+    let board = rectangle(alloc, 2, 2, Mode::Required)?;
+    let view = view(alloc, board, pieces(alloc, &[b"A", b"B"], 1, 1, None)?)?;
+    let mut found = Vec::new(alloc);
+    found.push(Tiling::new(vec![in alloc; 3, 4]?))?;
+    found.push(Tiling::new(vec![in alloc; 0, 7]?))?;
+    found.push(Tiling::new(vec![in alloc; 2, 5]?))?;
+    found.push(Tiling::new(vec![in alloc; 0]?))?;
+    sort_tilings(alloc, &view, &mut found)?;
+    assert_eq!(rt; found.len(), 4);
+    assert_eq!(rt; found[0].numbers(), [0].as_slice());
+    assert_eq!(rt; found[1].numbers(), [0, 7].as_slice());
+    assert_eq!(rt; found[2].numbers(), [2, 5].as_slice());
+    assert_eq!(rt; found[3].numbers(), [3, 4].as_slice());
     Ok(())
 }
