@@ -1,11 +1,11 @@
 -- What an accepted edit makes of a design.
-use Rattle.std.proofs.Common.{◌≡◌, ◌≢◌, ◌∙◌, ℕ, ◌+◌, ◌<◌, ◌≤◌, ◌⊎◌, ◌↔◌, inl, inr, Bool, true, false, List, [], ◌∷◌, length, Option, Some, None, refl, sym, ap, subst, arith}
+use Rattle.std.proofs.Common.{◌≡◌, ◌∙◌, ℕ, ◌<◌, ◌≤◌, ◌⊎◌, ◌↔◌, inl, inr, Bool, true, false, List, [], ◌∷◌, length, Option, Some, None, refl, sym, ap, subst, arith}
 use mathlib.Core.Bool.{true≢false}
 use Rattle.std.specs.Prelude.{IsTrue, is_some}
 use Rattle.std.specs.Ordering.{eq_by_cmp}
 use Rattle.std.specs.Cmp.Lexicographic.{nat_list_cmp_total}
 use Rattle.std.specs.List.{Contains}
-use Rattle.std.specs.Map.{keys_of, lookup, remove_entry}
+use Rattle.std.specs.Map.{keys_of, lookup}
 use Rattle.std.specs.BTreeMap.{insert_entry, is_at}
 use Rattle.std.proofs.lemmas.Map.Lookups.{exact_bytes}
 use Rattle.std.proofs.lemmas.Map.Views.{Contains-from_lookup, tells_apart}
@@ -14,7 +14,6 @@ use Rattle.poly_grid.specs.declared.refusal.Refusal.{Refusal}
 use Rattle.poly_grid.specs.declared.refusal.Refusal.TheVariants.{Memory, NoChange, NoSuchPiece, TooManyPlacements}
 use Rattle.poly_shape.specs.Figure.{Figure}
 use Rattle.poly_shape.specs.Order.{IsAscending, spot_cmp, spot_total}
-use Rattle.poly_shape.proofs.Ascending.{same_spot}
 use Rattle.poly_design.specs.Name.{name_cmp}
 use Rattle.poly_design.specs.declared.mode.Mode.{Mode}
 use Rattle.poly_design.specs.declared.mode.Mode.TheVariants.{Required, Optional, Blocked}
@@ -26,7 +25,7 @@ use Rattle.poly_design.specs.declared.change.Change.TheVariants.{Cell, Piece}
 use Rattle.poly_design.specs.Bounds.{Bounds}
 use Rattle.poly_design.specs.Layout.{Layout, mode_of, spec_of}
 use Rattle.poly_design.specs.Placements.{IsPlace, IsPlacement, IsUnblocked, FewPlacements}
-use Rattle.poly_design.specs.Limits.{AreOfGrid, IsDesign, NoneBlocked}
+use Rattle.poly_design.specs.Limits.{IsDesign, NoneBlocked}
 use Rattle.poly_design.specs.Changes.{changed, set_mode}
 use Rattle.poly_design.specs.declared.edit.Edit.{Edit}
 use Rattle.poly_design.specs.declared.edit.Edit.TheVariants as edit
@@ -83,7 +82,7 @@ after_mode d c before mode is room few = record {
 }
 
 -- ---- fewer placements
-fewer : (d e : Layout) → FewPlacements d → ((p : Placement) → IsPlacement e p → IsPlacement d p) → FewPlacements e
+pub fewer : (d e : Layout) → FewPlacements d → ((p : Placement) → IsPlacement e p → IsPlacement d p) → FewPlacements e
 fewer d e few part ys up members = few ys up (λ p here. part p (members p here))
 
 pub few_without : (d : Layout) (name : List ℕ) (before : Option Spec) → FewPlacements d → FewPlacements (changed d (Piece name before None))

@@ -1,5 +1,6 @@
 pub mod Kept
 pub mod Sets
+pub mod Counts
 pub mod Same
 pub mod Flags
 pub mod Shifts
@@ -9,3 +10,4 @@ pub mod Entries
 pub mod Restored
 pub mod Puts
 pub mod Accepted
+pub mod Outside

@@ -1,5 +1,5 @@
 -- What the parts of a design keep when an entry is put in.
-use Rattle.std.proofs.Common.{◌≡◌, ◌≢◌, ℕ, List, [], length, get_or, arith}
+use Rattle.std.proofs.Common.{◌≡◌, ◌≢◌, ℕ, List, [], get_or}
 use Rattle.std.specs.List.{All, Contains}
 use Rattle.std.specs.Map.{values_of}
 use Rattle.std.specs.BTreeMap.{insert_entry}

@@ -1,27 +1,17 @@
 -- What the maps of a design are after one entry was put in or taken out.
-use Rattle.std.proofs.Common.{◌≡◌, ◌≢◌, ◌∙◌, ℕ, zero, suc, ◌+◌, ◌<◌, ◌≤◌, ◌⊎◌, inl, inr, cond, List, [], ◌∷◌, length, get_or, Option, Some, None, refl, sym, ap, subst, arith, true, false}
+use Rattle.std.proofs.Common.{◌≡◌, ◌∙◌, zero, suc, ◌+◌, ◌≤◌, ◌⊎◌, inl, inr, cond, List, [], ◌∷◌, length, Some, None, refl, sym, ap, subst, arith, true, false}
 use Rattle.std.specs.declared.cmp.Ordering.{Ordering}
 use Rattle.std.specs.declared.cmp.Ordering.TheVariants.{Less, Equal, Greater}
 use Rattle.std.specs.Ordering.{is_eq, match_ordering, ordering_reverse}
 use Rattle.std.specs.Cmp.{IsTotalOrder}
-use Rattle.std.specs.List.{All, AllPairs, Contains}
+use Rattle.std.specs.List.{All, Contains}
 use Rattle.std.specs.Map.{keys_of, lookup, remove_entry}
 use Rattle.std.specs.BTreeMap.{insert_entry, is_at}
-use Rattle.std.proofs.lemmas.List.Elements.{All-cons, All-tail, All-head}
+use Rattle.std.proofs.lemmas.List.Elements.{All-cons}
 use Rattle.std.proofs.lemmas.List.Kept.{AllPairs-cons}
 use Rattle.std.proofs.lemmas.Map.Views.{All-keys-insert_entry, All-map-remove_entry}
 use Rattle.poly_shape.specs.Order.{IsAscending}
-
--- the first element, or one of the others
-first_or_later : {X : Type 0} (x : X) (xs : List X) (y : X) → Contains (x ∷ xs) y → Contains xs y ⊎ (x ≡ y)
-first_or_later x xs y (zero, lt, e) = inr e
-first_or_later x xs y (suc k, lt, e) = inl (k, omega arith, e)
-
-later : {X : Type 0} (x : X) (xs : List X) (y : X) → Contains xs y → Contains (x ∷ xs) y
-later x xs y (k, lt, e) = (suc k, omega arith, e)
-
-first : {X : Type 0} (x : X) (xs : List X) → Contains (x ∷ xs) x
-first x xs = (zero, omega arith, refl)
+use Rattle.poly_design.proofs.Sets.{first, first_or_later, later}
 
 module _ {K X : Type 0} {R : K → K → Ordering} (o : IsTotalOrder R) where
   above_all : (e : K × X) (es : List (K × X)) → IsAscending R (keys_of (e ∷ es)) → All (λ y. R e.0 y ≡ Less) (keys_of es)

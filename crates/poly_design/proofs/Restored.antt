@@ -1,5 +1,5 @@
 -- A change is taken back by its inverse.
-use Rattle.std.proofs.Common.{◌≡◌, ◌∙◌, ℕ, true, List, Option, Some, None, refl, sym, ap, cond}
+use Rattle.std.proofs.Common.{◌≡◌, ◌∙◌, ℕ, true, List, Option, Some, None, refl, ap}
 use Rattle.std.specs.Prelude.{unwrap_or}
 use Rattle.std.specs.Map.{keys_of, lookup}
 use Rattle.std.specs.BTreeMap.{is_at}
@@ -20,7 +20,6 @@ use Rattle.poly_design.specs.Layout.{Layout, mode_at}
 use Rattle.poly_design.specs.Limits.{IsDesign, NoneBlocked}
 use Rattle.poly_design.specs.Changes.{HasBefore, changed, inverse_of, set_mode, set_spec}
 use Rattle.poly_design.proofs.Entries.{lookup_put, lookup_taken, put_put, put_taken, taken_put, none_taken}
-use Rattle.std.specs.List.{Contains}
 
 -- ---- pieces
 pub spec_stands : (pieces : List (List ℕ × Spec)) (name : List ℕ) (after : Option Spec) → IsAscending name_cmp (keys_of pieces) → lookup (is_at (name_cmp name)) (set_spec pieces name after) ≡ after

@@ -1,5 +1,5 @@
 -- The placements of pieces, listed one piece after another.
-use Rattle.std.proofs.Common.{◌≡◌, ◌≢◌, true, ◌∙◌, ℕ, zero, suc, ◌+◌, ◌-◌, ◌<◌, ◌≤◌, ◌⊎◌, ◌↔◌, List, [], ◌∷◌, ◌++◌, length, get_or, map, Option, Some, None, Result, Ok, Err, Vec, Global, refl, sym, ap, subst, inl, inr, arith, append_assoc}
+use Rattle.std.proofs.Common.{◌≡◌, ◌≢◌, true, ◌∙◌, ℕ, zero, ◌-◌, ◌≤◌, ◌⊎◌, ◌↔◌, List, [], ◌∷◌, ◌++◌, length, get_or, map, Option, Some, None, Result, Ok, Err, Vec, Global, refl, sym, ap, subst, inl, inr, arith, append_assoc}
 use Rattle.std.proofs.lemmas.List.{append-nil, length-map, length-append, get_or-map, get_or_append_left, get_or-append_right}
 use Rattle.std.proofs.lemmas.List.Elements.{Contains-append_left, Contains-append_right, Contains-append_cases, Contains-push, Contains-push_cases}
 use Rattle.std.proofs.lemmas.Map.Views.{tells_apart, lookup-from_Contains, Contains-from_lookup, Contains-keys_from_lookup, IsSome-lookup_from_Contains}
@@ -163,6 +163,14 @@ placement_on_exactly grid cells pieces cell none p = (
   λ h. ((placement_exactly grid cells pieces none p).0 (h.0, h.1, h.2.0), h.2.1),
   λ h. let o = (placement_exactly grid cells pieces none p).1 h.0 in (o.0, o.1, (o.2, h.1)),
 )
+
+-- on a cell that is blocked lies nothing
+pub none_on_blocked : (grid : Grid) (cells : List (Spot × Mode)) (pieces : List (List ℕ × Spec)) (cell : Spot) → lookup (is_at (spot_cmp cell)) cells ≡ None
+    → IsListOf placement_cmp (λ p. IsPlacement (record { grid = grid; cells = cells; pieces = pieces }) p × Contains p.cells cell) []
+none_on_blocked grid cells pieces cell none = record {
+  ascending = λ i j d lt le. absurd (omega arith);
+  exact = λ p. (λ h. absurd (lacks_nil p h), λ h. absurd (h.0.place.lies.free cell h.1 (ap (λ r. unwrap_or r Blocked) none)));
+}
 
 -- the placements of one name
 pub named_listed : (n : List ℕ) (Q : List Spot → Type 0) (found : List (List Spot)) (list : List Placement) → IsListOf cells_cmp Q found → list ≡ [] ++ map (named n) found

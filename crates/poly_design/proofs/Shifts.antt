@@ -1,11 +1,10 @@
 -- Where an orientation can lie, found by what it is moved onto.
-use Rattle.std.proofs.Common.{◌≡◌, ◌∙◌, ℕ, ◌+◌, ◌<◌, ◌≤◌, ◌↔◌, List, [], length, get_or, map, refl, sym, ap, subst, arith}
+use Rattle.std.proofs.Common.{◌≡◌, ◌∙◌, ℕ, ◌<◌, ◌↔◌, List, [], length, get_or, refl, sym, ap, subst, arith}
 use Rattle.std.specs.List.{All, Contains}
 use Rattle.std.proofs.lemmas.List.{get_or_default}
 use Rattle.std.proofs.lemmas.List.Elements.{All-contains, Contains-get_or}
 use Rattle.poly_grid.specs.Spot.{Spot}
-use Rattle.poly_grid.specs.Grid.{turn_count}
-use Rattle.poly_shape.specs.Moves.{StaysInRange, moved_by, spot_moved}
+use Rattle.poly_shape.specs.Moves.{moved_by, spot_moved}
 use Rattle.poly_shape.specs.Shape.{AreOrientations}
 use Rattle.poly_design.specs.declared.spec.Spec.{Spec}
 use Rattle.poly_design.specs.Placements.{IsMovedTo, IsPlace}

@@ -10,7 +10,9 @@ use Rattle.poly_design.specs.declared.mode.Mode.{Mode}
 use Rattle.poly_design.specs.declared.mode.Mode.TheVariants.{Blocked}
 use Rattle.poly_design.specs.declared.spec.Spec.{Spec}
 use Rattle.poly_design.specs.Layout.{Layout}
-use Rattle.poly_design.specs.Placements.{FewPlacements}
+use Rattle.poly_design.specs.Listed.{IsCount}
+use Rattle.poly_design.specs.PlacementOrder.{placement_cmp}
+use Rattle.poly_design.specs.Placements.{FewPlacements, IsPlacement}
 
 -- no entry says that its cell is blocked
 abbrev pub NoneBlocked : List (Spot × Mode) → Type 0
@@ -28,3 +30,8 @@ pub record IsDesign (d : Layout) : Type 0 where
   pub few_pieces : length d.pieces ≤ 64
   pub of_grid : AreOfGrid d.grid d.pieces
   pub few_placements : FewPlacements d
+
+-- a design and the number of its placements
+pub record IsCounted (d : Layout) (count : ℕ) : Type 0 where
+  pub design : IsDesign d
+  pub counted : IsCount placement_cmp (IsPlacement d) count

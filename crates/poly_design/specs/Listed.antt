@@ -10,6 +10,12 @@ pub record IsListOf {X : Type 0} (cmp : X → X → Ordering) (P : X → Type 0)
   pub ascending : IsAscending cmp list
   pub exact : (x : X) → Contains list x ↔ P x
 
+-- this many x are such as P says
+pub record IsCount {X : Type 0} (cmp : X → X → Ordering) (P : X → Type 0) (count : ℕ) : Type 0 where
+  pub list : List X
+  pub listed : IsListOf cmp P list
+  pub whole : length list ≡ count
+
 -- the new list has what the old one has, and each x that P says
 abbrev pub AddsAll : {X : Type 0} → (X → Type 0) → List X → List X → Type 0
 AddsAll {X} P old new = (x : X) → Contains new x ↔ (Contains old x ⊎ P x)

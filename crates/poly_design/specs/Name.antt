@@ -1,4 +1,4 @@
-use Rattle.std.specs.Prelude.{◌≡◌, ℕ, ◌≤◌, ◌||◌, ◌==◌, Bool, List, length, IsTrue, nat_eq, refl}
+use Rattle.std.specs.Prelude.{ℕ, ◌≤◌, ◌||◌, ◌==◌, Bool, List, length, nat_eq, refl}
 use Rattle.std.specs.declared.cmp.Ordering.{Ordering}
 use Rattle.std.specs.Char.{is_ascii_alphanumeric}
 use Rattle.std.specs.List.{AllPass}

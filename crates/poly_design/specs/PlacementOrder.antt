@@ -1,5 +1,4 @@
 -- The order of placements: by name, then by cells.
-use Rattle.std.specs.Prelude.{◌≡◌, ℕ, List}
 use Rattle.std.specs.declared.cmp.Ordering.{Ordering}
 use Rattle.std.specs.Ordering.{on, then_cmp}
 use Rattle.std.specs.Cmp.{IsTotalOrder, then_total, on_total}

@@ -1,5 +1,5 @@
 -- The placements of a design, as a set.
-use Rattle.std.specs.Prelude.{◌≡◌, ◌≢◌, ℕ, ◌<◌, ◌≤◌, List, length}
+use Rattle.std.specs.Prelude.{◌≡◌, ◌≢◌, ℕ, ◌<◌, ◌≤◌, List, length, Option, Some}
 use Rattle.std.specs.List.{Contains}
 use Rattle.poly_grid.specs.Spot.{Spot}
 use Rattle.poly_grid.specs.Grid.{turn_count}
@@ -37,6 +37,10 @@ pub record IsPlacement (d : Layout) (p : Placement) : Type 0 where
   pub spec : Spec
   pub has : Contains d.pieces (p.name, spec)
   pub place : IsPlace (IsUnblocked d) spec p.cells
+
+-- what a piece that may be missing has for placements
+abbrev pub IsOfPiece : (Spot → Type 0) → List ℕ → Option Spec → Placement → Type 0
+IsOfPiece IsFree name spec p = (p.name ≡ name) × ((s : Spec) × (spec ≡ Some s) × IsPlace IsFree s p.cells)
 
 -- there are at most 20,000 placements: no list of different ones is longer
 abbrev pub FewPlacements : Layout → Type 0

@@ -1,5 +1,5 @@
 -- A flag for each cell of the range, row by row.
-use Rattle.std.specs.Prelude.{◌≡◌, ◌↔◌, ℕ, ◌+◌, ◌*◌, ◌<◌, Bool, true, false, List, length, slice_index_or}
+use Rattle.std.specs.Prelude.{◌≡◌, ◌↔◌, ◌+◌, ◌*◌, ◌<◌, Bool, true, false, List, length, slice_index_or}
 use Rattle.std.specs.List.{Contains}
 use Rattle.poly_grid.specs.Spot.{Spot}
 

@@ -11,6 +11,7 @@ ghost use Rattle.poly_design.specs.Changes.{changed};
 ghost use Rattle.poly_design.specs.Limits.{AreOfGrid, IsDesign, NoneBlocked};
 
 mod check;
+mod count;
 
 use crate::change::Change;
 use crate::listing::{all_placements, placements_of, placements_on};
@@ -32,17 +33,19 @@ pub struct Design {
     grid: Grid,
     cells: BTreeMap<Cell, Mode>,
     pieces: BTreeMap<Name, Spec>,
+    // The number of all placements, so that a change counts those alone that it adds or takes away.
+    placement_count: usize,
 }
 
 impl Model for Design {
     ghost use Rattle.poly_design.specs.Layout.{Layout};
-    ghost use Rattle.poly_design.specs.Limits.{IsDesign};
+    ghost use Rattle.poly_design.specs.Limits.{IsCounted};
 
     ghost Value = { Layout };
 
     ghost view = { λ d. record { grid = d.grid; cells = d.cells.entries; pieces = d.pieces.entries } };
 
-    ghost invariant = { λ d. IsDesign (record { grid = d.grid; cells = d.cells.entries; pieces = d.pieces.entries }) };
+    ghost invariant = { λ d. IsCounted (record { grid = d.grid; cells = d.cells.entries; pieces = d.pieces.entries }) d.placement_count };
 }
 
 impl Design {
@@ -55,6 +58,7 @@ impl Design {
             grid,
             cells: BTreeMap::new(alloc),
             pieces: BTreeMap::new(alloc),
+            placement_count: 0,
         }
     }
 
@@ -77,11 +81,12 @@ impl Design {
         ensures why { IfErr result (λ e. (e ≡ Refusal.TooManyPlacements) ⊎ (e ≡ Refusal.Memory)) }
     {
         match all_placements(alloc, &cells, &pieces) {
-            Ok(_) => Ok(Design {
+            Ok(list) => Ok(Design {
                 alloc,
                 grid,
                 cells,
                 pieces,
+                placement_count: list.len(),
             }),
             Err(refusal) => Err(refusal),
         }
@@ -178,10 +183,12 @@ impl Design {
         ensures err { OnErr result (self.new ≡ self.old) }
         ensures why { IfErr result (λ e. e ≡ Refusal.Memory) }
     {
+        let placement_count = self.count_after(change)?;
         match change {
             Change::Cell { cell, after, .. } => put_mode(&mut self.cells, *cell, *after)?,
             Change::Piece { name, after, .. } => put_spec(&mut self.pieces, *name, after)?,
         }
+        self.placement_count = placement_count;
         Ok(())
     }
 
@@ -197,6 +204,7 @@ impl Design {
             grid: self.grid,
             cells,
             pieces,
+            placement_count: self.placement_count,
         })
     }
 }

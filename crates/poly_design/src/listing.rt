@@ -21,7 +21,7 @@ use poly_shape::Cells;
 use std::alloc::Global;
 use std::collections::BTreeMap;
 
-const MAX_PLACEMENTS: usize = 20_000;
+pub(crate) const MAX_PLACEMENTS: usize = 20_000;
 
 /// All placements, in ascending order. It stops where there are too many.
 pub(crate) fn all_placements(
@@ -47,20 +47,6 @@ pub(crate) fn all_placements(
     Ok(list)
 }
 
-/// Whether there are few enough placements.
-pub(crate) fn are_few(
-    alloc: Global,
-    cells: &BTreeMap<Cell, Mode>,
-    pieces: &BTreeMap<Name, Spec>,
-) -> Result<(), Refusal>
-    requires { NoneBlocked cells.now.entries }
-    ensures ok { (grid : Grid) → OnOk result (FewPlacements (record { grid = grid; cells = cells.now.entries; pieces = pieces.now.entries })) }
-    ensures why { (grid : Grid) → IfErr result (λ e. (e ≡ Refusal.Memory) ⊎ ((e ≡ Refusal.TooManyPlacements) × (¬ FewPlacements (record { grid = grid; cells = cells.now.entries; pieces = pieces.now.entries })))) }
-{
-    let _listed = all_placements(alloc, cells, pieces)?;
-    Ok(())
-}
-
 /// The placements that cover the cell, in ascending order.
 pub(crate) fn placements_on(
     alloc: Global,
@@ -72,8 +58,11 @@ pub(crate) fn placements_on(
     ensures ok { (grid : Grid) → IfOk result (λ list. IsListOf placement_cmp (λ p. IsPlacement (record { grid = grid; cells = cells.now.entries; pieces = pieces.now.entries }) p × Contains p.cells cell) list.items) }
     ensures why { IfErr result (λ e. e ≡ Refusal.Memory) }
 {
-    let board = Board::of(alloc, cells)?;
     let mut list = Vec::new(alloc);
+    if !cells.contains_key(&cell) {
+        return Ok(list);
+    }
+    let board = Board::of(alloc, cells)?;
     for (name, spec) in pieces {
         let found = places_on(alloc, &board, spec, cell)?;
         append(&mut list, *name, &found)?;

@@ -1,6 +1,6 @@
 //! Whether an edit is accepted, and the change that it asks for.
 ghost use Rattle.std.specs.Prelude.{◌≡◌, ◌≢◌, ◌≤◌, length, ◌⊎◌, ◌↔◌, None, Some, OnOk, IfOk, IfErr, IsTrue};
-ghost use Rattle.poly_design.specs.Limits.{IsDesign, NoneBlocked};
+ghost use Rattle.poly_design.specs.Limits.{IsDesign};
 ghost use Rattle.poly_design.specs.Changes.{changed, set_mode};
 ghost use Rattle.poly_design.specs.Placements.{FewPlacements, IsPlacement};
 ghost use Rattle.poly_design.specs.Edits.{IsAccepted, IsRefused};
@@ -10,11 +10,10 @@ use crate::cells_set::CellsSet;
 use crate::change::Change;
 use crate::copies::Copies;
 use crate::edit::Edit;
-use crate::listing::are_few;
+use crate::listing::MAX_PLACEMENTS;
 use crate::mode::Mode;
 use crate::name::Name;
 use crate::need::Need;
-use crate::parts::{copy_cells, copy_pieces, put_mode, put_spec};
 use crate::placement::Placement;
 use crate::spec::Spec;
 use poly_grid::{Cell, Grid, Refusal};
@@ -264,6 +263,9 @@ impl Design {
             before,
             after: mode,
         };
+        if is_mode(mode, Mode::Blocked) {
+            return Ok(change);
+        }
         match self.keeps_few(&change) {
             Ok(()) => Ok(change),
             Err(refusal) => Err(refusal),
@@ -286,22 +288,13 @@ impl Design {
 
     // Whether there are few enough placements after the change.
     fn keeps_few(&self, change: &Change) -> Result<(), Refusal>
-        requires { NoneBlocked (changed self.now change.now).cells }
         ensures ok { OnOk result (FewPlacements (changed self.now change.now)) }
         ensures why { IfErr result (λ e. (e ≡ Refusal.Memory) ⊎ ((e ≡ Refusal.TooManyPlacements) × (¬ FewPlacements (changed self.now change.now)))) }
     {
-        match change {
-            Change::Cell { cell, after, .. } => {
-                let mut cells = copy_cells(self.alloc, &self.cells)?;
-                put_mode(&mut cells, *cell, *after)?;
-                are_few(self.alloc, &cells, &self.pieces)
-            }
-            Change::Piece { name, after, .. } => {
-                let mut pieces = copy_pieces(self.alloc, &self.pieces)?;
-                put_spec(&mut pieces, *name, after)?;
-                are_few(self.alloc, &self.cells, &pieces)
-            }
+        if self.count_after(change)? > MAX_PLACEMENTS {
+            return Err(Refusal::TooManyPlacements);
         }
+        Ok(())
     }
 
     fn is_placement(&self, name: Name, cells: &Cells) -> Result<bool, Refusal>

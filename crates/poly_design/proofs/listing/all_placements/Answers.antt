@@ -1,4 +1,4 @@
-use Rattle.std.proofs.Common.{◌≡◌, ◌∙◌, ◌++◌, ◌≤◌, ℕ, zero, List, length, map, refl, ap, subst, inr, arith}
+use Rattle.std.proofs.Common.{◌∙◌, ◌++◌, ◌≤◌, List, length, map, refl, ap, subst, inr, arith}
 use Rattle.std.specs.List.{Contains}
 use Rattle.std.specs.Map.{keys_of}
 use Rattle.poly_grid.specs.Spot.{Spot}

@@ -1,4 +1,4 @@
-use Rattle.std.proofs.Common.{◌≡◌, ◌∙◌, ◌++◌, List, ap, map, take, arith}
+use Rattle.std.proofs.Common.{◌∙◌, ◌++◌, List, ap, map}
 use Rattle.std.proofs.lemmas.List.{take_all}
 use Rattle.poly_grid.specs.Spot.{Spot}
 use Rattle.poly_design.specs.declared.placement.Placement.{Placement}

@@ -1,5 +1,4 @@
 use Rattle.std.proofs.Common.{◌≡◌, ◌++◌, map, take}
-use Rattle.poly_design.specs.declared.placement.Placement.{Placement}
 use Rattle.poly_design.proofs.listing.append.Given as goal
 
 abbrev pub invariant-loop-cells : goal.invariant-loop-cells

@@ -1,4 +1,4 @@
-use Rattle.std.proofs.Common.{◌≡◌, ◌∙◌, ◌++◌, [], List, map, ap, subst}
+use Rattle.std.proofs.Common.{◌∙◌, ◌++◌, [], List, map, ap, subst}
 use Rattle.std.specs.List.{Contains}
 use Rattle.std.specs.Map.{keys_of}
 use Rattle.poly_grid.specs.Spot.{Spot}

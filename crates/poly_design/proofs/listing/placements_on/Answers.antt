@@ -1,4 +1,4 @@
-use Rattle.std.proofs.Common.{◌≡◌, ◌∙◌, ◌++◌, List, map, ap, subst}
+use Rattle.std.proofs.Common.{◌∙◌, ◌++◌, List, map, ap, subst}
 use Rattle.std.specs.List.{Contains}
 use Rattle.std.specs.Map.{keys_of}
 use Rattle.poly_grid.specs.Spot.{Spot}
@@ -8,8 +8,12 @@ use Rattle.poly_design.specs.Listed.{IsListOf}
 use Rattle.poly_design.specs.Placements.{IsPlace, IsPlacement}
 use Rattle.poly_design.specs.declared.spec.Spec.{Spec}
 use Rattle.poly_design.proofs.Sets.{ascending_from_sorted, listed_same}
-use Rattle.poly_design.proofs.Rows.{IsOfEntry, named, start, more, whole_list, placement_on_exactly}
+use Rattle.poly_design.proofs.Rows.{IsOfEntry, named, start, more, whole_list, none_on_blocked, placement_on_exactly}
+use Rattle.poly_design.proofs.Accepted.{none_if}
 use Rattle.poly_design.proofs.listing.placements_on.Goals as goal
+
+pub returns-then-not-contains_key-clause-ok : goal.returns-then-not-contains_key-clause-ok
+returns-then-not-contains_key-clause-ok c = λ grid. rw c.new-list.ensures.items (none_on_blocked grid c.args.cells.now.entries c.args.pieces.now.entries c.args.cell (none_if _ c.if-not-contains_key.ensures))
 
 pub loop-name-init : goal.loop-name-init
 loop-name-init c = rw (c.into_iter-name-iterator.ensures.into_iter_gives.0, c.new-list.ensures.items)

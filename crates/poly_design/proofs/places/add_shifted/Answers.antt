@@ -1,8 +1,7 @@
-use Rattle.std.proofs.Common.{◌≡◌, ◌∙◌, List, refl, sym, subst}
+use Rattle.std.proofs.Common.{◌≡◌, ◌∙◌, refl, sym, subst}
 use mathlib.Core.Bool.{true≢false}
 use Rattle.std.specs.List.{Contains}
-use Rattle.poly_grid.specs.Spot.{Spot}
-use Rattle.poly_design.specs.Moved.{IsShifted, LandsOn}
+use Rattle.poly_design.specs.Moved.{IsShifted}
 use Rattle.poly_design.proofs.Sets.{adds_no, adds_push}
 use Rattle.poly_design.proofs.Shifts.{shifted_by, lands, lies_from}
 use Rattle.poly_design.proofs.places.add_shifted.Goals as goal

@@ -1,8 +1,7 @@
-use Rattle.std.proofs.Common.{◌≡◌, refl, sym, subst, arith, true, false}
+use Rattle.std.proofs.Common.{refl, sym, subst}
 use mathlib.Core.Bool.{true≢false}
 use Rattle.std.proofs.lemmas.List.{get_or_read}
 use Rattle.std.proofs.lemmas.List.Elements.{AllWithin-more, AllWithin-upto, All-from_all_within}
-use Rattle.poly_grid.specs.Spot.{Spot}
 use Rattle.poly_design.specs.Moved.{LandsOn}
 use Rattle.poly_design.proofs.places.fits.Goals as goal
 

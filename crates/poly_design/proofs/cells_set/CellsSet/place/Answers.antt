@@ -1,4 +1,4 @@
-use Rattle.std.proofs.Common.{◌≡◌, List, subst, Result, Ok, Err, ℕ, length}
+use Rattle.std.proofs.Common.{◌≡◌, List, Result, Ok, Err, ℕ, length}
 use Rattle.std.specs.Prelude.{IfOk, IfErr}
 use Rattle.std.specs.List.{HoldsAt}
 use Rattle.std.specs.declared.cmp.Ordering.TheVariants.{Equal}

@@ -1,9 +1,6 @@
-use Rattle.std.proofs.Common.{◌≡◌, ◌∙◌, None, inl, inr, refl, sym, ap, arith, length, ◌<◌, ◌≤◌}
-use mathlib.Core.Bool.{true≢false}
+use Rattle.std.proofs.Common.{◌≡◌, None, inl, inr, refl, arith, length, ◌<◌, ◌≤◌}
 use Rattle.poly_design.specs.declared.spec.Spec.{Spec}
-use Rattle.poly_design.specs.declared.edit.Edit.TheVariants as edit
 use Rattle.poly_design.specs.Layout.{Layout}
-use Rattle.poly_design.specs.Placements.{IsUnblocked, FewPlacements}
 use Rattle.poly_design.specs.Edits.{new_spec}
 use Rattle.poly_design.proofs.Accepted.{accept_add, no_room, none_if, refuse_add}
 use Rattle.poly_design.proofs.design.Design.check_add.Goals as goal
@@ -16,9 +13,6 @@ returns-then-len-ge-MAX_PIECES-clause-why c =
     let full : 64 ≤ length c.self.inside.pieces.entries = omega (arith, c.if-len-ge-MAX_PIECES.true, c.len.ensures.len) in
     rw (← c.self.view_is) (inr (inr (λ taken. taken none, inr (λ bad. bad grid, inl (refl, no_room d c.args.name (new_spec c.args.shape c.args.need c.args.mirror) none full)))))
 
-pub keeps_few-requires : goal.keeps_few-requires
-keeps_few-requires c = rw (← c.self.view_is) c.self.invariant.unblocked
-
 pub returns-in-Ok-clause-ok : goal.returns-in-Ok-clause-ok
 returns-in-Ok-clause-ok c =
     let d : Layout = record { grid = c.self.inside.grid; cells = c.self.inside.cells.entries; pieces = c.self.inside.pieces.entries } in
@@ -27,7 +21,7 @@ returns-in-Ok-clause-ok c =
     let room : length c.self.inside.pieces.entries < 64 = omega (arith, c.if-len-ge-MAX_PIECES.false, c.len.ensures.len) in
     let made : Spec = record { shape = c.args.shape; copies = c.copies.result; mirror = c.args.mirror; pin = None; forbidden = c.new.result } in
     let same : made ≡ new_spec c.args.shape c.args.need c.args.mirror = λ i. record { shape = c.args.shape; copies = c.copies.ensures i; mirror = c.args.mirror; pin = None; forbidden = c.new.ensures i } in
-    rw (← c.self.view_is) (accept_add d c.args.name c.args.shape c.args.need c.args.mirror _ c.self.invariant none grid room same (rw (← c.self.view_is) at c.in-Ok.ensures.ok))
+    rw (← c.self.view_is) (accept_add d c.args.name c.args.shape c.args.need c.args.mirror _ c.self.invariant.design none grid room same (rw (← c.self.view_is) at c.in-Ok.ensures.ok))
 
 pub returns-in-Err-clause-why : goal.returns-in-Err-clause-why
 returns-in-Err-clause-why c =

@@ -9,7 +9,6 @@ use mathlib.Core.Bool.{true≢false}
 use Rattle.poly_design.specs.declared.spec.Spec.{Spec}
 use Rattle.poly_design.specs.declared.edit.Edit.TheVariants as edit
 use Rattle.poly_design.specs.Layout.{Layout}
-use Rattle.poly_design.specs.Placements.{IsUnblocked, FewPlacements}
 use Rattle.poly_design.proofs.Entries.{remove_absent}
 use Rattle.poly_design.proofs.Accepted.{accept, few_here, is_idle, is_there, not_idle, refuse_many}
 use Rattle.poly_design.proofs.design.Design.check_allow.Goals as goal
@@ -24,9 +23,6 @@ returns-then-not-contains-clause-why c =
     let kept = remove_absent cells_total same_cells s.forbidden c.args.cells (λ h. true≢false (sym (c.if-not-contains.ensures.found.1 h))) in
     rw (← c.self.view_is) (inr (inr (is_there d name s found, inl (refl, is_idle d name f s found (λ i. record s { forbidden = kept i })))))
 
-pub keeps_few-requires : goal.keeps_few-requires
-keeps_few-requires c = rw (← c.self.view_is) c.self.invariant.unblocked
-
 pub returns-in-Ok-clause-ok : goal.returns-in-Ok-clause-ok
 returns-in-Ok-clause-ok c =
     let d : Layout = record { grid = c.self.inside.grid; cells = c.self.inside.cells.entries; pieces = c.self.inside.pieces.entries } in
@@ -40,7 +36,7 @@ returns-in-Ok-clause-ok c =
     let there : Contains c.remove.new.self c.args.cells = subst (λ (l : List (List Spot)). Contains l c.args.cells) (ap (λ (v : Spec). v.forbidden) e ∙ sym list) (c.if-not-contains.ensures.found.0 refl) in
     ((c.remove.ensures.takes c.args.cells).0 there).1 refl in
     let few = few_here d name (Some c.in_ok-before.before) f s _ found same (rw (← c.self.view_is) at c.in-Ok.ensures.ok) in
-    rw (← c.self.view_is) (accept d (edit.Allow name c.args.cells) name f s c.in_ok-before.before _ c.self.invariant found refl c.in_ok-before.ensures.ok same
+    rw (← c.self.view_is) (accept d (edit.Allow name c.args.cells) name f s c.in_ok-before.before _ c.self.invariant.design found refl c.in_ok-before.ensures.ok same
     (is_there d name s found, (not_idle d name f s found gone, (λ no. no few, tt))) refl few)
 
 pub returns-in-Err-clause-why : goal.returns-in-Err-clause-why

@@ -1,4 +1,4 @@
-use Rattle.std.proofs.Common.{◌≡◌, Some, refl, sym, ap}
+use Rattle.std.proofs.Common.{Some, refl, sym, ap}
 use mathlib.Core.Bool.{true≢false}
 use Rattle.poly_design.specs.declared.spec.Spec.{Spec}
 use Rattle.poly_design.specs.declared.edit.Edit.TheVariants as edit
@@ -14,7 +14,7 @@ returns-clause-ok c =
     let name = c.args.name in
     let f : Spec → Spec = λ v. record v { copies = c.args.copies } in
     let found = sym c.in-Some.ensures.value in
-    let few = few_here d name (Some s) f s (f s) found refl (few_with d name (Some s) s (f s) c.self.invariant.few_placements found (place_with_copies (IsUnblocked d) s c.args.copies)) in
+    let few = few_here d name (Some s) f s (f s) found refl (few_with d name (Some s) s (f s) c.self.invariant.design.few_placements found (place_with_copies (IsUnblocked d) s c.args.copies)) in
     let other = not_idle d name f s found (λ e. true≢false (sym (c.if-is_same.ensures.1 (ap (λ (v : Spec). v.copies) e)))) in
-    rw (← c.self.view_is) (accept d (edit.Copies name c.args.copies) name f s c.in_ok-before.before _ c.self.invariant found refl c.in_ok-before.ensures.ok (ap f c.in_ok-after.ensures.ok)
+    rw (← c.self.view_is) (accept d (edit.Copies name c.args.copies) name f s c.in_ok-before.before _ c.self.invariant.design found refl c.in_ok-before.ensures.ok (ap f c.in_ok-after.ensures.ok)
     (is_there d name s found, (other, tt)) refl few)

@@ -6,4 +6,4 @@ use Rattle.poly_design.proofs.design.Design.check_drop.Goals as goal
 pub returns-clause-ok : goal.returns-clause-ok
 returns-clause-ok c =
     let d : Layout = record { grid = c.self.inside.grid; cells = c.self.inside.cells.entries; pieces = c.self.inside.pieces.entries } in
-    rw (← c.self.view_is) (accept_drop d c.args.name c.in-Some.spec.now c.in_ok-before.before c.self.invariant (sym c.in-Some.ensures.value) c.in_ok-before.ensures.ok)
+    rw (← c.self.view_is) (accept_drop d c.args.name c.in-Some.spec.now c.in_ok-before.before c.self.invariant.design (sym c.in-Some.ensures.value) c.in_ok-before.ensures.ok)

@@ -8,7 +8,7 @@ use mathlib.Core.Bool.{true≢false}
 use Rattle.poly_design.specs.declared.spec.Spec.{Spec}
 use Rattle.poly_design.specs.declared.edit.Edit.TheVariants as edit
 use Rattle.poly_design.specs.Layout.{Layout}
-use Rattle.poly_design.specs.Placements.{IsUnblocked, FewPlacements}
+use Rattle.poly_design.specs.Placements.{IsUnblocked}
 use Rattle.poly_design.proofs.Entries.{insert_contained, inserted_in}
 use Rattle.poly_design.proofs.Accepted.{accept, few_here, few_with, is_idle, is_there, not_idle, place_with_forbidden}
 use Rattle.poly_design.proofs.design.Design.check_forbid.Goals as goal
@@ -46,6 +46,6 @@ returns-clause-ok c =
     let list : c.insert.new.self ≡ insert_key cells_cmp s.forbidden c.args.cells = c.in_ok-insert.ensures.list ∙ ap (λ (l : List (List Spot)). insert_key cells_cmp l c.args.cells) c.in_ok-forbidden.ensures.ok in
     let more : (k : List Spot) → Contains s.forbidden k → Contains (insert_key cells_cmp s.forbidden c.args.cells) k =
     λ k h. subst (λ (l : List (List Spot)). Contains l k) list ((c.in_ok-insert.ensures.adds k).1 (inl (subst (λ (l : List (List Spot)). Contains l k) (sym c.in_ok-forbidden.ensures.ok) h))) in
-    let few = few_here d name (Some s) f s (f s) found refl (few_with d name (Some s) s (f s) c.self.invariant.few_placements found (place_with_forbidden (IsUnblocked d) s (insert_key cells_cmp s.forbidden c.args.cells) more)) in
-    rw (← c.self.view_is) (accept d (edit.Forbid name c.args.cells) name f s c.in_ok-before.before _ c.self.invariant found refl c.in_ok-before.ensures.ok (c.with_forbidden-after.ensures ∙ (λ i. record s { forbidden = list i }))
+    let few = few_here d name (Some s) f s (f s) found refl (few_with d name (Some s) s (f s) c.self.invariant.design.few_placements found (place_with_forbidden (IsUnblocked d) s (insert_key cells_cmp s.forbidden c.args.cells) more)) in
+    rw (← c.self.view_is) (accept d (edit.Forbid name c.args.cells) name f s c.in_ok-before.before _ c.self.invariant.design found refl c.in_ok-before.ensures.ok (c.with_forbidden-after.ensures ∙ (λ i. record s { forbidden = list i }))
     (is_there d name s found, (not_idle d name f s found new, (λ no. no lies, tt))) refl few)

@@ -1,14 +1,10 @@
-use Rattle.std.proofs.Common.{◌≡◌, ◌∙◌, Some, refl, sym, ap}
+use Rattle.std.proofs.Common.{Some, refl, sym, ap}
 use mathlib.Core.Bool.{true≢false}
 use Rattle.poly_design.specs.declared.spec.Spec.{Spec}
 use Rattle.poly_design.specs.declared.edit.Edit.TheVariants as edit
 use Rattle.poly_design.specs.Layout.{Layout}
-use Rattle.poly_design.specs.Placements.{IsUnblocked, FewPlacements}
 use Rattle.poly_design.proofs.Accepted.{accept, few_here, is_there, not_idle, refuse_many}
 use Rattle.poly_design.proofs.design.Design.check_mirror.Goals as goal
-
-pub keeps_few-requires : goal.keeps_few-requires
-keeps_few-requires c = rw (← c.self.view_is) c.self.invariant.unblocked
 
 pub returns-in-Ok-clause-ok : goal.returns-in-Ok-clause-ok
 returns-in-Ok-clause-ok c =
@@ -20,7 +16,7 @@ returns-in-Ok-clause-ok c =
     let same = ap f c.in_ok-after.ensures.ok in
     let few = few_here d name (Some c.in_ok-before.before) f s _ found same (rw (← c.self.view_is) at c.in-Ok.ensures.ok) in
     let other = not_idle d name f s found (λ e. true≢false (sym (c.if-has_mirror.ensures.1 (ap (λ (v : Spec). v.mirror) e)))) in
-    rw (← c.self.view_is) (accept d (edit.Mirror name c.args.mirror) name f s c.in_ok-before.before _ c.self.invariant found refl c.in_ok-before.ensures.ok same
+    rw (← c.self.view_is) (accept d (edit.Mirror name c.args.mirror) name f s c.in_ok-before.before _ c.self.invariant.design found refl c.in_ok-before.ensures.ok same
     (is_there d name s found, (other, (λ no. no few, tt))) refl few)
 
 pub returns-in-Err-clause-why : goal.returns-in-Err-clause-why

@@ -1,9 +1,9 @@
-use Rattle.std.proofs.Common.{◌≡◌, ◌∙◌, Some, refl, sym, ap}
+use Rattle.std.proofs.Common.{Some, refl, sym, ap}
 use mathlib.Core.Bool.{true≢false}
 use Rattle.poly_design.specs.declared.spec.Spec.{Spec}
 use Rattle.poly_design.specs.declared.edit.Edit.TheVariants as edit
 use Rattle.poly_design.specs.Layout.{Layout}
-use Rattle.poly_design.specs.Placements.{IsUnblocked, FewPlacements}
+use Rattle.poly_design.specs.Placements.{IsUnblocked}
 use Rattle.poly_design.proofs.Accepted.{accept, few_here, few_with, is_there, not_idle, place_with_pin}
 use Rattle.poly_design.proofs.design.Design.check_pin.Goals as goal
 
@@ -14,8 +14,8 @@ returns-clause-ok c =
     let name = c.args.name in
     let f : Spec → Spec = λ v. record v { pin = Some c.args.cells } in
     let found = sym c.in-Some.ensures.value in
-    let few = few_here d name (Some s) f s (f s) found refl (few_with d name (Some s) s (f s) c.self.invariant.few_placements found (place_with_pin (IsUnblocked d) s (Some c.args.cells))) in
+    let few = few_here d name (Some s) f s (f s) found refl (few_with d name (Some s) s (f s) c.self.invariant.design.few_placements found (place_with_pin (IsUnblocked d) s (Some c.args.cells))) in
     let other = not_idle d name f s found (λ e. true≢false (sym (c.if-has_pin.ensures.1 (ap (λ (v : Spec). v.pin) e)))) in
     let lies = rw (← c.self.view_is) at (c.in_ok-is_placement.ensures.ok.0 c.if-not-branch.false) in
-    rw (← c.self.view_is) (accept d (edit.Pin name c.args.cells) name f s c.in_ok-before.before _ c.self.invariant found refl c.in_ok-before.ensures.ok (ap f c.in_ok-after.ensures.ok)
+    rw (← c.self.view_is) (accept d (edit.Pin name c.args.cells) name f s c.in_ok-before.before _ c.self.invariant.design found refl c.in_ok-before.ensures.ok (ap f c.in_ok-after.ensures.ok)
     (is_there d name s found, (other, (λ no. no lies, tt))) refl few)

@@ -1,9 +1,8 @@
-use Rattle.std.proofs.Common.{◌≡◌, ◌∙◌, None, Some, refl, sym, ap}
-use mathlib.Core.Bool.{true≢false}
+use Rattle.std.proofs.Common.{None, Some, refl, sym, ap}
 use Rattle.poly_design.specs.declared.spec.Spec.{Spec}
 use Rattle.poly_design.specs.declared.edit.Edit.TheVariants as edit
 use Rattle.poly_design.specs.Layout.{Layout}
-use Rattle.poly_design.specs.Placements.{IsUnblocked, FewPlacements}
+use Rattle.poly_design.specs.Placements.{IsUnblocked}
 use Rattle.poly_design.proofs.Accepted.{accept, few_here, few_with, is_there, not_idle, place_with_pin}
 use Rattle.poly_design.proofs.design.Design.check_unpin.Goals as goal
 
@@ -14,7 +13,7 @@ returns-clause-ok c =
     let name = c.args.name in
     let f : Spec → Spec = λ v. record v { pin = None } in
     let found = sym c.in-Some.ensures.value in
-    let few = few_here d name (Some s) f s (f s) found refl (few_with d name (Some s) s (f s) c.self.invariant.few_placements found (place_with_pin (IsUnblocked d) s None)) in
+    let few = few_here d name (Some s) f s (f s) found refl (few_with d name (Some s) s (f s) c.self.invariant.design.few_placements found (place_with_pin (IsUnblocked d) s None)) in
     let other = not_idle d name f s found (λ e. c.if-not-is_pinned.ensures.0 refl (ap (λ (v : Spec). v.pin) e)) in
-    rw (← c.self.view_is) (accept d (edit.Unpin name) name f s c.in_ok-before.before _ c.self.invariant found refl c.in_ok-before.ensures.ok (ap f c.in_ok-after.ensures.ok)
+    rw (← c.self.view_is) (accept d (edit.Unpin name) name f s c.in_ok-before.before _ c.self.invariant.design found refl c.in_ok-before.ensures.ok (ap f c.in_ok-after.ensures.ok)
     (is_there d name s found, (other, tt)) refl few)
