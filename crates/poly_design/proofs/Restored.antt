@@ -1,5 +1,5 @@
 -- A change is taken back by its inverse.
-use Rattle.std.proofs.Common.{◌≡◌, ◌∙◌, ℕ, true, List, Option, Some, None, refl, ap}
+use Rattle.std.proofs.Common.{◌≡◌, ◌∙◌, ℕ, true, List, Option, Some, None, refl, sym, ap, subst}
 use Rattle.std.specs.Prelude.{unwrap_or}
 use Rattle.std.specs.Map.{keys_of, lookup}
 use Rattle.std.specs.BTreeMap.{is_at}
@@ -19,6 +19,9 @@ use Rattle.poly_design.specs.declared.change.Change.TheVariants.{Cell, Piece}
 use Rattle.poly_design.specs.Layout.{Layout, mode_at}
 use Rattle.poly_design.specs.Limits.{IsDesign, NoneBlocked}
 use Rattle.poly_design.specs.Changes.{HasBefore, changed, inverse_of, set_mode, set_spec}
+use Rattle.poly_design.specs.declared.edit.Edit.{Edit}
+use Rattle.poly_design.specs.declared.edit.Edit.TheVariants as edit
+use Rattle.poly_design.specs.Edits.{IsAccepted, change_of}
 use Rattle.poly_design.proofs.Entries.{lookup_put, lookup_taken, put_put, put_taken, taken_put, none_taken}
 
 -- ---- pieces
@@ -74,3 +77,19 @@ restored d (Piece name before after) is has = λ i. record { grid = d.grid; cell
 pub stands : (d : Layout) (change : Change) → IsDesign d → HasBefore (changed d change) (inverse_of change)
 stands d (Cell c before after) is = mode_stands d.cells c after is.cells_ascend
 stands d (Piece name before after) is = spec_stands d.pieces name after is.pieces_ascend
+
+-- the change that an edit asks for starts from what the design holds
+pub asked_before : (d : Layout) (e : Edit) → HasBefore d (change_of d e)
+asked_before d (edit.Add name shape need mirror) = refl
+asked_before d (edit.Drop name) = refl
+asked_before d (edit.Need name need) = refl
+asked_before d (edit.Copies name copies) = refl
+asked_before d (edit.Mirror name mirror) = refl
+asked_before d (edit.Cell cell mode) = refl
+asked_before d (edit.Pin name cells) = refl
+asked_before d (edit.Unpin name) = refl
+asked_before d (edit.Forbid name cells) = refl
+asked_before d (edit.Allow name cells) = refl
+
+pub accepted_before : (d : Layout) (e : Edit) (step : Change) → IsAccepted d e step → HasBefore d step
+accepted_before d e step accepted = subst (HasBefore d) (sym accepted.is) (asked_before d e)

@@ -8,6 +8,8 @@ use std::alloc::Global;
 use std::collections::BTreeMap;
 use std::test::Fail;
 
+mod edits;
+
 const DOMINO: [(u64, u64); 2] = [(0, 0), (1, 0)];
 
 const F: [(u64, u64); 5] = [(1, 0), (2, 0), (0, 1), (1, 1), (1, 2)];
