@@ -12,9 +12,9 @@ pub mod Measures
 pub mod Cuts
 pub mod Back
 pub mod Words
-pub mod FastItems
-pub mod FastTable
-pub mod FastPicks
-pub mod FastSteps
-pub mod FastOpen
-pub mod FastLooks
+pub mod FrameItems
+pub mod FrameTable
+pub mod FramePicks
+pub mod FrameSteps
+pub mod FrameOpen
+pub mod FrameLooks

@@ -1,4 +1,4 @@
--- What one more step closes: the rule that a fast frame swaps placements out by.
+-- What one more step closes: the rule that a frame closes placements by.
 use Rattle.std.proofs.Common.{◌≡◌, ℕ, ◌+◌, Bool, true, false, cond, not, min, ltb, ◌&&◌, ◌||◌, eqb, leb, List, [], ◌∷◌, ◌++◌, inl, inr, refl, sym, ap, subst, ◌∙◌, arith}
 use Rattle.std.specs.List.{list_any}
 use Rattle.std.proofs.lemmas.Bool.{eqb-true, eq-eqb, or_left, or_right, or_cases, both_ways, false_from_ne_true, leb-true, le-leb}

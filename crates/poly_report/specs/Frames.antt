@@ -5,6 +5,9 @@ use Rattle.std.specs.Vec.{vec_capacity}
 use Rattle.poly_tiling.specs.Puzzle.{View}
 use Rattle.poly_atom.specs.declared.atom.Atom.{Atom}
 use Rattle.poly_atom.specs.Hopeless.{base}
+use Rattle.poly_report.specs.FrameSteps.{HasRoom, StepsKeep}
+use Rattle.poly_report.specs.declared.frame.table.Table.{Table}
+use Rattle.poly_report.specs.declared.frame.steps.Steps.{Steps}
 
 -- the given atoms and at most 4,096 steps are on the path; each list has room for these; the members are the base
 pub record IsKept (v : View) (path : Vec Atom Global) (given : ℕ) (members options : Vec ℕ Global) : Type 0 where
@@ -14,3 +17,9 @@ pub record IsKept (v : View) (path : Vec Atom Global) (given : ℕ) (members opt
   pub base : members.items ≡ base v path.items
   pub room : length v.pins + (given + 4096) ≤ vec_capacity members
   pub answers : length v.live ≤ vec_capacity options
+
+-- the path and the base are kept, and so are the levels, with room for more
+pub record IsFrame (v : View) (path : Vec Atom Global) (given : ℕ) (members options : Vec ℕ Global) (t : Table) (s : Steps) : Type 0 where
+  pub lists : IsKept v path given members options
+  pub levels : StepsKeep v path.items given t s
+  pub room : HasRoom t s

@@ -10,8 +10,6 @@ pub mod Lending
 pub mod Gather
 pub mod Laws
 pub mod Bits
-pub mod FastItems
-pub mod FastTable
-pub mod FastSteps
-pub mod FastFrame
-pub mod FastLending
+pub mod FrameItems
+pub mod FrameTable
+pub mod FrameSteps

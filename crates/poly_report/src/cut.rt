@@ -14,16 +14,17 @@ use crate::leaf::Leaves;
 use crate::tree::{Arm, Tree};
 use poly_atom::Atom;
 use poly_grid::Refusal;
-use poly_tiling::View;
+use poly_tiling::{Tiling, View};
 use std::alloc::Global;
 
 fn push_found(alloc: Global, frame: &Frame<'_>, out: &mut Leaves) -> Result<(), Refusal>
-    ensures tilings { OnOk result (lists out.new.tilings.items ≡ lists out.old.tilings.items ++ tilings frame.now.scene frame.now.atoms Finds) }
+    ensures tilings { OnOk result (out.new.tilings.items ≡ out.old.tilings.items ++ tilings frame.now.scene frame.now.atoms Finds) }
     ensures rests { OnOk result (out.new.rests.items ≡ out.old.rests.items) }
     ensures why { IfErr result (λ e. e ≡ Refusal.Memory) }
 {
-    if let Some(tiling) = frame.found(alloc)? {
-        out.tilings.push(tiling)?;
+    if let Some(base) = frame.found() {
+        let numbers = Vec::from_slice(alloc, base)?;
+        out.tilings.push(Tiling::new(numbers))?;
     }
     Ok(())
 }
@@ -68,7 +69,7 @@ fn walk(
     requires steps { length frame.old.atoms + total (plan_of tree.now) ≤ frame.old.given + 4097 }
     ensures same { IfOk result (λ yes. yes ≡ true → frame.new ≡ frame.old) }
     ensures says { IfOk result (λ yes. yes ≡ holds frame.old.scene frame.old.atoms (plan_of tree.now)) }
-    ensures tilings { IfOk result (λ yes. yes ≡ true → keep ≡ true → lists out.new.tilings.items ≡ lists out.old.tilings.items ++ tilings frame.old.scene frame.old.atoms (plan_of tree.now)) }
+    ensures tilings { IfOk result (λ yes. yes ≡ true → keep ≡ true → out.new.tilings.items ≡ out.old.tilings.items ++ tilings frame.old.scene frame.old.atoms (plan_of tree.now)) }
     ensures rests { IfOk result (λ yes. yes ≡ true → keep ≡ true → lists out.new.rests.items ≡ lists out.old.rests.items ++ rests frame.old.scene frame.old.atoms (plan_of tree.now)) }
     ensures why { IfErr result (λ e. e ≡ Refusal.Memory) }
 {
@@ -129,7 +130,7 @@ fn walk_arms(
     requires once { distinct (heads (arms_list arms.now)) ≡ true }
     ensures same { IfOk result (λ yes. yes ≡ true → frame.new ≡ frame.old) }
     ensures says { IfOk result (λ yes. yes ≡ arms_hold frame.old.scene frame.old.atoms [] (arms_list arms.now)) }
-    ensures tilings { IfOk result (λ yes. yes ≡ true → keep ≡ true → lists out.new.tilings.items ≡ lists out.old.tilings.items ++ arms_tilings frame.old.scene frame.old.atoms [] (arms_list arms.now)) }
+    ensures tilings { IfOk result (λ yes. yes ≡ true → keep ≡ true → out.new.tilings.items ≡ out.old.tilings.items ++ arms_tilings frame.old.scene frame.old.atoms [] (arms_list arms.now)) }
     ensures rests { IfOk result (λ yes. yes ≡ true → keep ≡ true → lists out.new.rests.items ≡ lists out.old.rests.items ++ arms_rests frame.old.scene frame.old.atoms [] (arms_list arms.now)) }
     ensures why { IfErr result (λ e. e ≡ Refusal.Memory) }
 {
@@ -159,7 +160,7 @@ fn walk_taken(
     requires steps { length frame.old.atoms + total (plan_of tree.now) ≤ frame.old.given + 4096 }
     ensures same { IfOk result (λ yes. yes ≡ true → frame.new ≡ frame.old) }
     ensures says { IfOk result (λ yes. yes ≡ taken_holds frame.old.scene frame.old.atoms placement (plan_of tree.now)) }
-    ensures tilings { IfOk result (λ yes. yes ≡ true → keep ≡ true → lists out.new.tilings.items ≡ lists out.old.tilings.items ++ taken_tilings frame.old.scene frame.old.atoms placement (plan_of tree.now)) }
+    ensures tilings { IfOk result (λ yes. yes ≡ true → keep ≡ true → out.new.tilings.items ≡ out.old.tilings.items ++ taken_tilings frame.old.scene frame.old.atoms placement (plan_of tree.now)) }
     ensures rests { IfOk result (λ yes. yes ≡ true → keep ≡ true → lists out.new.rests.items ≡ lists out.old.rests.items ++ taken_rests frame.old.scene frame.old.atoms placement (plan_of tree.now)) }
     ensures why { IfErr result (λ e. e ≡ Refusal.Memory) }
 {
@@ -199,7 +200,7 @@ pub fn holds(alloc: Global, view: &View, atoms: &[Atom], tree: &Tree) -> Result<
 pub fn leaves(alloc: Global, view: &View, atoms: &[Atom], tree: &Tree) -> Result<Leaves, Refusal>
     requires small { fits (plan_of tree.now) ≡ true }
     requires right { holds view.now atoms.now (plan_of tree.now) ≡ true }
-    ensures tilings { IfOk result (λ l. lists l.tilings.items ≡ tilings view.now atoms.now (plan_of tree.now)) }
+    ensures tilings { IfOk result (λ l. l.tilings.items ≡ tilings view.now atoms.now (plan_of tree.now)) }
     ensures rests { IfOk result (λ l. lists l.rests.items ≡ rests view.now atoms.now (plan_of tree.now)) }
     ensures why { IfErr result (λ e. e ≡ Refusal.Memory) }
 {
@@ -218,7 +219,7 @@ pub fn cut_up(
     tree: &Tree,
 ) -> Result<Option<Leaves>, Refusal>
     requires { fits (plan_of tree.now) ≡ true }
-    ensures value { IfOk result (λ o. MatchOption o (holds view.now atoms.now (plan_of tree.now) ≡ false) (λ l. IsCutUp view.now atoms.now (plan_of tree.now) (lists l.tilings.items) (lists l.rests.items))) }
+    ensures value { IfOk result (λ o. MatchOption o (holds view.now atoms.now (plan_of tree.now) ≡ false) (λ l. IsCutUp view.now atoms.now (plan_of tree.now) l.tilings.items (lists l.rests.items))) }
     ensures why { IfErr result (λ e. e ≡ Refusal.Memory) }
 {
     let mut frame = Frame::new(alloc, view, atoms)?;

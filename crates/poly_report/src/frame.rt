@@ -1,5 +1,7 @@
-//! A place in a search: a view, and the atoms on the path to it.
-ghost use Rattle.std.specs.Prelude.{IfErr, IfOk, MatchOption, false, length, not, true, ℕ, ◌&&◌, ◌+◌, ◌<◌, ◌≡◌, ◌≤◌};
+//! A place in a search, kept as bits: rows of words for the placements that were open at the start. A step copies the
+//! last row and takes out what it closes, so nothing is searched and no memory is taken after the start. Bits in place of
+//! the linked lists of Knuth's dancing links (The Art of Computer Programming, volume 4B, section 7.2.2.1).
+ghost use Rattle.std.specs.Prelude.{IfErr, IfOk, MatchOption, false, length, not, true, ℕ, ◌&&◌, ◌+◌, ◌-◌, ◌<◌, ◌≡◌, ◌≤◌};
 ghost use Rattle.std.specs.List.{list_all};
 ghost use Rattle.poly_tiling.specs.Lists.{distinct, mem};
 ghost use Rattle.poly_tiling.specs.Names.{WellNamed};
@@ -10,6 +12,14 @@ ghost use Rattle.poly_report.specs.Trees.{heads};
 ghost use Rattle.poly_report.specs.Shapes.{arms_list};
 ghost use Rattle.poly_report.specs.Walk.{back_to, is_due, is_open, is_option, step_back, with_step};
 
+mod items;
+mod looks;
+mod steps;
+mod table;
+
+use crate::frame::items::guess_cells;
+use crate::frame::steps::{Steps, start};
+use crate::frame::table::{Table, counts_of, table_of};
 use crate::plain;
 use crate::tree::Arm;
 use poly_atom::Atom;
@@ -29,17 +39,19 @@ pub struct Frame<'a> {
     given: usize,
     members: Vec<u32>,
     options: Vec<u32>,
+    table: Table,
+    steps: Steps,
 }
 
 impl<'a> Model for Frame<'a> {
     ghost use Rattle.poly_report.specs.Walk.{Walk};
-    ghost use Rattle.poly_report.specs.Frames.{IsKept};
+    ghost use Rattle.poly_report.specs.Frames.{IsFrame};
 
     ghost Value = { Walk };
 
     ghost view = { λ f. record { scene = f.view.now; atoms = f.path.items; given = f.given } };
 
-    ghost invariant = { λ f. IsKept f.view.now f.path f.given f.members f.options };
+    ghost invariant = { λ f. IsFrame f.view.now f.path f.given f.members f.options f.table f.steps };
 }
 
 impl<'a> Frame<'a> {
@@ -57,17 +69,24 @@ impl<'a> Frame<'a> {
         let pins = view.pins().len();
         let live = view.live().len();
         let given = atoms.len();
-        let mut path = Vec::with_capacity(alloc, given + STEPS)?;
+        let mut path = Vec::with_capacity(alloc, given.saturating_add(STEPS))?;
         path.extend_from_slice(atoms)?;
         let mut members = Vec::with_capacity(alloc, pins + given + STEPS)?;
         plain::make_base(view, atoms, &mut members);
         let options = Vec::with_capacity(alloc, live)?;
+        let cells = guess_cells(alloc, view.items())?;
+        let mut raised = Vec::with_capacity(alloc, STEPS * 17)?;
+        let have = counts_of(alloc, view, &members, &cells, &mut raised)?;
+        let table = table_of(alloc, view, atoms, &members, cells, &have, &mut raised)?;
+        let steps = start(alloc, view, atoms, &table, have, raised)?;
         Ok(Frame {
             view,
             path,
             given,
             members,
             options,
+            table,
+            steps,
         })
     }
 
@@ -90,6 +109,15 @@ impl<'a> Frame<'a> {
         requires { length self.old.atoms < self.old.given + 4096 }
         ensures { self.new ≡ with_step self.old (Atom.Has placement) }
     {
+        steps::pick(
+            self.view,
+            &self.path,
+            self.given,
+            &self.table,
+            &self.members,
+            &mut self.steps,
+            placement,
+        );
         self.path.push_reserved(Atom::Has(placement));
         plain::make_base(self.view, &self.path, &mut self.members);
     }
@@ -99,6 +127,14 @@ impl<'a> Frame<'a> {
         requires { length self.old.atoms < self.old.given + 4096 }
         ensures { self.new ≡ with_step self.old (Atom.Lacks placement) }
     {
+        steps::leave(
+            self.view,
+            &self.path,
+            self.given,
+            &self.table,
+            &mut self.steps,
+            placement,
+        );
         self.path.push_reserved(Atom::Lacks(placement));
         plain::make_base(self.view, &self.path, &mut self.members);
     }
@@ -108,7 +144,16 @@ impl<'a> Frame<'a> {
         requires { self.old.given < length self.old.atoms }
         ensures { self.new ≡ step_back self.old }
     {
-        self.path.pop();
+        let mark = self.path.len() - 1;
+        steps::back(
+            self.view,
+            &self.path,
+            self.given,
+            &self.table,
+            &mut self.steps,
+            mark - self.given,
+        );
+        self.path.truncate(mark);
         plain::make_base(self.view, &self.path, &mut self.members);
     }
 
@@ -117,8 +162,18 @@ impl<'a> Frame<'a> {
         requires { self.old.given ≤ mark }
         ensures { self.new ≡ back_to self.old mark }
     {
-        self.path.truncate(mark);
-        plain::make_base(self.view, &self.path, &mut self.members);
+        if mark < self.path.len() {
+            steps::back(
+                self.view,
+                &self.path,
+                self.given,
+                &self.table,
+                &mut self.steps,
+                mark - self.given,
+            );
+            self.path.truncate(mark);
+            plain::make_base(self.view, &self.path, &mut self.members);
+        }
     }
 
     /// The open placements that have the item, each once, in any order. They are read before the frame is used again;
@@ -128,11 +183,13 @@ impl<'a> Frame<'a> {
         ensures once { distinct result.now ≡ true }
         ensures members { (p : ℕ) → mem result.now p ≡ (mem self.old.scene.live p && is_option self.old item p) }
     {
-        plain::list_ready(
+        looks::list_options(
             self.view,
             &self.path,
-            &self.members,
-            &item,
+            self.given,
+            &self.table,
+            &self.steps,
+            item,
             &mut self.options,
         );
         &self.options
@@ -142,22 +199,35 @@ impl<'a> Frame<'a> {
     pub fn first_open(&self) -> Option<u32>
         ensures { MatchOption result (list_all (λ p. not (is_open self.now p)) self.now.scene.live ≡ true) (λ p. (mem self.now.scene.live p ≡ true) × (is_open self.now p ≡ true)) }
     {
-        plain::first_open(self.view, &self.path, &self.members)
+        looks::first_open(self.view, &self.path, self.given, &self.table, &self.steps)
     }
 
     /// Whether no placement is open.
     pub fn none_open(&self) -> bool
         ensures { result ≡ list_all (λ p. not (is_open self.now p)) self.now.scene.live }
     {
-        plain::none_open(self.view, &self.path, &self.members)
+        match self.first_open() {
+            None => true,
+            Some(_) => false,
+        }
     }
 
-    /// An item of which the base has fewer than the design and the atoms ask for, one with the fewest options; none
-    /// where no item is short.
+    /// An item of which the base has fewer than the design and the atoms ask for, one with the fewest options beyond
+    /// what it still needs; none where no item is short.
     pub fn next_due(&self) -> Option<Item>
         ensures { MatchOption result ((i : Item) → is_due self.now i ≡ false) (λ i. is_due self.now i ≡ true) }
     {
-        plain::next_due(self.view, &self.path, &self.members)
+        match looks::next_listed(self.view, &self.path, self.given, &self.table, &self.steps) {
+            Some(b) => Some(self.view.items()[b].0),
+            None => looks::next_other(
+                self.view,
+                &self.path,
+                self.given,
+                &self.table,
+                &self.steps,
+                &self.members,
+            ),
+        }
     }
 
     /// Whether the placement is dead: no placement of the design now, or out by an atom.
@@ -174,16 +244,14 @@ impl<'a> Frame<'a> {
         plain::arms_are_right(self.view, &self.path, &self.members, &item, arms)
     }
 
-    /// The base, where it is a tiling that meets the atoms: all that a Found stands for.
-    pub fn found(&self, alloc: Global) -> Result<Option<Vec<u32>>, Refusal>
-        ensures value { IfOk result (λ o. MatchOption o (in_family self.now.scene self.now.atoms (base self.now.scene self.now.atoms) ≡ false) (λ t. (t.items ≡ base self.now.scene self.now.atoms) × (in_family self.now.scene self.now.atoms (base self.now.scene self.now.atoms) ≡ true))) }
-        ensures why { IfErr result (λ e. e ≡ Refusal.Memory) }
+    /// The base, ascending, where it is a tiling that meets the atoms: all that a Found stands for.
+    pub fn found(&self) -> Option<&[u32]>
+        ensures { MatchOption result (in_family self.now.scene self.now.atoms (base self.now.scene self.now.atoms) ≡ false) (λ t. (t.now ≡ base self.now.scene self.now.atoms) × (in_family self.now.scene self.now.atoms (base self.now.scene self.now.atoms) ≡ true)) }
     {
         if !plain::is_member(self.view, &self.path, &self.members) {
-            return Ok(None);
+            return None;
         }
-        let tiling = Vec::from_slice(alloc, &self.members)?;
-        Ok(Some(tiling))
+        Some(&self.members)
     }
 }
 
@@ -215,7 +283,7 @@ mod tests {
         assert!(rt; frame.next_due().is_none());
         assert!(rt; frame.dead(0));
         assert!(rt; !frame.arms_fit(item, &[]));
-        assert_eq!(rt; frame.found(alloc)?.map_or(1, |t| t.len()), 0);
+        assert_eq!(rt; frame.found().map_or(1, |t| t.len()), 0);
         Ok(())
     }
 

@@ -3,7 +3,6 @@
 
 mod bits;
 mod cut;
-mod fast;
 mod frame;
 mod laws;
 mod leaf;
@@ -12,7 +11,6 @@ mod size;
 mod tree;
 
 pub use cut::{cut_up, holds, leaves};
-pub use fast::Fast;
 pub use frame::{Frame, STEPS};
 pub use laws::{steps_come_back, tree_tilings_belong, trees_keep_holding, trees_share_out};
 pub use leaf::Leaves;

@@ -57,7 +57,7 @@ walk-returns-in_ok-yes-in-Branch-clause-tilings t c = λ y k.
     let v = c.args.frame.now.scene in
     let A = c.args.frame.now.atoms in
     let plan = ap plan_of c.in-Branch.is ∙ plan_of-Branch c.in-Branch.item c.in-Branch.arms ∙ ap (λ xs. Branches c.in-Branch.item (arms_list xs)) (sym c.deref-in-Branch.ensures.value) in
-    c.in_ok-yes-in-Branch.ensures.tilings y k ∙ ap (λ p. lists c.args.out.now.tilings.items ++ tilings v A p) (sym plan)
+    c.in_ok-yes-in-Branch.ensures.tilings y k ∙ ap (λ p. c.args.out.now.tilings.items ++ tilings v A p) (sym plan)
 
 pub walk-returns-in_ok-yes-in-Branch-clause-rests : goal.walk-returns-in_ok-yes-in-Branch-clause-rests
 walk-returns-in_ok-yes-in-Branch-clause-rests t c = λ y k.
@@ -107,6 +107,6 @@ walk_arms-loop-arm-preserved t c =
       frame = c.leave.ensures ∙ leave_at v A g arms k a lt c.arm-item.is c.walk_taken.new.frame (c.in_ok-yes.ensures.same passed ∙ inv.frame);
       steps = omega arith;
       says = inv.says ∙ says_at v A g arms k a lt c.arm-item.is c.requires.once c.loop-arm.frame inv.frame true says;
-      tilings = λ y. tilings_at v A g arms k a lt c.arm-item.is c.requires.once c.loop-arm.frame inv.frame (lists c.loop-arm.out.tilings.items) (lists c.walk_taken.new.out.tilings.items) (c.in_ok-yes.ensures.tilings passed y) ∙ inv.tilings y;
+      tilings = λ y. tilings_at v A g arms k a lt c.arm-item.is c.requires.once c.loop-arm.frame inv.frame c.loop-arm.out.tilings.items c.walk_taken.new.out.tilings.items (c.in_ok-yes.ensures.tilings passed y) ∙ inv.tilings y;
       rests = λ y. rests_at v A g arms k a lt c.arm-item.is c.requires.once c.loop-arm.frame inv.frame (lists c.loop-arm.out.rests.items) (lists c.walk_taken.new.out.rests.items) (c.in_ok-yes.ensures.rests passed y) ∙ inv.rests y;
     }

@@ -27,6 +27,6 @@ invariant-walk_arms-loop-arm l =
       frame : l.frame ≡ record { scene = v; atoms = A ++ map (λ q. Lacks q) before; given = l.fn.frame.given };
       steps : l.arm-index + arms_total more ≤ arms_total (arms_list l.arms);
       says : arms_hold v A [] (arms_list l.arms) ≡ arms_hold v A before more;
-      tilings : l.keep ≡ true → lists l.out.tilings.items ++ arms_tilings v A before more ≡ lists l.fn.out.tilings.items ++ arms_tilings v A [] (arms_list l.arms);
+      tilings : l.keep ≡ true → l.out.tilings.items ++ arms_tilings v A before more ≡ l.fn.out.tilings.items ++ arms_tilings v A [] (arms_list l.arms);
       rests : l.keep ≡ true → lists l.out.rests.items ++ arms_rests v A before more ≡ lists l.fn.out.rests.items ++ arms_rests v A [] (arms_list l.arms);
     }
