@@ -16,7 +16,7 @@ use Rattle.poly_atom.specs.declared.atom.Atom.TheVariants.{AtLeast, AtMost, Has,
 use Rattle.poly_atom.specs.Hopeless.{base}
 use Rattle.poly_report.specs.Holds.{asks, open_in}
 use Rattle.poly_report.specs.Plain.{of_asked}
-use Rattle.poly_report.specs.Bits.{has_bit}
+use Rattle.poly_report.specs.Bits.{NoneIn, has_bit, in_both}
 use Rattle.poly_report.specs.FrameItems.{item_at, item_of, no_bound}
 use Rattle.poly_report.specs.FrameTable.{HaveShows, TableShows, place}
 use Rattle.poly_report.specs.FrameSteps.{Kept, LevelShows, mark_of}
@@ -47,6 +47,29 @@ filter_yes f xs k h y = ap (λ ys. filter f ys) (take_more xs k 0 h) ∙ filter_
 
 pub filter_no : (f : ℕ → Bool) (xs : List ℕ) (k : ℕ) → k < length xs → f (get_or xs k 0) ≡ false → filter f (take (k + 1) xs) ≡ filter f (take k xs)
 filter_no f xs k h n = ap (λ ys. filter f ys) (take_more xs k 0 h) ∙ filter_append f (take k xs) (get_or xs k 0 ∷ []) ∙ ap (λ b. filter f (take k xs) ++ cond b (get_or xs k 0 ∷ []) []) n ∙ nothing_more (filter f (take k xs))
+
+-- numbers that fail between two places are not listed
+gap : (f : ℕ → Bool) (xs : List ℕ) (low d : ℕ) → low + d ≤ length xs → ((x : ℕ) → low ≤ x → x < low + d → f (get_or xs x 0) ≡ false) → filter f (take (low + d) xs) ≡ filter f (take low xs)
+gap f xs low zero h out = ap (λ n. filter f (take n xs)) (omega arith)
+gap f xs low (suc d) h out =
+    ap (λ n. filter f (take n xs)) (omega arith) ∙ filter_no f xs (low + d) (omega arith) (out (low + d) (omega arith) (omega arith))
+    ∙ gap f xs low d (omega arith) (λ x l m. out x l (omega arith))
+
+pub filter_gap : (f : ℕ → Bool) (xs : List ℕ) (low j : ℕ) → low ≤ j → j ≤ length xs → ((x : ℕ) → low ≤ x → x < j → f (get_or xs x 0) ≡ false) → filter f (take j xs) ≡ filter f (take low xs)
+filter_gap f xs low j h l out =
+    let n : j ≡ low + (j - low) = omega arith in
+    ap (λ n. filter f (take n xs)) n ∙ gap f xs low (j - low) (omega arith) (λ x a b. out x a (omega arith))
+
+pub filter_rest : (f : ℕ → Bool) (xs : List ℕ) (low : ℕ) → low ≤ length xs → ((x : ℕ) → low ≤ x → x < length xs → f (get_or xs x 0) ≡ false) → filter f (take low xs) ≡ filter f xs
+filter_rest f xs low h out = sym (filter_gap f xs low (length xs) h (omega arith) out) ∙ ap (λ ys. filter f ys) (take_all (length xs) xs (omega arith))
+
+-- a number that stands in one row twice over
+pub in_row : (ws : List ℕ) (at j : ℕ) → in_both ws at ws at j ≡ has_bit ws (64 * at + j)
+in_row ws at j = twice (has_bit ws (64 * at + j))
+  where
+    twice : (b : Bool) → (b && b) ≡ b
+    twice true = refl
+    twice false = refl
 
 module _ (v : View) (A : List Atom) (first : ℕ) (t : Table) (live have raised marks : List ℕ) (K : Kept v A first t live have raised marks) where
   -- the row on top
@@ -94,6 +117,17 @@ module _ (v : View) (A : List Atom) (first : ℕ) (t : Table) (live have raised 
   open_none n = all_from (λ p. not (open_in v A p)) v.live (λ q i. not_from_false _ (false_from_ne_true (open_in v A q) (λ o.
       let w = index_in t.numbers.items q (open_first q (in_mem v.live q i) o) in
       both_ways (open_in v A q) (subst (λ p. open_in v A p ≡ false) w.2 (n w.0 w.1)) o)))
+
+  -- the row on top, looked at beside itself
+  module _ (ws rs : List ℕ) (at : ℕ) (same : ws ≡ live) (too : rs ≡ live) (e : at ≡ length live - t.width) where
+    row_alone : (j : ℕ) → j < length t.numbers.items → open_in v A (get_or t.numbers.items j 0) ≡ in_both ws at rs at j
+    row_alone j h = sym (ap (λ xs. in_both xs at rs at j) same ∙ ap (λ xs. in_both live at xs at j) too ∙ in_row live at j ∙ top_row at j e h)
+
+    pub none_to : (high : ℕ) → length t.numbers.items ≤ high → NoneIn (in_both ws at rs at) 0 high → list_all (λ p. not (open_in v A p)) v.live ≡ true
+    none_to high h none = open_none (λ j l. row_alone j l ∙ none j (omega arith) (omega arith))
+
+    pub one_at : (j p : ℕ) → j < length t.numbers.items → in_both ws at rs at j ≡ true → p ≡ get_or t.numbers.items j 0 → (mem v.live p ≡ true) × (open_in v A p ≡ true)
+    one_at j p h is at' = subst (λ (q : ℕ). (mem v.live q ≡ true) × (open_in v A q ≡ true)) (sym at') (open_one j h (row_alone j h ∙ is))
 
   -- too few of the item at a place
   pub due_says : (b : ℕ) → b < length v.bounds → nat_lt (count v (base v A) (item_of v b)) (asks v A (item_of v b)) ≡ nat_lt (get_or have b 0) (get_or t.asked.items b 0)

@@ -1,11 +1,13 @@
 -- Bits of words: one put in, one taken out, all of a row taken out.
 use Rattle.std.proofs.Common.{◌≡◌, ℕ, zero, suc, ◌+◌, ◌-◌, ◌*◌, ◌/◌, ◌%◌, ◌^◌, ◌<◌, ◌≤◌, min, Bool, true, false, not, ◌&&◌, ◌||◌, eqb, List, inl, inr, refl, sym, ap, subst, ◌∙◌, arith, length, take, replicate, get_or, get_or-set_other, get_or-set_same, w64, bit_and, bit_or}
 use Rattle.std.proofs.Math.ListN.{set}
-use Rattle.std.proofs.lemmas.Bool.{cases_eq, eq-eqb, ne_eqb, or_right}
-use Rattle.std.proofs.lemmas.Nat.Bits.{bit_at_and, bit_at_not, bit_at-lt, bit_at_set_same, bit_at_set_other, bit_at_clear_same, bit_at_clear_other, bit_at-zero, shr_and_one}
+use Rattle.std.proofs.lemmas.Bool.{cases_eq, cases_lt, eq-eqb, ne_eqb, or_right}
+use Rattle.std.proofs.lemmas.Nat.Bits.{bit_at_and, bit_at_not, bit_at-lt, bit_at_set_same, bit_at_set_other, bit_at_clear_same, bit_at_clear_other, bit_at-trailing_zeros, bit_at-zero, bit_at_above, shr_and_one}
+use Rattle.std.proofs.lemmas.Nat.{shr-shr}
+use Rattle.std.proofs.Math.Nat.{div-le_self}
 use Rattle.std.proofs.lemmas.List.{get_or-take}
-use Rattle.std.specs.Int.{bit_at, bit_not}
-use Rattle.poly_report.specs.Bits.{has_bit}
+use Rattle.std.specs.Int.{bit_at, bit_not, trailing_zeros}
+use Rattle.poly_report.specs.Bits.{FirstIn, NoneIn, has_bit, in_both}
 
 less_at : (x y : ℕ) → x < 2 → y < 2 → eqb (min x (1 - y)) 1 ≡ (eqb x 1 && not (eqb y 1))
 less_at zero zero h k = refl
@@ -140,3 +142,78 @@ get_same (suc n) (suc k) z = get_same n k z
 
 pub no_bits : (n x : ℕ) → has_bit (replicate n 0) x ≡ false
 no_bits n x = past_none (replicate n 0) x (get_same n (x / 64) 0)
+
+-- the bits of a word from a place on
+shifted : (w low t : ℕ) → bit_at (w / 2 ^ low) t ≡ bit_at w (low + t)
+shifted w low t = ap (λ x. x % 2) (shr-shr w low t)
+
+bit_of : (w low t : ℕ) → low ≤ t → bit_at w t ≡ bit_at (w / 2 ^ low) (t - low)
+bit_of w low t h = sym (shifted w low (t - low) ∙ ap (λ x. bit_at w x) (omega arith))
+
+pub none_from : (w low : ℕ) → w / 2 ^ low ≡ 0 → NoneIn (λ t. eqb (bit_at w t) 1) low 64
+none_from w low e = λ t h l. ap (λ b. eqb b 1) (bit_of w low t h ∙ ap (λ x. bit_at x (t - low)) e ∙ bit_at-zero (t - low))
+
+pub first_from : (w low : ℕ) → w < 2 ^ 64 → (w / 2 ^ low ≡ 0 → ⊥) → FirstIn (λ t. eqb (bit_at w t) 1) low 64 (low + trailing_zeros w64 (w / 2 ^ low))
+first_from w low small some =
+    let rest = w / 2 ^ low in
+    let z = trailing_zeros w64 rest in
+    let less : rest ≤ w = div-le_self w (2 ^ low) in
+    let at = bit_at-trailing_zeros w64 rest (omega (arith, some)) (omega (arith, less, small)) in
+    let one : bit_at w (low + z) ≡ 1 = sym (shifted w low z) ∙ at.1 in
+    record {
+      least = omega arith;
+      most = below_word (low + z) one;
+      is = eq-eqb _ _ one;
+      before = λ t h l. ap (λ b. eqb b 1) (bit_of w low t h ∙ at.2 (t - low) (omega arith));
+    }
+  where
+    below_word : (t : ℕ) → bit_at w t ≡ 1 → t < 64
+    below_word t e = elim (cases_lt t 64) [
+      | inl h ↦ h
+      | inr n ↦ absurd (omega (arith, e, bit_at_above w 64 t small (omega (arith, n))))
+    ]
+
+and_both : (x y : ℕ) → x < 2 → y < 2 → eqb (min x y) 1 ≡ (eqb x 1 && eqb y 1)
+and_both zero zero h k = refl
+and_both zero (suc zero) h k = refl
+and_both zero (suc (suc y)) h k = absurd (omega arith)
+and_both (suc zero) zero h k = refl
+and_both (suc zero) (suc zero) h k = refl
+and_both (suc zero) (suc (suc y)) h k = absurd (omega arith)
+and_both (suc (suc x)) y h k = absurd (omega arith)
+
+pub bit_both : (w r t : ℕ) → eqb (bit_at (bit_and w r) t) 1 ≡ (eqb (bit_at w t) 1 && eqb (bit_at r t) 1)
+bit_both w r t = ap (λ x. eqb x 1) (bit_at_and w r t) ∙ and_both (bit_at w t) (bit_at r t) (bit_at-lt w t) (bit_at-lt r t)
+
+-- the numbers of two rows by the words that have both
+pub both_word : (ws : List ℕ) (at : ℕ) (rs : List ℕ) (from k w t : ℕ) →
+    ((u : ℕ) → eqb (bit_at w u) 1 ≡ (eqb (bit_at (get_or ws (at + k) 0) u) 1 && eqb (bit_at (get_or rs (from + k) 0) u) 1)) → t < 64 →
+    in_both ws at rs from (64 * k + t) ≡ eqb (bit_at w t) 1
+both_word ws at rs from k w t h l =
+    ap (λ b. b && has_bit rs (64 * from + (64 * k + t))) (bit_in ws at) ∙ ap (λ b. eqb (bit_at (get_or ws (at + k) 0) t) 1 && b) (bit_in rs from) ∙ sym (h t)
+  where
+    bit_in : (xs : List ℕ) (o : ℕ) → has_bit xs (64 * o + (64 * k + t)) ≡ eqb (bit_at (get_or xs (o + k) 0) t) 1
+    bit_in xs o =
+        in_word xs o (64 * k + t) ∙ ap (λ n. eqb (bit_at (get_or xs (o + n) 0) ((64 * k + t) % 64)) 1) (omega arith)
+        ∙ ap (λ n. eqb (bit_at (get_or xs (o + k) 0) n) 1) (omega arith)
+
+-- one word of two rows, when the numbers before bit `past` of it are known
+module _ (ws : List ℕ) (at : ℕ) (rs : List ℕ) (from low k past w : ℕ)
+    (same : (u : ℕ) → eqb (bit_at w u) 1 ≡ (eqb (bit_at (get_or ws (at + k) 0) u) 1 && eqb (bit_at (get_or rs (from + k) 0) u) 1))
+    (passed : NoneIn (in_both ws at rs from) low (64 * k + past)) where
+  pub none_both : (n : ℕ) → n ≤ 64 → NoneIn (λ t. eqb (bit_at w t) 1) past n → NoneIn (in_both ws at rs from) low (64 * k + n)
+  none_both n h none = λ x l m. elim (cases_lt x (64 * k + past)) [
+    | inl b ↦ passed x l b
+    | inr b ↦
+        ap (λ y. in_both ws at rs from y) (omega arith) ∙ both_word ws at rs from k w (x - 64 * k) same (omega arith)
+        ∙ none (x - 64 * k) (omega arith) (omega arith)
+  ]
+
+  pub first_both : (width t : ℕ) → k < width → low ≤ 64 * k + past → FirstIn (λ t. eqb (bit_at w t) 1) past 64 t → FirstIn (in_both ws at rs from) low (64 * width) (64 * k + t)
+  first_both width t h l f =
+      record {
+        least = omega (arith, f.least);
+        most = omega (arith, f.most);
+        is = both_word ws at rs from k w t same f.most ∙ f.is;
+        before = none_both t (omega (arith, f.most)) f.before;
+      }

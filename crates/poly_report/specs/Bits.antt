@@ -1,7 +1,22 @@
 -- A set of numbers as bits of words.
-use Rattle.std.specs.Prelude.{Bool, List, slice_index, ℕ, ◌%◌, ◌/◌, ◌==◌}
+use Rattle.std.specs.Prelude.{Bool, List, false, slice_index, true, ℕ, ◌%◌, ◌&&◌, ◌*◌, ◌+◌, ◌/◌, ◌<◌, ◌==◌, ◌≡◌, ◌≤◌}
 use Rattle.std.specs.Int.{bit_at}
 
 -- the number is in the set
 unfoldable pub has_bit : List ℕ → ℕ → Bool
 has_bit words x = bit_at (slice_index words (x / 64)) (x % 64) == 1
+
+-- the number j is in the row of `words` at word `at`, and in that of `rows` at word `from`
+abbrev pub in_both : List ℕ → ℕ → List ℕ → ℕ → ℕ → Bool
+in_both words at rows from j = has_bit words (64 * at + j) && has_bit rows (64 * from + j)
+
+-- none of the numbers from `low` on and below `high` passes the test
+abbrev pub NoneIn : (ℕ → Bool) → ℕ → ℕ → Type 0
+NoneIn f low high = (x : ℕ) → low ≤ x → x < high → f x ≡ false
+
+-- k is the first of these that passes
+pub record FirstIn (f : ℕ → Bool) (low high k : ℕ) : Type 0 where
+  pub least : low ≤ k
+  pub most : k < high
+  pub is : f k ≡ true
+  pub before : NoneIn f low k

@@ -56,6 +56,7 @@ pub record TableShows (v : View) (A : List Atom) (t : Table) : Type 0 where
   pub all : (q : ℕ) → mem v.live q ≡ true → open_in v A q ≡ true → mem t.numbers.items q ≡ true
   pub stands : StandsShow t.numbers.items t.stands.items
   pub wide : length t.numbers.items ≤ 64 * t.width
+  pub narrow : t.width < 2 ^ 58
   pub rows : RowsShow v t.numbers.items t.width t.rows.items
   pub rows_len : length t.rows.items ≡ t.width * length v.bounds
   pub limits : (b : ℕ) → b < length v.bounds → slice_index t.limits.items b ≡ limit_at (item_of v b) (upper v A (item_of v b))

@@ -1,8 +1,8 @@
 //! Rows of bits: sets of small numbers, kept one after another in a list of words.
 //! The set that begins at word `at` has the number `j` where bit `64 * at + j` of the list is set.
-ghost use Rattle.std.specs.Prelude.{length, not, vec_capacity, vec_len, ℕ, ◌&&◌, ◌*◌, ◌+◌, ◌-◌, ◌/◌, ◌<◌, ◌==◌, ◌||◌, ◌≡◌, ◌≤◌};
+ghost use Rattle.std.specs.Prelude.{MatchOption, length, not, vec_capacity, vec_len, ℕ, ◌&&◌, ◌^◌, ◌*◌, ◌+◌, ◌-◌, ◌/◌, ◌<◌, ◌==◌, ◌||◌, ◌≡◌, ◌≤◌};
 ghost use Rattle.std.specs.Int.{bit_at};
-ghost use Rattle.poly_report.specs.Bits.{has_bit};
+ghost use Rattle.poly_report.specs.Bits.{FirstIn, NoneIn, has_bit, in_both};
 
 /// Whether the row that begins at word `at` has the number.
 #[tactic(auto, using(crate::proofs::Words::has_at))]
@@ -73,4 +73,46 @@ pub(crate) fn copy_last(words: &mut Vec<u64>, width: usize)
         let word = words[from + k];
         words.push_reserved(word);
     }
+}
+
+fn both(word: u64, row: u64) -> u64
+    ensures { (t : ℕ) → (bit_at result t == 1) ≡ ((bit_at word t == 1) && (bit_at row t == 1)) }
+{
+    word & row
+}
+
+// The first bit of a word from `low` on.
+fn next_bit(word: u64, low: usize) -> Option<usize>
+    requires { low < 64 }
+    ensures { MatchOption result (NoneIn (λ t. bit_at word t == 1) low 64) (λ t. FirstIn (λ t. bit_at word t == 1) low 64 t) }
+{
+    let rest = word >> low;
+    if rest == 0 {
+        return None;
+    }
+    Some(low + rest.trailing_zeros() as usize)
+}
+
+/// The first number from `low` on that is in the row of `words` at word `at` and in that of `rows` at word `from`.
+pub(crate) fn next_both(
+    words: &[u64],
+    at: usize,
+    rows: &[u64],
+    from: usize,
+    width: usize,
+    low: usize,
+) -> Option<usize>
+    requires words { at + width ≤ length words.now }
+    requires rows { from + width ≤ length rows.now }
+    requires narrow { width < 2 ^ 58 }
+    ensures { MatchOption result (NoneIn (in_both words.now at rows.now from) low (64 * width)) (λ j. FirstIn (in_both words.now at rows.now from) low (64 * width) j) }
+{
+    let mut past = low % 64;
+    for k in low / 64..width {
+        if let Some(t) = next_bit(both(words[at + k], rows[from + k]), past) {
+            return Some(64 * k + t);
+        }
+        past = 0;
+    }
+    None
 }

@@ -1,12 +1,12 @@
 //! What a frame is asked: which placements are open, and which item is due.
-ghost use Rattle.std.specs.Prelude.{Bool, MatchOption, false, length, nat_lt, not, slice_index, true, vec_capacity, vec_len, ℕ, ◌&&◌, ◌*◌, ◌+◌, ◌<◌, ◌≡◌, ◌≤◌};
+ghost use Rattle.std.specs.Prelude.{Bool, MatchOption, false, length, nat_lt, not, slice_index, true, vec_capacity, vec_len, ℕ, ◌&&◌, ◌*◌, ◌+◌, ◌<◌, ◌^◌, ◌≡◌, ◌≤◌};
 ghost use Rattle.std.specs.List.{filter, list_all};
 ghost use Rattle.poly_tiling.specs.declared.item.Item.{Item};
 ghost use Rattle.poly_tiling.specs.Lists.{mem};
 ghost use Rattle.poly_tiling.specs.Puzzle.{count, has_item};
 ghost use Rattle.poly_atom.specs.Hopeless.{base};
 ghost use Rattle.poly_report.specs.Holds.{asks, open_in};
-ghost use Rattle.poly_report.specs.Bits.{has_bit};
+ghost use Rattle.poly_report.specs.Bits.{in_both};
 ghost use Rattle.poly_report.specs.FrameItems.{item_of};
 ghost use Rattle.poly_report.specs.FrameSteps.{StepsKeep};
 
@@ -27,30 +27,21 @@ fn guess_item(cells: &[usize], item: &Item) -> usize {
 // Lists the numbers that are in both rows.
 fn list_both(table: &Table, live: &[u64], at: usize, from: usize, into: &mut Vec<u32>)
     requires wide { length table.now.numbers.items ≤ 64 * table.now.width }
+    requires narrow { table.now.width < 2 ^ 58 }
     requires live { at + table.now.width ≤ length live.now }
     requires rows { from + table.now.width ≤ length table.now.rows.items }
     requires space { length table.now.numbers.items ≤ vec_capacity into.old }
-    ensures items { (f : ℕ → Bool) → ((j : ℕ) → j < length table.now.numbers.items → f (slice_index table.now.numbers.items j) ≡ (has_bit live.now (64 * at + j) && has_bit table.now.rows.items (64 * from + j))) → into.new.items ≡ filter f table.now.numbers.items }
+    ensures items { (f : ℕ → Bool) → ((j : ℕ) → j < length table.now.numbers.items → f (slice_index table.now.numbers.items j) ≡ in_both live.now at table.now.rows.items from j) → into.new.items ≡ filter f table.now.numbers.items }
     ensures room { vec_capacity into.new ≡ vec_capacity into.old }
 {
     into.clear();
-    for j in 0..table.numbers.len() {
-        if is_in_both(table, live, at, from, j) {
-            into.push_reserved(table.numbers[j]);
+    let mut low = 0;
+    while let Some(j) = bits::next_both(live, at, &table.rows, from, table.width, low) {
+        if j >= table.numbers.len() {
+            return;
         }
-    }
-}
-
-fn is_in_both(table: &Table, live: &[u64], at: usize, from: usize, j: usize) -> bool
-    requires wide { j < 64 * table.now.width }
-    requires live { at + table.now.width ≤ length live.now }
-    requires rows { from + table.now.width ≤ length table.now.rows.items }
-    ensures { result ≡ (has_bit live.now (64 * at + j) && has_bit table.now.rows.items (64 * from + j)) }
-{
-    if bits::has(live, at, j) {
-        bits::has(&table.rows, from, j)
-    } else {
-        false
+        into.push_reserved(table.numbers[j]);
+        low = j + 1;
     }
 }
 
@@ -111,12 +102,14 @@ pub(crate) fn first_open(
     let _ = view;
     let _ = path;
     let at = steps.live.len() - table.width;
-    for j in 0..table.numbers.len() {
-        if bits::has(&steps.live, at, j) {
-            return Some(table.numbers[j]);
-        }
+    let Some(j) = bits::next_both(&steps.live, at, &steps.live, at, table.width, 0) else {
+        return None;
+    };
+    if j < table.numbers.len() {
+        Some(table.numbers[j])
+    } else {
+        None
     }
-    None
 }
 
 // How many numbers are in both rows, or some number not below `most` where there are so many.

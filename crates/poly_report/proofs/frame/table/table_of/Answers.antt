@@ -30,6 +30,7 @@ returns-clause-value c =
       all = λ q m o. ap (λ xs. mem xs q) e ∙ mem_filter f v.live q ∙ and_from _ _ m o;
       stands = subst (λ (ns : List ℕ). StandsShow ns c.in_ok-stands.stands.items) c.deref-7.ensures.value c.in_ok-stands.ensures.value;
       wide = omega (arith, c.len.ensures, c.in_ok-numbers.numbers.ok.0);
+      narrow = omega (arith, c.len.ensures, c.in_ok-numbers.numbers.ok.1, c.in_ok-numbers.numbers.small);
       rows = subst (λ (ns : List ℕ). RowsShow v ns (c.len.result / 64 + 1) c.in_ok-rows.rows.items) c.deref-4.ensures.value c.in_ok-rows.ensures.value;
       rows_len = c.in_ok-rows.ensures.len;
       limits = λ b h. c.in_ok-limits.ensures.value b (omega (arith, ap length c.items-bounds.ensures.value)) ∙ ap (λ (bs : List Bound). limit_at (item_at bs b) (get_or c.deref-8.result.now b 0)) c.items-bounds.ensures.value
