@@ -2,5 +2,6 @@ pub mod Rows
 pub mod Opens
 pub mod Nodes
 pub mod Links
-pub mod Family
-pub mod Wrapped
+pub mod Swept
+pub mod Arms
+pub mod Families

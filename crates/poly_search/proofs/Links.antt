@@ -1,9 +1,8 @@
 -- A chain of Splits over arms, one arm after another.
-use Rattle.std.proofs.Common.{◌≡◌, ℕ, ◌+◌, ◌-◌, ◌<◌, ◌≤◌, Bool, true, false, cond, ◌&&◌, ◌||◌, List, [], ◌∷◌, ◌++◌, inl, inr, refl, sym, ap, subst, ◌∙◌, arith, map, append_assoc, length, take, get_or, max, zero, suc}
+use Rattle.std.proofs.Common.{◌≡◌, ℕ, ◌+◌, ◌-◌, ◌<◌, ◌≤◌, true, false, cond, ◌&&◌, List, [], ◌∷◌, ◌++◌, inl, refl, sym, ap, subst, ◌∙◌, arith, map, append_assoc, length, take, get_or, zero, suc}
 use Rattle.std.specs.Prelude.{nat_lt}
-use Rattle.std.specs.List.{list_all}
-use Rattle.std.proofs.lemmas.List.{append-nil, map-append, take_more}
-use Rattle.std.proofs.lemmas.Bool.{and_parts, and_from, or_right, lt-ltb}
+use Rattle.std.proofs.lemmas.List.{append-nil, map-append}
+use Rattle.std.proofs.lemmas.Bool.{and_from, or_right, lt-ltb}
 use Rattle.poly_atom.specs.declared.atom.Atom.{Atom}
 use Rattle.poly_atom.specs.declared.atom.Atom.TheVariants.{Has, Lacks}
 use Rattle.poly_tiling.specs.Lists.{mem, distinct}
@@ -15,7 +14,7 @@ use Rattle.poly_report.specs.Shapes.{plan_of, arms_list}
 use Rattle.poly_report.specs.Holds.{dead, holds, open_in, arm_atoms}
 use Rattle.poly_report.specs.Leaves.{rests}
 use Rattle.poly_report.specs.Sizes.{total, arms_total, inner, arms_inner, deep, is_rest, all_fewer, Grown}
-use Rattle.poly_report.specs.Walk.{Walk, with_step, is_option, is_open, open_count}
+use Rattle.poly_report.specs.Walk.{Walk, with_step, is_option, open_count}
 use Rattle.poly_tiling.specs.declared.item.Item.{Item}
 use Rattle.poly_search.specs.Chains.{chain, Serves, Ends, Chains}
 use Rattle.poly_search.proofs.Nodes.{snoc, list_snoc, heads_snoc, both, cut, child_at, option_at}

@@ -1,8 +1,8 @@
 -- How a tree that holds is grown, node by node.
-use Rattle.std.proofs.Common.{◌≡◌, ℕ, ◌<◌, ◌≤◌, ◌+◌, Bool, true, false, cond, not, ◌&&◌, ◌||◌, List, [], ◌∷◌, ◌++◌, inl, inr, refl, sym, ap, subst, ◌∙◌, arith, max, nat_lt, map, append_assoc, length, take, get_or, ◌-◌, zero, suc}
+use Rattle.std.proofs.Common.{◌≡◌, ℕ, ◌<◌, ◌≤◌, ◌+◌, Bool, true, false, cond, not, ◌&&◌, ◌||◌, List, [], ◌∷◌, ◌++◌, inl, inr, refl, sym, ap, subst, ◌∙◌, arith, nat_lt, map, append_assoc, length, take, get_or, ◌-◌, zero, suc}
 use Rattle.std.specs.List.{list_all}
 use Rattle.std.proofs.lemmas.List.{append-nil, take_at, take_more, map-append}
-use Rattle.std.proofs.lemmas.Bool.{and_parts, and_from, or_right, or_cases, lt-ltb, ltb-true}
+use Rattle.std.proofs.lemmas.Bool.{and_parts, and_from, or_right, lt-ltb, ltb-true}
 use Rattle.poly_tiling.specs.declared.item.Item.{Item}
 use Rattle.poly_atom.specs.declared.atom.Atom.{Atom}
 use Rattle.poly_atom.specs.declared.atom.Atom.TheVariants.{Has, Lacks}
@@ -138,7 +138,7 @@ total_next arms next a e = ap (λ xs. arms_total (arms_list xs)) e ∙ ap arms_t
 pub inner_next : (arms next : List Arm) (a : Arm) → next ≡ arms ++ a ∷ [] → arms_inner (arms_list next) ≡ arms_inner (arms_list arms) + inner (plan_of a.tree)
 inner_next arms next a e = ap (λ xs. arms_inner (arms_list xs)) e ∙ ap arms_inner (list_snoc arms a) ∙ inner_snoc (arms_list arms) a.placement (plan_of a.tree)
 
-in_at : (xs : List ℕ) (j : ℕ) → j < length xs → In (get_or xs j 0) xs
+pub in_at : (xs : List ℕ) (j : ℕ) → j < length xs → In (get_or xs j 0) xs
 in_at [] j h = absurd (omega arith)
 in_at (x ∷ xs) zero h = inl refl
 in_at (x ∷ xs) (suc j) h = inr (in_at xs j (omega arith))

@@ -1,6 +1,5 @@
 -- Which placements stay open as the path grows.
-use Rattle.std.proofs.Common.{◌≡◌, ℕ, ◌<◌, ◌≤◌, Bool, true, false, not, ◌&&◌, ◌||◌, eqb, List, [], ◌∷◌, ◌++◌, inl, inr, refl, sym, ap, subst, ◌∙◌, arith, max, nat_lt}
-use Rattle.std.specs.List.{list_any, list_all}
+use Rattle.std.proofs.Common.{◌≡◌, ℕ, ◌<◌, true, not, ◌&&◌, eqb, List, ◌++◌, inl, inr, refl, sym, subst, ◌∙◌, arith, nat_lt}
 use Rattle.std.proofs.lemmas.Bool.{eqb-true, and_parts, and_from, both_ways, not-true, not_from_false, false_from_ne_true, lt-ltb, ltb-true, cases_Bool}
 use Rattle.poly_tiling.specs.declared.item.Item.{Item}
 use Rattle.poly_atom.specs.declared.atom.Atom.{Atom}

@@ -1,3 +1,4 @@
 pub mod Chains
+pub mod Sweeps
 pub mod Walked
 pub mod Whole

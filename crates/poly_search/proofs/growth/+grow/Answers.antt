@@ -1,7 +1,7 @@
-use Rattle.std.proofs.Common.{◌≡◌, ℕ, ◌+◌, ◌-◌, ◌<◌, ◌≤◌, get_or, length, take, ◌++◌, [], ◌∷◌, true, arith, refl, sym, ap, subst, length-append, ◌∙◌}
+use Rattle.std.proofs.Common.{◌≡◌, ◌+◌, ◌-◌, ◌<◌, ◌≤◌, get_or, length, ◌++◌, [], ◌∷◌, arith, refl, sym, ap, subst, length-append, ◌∙◌}
 use Rattle.poly_atom.specs.declared.atom.Atom.TheVariants.{Has, Lacks}
 use Rattle.poly_report.specs.declared.tree.Arm.{Arm}
-use Rattle.poly_report.specs.Shapes.{plan_of, arms_list}
+use Rattle.poly_report.specs.Shapes.{plan_of}
 use Rattle.std.proofs.lemmas.Bool.{true≢false}
 use Rattle.poly_report.specs.Sizes.{Grown}
 use Rattle.poly_report.specs.Walk.{Walk}

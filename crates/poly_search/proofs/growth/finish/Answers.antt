@@ -1,5 +1,5 @@
-use Rattle.std.proofs.Common.{◌≡◌, ◌+◌, ◌-◌, ◌≤◌, length, arith, ap, ◌∙◌, subst, sym}
-use Rattle.poly_report.specs.Shapes.{plan_of, arms_list}
+use Rattle.std.proofs.Common.{length, arith, ap, ◌∙◌, subst, sym}
+use Rattle.poly_report.specs.Shapes.{plan_of}
 use Rattle.poly_report.specs.Sizes.{total, inner, Grown}
 use Rattle.poly_report.specs.Trees.{Plan}
 use Rattle.poly_search.proofs.Rows.{plan_of-Branch}

@@ -1,0 +1,35 @@
+-- What a sweep over a family makes of what is found and what is left.
+use Rattle.std.specs.Prelude.{◌≡◌, ℕ, ◌+◌, ◌^◌, ◌<◌, ◌≤◌, true, List, [], ◌∷◌}
+use Rattle.std.specs.List.{list_all}
+use Rattle.poly_atom.specs.declared.atom.Atom.{Atom}
+use Rattle.poly_tiling.specs.Lists.{one, tally, same_list}
+use Rattle.poly_tiling.specs.Puzzle.{View, is_tiling}
+use Rattle.poly_atom.specs.Atoms.{meets_all}
+use Rattle.poly_report.specs.Walk.{open_count}
+
+-- How much there is to do. A family that is cut up in two, each with fewer open placements, weighs more than both.
+abbrev pub weights : View → List (List Atom) → ℕ
+weights v [] = 0
+weights v (B ∷ Bs) = 3 ^ open_count v B + weights v Bs
+
+-- how often a tiling is found or left
+abbrev pub times : View → List ℕ → List (List ℕ) → List (List Atom) → ℕ
+times v T found rests = tally (λ U. same_list U T) found + tally (λ B. meets_all v T B) rests
+
+abbrev pub all_tilings : View → List (List ℕ) → Type 0
+all_tilings v found = list_all (λ U. is_tiling v U) found ≡ true
+
+-- Each tiling of the family was found once more, or it is in one more of the families that are left; no other tiling was.
+pub record Swept (v : View) (A : List Atom) (found found' : List (List ℕ)) (rests rests' : List (List Atom)) : Type 0 where
+  pub shared : (T : List ℕ) → is_tiling v T ≡ true → times v T found' rests' ≡ times v T found rests + one (meets_all v T A)
+  pub only : all_tilings v found → all_tilings v found'
+  pub less : weights v rests' ≤ weights v rests + 3 ^ open_count v A
+
+abbrev pub IsLighter : View → List Atom → List (List Atom) → List (List Atom) → Type 0
+IsLighter v A rests rests' = weights v rests' < weights v rests + 3 ^ open_count v A
+
+-- The same of the part of a family that was swept: what is still to be swept is the family of B.
+pub record Partly (v : View) (A B : List Atom) (found found' : List (List ℕ)) (rests rests' : List (List Atom)) : Type 0 where
+  pub shared : (T : List ℕ) → is_tiling v T ≡ true → times v T found' rests' + one (meets_all v T B) ≡ times v T found rests + one (meets_all v T A)
+  pub only : all_tilings v found → all_tilings v found'
+  pub less : weights v rests' + 3 ^ open_count v B ≤ weights v rests + 3 ^ open_count v A

@@ -1,0 +1,240 @@
+//! Listing a whole family: sweeps over a frame, depth first on the item with the fewest options (Knuth, The Art of
+//! Computer Programming, volume 4B, section 7.2.2.1), that list the tilings as they go.
+//!
+//! No tree is built. A sweep ends early where the steps of its frame or the depth run out, or where too much is listed
+//! already; what is left of each place on the path is then kept as atoms, for a sweep of its own.
+ghost use Rattle.std.specs.Prelude.{◌≡◌, ◌&&◌, ◌+◌, ◌≤◌, ◌<◌, ◌++◌, ◌∷◌, [], ℕ, drop, false, true, length, IfOk, IfErr, OnOk};
+ghost use Rattle.poly_atom.specs.declared.atom.Atom.TheVariants.{Lacks};
+ghost use Rattle.poly_tiling.specs.Lists.{distinct, mem};
+ghost use Rattle.poly_report.specs.Trees.{Finds};
+ghost use Rattle.poly_report.specs.Leaves.{tilings};
+ghost use Rattle.poly_report.specs.Gather.{lists};
+ghost use Rattle.poly_report.specs.Walk.{is_due, is_open, is_option, with_step};
+ghost use Rattle.poly_search.specs.Sweeps.{IsLighter, Partly, Swept};
+
+use poly_atom::Atom;
+use poly_grid::Refusal;
+use poly_report::Frame;
+use poly_tiling::{Item, Tiling};
+use std::alloc::Global;
+
+/// The most tilings that are listed.
+pub const LIMIT: usize = 1_000_000;
+
+/// What was listed, and what is left.
+#[derive(Drop)]
+pub struct Listing {
+    /// The tilings that were listed, each once.
+    pub found: Vec<Tiling>,
+    /// The families that are left, each as atoms.
+    pub rests: Vec<Vec<Atom>>,
+    /// The options of the items on the path, one item's after another's.
+    pub options: Vec<u32>,
+}
+
+// Lists the base of a place where nothing is open, if it is a tiling that meets the atoms.
+fn push_found(alloc: Global, frame: &Frame<'_>, list: &mut Listing) -> Result<(), Refusal>
+    ensures found { OnOk result (list.new.found.items ≡ list.old.found.items ++ tilings frame.now.scene frame.now.atoms Finds) }
+    ensures rests { OnOk result (list.new.rests.items ≡ list.old.rests.items) }
+    ensures options { OnOk result (list.new.options.items ≡ list.old.options.items) }
+    ensures why { IfErr result (λ e. e ≡ Refusal.Memory) }
+{
+    if let Some(numbers) = frame.found(alloc)? {
+        list.found.push(Tiling::new(numbers))?;
+    }
+    Ok(())
+}
+
+// Keeps the place for a later sweep.
+fn push_rest(alloc: Global, frame: &Frame<'_>, list: &mut Listing) -> Result<(), Refusal>
+    ensures found { OnOk result (list.new.found.items ≡ list.old.found.items) }
+    ensures rests { OnOk result (lists list.new.rests.items ≡ lists list.old.rests.items ++ frame.now.atoms ∷ []) }
+    ensures options { OnOk result (list.new.options.items ≡ list.old.options.items) }
+    ensures why { IfErr result (λ e. e ≡ Refusal.Memory) }
+{
+    let rest = Vec::from_slice(alloc, frame.atoms())?;
+    list.rests.push(rest)?;
+    Ok(())
+}
+
+/// Lists the family of the frame's atoms, and says whether it came to the end of it; what it left is among the rests.
+/// The steps on the frame stay below `end`, and the recursion goes no deeper than `depth`. The frame stays as it was.
+#[cycle(sweep)]
+pub fn sweep(
+    alloc: Global,
+    frame: &mut Frame<'_>,
+    list: &mut Listing,
+    end: usize,
+    depth: u32,
+) -> Result<bool, Refusal>
+    requires begun { frame.old.given ≤ length frame.old.atoms }
+    requires room { length frame.old.atoms < end }
+    requires end { end ≤ frame.old.given + 4096 }
+    requires once { distinct frame.old.scene.live ≡ true }
+    ensures same { OnOk result (frame.new ≡ frame.old) }
+    ensures swept { OnOk result (Swept frame.old.scene frame.old.atoms list.old.found.items list.new.found.items (lists list.old.rests.items) (lists list.new.rests.items)) }
+    ensures lighter { OnOk result (IsLighter frame.old.scene frame.old.atoms (lists list.old.rests.items) (lists list.new.rests.items)) }
+    ensures options { OnOk result (list.new.options.items ≡ list.old.options.items) }
+    ensures why { IfErr result (λ e. e ≡ Refusal.Memory) }
+{
+    match frame.next_due() {
+        Some(item) => sweep_item(alloc, frame, list, end, depth, &item),
+        None => sweep_open(alloc, frame, list, end, depth),
+    }
+}
+
+// The options of an item that is due, one after another; a tiling has one of them.
+#[cycle(sweep)]
+fn sweep_item(
+    alloc: Global,
+    frame: &mut Frame<'_>,
+    list: &mut Listing,
+    end: usize,
+    depth: u32,
+    item: &Item,
+) -> Result<bool, Refusal>
+    requires begun { frame.old.given ≤ length frame.old.atoms }
+    requires room { length frame.old.atoms < end }
+    requires end { end ≤ frame.old.given + 4096 }
+    requires once { distinct frame.old.scene.live ≡ true }
+    requires due { is_due frame.old item.now ≡ true }
+    ensures same { OnOk result (frame.new ≡ frame.old) }
+    ensures swept { OnOk result (Swept frame.old.scene frame.old.atoms list.old.found.items list.new.found.items (lists list.old.rests.items) (lists list.new.rests.items)) }
+    ensures lighter { OnOk result (IsLighter frame.old.scene frame.old.atoms (lists list.old.rests.items) (lists list.new.rests.items)) }
+    ensures options { OnOk result (list.new.options.items ≡ list.old.options.items) }
+    ensures why { IfErr result (λ e. e ≡ Refusal.Memory) }
+{
+    let from = list.options.len();
+    list.options.extend_from_slice(frame.options(*item))?;
+    let whole = sweep_options(alloc, frame, list, end, depth, item, from)?;
+    list.options.truncate(from);
+    Ok(whole)
+}
+
+#[cycle(sweep)]
+fn sweep_options(
+    alloc: Global,
+    frame: &mut Frame<'_>,
+    list: &mut Listing,
+    end: usize,
+    depth: u32,
+    item: &Item,
+    from: usize,
+) -> Result<bool, Refusal>
+    requires begun { frame.old.given ≤ length frame.old.atoms }
+    requires room { length frame.old.atoms < end }
+    requires end { end ≤ frame.old.given + 4096 }
+    requires once { distinct frame.old.scene.live ≡ true }
+    requires due { is_due frame.old item.now ≡ true }
+    requires from { from ≤ length list.old.options.items }
+    requires each_once { distinct (drop from list.old.options.items) ≡ true }
+    requires members { (p : ℕ) → mem (drop from list.old.options.items) p ≡ (mem frame.old.scene.live p && is_option frame.old item.now p) }
+    ensures same { OnOk result (frame.new ≡ frame.old) }
+    ensures swept { OnOk result (Swept frame.old.scene frame.old.atoms list.old.found.items list.new.found.items (lists list.old.rests.items) (lists list.new.rests.items)) }
+    ensures lighter { OnOk result (IsLighter frame.old.scene frame.old.atoms (lists list.old.rests.items) (lists list.new.rests.items)) }
+    ensures options { OnOk result (list.new.options.items ≡ list.old.options.items) }
+    ensures why { IfErr result (λ e. e ≡ Refusal.Memory) }
+{
+    let mark = frame.mark();
+    for at in from..list.options.len() {
+        let placement = list.options[at];
+        let whole = sweep_arm(alloc, frame, list, end, depth, placement)?;
+        if !whole {
+            frame.back_to(mark);
+            return Ok(false);
+        }
+    }
+    frame.back_to(mark);
+    Ok(true)
+}
+
+// No item is due, so each set of open placements may come in: with the first, and then without it.
+#[cycle(sweep)]
+fn sweep_open(
+    alloc: Global,
+    frame: &mut Frame<'_>,
+    list: &mut Listing,
+    end: usize,
+    depth: u32,
+) -> Result<bool, Refusal>
+    requires begun { frame.old.given ≤ length frame.old.atoms }
+    requires room { length frame.old.atoms < end }
+    requires end { end ≤ frame.old.given + 4096 }
+    requires once { distinct frame.old.scene.live ≡ true }
+    ensures same { OnOk result (frame.new ≡ frame.old) }
+    ensures swept { OnOk result (Swept frame.old.scene frame.old.atoms list.old.found.items list.new.found.items (lists list.old.rests.items) (lists list.new.rests.items)) }
+    ensures lighter { OnOk result (IsLighter frame.old.scene frame.old.atoms (lists list.old.rests.items) (lists list.new.rests.items)) }
+    ensures options { OnOk result (list.new.options.items ≡ list.old.options.items) }
+    ensures why { IfErr result (λ e. e ≡ Refusal.Memory) }
+{
+    let mark = frame.mark();
+    while let Some(placement) = frame.first_open() {
+        let whole = sweep_arm(alloc, frame, list, end, depth, placement)?;
+        if !whole {
+            frame.back_to(mark);
+            return Ok(false);
+        }
+    }
+    push_found(alloc, frame, list)?;
+    frame.back_to(mark);
+    Ok(true)
+}
+
+// Sweeps what has the open placement, and leaves it. Where that ended early, what doesn't have it is kept too.
+#[cycle(sweep)]
+fn sweep_arm(
+    alloc: Global,
+    frame: &mut Frame<'_>,
+    list: &mut Listing,
+    end: usize,
+    depth: u32,
+    placement: u32,
+) -> Result<bool, Refusal>
+    requires begun { frame.old.given ≤ length frame.old.atoms }
+    requires room { length frame.old.atoms < end }
+    requires end { end ≤ frame.old.given + 4096 }
+    requires once { distinct frame.old.scene.live ≡ true }
+    requires place { mem frame.old.scene.live placement ≡ true }
+    requires open { is_open frame.old placement ≡ true }
+    ensures step { OnOk result (frame.new ≡ with_step frame.old (Lacks placement)) }
+    ensures room { IfOk result (λ whole. whole ≡ true → length frame.new.atoms < end) }
+    ensures more { IfOk result (λ whole. whole ≡ true → Partly frame.old.scene frame.old.atoms frame.new.atoms list.old.found.items list.new.found.items (lists list.old.rests.items) (lists list.new.rests.items)) }
+    ensures swept { IfOk result (λ whole. whole ≡ false → Swept frame.old.scene frame.old.atoms list.old.found.items list.new.found.items (lists list.old.rests.items) (lists list.new.rests.items)) }
+    ensures lighter { IfOk result (λ whole. whole ≡ false → IsLighter frame.old.scene frame.old.atoms (lists list.old.rests.items) (lists list.new.rests.items)) }
+    ensures options { OnOk result (list.new.options.items ≡ list.old.options.items) }
+    ensures why { IfErr result (λ e. e ≡ Refusal.Memory) }
+{
+    frame.pick(placement);
+    let whole = sweep_below(alloc, frame, list, end, depth)?;
+    frame.back();
+    frame.leave(placement);
+    if !whole {
+        push_rest(alloc, frame, list)?;
+    }
+    Ok(whole)
+}
+
+// Sweeps the place, or keeps it where that would go too far.
+#[cycle(sweep)]
+fn sweep_below(
+    alloc: Global,
+    frame: &mut Frame<'_>,
+    list: &mut Listing,
+    end: usize,
+    depth: u32,
+) -> Result<bool, Refusal>
+    requires begun { frame.old.given ≤ length frame.old.atoms }
+    requires end { end ≤ frame.old.given + 4096 }
+    requires once { distinct frame.old.scene.live ≡ true }
+    ensures same { OnOk result (frame.new ≡ frame.old) }
+    ensures room { IfOk result (λ whole. whole ≡ true → length frame.new.atoms < end) }
+    ensures swept { OnOk result (Swept frame.old.scene frame.old.atoms list.old.found.items list.new.found.items (lists list.old.rests.items) (lists list.new.rests.items)) }
+    ensures options { OnOk result (list.new.options.items ≡ list.old.options.items) }
+    ensures why { IfErr result (λ e. e ≡ Refusal.Memory) }
+{
+    if depth == 0 || frame.mark() >= end || list.found.len() > LIMIT {
+        push_rest(alloc, frame, list)?;
+        return Ok(false);
+    }
+    sweep(alloc, frame, list, end, depth - 1)
+}
