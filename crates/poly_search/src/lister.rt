@@ -33,14 +33,16 @@ pub struct Listing {
 }
 
 // Lists the base of a place where nothing is open, if it is a tiling that meets the atoms.
+#[tactic(auto, using(crate::proofs::Swept::family_ascends))]
 fn push_found(alloc: Global, frame: &Frame<'_>, list: &mut Listing) -> Result<(), Refusal>
     ensures found { OnOk result (list.new.found.items ≡ list.old.found.items ++ tilings frame.now.scene frame.now.atoms Finds) }
     ensures rests { OnOk result (list.new.rests.items ≡ list.old.rests.items) }
     ensures options { OnOk result (list.new.options.items ≡ list.old.options.items) }
     ensures why { IfErr result (λ e. e ≡ Refusal.Memory) }
 {
-    if let Some(numbers) = frame.found(alloc)? {
-        list.found.push(Tiling::new(numbers))?;
+    if let Some(numbers) = frame.found() {
+        let tiling = Tiling::new(Vec::from_slice(alloc, numbers)?);
+        list.found.push(tiling)?;
     }
     Ok(())
 }
