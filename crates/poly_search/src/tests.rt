@@ -12,9 +12,21 @@ use std::alloc::Global;
 use std::collections::BTreeMap;
 use std::test::Fail;
 
-const ONE: [(u64, u64); 1] = [(0, 0)];
+const ONE: &[(u64, u64)] = &[(0, 0)];
 
-const DOMINO: [(u64, u64); 2] = [(0, 0), (1, 0)];
+const DOMINO: &[(u64, u64)] = &[(0, 0), (1, 0)];
+
+// Pieces of one cell.
+const ONES: [(&[u8], &[(u64, u64)]); 8] = [
+    (b"A", ONE),
+    (b"B", ONE),
+    (b"C", ONE),
+    (b"D", ONE),
+    (b"E", ONE),
+    (b"F", ONE),
+    (b"G", ONE),
+    (b"H", ONE),
+];
 
 fn cell(x: u64, y: u64) -> Result<Cell, Refusal> {
     match Cell::new(x, y) {
@@ -61,18 +73,16 @@ fn spec(alloc: Global, points: &[(u64, u64)], least: u64) -> Result<Spec, Refusa
     })
 }
 
-// Pieces of one shape.
 fn pieces(
     alloc: Global,
-    names: &[&[u8]],
-    points: &[(u64, u64)],
+    shapes: &[(&[u8], &[(u64, u64)])],
     least: u64,
 ) -> Result<BTreeMap<Name, Spec>, Refusal>
     ensures { IfOk result (λ pieces. AreOfGrid Grid.Square pieces.entries) }
 {
     let mut pieces = BTreeMap::new(alloc);
-    for name in names {
-        pieces.insert(Name::new(name)?, spec(alloc, points, least)?)?;
+    for shape in shapes {
+        pieces.insert(Name::new(shape.0)?, spec(alloc, shape.1, least)?)?;
     }
     Ok(pieces)
 }
@@ -97,7 +107,18 @@ fn view(
 
 fn two_dominoes(alloc: Global) -> Result<View, Refusal> {
     let board = rectangle(alloc, 2, 2, Mode::Required)?;
-    let pieces = pieces(alloc, &[b"A", b"B"], &DOMINO, 1)?;
+    let pieces = pieces(alloc, &[(b"A", DOMINO), (b"B", DOMINO)], 1)?;
+    view(alloc, board, pieces)
+}
+
+// Optional pieces of one cell on a row of optional cells.
+fn optional_ones(
+    alloc: Global,
+    count: u64,
+    shapes: &[(&[u8], &[(u64, u64)])],
+) -> Result<View, Refusal> {
+    let board = rectangle(alloc, count, 1, Mode::Optional)?;
+    let pieces = pieces(alloc, shapes, 0)?;
     view(alloc, board, pieces)
 }
 
@@ -126,10 +147,8 @@ fn those_that_meet_atoms(rt: HostRuntime) -> Result<(), Fail> {
     assert_eq!(rt; found.len(), 2);
     assert!(rt; is_listed(&found, &[2, 5]));
     assert!(rt; is_listed(&found, &[3, 4]));
-    assert_eq!(rt;
-        search_all(alloc, &view, &[Atom::Has(0), Atom::Has(3)])?.len(),
-        0
-    );
+    let none = search_all(alloc, &view, &[Atom::Has(0), Atom::Has(3)])?;
+    assert_eq!(rt; none.len(), 0);
     Ok(())
 }
 
@@ -137,23 +156,30 @@ fn those_that_meet_atoms(rt: HostRuntime) -> Result<(), Fail> {
 fn a_strip_of_three(rt: HostRuntime) -> Result<(), Fail> {
     let alloc = rt.alloc();
     let board = rectangle(alloc, 3, 1, Mode::Required)?;
-    let mut pieces = pieces(alloc, &[b"A"], &DOMINO, 1)?;
-    pieces.insert(Name::new(b"B")?, spec(alloc, &ONE, 1)?)?;
+    let pieces = pieces(alloc, &[(b"A", DOMINO), (b"B", ONE)], 1)?;
     let view = view(alloc, board, pieces)?;
-    match explore(alloc, &view, &[], 1)? {
+    let tree = explore(alloc, &view, &[], 1)?;
+    match tree {
         Tree::Branch { arms, .. } => assert_eq!(rt; arms.len(), 2),
-        _ => assert!(rt; false),
+        _ => assert!(rt; false, "the root is no Branch"),
     }
     assert_eq!(rt; search_all(alloc, &view, &[])?.len(), 2);
     Ok(())
 }
 
 #[test]
-fn optional_pieces(rt: HostRuntime) -> Result<(), Fail> {
+fn seven_optional_pieces(rt: HostRuntime) -> Result<(), Fail> {
     let alloc = rt.alloc();
-    let board = rectangle(alloc, 3, 1, Mode::Optional)?;
-    let pieces = pieces(alloc, &[b"A", b"B", b"C"], &ONE, 0)?;
-    let view = view(alloc, board, pieces)?;
-    assert_eq!(rt; search_all(alloc, &view, &[])?.len(), 34);
+    let view = optional_ones(alloc, 7, &ONES[..7])?;
+    assert_eq!(rt; search_all(alloc, &view, &[])?.len(), 130_922);
+    Ok(())
+}
+
+#[test]
+fn over_a_million(rt: HostRuntime) -> Result<(), Fail> {
+    let alloc = rt.alloc();
+    let view = optional_ones(alloc, 8, &ONES)?;
+    let refusal = search_all(alloc, &view, &[]).err();
+    assert_eq!(rt; refusal, Some(Refusal::CatalogueFull));
     Ok(())
 }
