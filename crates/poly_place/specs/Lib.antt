@@ -1,4 +1,3 @@
-pub mod Fed
 pub mod Interned
 pub mod Parts
 pub mod Pins

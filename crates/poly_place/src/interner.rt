@@ -3,7 +3,6 @@ ghost use Rattle.std.specs.Prelude.{◌≡◌, ◌↔◌, ◌⊎◌, ◌^◌, �
 ghost use Rattle.std.specs.List.{Contains};
 ghost use Rattle.poly_place.specs.Interned.{AreNumbersOf, AreTooMany, Gives, GoesOnWith};
 
-use crate::key::Key;
 use indexmap::IndexSet;
 use poly_design::Placement;
 use poly_grid::Refusal;
@@ -13,7 +12,7 @@ use std::marker::Model;
 /// A number for each placement that was ever given one. Numbers count up from 0, and a number never changes its placement.
 #[derive(Drop)]
 pub struct Interner {
-    all: IndexSet<Key>,
+    all: IndexSet<Placement>,
 }
 
 impl Model for Interner {
@@ -61,7 +60,7 @@ impl Interner {
         ensures none { IsNone result ↔ (¬ Contains self.now placement.now) }
         ensures numbered { AreNumbered self.now }
     {
-        match self.all.get_index_of(&Key::new(*placement)) {
+        match self.all.get_index_of(placement) {
             Some(at) => Some(at as u32),
             None => None,
         }
@@ -71,10 +70,7 @@ impl Interner {
     pub fn placement(&self, number: u32) -> Option<Placement>
         ensures { result ≡ slice_get self.now number }
     {
-        match self.all.get_index(number as usize) {
-            Some(key) => Some(key.placement()),
-            None => None,
-        }
+        self.all.get_index(number as usize).copied()
     }
 
     /// All placements, in the order of their numbers. The only refusal is `Memory`.
@@ -82,11 +78,7 @@ impl Interner {
         ensures ok { IfOk result (λ list. list.items ≡ self.now) }
         ensures why { IfErr result (λ e. e ≡ Refusal.Memory) }
     {
-        let mut list = Vec::with_capacity(alloc, self.len())?;
-        for key in self.all.as_slice() {
-            list.push(key.placement())?;
-        }
-        Ok(list)
+        Ok(Vec::from_slice(alloc, self.all.as_slice())?)
     }
 
     /// Makes room for so many more numbers.
@@ -130,19 +122,19 @@ impl Interner {
         if self.len() > u32::MAX as usize {
             return Err(Refusal::Spent);
         }
-        self.add(Key::new(*placement))
+        self.add(*placement)
     }
 
-    fn add(&mut self, key: Key) -> Result<u32, Refusal>
+    fn add(&mut self, placement: Placement) -> Result<u32, Refusal>
         requires room { length self.old < 2 ^ 32 }
-        requires lacks { ¬ Contains self.old key }
-        ensures ok { IfOk result (λ n. slice_get self.new n ≡ Some key) }
-        ensures gives { OnOk result (self.new ≡ self.old ++ key ∷ []) }
+        requires lacks { ¬ Contains self.old placement }
+        ensures ok { IfOk result (λ n. slice_get self.new n ≡ Some placement) }
+        ensures gives { OnOk result (self.new ≡ self.old ++ placement ∷ []) }
         ensures numbered { OnOk result (AreNumbered self.new) }
         ensures err { OnErr result (self.new ≡ self.old) }
         ensures why { IfErr result (λ e. e ≡ Refusal.Memory) }
     {
-        let (at, _) = self.all.insert_full(key)?;
+        let (at, _) = self.all.insert_full(placement)?;
         Ok(at as u32)
     }
 

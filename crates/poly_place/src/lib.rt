@@ -3,7 +3,6 @@
 
 mod delta;
 mod interner;
-mod key;
 mod lead;
 mod parts;
 mod plan;

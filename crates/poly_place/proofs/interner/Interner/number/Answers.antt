@@ -1,24 +1,23 @@
-use Rattle.std.proofs.Common.{Some, List, position, slice_get, ◌≡◌, sym, ◌∙◌, ap, subst, refl, true}
+use Rattle.std.proofs.Common.{Some, position, ◌≡◌, sym, ◌∙◌, ap, refl, true}
 use mathlib.Core.Bool.{true≢false}
 use Rattle.std.specs.List.{list_any}
-use Rattle.poly_design.specs.declared.placement.Placement.{Placement}
 use Rattle.poly_place.proofs.Numbers.{no_number, number_has, number_names, same}
 use Rattle.poly_place.proofs.interner.Interner.number.Goals as goal
 
 pub returns-in-Some-clause-found : goal.returns-in-Some-clause-found
 returns-in-Some-clause-found c =
-    let e : position (same c.new.result) c.self.inside.all.keys ≡ Some c.in-Some.at = sym c.in-Some.ensures.index in
-    number_names c.args.self.now c.args.placement.now c.in-Some.at (ap (λ p. position (same p) c.args.self.now) (sym c.new.ensures) ∙ ap (λ ks. position (same c.new.result) ks) (sym c.self.view_is) ∙ e)
+    let e : position (same c.args.placement.now) c.self.inside.all.keys ≡ Some c.in-Some.at = sym c.in-Some.ensures.index in
+    number_names c.args.self.now c.args.placement.now c.in-Some.at (ap (λ ks. position (same c.args.placement.now) ks) (sym c.self.view_is) ∙ e)
 
 pub returns-in-Some-clause-none : goal.returns-in-Some-clause-none
 returns-in-Some-clause-none c =
-    let e : list_any (same c.new.result) c.self.inside.all.keys ≡ true = sym c.in-Some.ensures.found in (
+    let e : list_any (same c.args.placement.now) c.self.inside.all.keys ≡ true = sym c.in-Some.ensures.found in (
       λ no. absurd (true≢false no),
-      λ lacks. absurd (lacks (number_has c.args.self.now c.args.placement.now (ap (λ p. list_any (same p) c.args.self.now) (sym c.new.ensures) ∙ ap (λ ks. list_any (same c.new.result) ks) (sym c.self.view_is) ∙ e))),
+      λ lacks. absurd (lacks (number_has c.args.self.now c.args.placement.now (ap (λ ks. list_any (same c.args.placement.now) ks) (sym c.self.view_is) ∙ e))),
     )
 
 pub returns-in-None-clause-none : goal.returns-in-None-clause-none
 returns-in-None-clause-none c = (
-  λ _. no_number c.args.self.now c.args.placement.now (ap (λ p. list_any (same p) c.args.self.now) (sym c.new.ensures) ∙ ap (λ ks. list_any (same c.new.result) ks) (sym c.self.view_is) ∙ sym c.in-None.ensures.found),
+  λ _. no_number c.args.self.now c.args.placement.now (ap (λ ks. list_any (same c.args.placement.now) ks) (sym c.self.view_is) ∙ sym c.in-None.ensures.found),
   λ lacks. refl,
 )
