@@ -6,3 +6,4 @@ pub mod Differences
 pub mod Grow
 pub mod Planned
 pub mod Marks
+pub mod RunOut

@@ -6,3 +6,4 @@ pub mod Sides
 pub mod Falls
 pub mod Differences
 pub mod Delta
+pub mod Spent

@@ -1,5 +1,5 @@
 //! How a plan is made.
-ghost use Rattle.std.specs.Prelude.{◌≡◌, ◌⊎◌, ◌<◌, ◌+◌, ◌^◌, Err, IfOk, IfErr, length};
+ghost use Rattle.std.specs.Prelude.{◌≡◌, ◌⊎◌, Err, IfOk, IfErr};
 ghost use Rattle.std.specs.Arc.{arc_value};
 ghost use Rattle.poly_design.specs.Layout.{Layout};
 ghost use Rattle.poly_tiling.specs.Names.{WellNamed};
@@ -7,6 +7,7 @@ ghost use Rattle.poly_tiling.specs.Shows.{Shows};
 ghost use Rattle.poly_place.specs.Delta.{IsDelta, IsPlanFor};
 ghost use Rattle.poly_place.specs.Interned.{GoesOn};
 ghost use Rattle.poly_place.specs.Sides.{by_sides};
+ghost use Rattle.poly_place.specs.Spent.{IsSpent};
 
 use crate::delta::differences;
 use crate::interner::Interner;
@@ -32,7 +33,7 @@ pub(crate) fn lead(
     ensures grows { GoesOn names.old names.new }
     ensures ok { (before : Layout) → Shows (by_sides names.old sides.now) before → IfOk result (λ p. IsPlanFor (by_sides names.old sides.now) before after.now (arc_value p.view) p.delta) }
     ensures given { IfOk result (λ p. (arc_value p.view).placements ≡ names.new) }
-    ensures spent { result ≡ Err Refusal.Spent → 2 ^ 32 < length names.old + 20064 }
+    ensures spent { result ≡ Err Refusal.Spent → IsSpent names.old after.now }
     ensures why { IfErr result (λ e. (e ≡ Refusal.Spent) ⊎ (e ≡ Refusal.Memory)) }
 {
     let parts = Parts::of(alloc, after)?;

@@ -5,6 +5,7 @@ ghost use Rattle.poly_design.specs.declared.placement.Placement.{Placement as Pl
 ghost use Rattle.poly_place.specs.Interned.{GoesOn, GoesOnWith};
 ghost use Rattle.poly_place.specs.Parts.{ArePartsOf};
 ghost use Rattle.poly_place.specs.Right.{IsRight};
+ghost use Rattle.poly_place.specs.Spent.{IsSpent};
 
 use crate::interner::Interner;
 use crate::parts::Parts;
@@ -29,7 +30,8 @@ impl Sides {
         ensures right { (d : Layout) → ArePartsOf d parts.places.items parts.pins.items parts.bounds.items → IfOk result (λ s. IsRight (record { placements = names.new; live = s.live.items; bounds = s.bounds.items; pins = s.pins.items }) d) }
         ensures grows { GoesOn names.old names.new }
         ensures gives { OnOk result ((between : List Place) × GoesOnWith names.old parts.places.items between × GoesOnWith between parts.pins.items names.new) }
-        ensures spent { result ≡ Err Refusal.Spent → 2 ^ 32 < length names.old + length parts.places.items + length parts.pins.items }
+        ensures spent { (d : Layout) → ArePartsOf d parts.places.items parts.pins.items parts.bounds.items → result ≡ Err Refusal.Spent → IsSpent names.old d }
+        ensures many { result ≡ Err Refusal.Spent → 2 ^ 32 < length names.old + length parts.places.items + length parts.pins.items }
         ensures why { IfErr result (λ e. (e ≡ Refusal.Spent) ⊎ (e ≡ Refusal.Memory)) }
     {
         let live = names.give_all(alloc, &parts.places)?;

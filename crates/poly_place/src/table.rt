@@ -1,5 +1,5 @@
 //! The table: a design by numbers that outlast its changes.
-ghost use Rattle.std.specs.Prelude.{◌≡◌, ◌⊎◌, ◌<◌, ◌+◌, ◌^◌, Err, IfOk, IfErr, length};
+ghost use Rattle.std.specs.Prelude.{◌≡◌, ◌⊎◌, Err, IfOk, IfErr};
 ghost use Rattle.std.specs.Arc.{arc_value};
 ghost use Rattle.poly_design.specs.Changes.{changed};
 ghost use Rattle.poly_design.specs.Layout.{Layout};
@@ -7,6 +7,7 @@ ghost use Rattle.poly_design.specs.Limits.{IsDesign};
 ghost use Rattle.poly_tiling.specs.Names.{Grown};
 ghost use Rattle.poly_place.specs.Delta.{IsPlanFor};
 ghost use Rattle.poly_place.specs.Right.{IsRight};
+ghost use Rattle.poly_place.specs.Spent.{IsSpent};
 
 use crate::interner::Interner;
 use crate::lead::{lead, view_of};
@@ -76,7 +77,7 @@ impl Table {
         ensures last { IfOk result (λ p. (arc_value p.view).placements ≡ self.new.placements) }
         ensures stays { Grown self.old self.new }
         ensures right { (before : Layout) → IsRight self.old before → IsRight self.new before }
-        ensures spent { result ≡ Err Refusal.Spent → 2 ^ 32 < length self.old.placements + 20064 }
+        ensures spent { result ≡ Err Refusal.Spent → IsSpent self.old.placements after.now }
         ensures why { IfErr result (λ e. (e ≡ Refusal.Spent) ⊎ (e ≡ Refusal.Memory)) }
     {
         lead(self.alloc, &mut self.names, &self.sides, after)
@@ -93,7 +94,7 @@ impl Table {
         ensures last { IfOk result (λ p. (arc_value p.view).placements ≡ self.new.placements) }
         ensures stays { Grown self.old self.new }
         ensures right { IsRight self.new design.now }
-        ensures spent { result ≡ Err Refusal.Spent → 2 ^ 32 < length self.old.placements + 20064 }
+        ensures spent { result ≡ Err Refusal.Spent → IsSpent self.old.placements (changed design.now change.now) }
         ensures why { IfErr result (λ e. (e ≡ Refusal.Spent) ⊎ (e ≡ Refusal.Memory)) }
     {
         match after(design, change) {

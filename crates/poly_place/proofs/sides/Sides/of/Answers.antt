@@ -1,8 +1,11 @@
-use Rattle.std.proofs.Common.{List, subst}
+use Rattle.std.proofs.Common.{Err, List, ap, subst, ◌≡◌}
+use Rattle.std.proofs.lemmas.Result.{err_from_is_err_and}
+use Rattle.poly_grid.specs.declared.refusal.Refusal.TheVariants.{Spent}
 use Rattle.poly_design.specs.declared.placement.Placement.{Placement}
 use Rattle.poly_place.specs.Interned.{AreNumbersOf}
 use Rattle.poly_place.proofs.Numbers.{goes_by, goes_none, goes_twice}
 use Rattle.poly_place.proofs.Righted.{right_from}
+use Rattle.poly_place.proofs.RunOut.{spent_pins, spent_places}
 use Rattle.poly_place.proofs.sides.Sides.of.Goals as goal
 
 pub returns-clause-right : goal.returns-clause-right
@@ -25,3 +28,18 @@ pub returns-clause-grows : goal.returns-clause-grows
 returns-clause-grows c =
     goes_twice c.args.names.now c.give_all.new.self c.give_all-2.new.self (goes_by c.args.names.now c.deref.result.now c.give_all.new.self c.in_ok-live.ensures.gives c.in_ok-live.ensures.numbered)
     (goes_by c.give_all.new.self c.deref-2.result.now c.give_all-2.new.self c.in_ok-pins.ensures.gives c.in_ok-pins.ensures.numbered)
+
+pub returns-in_err-live-clause-spent : goal.returns-in_err-live-clause-spent
+returns-in_err-live-clause-spent c = λ d parts.
+    let p = err_from_is_err_and c.from_residual.result c.from_residual.ensures.1 in
+    rw (p.1, p.2) (λ e.
+    let same : c.in_err-live.field-0.0 ≡ Spent = cc in
+    spent_places d c.args.parts.places.items c.args.parts.pins.items c.args.parts.bounds.items c.args.names.now c.deref.result.now parts c.deref.ensures.value (c.in_err-live.ensures.spent (ap (λ x. Err x) same)))
+
+pub returns-in_err-pins-clause-spent : goal.returns-in_err-pins-clause-spent
+returns-in_err-pins-clause-spent c = λ d parts.
+    let p = err_from_is_err_and c.from_residual-in_err-pins.result c.from_residual-in_err-pins.ensures.1 in
+    rw (p.1, p.2) (λ e.
+    let same : c.in_err-pins.field-0.0 ≡ Spent = cc in
+    spent_pins d c.args.parts.places.items c.args.parts.pins.items c.args.parts.bounds.items c.args.names.now c.give_all.new.self c.deref.result.now c.deref-2.result.now parts c.deref.ensures.value c.deref-2.ensures.value
+    c.in_ok-live.ensures.gives (c.in_err-pins.ensures.spent (ap (λ x. Err x) same)))

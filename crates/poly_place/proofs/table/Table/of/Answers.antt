@@ -3,6 +3,6 @@ use Rattle.poly_place.proofs.table.Table.of.Goals as goal
 
 pub returns-in-Err-clause-why : goal.returns-in-Err-clause-why
 returns-in-Err-clause-why c = elim c.in-Err.ensures.why [
-  | inl s ↦ let big = c.in-Err.ensures.spent (ap (λ r. Err r) s) in absurd (omega (arith, big, c.in_ok-parts.ensures.ok.few, c.in_ok-parts.ensures.ok.few_pins, ap length c.new-names.ensures))
+  | inl s ↦ let big = c.in-Err.ensures.many (ap (λ r. Err r) s) in absurd (omega (arith, big, c.in_ok-parts.ensures.ok.few, c.in_ok-parts.ensures.ok.few_pins, ap length c.new-names.ensures))
   | inr m ↦ m
 ]
