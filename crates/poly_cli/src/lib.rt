@@ -1,6 +1,7 @@
 //! The text side of the workbench: lines in, replies out.
 #![tactic(auto)]
 
+mod arguments;
 mod command;
 mod lines;
 mod opening;
@@ -11,6 +12,7 @@ mod serving;
 mod tests;
 mod words;
 
+pub use arguments::read_arguments;
 pub use command::{Command, asked, command_of};
 pub use lines::{Event, INPUT_LIMIT, LINE_LIMIT, Lines};
 pub use opening::{Bench, End, LINE_COUNT, session_over};

@@ -1,0 +1,73 @@
+//! The program: arguments, standard input and output, and the exit status. What it answers is `poly_cli::session`'s.
+#![tactic(auto)]
+
+use poly_cli::{End, Fault, Plain, read_arguments, session};
+use poly_design::Design;
+use poly_grid::Grid;
+use std::alloc::AllocError;
+use std::io;
+use std::process::ExitCode;
+
+/// The puzzle line was refused.
+const REFUSED: u8 = 1;
+
+/// The arguments were refused.
+const BAD_ARGUMENTS: u8 = 2;
+
+/// A read or a write failed.
+const FAULT: u8 = 3;
+
+fn main(rt: HostRuntime) -> ExitCode {
+    match arguments_status(&rt) {
+        Some(status) => ExitCode::from(status),
+        None => ExitCode::from(session_status(&rt)),
+    }
+}
+
+// The status to end with at once: help was asked for, or the arguments are refused.
+fn arguments_status(rt: &HostRuntime) -> Option<u8> {
+    let Ok(words) = words(rt) else {
+        let _ = eprintln!(rt; "polybench: the arguments can't be read");
+        return Some(BAD_ARGUMENTS);
+    };
+    let Ok(texts) = texts_of(rt, &words) else {
+        let _ = eprintln!(rt; "polybench: the arguments can't be read");
+        return Some(BAD_ARGUMENTS);
+    };
+    match read_arguments(rt.alloc(), texts.as_slice()) {
+        Ok(()) => None,
+        Err(error) => {
+            let _ = error.print(rt);
+            Some(error.exit_code() as u8)
+        }
+    }
+}
+
+fn words(rt: &HostRuntime) -> io::Result<Vec<String>> {
+    let words = std::env::args(rt)?.collect(rt.alloc())?;
+    Ok(words)
+}
+
+fn texts_of<'a>(rt: &HostRuntime, words: &'a [String]) -> Result<Vec<&'a str>, AllocError> {
+    let mut texts = Vec::new(rt.alloc());
+    for word in words {
+        texts.push(word.as_str())?;
+    }
+    Ok(texts)
+}
+
+fn session_status(rt: &HostRuntime) -> u8 {
+    let mut engine = Plain::new(rt.alloc());
+    match session(rt.alloc(), &mut rt.reader(), &mut io::writer(rt), &mut engine) {
+        Ok(End::Done) => 0,
+        Ok(End::Refused) => REFUSED,
+        Err(Fault::Read) => {
+            let _ = eprintln!(rt; "polybench: read fault");
+            FAULT
+        }
+        Err(Fault::Write) => {
+            let _ = eprintln!(rt; "polybench: write fault");
+            FAULT
+        }
+    }
+}

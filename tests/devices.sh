@@ -1,0 +1,132 @@
+#!/usr/bin/env bash
+# What only a running program shows: exit statuses, standard error, devices that fail, and long inputs.
+set -u
+cd "$(dirname "${BASH_SOURCE[0]}")/.." || exit 2
+room=$(mktemp -d)
+trap 'rm -rf "$room"' EXIT
+passed=0
+failed=0
+dominoes='{"format":1,"grid":"square","board":["##","##"],"pieces":[{"name":"A","cells":[[0,0],[1,0]]},{"name":"B","cells":[[0,0],[1,0]]}]}'
+
+# Judges a run that left its standard output and error in the room: name, wanted status, status, wanted error.
+judge() {
+    local name=$1 wanted=$2 status=$3 errors=$4
+    printf '%s' "$errors" >"$room/wanted_errors"
+    if [ "$status" -eq "$wanted" ] && cmp -s "$room/wanted" "$room/output" && cmp -s "$room/wanted_errors" "$room/errors"; then
+        passed=$((passed + 1))
+    else
+        failed=$((failed + 1))
+        echo "failed: $name (status $status, wanted $wanted)"
+        diff "$room/wanted" "$room/output" | head -n 5
+        diff "$room/wanted_errors" "$room/errors" | head -n 5
+    fi
+}
+
+# The program on a file as its standard input: name, file, wanted output, wanted status.
+on_file() {
+    printf '%s' "$3" >"$room/wanted"
+    ./polybench <"$2" >"$room/output" 2>"$room/errors"
+    judge "$1" "$4" "$?" ""
+}
+
+# Help goes to standard output, and wrong words to standard error.
+./polybench --help </dev/null >"$room/output" 2>"$room/errors"
+status=$?
+if [ "$status" -eq 0 ] && grep -q '^Usage: polybench' "$room/output" && [ ! -s "$room/errors" ]; then
+    passed=$((passed + 1))
+else
+    failed=$((failed + 1))
+    echo "failed: help (status $status)"
+fi
+for words in '--fly' 'fly' '--help=1'; do
+    ./polybench $words </dev/null >"$room/output" 2>"$room/errors"
+    status=$?
+    if [ "$status" -eq 2 ] && [ -s "$room/errors" ] && [ ! -s "$room/output" ]; then
+        passed=$((passed + 1))
+    else
+        failed=$((failed + 1))
+        echo "failed: the argument $words (status $status)"
+    fi
+done
+
+# Words that are no UTF-8 are refused before any input is read.
+./polybench "$(printf '\377')" </dev/null >"$room/output" 2>"$room/errors"
+status=$?
+if [ "$status" -eq 2 ] && [ -s "$room/errors" ] && [ ! -s "$room/output" ]; then
+    passed=$((passed + 1))
+else
+    failed=$((failed + 1))
+    echo "failed: an argument that is no UTF-8 (status $status)"
+fi
+
+# No byte at all is a puzzle line of no bytes.
+on_file "empty input" /dev/null $'no 1 BadJson\n' 1
+
+# A directory can't be read.
+: >"$room/wanted"
+./polybench <"$room" >"$room/output" 2>"$room/errors"
+judge "a directory as standard input" 3 "$?" $'polybench: read fault\n'
+
+# A full device takes nothing.
+: >"$room/wanted"
+printf '%s\n' "$dominoes" >"$room/input"
+./polybench <"$room/input" >/dev/full 2>"$room/errors"
+status=$?
+: >"$room/output"
+judge "a full device as standard output" 3 "$status" $'polybench: write fault\n'
+
+# A pipe that nobody reads any more.
+(
+    trap '' PIPE
+    { printf '%s\n' "$dominoes"; sleep 0.5; printf 'count\n'; } | {
+        ./polybench 2>"$room/errors"
+        echo $? >"$room/status"
+    } | head -c 3 >"$room/output"
+)
+printf 'ok ' >"$room/wanted"
+judge "a closed pipe" 3 "$(cat "$room/status")" $'polybench: write fault\n'
+
+# The last line may lack its end, and each reply comes before the next line is read.
+printf '%s\ncount' "$dominoes" >"$room/input"
+on_file "a last line without its end" "$room/input" $'ok 0\ntilings 4\n' 0
+printf '%s\r\ncount\r\n   \n count  \n' "$dominoes" >"$room/input"
+on_file "carriage returns and spaces" "$room/input" $'ok 0\ntilings 4\ntilings 4\n' 0
+coproc PROGRAM { ./polybench 2>/dev/null; }
+printf '%s\n' "$dominoes" >&"${PROGRAM[1]}"
+if IFS= read -r -t 10 answer <&"${PROGRAM[0]}" && [ "$answer" = 'ok 0' ] && printf 'count\n' >&"${PROGRAM[1]}" &&
+    IFS= read -r -t 10 answer <&"${PROGRAM[0]}" && [ "$answer" = 'tilings 4' ]; then
+    passed=$((passed + 1))
+else
+    failed=$((failed + 1))
+    echo "failed: a reply before the next line"
+fi
+exec {PROGRAM[1]}>&-
+wait
+
+# Lines of 65,536 bytes and of one more.
+{
+    printf '%s\n' "$dominoes"
+    head -c 65536 /dev/zero | tr '\0' x
+    printf '\n'
+    head -c 65537 /dev/zero | tr '\0' ' '
+    printf '\ncount\n'
+} >"$room/input"
+on_file "long lines" "$room/input" $'ok 0\nno 19 BadCommand\nno 20 LineTooLong\ntilings 4\n' 0
+
+# A million lines are the limit.
+{
+    printf '%s\n' "$dominoes"
+    yes '' | head -n 999999
+} >"$room/input"
+on_file "a million lines" "$room/input" $'ok 0\n' 0
+printf '\n' >>"$room/input"
+printf 'ok 0\n' >"$room/wanted"
+./polybench <"$room/input" >"$room/output" 2>"$room/errors"
+judge "a million lines and one more" 3 "$?" $'polybench: read fault\n'
+
+# The twelve pentominoes on three rows of twenty.
+printf '%s\ncount\n' '{"format":1,"grid":"square","board":["####################","####################","####################"],"pieces":[{"name":"F","cells":[[1,0],[2,0],[0,1],[1,1],[1,2]]},{"name":"I","cells":[[0,0],[0,1],[0,2],[0,3],[0,4]]},{"name":"L","cells":[[0,0],[0,1],[0,2],[0,3],[1,3]]},{"name":"N","cells":[[1,0],[1,1],[0,2],[1,2],[0,3]]},{"name":"P","cells":[[0,0],[1,0],[0,1],[1,1],[0,2]]},{"name":"T","cells":[[0,0],[1,0],[2,0],[1,1],[1,2]]},{"name":"U","cells":[[0,0],[2,0],[0,1],[1,1],[2,1]]},{"name":"V","cells":[[0,0],[0,1],[0,2],[1,2],[2,2]]},{"name":"W","cells":[[0,0],[0,1],[1,1],[1,2],[2,2]]},{"name":"X","cells":[[1,0],[0,1],[1,1],[2,1],[1,2]]},{"name":"Y","cells":[[1,0],[0,1],[1,1],[1,2],[1,3]]},{"name":"Z","cells":[[0,0],[1,0],[1,1],[1,2],[2,2]]}]}' >"$room/input"
+on_file "the twelve pentominoes on three by twenty" "$room/input" $'ok 0\ntilings 8\n' 0
+
+echo "$passed passed, $failed failed"
+[ "$failed" -eq 0 ]

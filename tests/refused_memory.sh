@@ -1,0 +1,77 @@
+#!/usr/bin/env bash
+# Refuses each allocation of the program in turn, counting up until a run ends in which none was refused.
+#
+# In place of one reply there may then stand `no 22 Memory`, and nothing else may change: the command that was refused
+# has left no trace, so all other replies are those of the script without it.
+set -u
+cd "$(dirname "${BASH_SOURCE[0]}")/.." || exit 2
+room=$(mktemp -d)
+trap 'rm -rf "$room"' EXIT
+passed=0
+failed=0
+
+if ! cc -O1 -shared -fPIC -o "$room/refuse.so" tests/refuse_allocation.c -ldl; then
+    echo "failed: the C compiler, which the linker of the toolchain needs too, could not build tests/refuse_allocation.c"
+    echo "0 passed, 1 failed"
+    exit 1
+fi
+./polybench </dev/null >/dev/null 2>&1
+program=crates/polybench/out/polybench
+
+# The replies of a run, one to a line: the lines of a list are joined.
+replies() {
+    awk '{ line = line $0 "\1" } !/^tiling / { print line; line = "" } END { if (line != "") print line }' "$1"
+}
+
+# Whether the run's replies are those of the script, or of the script without the command that was refused.
+is_right() {
+    local status=$1 at
+    replies "$room/output" >"$room/replies"
+    at=$(grep -n -m 1 '^no 22 Memory' "$room/replies" | cut -d : -f 1)
+    if [ -z "$at" ]; then
+        [ "$status" -eq 0 ] && cmp -s "$room/replies" "$room/wanted"
+    elif [ "$at" -eq 1 ]; then
+        [ "$status" -eq 1 ] && [ "$(wc -l <"$room/replies")" -eq 1 ]
+    else
+        sed "${at}d" "$room/input" >"$room/without"
+        "$program" <"$room/without" >"$room/output" 2>"$room/errors"
+        replies "$room/output" >"$room/wanted_without"
+        sed "${at}d" "$room/replies" >"$room/others"
+        [ "$status" -eq 0 ] && cmp -s "$room/others" "$room/wanted_without"
+    fi
+}
+
+# Plays the transcript with each allocation refused in turn.
+play() {
+    local name=$1 at=0 before=$failed status
+    sed -n 's/^> //p' "examples/$name.txt" | grep -v '^ *$' >"$room/input"
+    "$program" <"$room/input" >"$room/output" 2>/dev/null
+    replies "$room/output" >"$room/wanted"
+    while :; do
+        at=$((at + 1))
+        rm -f "$room/refused"
+        REFUSE_AT=$at REFUSED="$room/refused" LD_PRELOAD="$room/refuse.so" "$program" <"$room/input" >"$room/output" 2>"$room/errors"
+        status=$?
+        if [ ! -e "$room/refused" ]; then
+            break
+        fi
+        if ! is_right "$status"; then
+            failed=$((failed + 1))
+            echo "failed: $name with allocation $at refused (status $status)"
+            head -n 3 "$room/replies" "$room/errors"
+        fi
+    done
+    if [ "$at" -eq 1 ]; then
+        failed=$((failed + 1))
+        echo "failed: $name met no allocation"
+    elif [ "$failed" -eq "$before" ]; then
+        passed=$((passed + 1))
+    fi
+    echo "refused memory: $name, $((at - 1)) allocations" >&2
+}
+
+for name in two_dominoes a_first_design drop_and_undo; do
+    play "$name"
+done
+echo "$passed passed, $failed failed"
+[ "$failed" -eq 0 ]
