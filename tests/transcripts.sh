@@ -1,28 +1,41 @@
 #!/usr/bin/env bash
-# Plays the transcripts examples/*.txt on the built program and compares what it answers.
+# Plays the transcripts examples/*.txt, and those that README.md and docs/GUIDE.md show, on the built program, and
+# compares what it answers.
 #
 # In a transcript a line that begins with `> ` is typed, and the lines after it are what the program answers; a line
-# that begins with `#` is for the reader, but `# status N` says that the program has to end with status N, not 0.
+# that begins with `#` is for the reader, but `# status N` says that the program has to end with status N, not 0. The
+# blocks of a document between ```text and ``` are one transcript together.
 set -u
 cd "$(dirname "${BASH_SOURCE[0]}")/.." || exit 2
 room=$(mktemp -d)
 trap 'rm -rf "$room"' EXIT
 passed=0
 failed=0
-for transcript in examples/*.txt; do
+
+# Plays the transcript in the file under the name.
+play() {
+    local name=$1 transcript=$2 wanted status
     sed -n 's/^> //p' "$transcript" >"$room/input"
     sed '/^> /d;/^#/d;/^$/d' "$transcript" >"$room/wanted"
     wanted=$(sed -n 's/^# status //p' "$transcript")
     ./polybench <"$room/input" >"$room/output" 2>"$room/errors"
     status=$?
-    if [ "$status" -eq "${wanted:-0}" ] && cmp -s "$room/wanted" "$room/output" && [ ! -s "$room/errors" ]; then
+    if [ -s "$room/input" ] && [ "$status" -eq "${wanted:-0}" ] && cmp -s "$room/wanted" "$room/output" && [ ! -s "$room/errors" ]; then
         passed=$((passed + 1))
     else
         failed=$((failed + 1))
-        echo "failed: $transcript (status $status)"
+        echo "failed: $name (status $status)"
         diff "$room/wanted" "$room/output" | head -n 10
         head -n 5 "$room/errors"
     fi
+}
+
+for transcript in examples/*.txt; do
+    play "$transcript" "$transcript"
+done
+for document in README.md docs/GUIDE.md; do
+    sed -n '/^```text$/,/^```$/p' "$document" | grep -v '^```' >"$room/transcript"
+    play "the transcript in $document" "$room/transcript"
 done
 echo "$passed passed, $failed failed"
 [ "$failed" -eq 0 ]
