@@ -1,9 +1,8 @@
 //! The program: arguments, standard input and output, and the exit status. What it answers is `poly_cli::session`'s.
 #![tactic(auto)]
 
-use poly_cli::{End, Fault, Plain, read_arguments, session};
-use poly_design::Design;
-use poly_grid::Grid;
+use poly_cli::{End, Fault, Plain, read_arguments, refusal_line, session};
+use poly_grid::Refusal;
 use std::alloc::AllocError;
 use std::io;
 use std::process::ExitCode;
@@ -57,17 +56,34 @@ fn texts_of<'a>(rt: &HostRuntime, words: &'a [String]) -> Result<Vec<&'a str>, A
 }
 
 fn session_status(rt: &HostRuntime) -> u8 {
-    let mut engine = Plain::new(rt.alloc());
-    match session(rt.alloc(), &mut rt.reader(), &mut io::writer(rt), &mut engine) {
+    let Ok(mut engine) = Plain::new(rt.alloc()) else {
+        return refused_for_memory(rt);
+    };
+    match session(
+        rt.alloc(),
+        &mut rt.reader(),
+        &mut io::writer(rt),
+        &mut engine,
+    ) {
         Ok(End::Done) => 0,
         Ok(End::Refused) => REFUSED,
         Err(Fault::Read) => {
             let _ = eprintln!(rt; "polybench: read fault");
             FAULT
         }
-        Err(Fault::Write) => {
-            let _ = eprintln!(rt; "polybench: write fault");
-            FAULT
-        }
+        Err(Fault::Write) => write_fault(rt),
     }
+}
+
+// Without memory for an engine the puzzle line is refused before it is read.
+fn refused_for_memory(rt: &HostRuntime) -> u8 {
+    match print!(rt; "{}", refusal_line(Refusal::Memory)) {
+        Ok(()) => REFUSED,
+        Err(_) => write_fault(rt),
+    }
+}
+
+fn write_fault(rt: &HostRuntime) -> u8 {
+    let _ = eprintln!(rt; "polybench: write fault");
+    FAULT
 }
