@@ -2,7 +2,8 @@
 # Refuses each allocation of the program in turn, counting up until a run ends in which none was refused.
 #
 # In place of one reply there may then stand `no 22 Memory`, and nothing else may change: the command that was refused
-# has left no trace, so all other replies are those of the script without it.
+# has left no trace, so all other replies are those of the script without it. Where the arguments can't be read for want
+# of memory, they are refused, and nothing is answered.
 set -u
 cd "$(dirname "${BASH_SOURCE[0]}")/.." || exit 2
 room=$(mktemp -d)
@@ -27,6 +28,10 @@ replies() {
 is_right() {
     local status=$1 at
     replies "$room/output" >"$room/replies"
+    if [ "$status" -eq 2 ]; then
+        [ ! -s "$room/output" ] && [ -s "$room/errors" ]
+        return
+    fi
     at=$(grep -n -m 1 '^no 22 Memory' "$room/replies" | cut -d : -f 1)
     if [ -z "$at" ]; then
         [ "$status" -eq 0 ] && cmp -s "$room/replies" "$room/wanted"
