@@ -1,13 +1,13 @@
 -- The lines that a session has answered, and how it goes on and ends.
-use Rattle.std.proofs.Common.{◌≡◌, ◌+◌, ◌-◌, ◌<◌, ◌≤◌, ◌++◌, List, [], ◌∷◌, ℕ, refl, sym, ◌∙◌, ap, subst, append_assoc, append-nil, Option, Some, None, Result, Ok, Err, take, length, length-append, arith}
+use Rattle.std.proofs.Common.{◌≡◌, ◌+◌, ◌-◌, ◌<◌, ◌≤◌, ◌++◌, List, [], ◌∷◌, ℕ, refl, sym, ◌∙◌, ap, subst, append_assoc, append-nil, Option, Result, Ok, Err, take, length, length-append, arith}
 use Rattle.std.proofs.lemmas.List.{take_all, take_at}
-use Rattle.std.specs.Io.KnownBytes.{Appends, Consumes, IsAtEnd}
+use Rattle.std.specs.Io.KnownBytes.{Appends, Consumes}
 use Rattle.poly_cli.specs.declared.lines.Lines.{Lines}
 use Rattle.poly_cli.specs.declared.lines.Event.{Event}
 use Rattle.poly_cli.specs.declared.lines.Event.TheVariants as event
-use Rattle.poly_cli.specs.declared.serving.Fault.{Fault}
-use Rattle.poly_cli.specs.declared.serving.Fault.TheVariants.{Read, Write}
-use Rattle.poly_cli.specs.Cutting.{open_line, whole_lines, lines_before, lines_of, last_lines, ended, unended}
+use Rattle.poly_cli.specs.declared.writing.Fault.{Fault}
+use Rattle.poly_cli.specs.declared.writing.Fault.TheVariants.{Read}
+use Rattle.poly_cli.specs.Cutting.{open_line, lines_before, lines_of, last_lines, ended, unended}
 use Rattle.poly_cli.specs.Buffered.{ahead, room, kept, NextLine}
 use Rattle.poly_cli.specs.Runs.{Runs, Writes, Serves, limits_from, lines_heard}
 use Rattle.poly_cli.proofs.Known.{consumes_more, appends_more}

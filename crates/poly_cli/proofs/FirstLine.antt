@@ -1,26 +1,26 @@
 -- How a session opens with its first line, and goes on with those after it.
-use Rattle.std.proofs.Common.{◌≡◌, ◌+◌, ◌-◌, ◌<◌, ◌≤◌, ◌++◌, List, [], ◌∷◌, ℕ, zero, suc, map, refl, sym, ◌∙◌, ap, subst, append_assoc, append-nil, Option, Some, None, Result, Ok, Err, take, length, length-append, arith, inl, inr}
+use Rattle.std.proofs.Common.{◌≡◌, ◌+◌, ◌-◌, ◌<◌, ◌≤◌, ◌++◌, List, [], ◌∷◌, ℕ, zero, suc, refl, sym, ◌∙◌, ap, subst, append_assoc, append-nil, Option, Some, Result, Ok, Err, take, length, length-append, arith, inl, inr}
 use Rattle.std.specs.Prelude.{◌⊎◌}
 use Rattle.std.proofs.lemmas.Bool.{le-ltb}
 use Rattle.std.proofs.lemmas.List.{take_all}
 use Rattle.std.proofs.Math.Seq.{take-append-add}
-use Rattle.std.specs.Io.KnownBytes.{Appends, Consumes, IsAtEnd}
+use Rattle.std.specs.Io.KnownBytes.{Appends, Consumes}
 use Rattle.poly_grid.specs.declared.refusal.Refusal.{Refusal}
 use Rattle.poly_grid.specs.declared.refusal.Refusal.TheVariants.{Memory}
-use Rattle.poly_design.specs.Layout.{Layout}
 use Rattle.poly_cli.specs.declared.lines.Lines.{Lines}
 use Rattle.poly_cli.specs.declared.lines.Event.TheVariants as event
-use Rattle.poly_cli.specs.declared.serving.Fault.{Fault}
-use Rattle.poly_cli.specs.declared.serving.Fault.TheVariants.{Read, Write}
+use Rattle.poly_cli.specs.declared.writing.Fault.{Fault}
+use Rattle.poly_cli.specs.declared.writing.Fault.TheVariants.{Read, Write}
 use Rattle.poly_cli.specs.declared.opening.End.{End}
 use Rattle.poly_cli.specs.declared.opening.End.TheVariants.{Done, Refused}
 use Rattle.poly_cli.specs.Cutting.{open_line, whole_lines, lines_before, lines_of, last_lines, ended, unended}
 use Rattle.poly_cli.specs.Buffered.{ahead, room, kept, NextLine}
 use Rattle.poly_cli.specs.Replies.{ok_text, refusal_text}
-use Rattle.poly_cli.specs.Runs.{Limits, Runs, Writes, Serves, limits_from, lines_heard}
+use Rattle.poly_cli.specs.Runs.{Limits, Writes, Serves, limits_from, lines_heard}
+use Rattle.poly_cli.specs.Slow.{State, Slow}
 use Rattle.poly_cli.specs.Sessions.{or_empty, session_lines, Accepts, Refuses, Opens, opening_text, RunsOpened, RunsRefused, SessionSays, session_limits}
 use Rattle.poly_cli.proofs.Known.{consumes_more, appends_none, appends_more}
-use Rattle.poly_cli.proofs.Going.{before_more, lines_more, lines_none, take_heard}
+use Rattle.poly_cli.proofs.Going.{before_more, lines_more, take_heard}
 
 -- the first of a list and so many more
 take_first : {X : Type 0} (n : ℕ) (x : X) (xs : List X) → 0 < n → take n (x ∷ xs) ≡ x ∷ take (n - 1) xs
@@ -38,9 +38,9 @@ one_line limit piece said whole is = rw (whole, is) (go (open_line [] piece))
     go [] = rw (le-ltb limit 0 (omega arith)) refl
     go (x ∷ xs) = refl
 
-module _ {S : Type 0} (Begins : S → Layout → S → Type 0) (Says : S → Option (List ℕ) → List ℕ → S → Type 0) (old new : Lines) (start : S) (first left held : Option (List ℕ)) (fresh : ahead old ≡ []) (most : ℕ) (some : 0 < most) where
-  abbrev pub Session : S → Result End Fault → Option (List ℕ) → Option (List ℕ) → Type 0
-  Session s r last held_last = (taken : List ℕ) × Consumes first last taken × SessionSays Begins Says (limits_from most old) s taken r last held held_last
+module _ (old new : Lines) (first left held : Option (List ℕ)) (fresh : ahead old ≡ []) (most : ℕ) (some : 0 < most) where
+  abbrev pub Session : Result End Fault → Option (List ℕ) → Option (List ℕ) → Type 0
+  Session r last held_last = (taken : List ℕ) × Consumes first last taken × SessionSays (limits_from most old) taken r last held held_last
 
   -- the first line ended with a line feed
   module _ (n : NextLine event.Line old new first left) (same : new.limit ≡ old.limit) (said : Option (List ℕ)) (is : (bytes : List ℕ) → new.line.items ≡ kept new.limit bytes → said ≡ ended new.limit bytes) where
@@ -69,14 +69,14 @@ module _ {S : Type 0} (Begins : S → Layout → S → Type 0) (Says : S → Opt
     some_of : (bytes rest : List ℕ) → bytes ≡ n.piece ++ rest → take most (session_lines old.limit (take (room old) bytes)) ≡ said ∷ take (most - 1) (lines_of old.limit (take (room new) rest))
     some_of bytes rest e = rw (e, within_after rest, lines_after (take (room new) rest)) (take_first most said (lines_of old.limit (take (room new) rest)) some)
 
-    pub line_refused : (e : Refusal) (held_last : Option (List ℕ)) → Refuses said e → Appends held held_last (refusal_text e) → Session start (Ok Refused) left held_last
+    pub line_refused : (e : Refusal) (held_last : Option (List ℕ)) → Refuses said e → Appends held held_last (refusal_text e) → Session (Ok Refused) left held_last
     line_refused e held_last refuses wrote = (n.taken, consumed, (refusal_text e, wrote, rw (all_taken, lines_after (ahead new)) (e, refuses, refl)))
 
-    pub line_unanswered : (opened : Result (Unit {0}) Refusal) (t : S) (f : Fault) (held_last : Option (List ℕ)) → Opens Begins start said opened t → Writes (Err f) held held_last (opening_text opened) → Session start (Err f) left held_last
-    line_unanswered opened t f held_last opens w = subst (λ g. Session start (Err g) left held_last) (sym w.0)
+    pub line_unanswered : (opened : Result (Unit {0}) Refusal) (t : State) (f : Fault) (held_last : Option (List ℕ)) → Opens said opened t → Writes (Err f) held held_last (opening_text opened) → Session (Err f) left held_last
+    line_unanswered opened t f held_last opens w = subst (λ g. Session (Err g) left held_last) (sym w.0)
         (n.taken, consumed, (w.1, w.2, said ∷ [], take (most - 1) (lines_of old.limit (take (room new) (ahead new))), w.3, go opened opens w.4, some_of n.taken (ahead new) all_taken))
       where
-        go : (o : Result (Unit {0}) Refusal) → Opens Begins start said o t → w.1 ++ w.2 ≡ opening_text o → RunsOpened Begins Says start (said ∷ []) (w.1 ++ w.2) ⊎ RunsRefused (said ∷ []) (w.1 ++ w.2)
+        go : (o : Result (Unit {0}) Refusal) → Opens said o t → w.1 ++ w.2 ≡ opening_text o → RunsOpened (said ∷ []) (w.1 ++ w.2) ⊎ RunsRefused (said ∷ []) (w.1 ++ w.2)
         go (Ok x) a e = inl (t, [], a, refl, e ∙ sym (append-nil (ok_text 0)))
         go (Err x) a e = inr (x, a, e)
 
@@ -85,14 +85,14 @@ module _ {S : Type 0} (Begins : S → Layout → S → Type 0) (Says : S → Opt
     after (Err f) = Err f
 
     -- the lines after the first were served
-    pub then_served : (t : S) (mid held_last last : Option (List ℕ)) (r : Result (Unit {0}) Fault) → Accepts Begins start said t → Appends held mid (ok_text 0)
-        → (more : List ℕ) × Consumes left last more × Serves (limits_from (most - 1) new) Says t (ahead new ++ more) r last mid held_last → Session start (after r) last held_last
+    pub then_served : (t : State) (mid held_last last : Option (List ℕ)) (r : Result (Unit {0}) Fault) → Accepts said t → Appends held mid (ok_text 0)
+        → (more : List ℕ) × Consumes left last more × Serves (limits_from (most - 1) new) Slow t (ahead new ++ more) r last mid held_last → Session (after r) last held_last
     then_served t mid held_last last r accepts wrote s = (n.taken ++ s.0, consumes_more first left last n.taken s.0 consumed s.1, go r s.2)
       where
         bytes : n.taken ++ s.0 ≡ n.piece ++ (ahead new ++ s.0)
         bytes = ap (λ z. z ++ s.0) all_taken ∙ append_assoc n.piece (ahead new) s.0
 
-        go : (q : Result (Unit {0}) Fault) → Serves (limits_from (most - 1) new) Says t (ahead new ++ s.0) q last mid held_last → SessionSays Begins Says (limits_from most old) start (n.taken ++ s.0) (after q) last held held_last
+        go : (q : Result (Unit {0}) Fault) → Serves (limits_from (most - 1) new) Slow t (ahead new ++ s.0) q last mid held_last → SessionSays (limits_from most old) (n.taken ++ s.0) (after q) last held held_last
         go (Ok x) v =
             let lines : session_lines old.limit (n.taken ++ s.0) ≡ said ∷ lines_of new.limit (ahead new ++ s.0) = rw (bytes, lines_after (ahead new ++ s.0), same) refl in (
               v.0,
@@ -125,23 +125,23 @@ module _ {S : Type 0} (Begins : S → Layout → S → Type 0) (Says : S → Opt
     short : length n.taken ≤ room old
     short = omega (arith, n.counted)
 
-    pub end_refused : (e : Refusal) (held_last : Option (List ℕ)) → Refuses said e → Appends held held_last (refusal_text e) → Session start (Ok Refused) left held_last
+    pub end_refused : (e : Refusal) (held_last : Option (List ℕ)) → Refuses said e → Appends held held_last (refusal_text e) → Session (Ok Refused) left held_last
     end_refused e held_last refuses wrote = (n.taken, consumed_end, (refusal_text e, wrote, rw only_line (e, refuses, refl)))
 
-    pub end_done : (t : S) (held_last : Option (List ℕ)) → Accepts Begins start said t → Appends held held_last (ok_text 0) → Session start (Ok Done) left held_last
+    pub end_done : (t : State) (held_last : Option (List ℕ)) → Accepts said t → Appends held held_last (ok_text 0) → Session (Ok Done) left held_last
     end_done t held_last accepts wrote =
         (n.taken, consumed_end, (n.finds.2, short, rw only_line (omega (arith, some)), (ok_text 0, wrote, rw only_line (t, [], accepts, refl, sym (append-nil (ok_text 0))))))
 
-    pub end_unanswered : (opened : Result (Unit {0}) Refusal) (t : S) (f : Fault) (held_last : Option (List ℕ)) → Opens Begins start said opened t → Writes (Err f) held held_last (opening_text opened) → Session start (Err f) left held_last
-    end_unanswered opened t f held_last opens w = subst (λ g. Session start (Err g) left held_last) (sym w.0)
+    pub end_unanswered : (opened : Result (Unit {0}) Refusal) (t : State) (f : Fault) (held_last : Option (List ℕ)) → Opens said opened t → Writes (Err f) held held_last (opening_text opened) → Session (Err f) left held_last
+    end_unanswered opened t f held_last opens w = subst (λ g. Session (Err g) left held_last) (sym w.0)
         (n.taken, consumed_end, (w.1, w.2, said ∷ [], take (most - 1) [], w.3, go opened opens w.4, rw (take_all (room old) n.taken short, only_line) (take_first most said [] some)))
       where
-        go : (o : Result (Unit {0}) Refusal) → Opens Begins start said o t → w.1 ++ w.2 ≡ opening_text o → RunsOpened Begins Says start (said ∷ []) (w.1 ++ w.2) ⊎ RunsRefused (said ∷ []) (w.1 ++ w.2)
+        go : (o : Result (Unit {0}) Refusal) → Opens said o t → w.1 ++ w.2 ≡ opening_text o → RunsOpened (said ∷ []) (w.1 ++ w.2) ⊎ RunsRefused (said ∷ []) (w.1 ++ w.2)
         go (Ok x) a e = inl (t, [], a, refl, e ∙ sym (append-nil (ok_text 0)))
         go (Err x) a e = inr (x, a, e)
 
   -- no line was read whole
-  pub fault_opened : (n : NextLine event.Fault old new first left) → Session start (Err Read) left held
+  pub fault_opened : (n : NextLine event.Fault old new first left) → Session (Err Read) left held
   fault_opened n =
       let taken : n.taken ≡ n.piece = (rw fresh at n.parts) ∙ rw n.finds.1 (append-nil n.piece) in
       let within : take (room old) (n.taken ++ n.over) ≡ n.taken = take_heard (room old) new.left n.taken n.over (omega (arith, n.counted, ap length fresh)) n.finds.2 in
@@ -162,16 +162,15 @@ pub some_lines : 0 < session_limits.lines
 unfolding session_limits
 some_lines = omega arith
 
-module _ {S : Type 0} (Begins : S → Layout → S → Type 0) (Says : S → Option (List ℕ) → List ℕ → S → Type 0) (m : Limits) (start : S) (left held held_last : Option (List ℕ)) where
+module _ (m : Limits) (left held held_last : Option (List ℕ)) where
   -- no memory to begin with, so that nothing was read
-  pub unread_refused : Appends held held_last (refusal_text Memory) → SessionSays Begins Says m start [] (Ok Refused) left held held_last
+  pub unread_refused : Appends held held_last (refusal_text Memory) → SessionSays m [] (Ok Refused) left held held_last
   unread_refused wrote = (refusal_text Memory, wrote, (Memory, inl refl, refl))
 
-  pub unread_unanswered : (f : Fault) → 0 < m.lines → Writes (Err f) held held_last (refusal_text Memory) → SessionSays Begins Says m start [] (Err f) left held held_last
-  unread_unanswered f some w = subst (λ g. SessionSays Begins Says m start [] (Err g) left held held_last) (sym w.0)
+  pub unread_unanswered : (f : Fault) → 0 < m.lines → Writes (Err f) held held_last (refusal_text Memory) → SessionSays m [] (Err f) left held held_last
+  unread_unanswered f some w = subst (λ g. SessionSays m [] (Err g) left held held_last) (sym w.0)
       (w.1, w.2, Some [] ∷ [], take (m.lines - 1) [], w.3, inr (Memory, inl refl, w.4), rw (take_none {X = ℕ} m.bytes) (take_first m.lines (Some []) [] some))
 
-module _ {S : Type 0} (Begins : S → Layout → S → Type 0) (Says : S → Option (List ℕ) → List ℕ → S → Type 0) (start : S) where
-  pub with_limits : (m k : Limits) (r : Result End Fault) (first last held held_last : Option (List ℕ)) → m ≡ k → (taken : List ℕ) × Consumes first last taken × SessionSays Begins Says m start taken r last held held_last
-      → (taken : List ℕ) × Consumes first last taken × SessionSays Begins Says k start taken r last held held_last
-  with_limits m k r first last held held_last e run = subst (λ z. (taken : List ℕ) × Consumes first last taken × SessionSays Begins Says z start taken r last held held_last) e run
+pub with_limits : (m k : Limits) (r : Result End Fault) (first last held held_last : Option (List ℕ)) → m ≡ k → (taken : List ℕ) × Consumes first last taken × SessionSays m taken r last held held_last
+    → (taken : List ℕ) × Consumes first last taken × SessionSays k taken r last held held_last
+with_limits m k r first last held held_last e run = subst (λ z. (taken : List ℕ) × Consumes first last taken × SessionSays z taken r last held held_last) e run

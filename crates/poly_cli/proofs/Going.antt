@@ -1,19 +1,13 @@
 -- A run that goes on, line by line.
-use Rattle.std.proofs.Common.{◌≡◌, ◌+◌, ◌-◌, ◌<◌, ◌≤◌, ◌++◌, List, [], ◌∷◌, ℕ, map, refl, sym, ◌∙◌, ap, subst, append_assoc, append-nil, Option, Some, None, Result, Ok, Err, take, suc, zero, length, length-append, arith}
+use Rattle.std.proofs.Common.{◌≡◌, ◌+◌, ◌-◌, ◌<◌, ◌≤◌, ◌++◌, List, [], ◌∷◌, ℕ, map, refl, sym, ◌∙◌, ap, subst, append_assoc, append-nil, Option, take, suc, zero, length, arith}
 use Rattle.std.proofs.lemmas.List.{length-take, take_all, take_at}
 use Rattle.std.proofs.Math.Seq.{take-append-add}
-use Rattle.std.specs.Io.KnownBytes.{Appends, Consumes, IsAtEnd}
-use Rattle.poly_cli.specs.declared.lines.Lines.{Lines}
-use Rattle.poly_cli.specs.declared.lines.Event.TheVariants as event
-use Rattle.poly_cli.specs.declared.serving.Fault.{Fault}
-use Rattle.poly_cli.specs.declared.serving.Fault.TheVariants.{Read, Write}
 use Rattle.poly_cli.specs.Cutting.{open_line, whole_lines, lines_before, lines_of, last_lines, ended, unended}
-use Rattle.poly_cli.specs.Buffered.{ahead, room, kept, EndsLine, EndsNone, NextLine}
-use Rattle.poly_cli.specs.Runs.{Runs, Writes, Serves, limits_from, lines_heard}
+use Rattle.poly_cli.specs.Buffered.{kept, EndsNone}
+use Rattle.poly_cli.specs.Runs.{Runs}
 use Rattle.poly_cli.proofs.Cuts.{open_append, whole_append}
-use Rattle.poly_cli.proofs.Known.{consumes_more, appends_more}
 
-map_append : {X Y : Type 0} (f : X → Y) (xs ys : List X) → map f (xs ++ ys) ≡ map f xs ++ map f ys
+pub map_append : {X Y : Type 0} (f : X → Y) (xs ys : List X) → map f (xs ++ ys) ≡ map f xs ++ map f ys
 map_append f [] ys = refl
 map_append f (x ∷ xs) ys = ap (λ z. f x ∷ z) (map_append f xs ys)
 

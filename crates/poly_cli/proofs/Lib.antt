@@ -13,3 +13,9 @@ pub mod PiecesRead
 pub mod Texts
 pub mod Puzzles
 pub mod FirstLine
+pub mod Collected
+pub mod Placed
+pub mod Covered
+pub mod Printable
+pub mod Written
+pub mod Blank

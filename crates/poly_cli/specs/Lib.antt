@@ -1,6 +1,8 @@
 pub mod Cutting
 pub mod Buffered
 pub mod Runs
+pub mod Slow
+pub mod Listings
 pub mod Replies
 pub mod Gives
 pub mod Json

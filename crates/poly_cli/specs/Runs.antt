@@ -1,8 +1,8 @@
 -- Runs over lines: to each line some output, and the next state.
-use Rattle.std.specs.Prelude.{◌≡◌, ◌≤◌, ℕ, List, [], ◌∷◌, ◌++◌, length, take, Option, Some, None, Result, Ok, Err}
+use Rattle.std.specs.Prelude.{◌≡◌, ◌≤◌, ℕ, List, [], ◌∷◌, ◌++◌, length, take, Option, Result, Ok, Err}
 use Rattle.std.specs.Io.KnownBytes.{Appends, IsAtEnd}
-use Rattle.poly_cli.specs.declared.serving.Fault.{Fault}
-use Rattle.poly_cli.specs.declared.serving.Fault.TheVariants.{Read, Write}
+use Rattle.poly_cli.specs.declared.writing.Fault.{Fault}
+use Rattle.poly_cli.specs.declared.writing.Fault.TheVariants.{Read, Write}
 use Rattle.poly_cli.specs.declared.lines.Lines.{Lines}
 use Rattle.poly_cli.specs.Buffered.{room}
 use Rattle.poly_cli.specs.Cutting.{lines_of, lines_before}

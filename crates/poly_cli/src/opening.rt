@@ -1,16 +1,17 @@
 //! A whole session: the puzzle line, and then a reply to each line.
-ghost use Rattle.std.specs.Prelude.{◌≡◌, ◌++◌, ◌<◌, [], ℕ, List, Option, Result, option_map, OnOk, IfErr};
+ghost use Rattle.std.specs.Prelude.{◌≡◌, ◌<◌, ◌++◌, [], ℕ, List, IfOk, option_map};
 ghost use Rattle.std.specs.Io.KnownBytes.{Consumes};
-ghost use Rattle.poly_design.specs.Layout.{Layout};
 ghost use Rattle.poly_cli.specs.Buffered.{ahead, IsReady};
 ghost use Rattle.poly_cli.specs.Runs.{Writes, limits_from};
-ghost use Rattle.poly_cli.specs.Sessions.{Opens, SessionSays, opening_text};
+ghost use Rattle.poly_cli.specs.Sessions.{Opens, SessionSays, opening_text, session_limits};
 
-use crate::lines::{Event, Lines};
+use crate::answering::Answerer;
+use crate::engine::Engine;
+use crate::lines::{Event, INPUT_LIMIT, LINE_LIMIT, Lines};
 use crate::puzzle::puzzle_of;
 use crate::replies::refusal_line;
-use crate::serving::{Fault, Responder, serve, write_whole};
-use poly_design::Design;
+use crate::serving::serve;
+use crate::writing::{Fault, write_whole};
 use poly_grid::Refusal;
 use std::alloc::Global;
 use std::io::{Read, Write};
@@ -27,30 +28,114 @@ pub enum End {
     Refused,
 }
 
-/// What answers lines, once it has begun with a design.
-pub trait Bench: Responder {
-    /// The state that begins with a design.
-    ghost Begins: { Self → Layout → Self → Type 0 };
+/// A whole session over what the reader gives: the puzzle line, and a reply to each line after it.
+///
+/// A line has at most 65,536 bytes, and the input at most 1,073,741,824 in 1,000,000 lines; what goes over these two is a read fault, as
+/// is any error of a read.
+pub fn session<R: Read, W: Write, E: Engine>(
+    alloc: Global,
+    reader: &mut R,
+    writer: &mut W,
+    engine: &mut E,
+) -> Result<End, Fault>
+    requires { E.ready engine.old }
+    ensures ready { E.ready engine.new }
+    ensures run { (taken : List ℕ) × Consumes (R.remaining reader.old) (R.remaining reader.new) taken
+        × SessionSays session_limits taken result (R.remaining reader.new) (W.contents writer.old) (W.contents writer.new) }
+{
+    match buffers(alloc) {
+        Ok((mut lines, mut answerer)) => {
+            match run(
+                alloc,
+                LINE_COUNT,
+                &mut lines,
+                reader,
+                writer,
+                engine,
+                &mut answerer,
+            ) {
+                Ok(end) => Ok(end),
+                Err(fault) => Err(fault),
+            }
+        }
+        Err(_) => match write_whole(writer, refusal_line(Refusal::Memory).as_bytes()) {
+            Ok(()) => Ok(End::Refused),
+            Err(fault) => Err(fault),
+        },
+    }
+}
 
-    /// Begins with the design. The only refusal is `Memory`.
-    fn begin(&mut self, design: Design) -> Result<(), Refusal>
-        requires ready { Self.ready self.old }
-        ensures ready { Self.ready self.new }
-        ensures begins { OnOk result (Begins self.old design self.new) }
-        ensures why { IfErr result (λ e. e ≡ Refusal.Memory) };
+// All the memory of reading and writing. The only refusal is `Memory`.
+fn buffers(alloc: Global) -> Result<(Lines, Answerer), Refusal>
+    ensures ready { IfOk result (λ b. IsReady b.0) }
+    ensures limits { IfOk result (λ b. (b.0.limit ≡ 65536) × (b.0.left ≡ 1073741824)) }
+    ensures fresh { IfOk result (λ b. ahead b.0 ≡ []) }
+{
+    let lines = Lines::new(alloc, LINE_LIMIT, INPUT_LIMIT)?;
+    let answerer = Answerer::new(alloc)?;
+    Ok((lines, answerer))
+}
+
+// Opens a session with the first line, and answers the lines after it; `most` lines at most, the first among them.
+fn run<R: Read, W: Write, E: Engine>(
+    alloc: Global,
+    most: u64,
+    lines: &mut Lines,
+    reader: &mut R,
+    writer: &mut W,
+    engine: &mut E,
+    answerer: &mut Answerer,
+) -> Result<End, Fault>
+    requires some { 0 < most }
+    requires buffer { IsReady lines.old }
+    requires fresh { ahead lines.old ≡ [] }
+    requires ready { E.ready engine.old }
+    ensures ready { E.ready engine.new }
+    ensures run { (taken : List ℕ) × Consumes (R.remaining reader.old) (R.remaining reader.new) taken
+        × SessionSays (limits_from most lines.old) taken result
+        (R.remaining reader.new) (W.contents writer.old) (W.contents writer.new) }
+{
+    match lines.next_line(reader) {
+        Event::Line => {
+            let opened = open(alloc, lines.ended(), engine);
+            match answer_opening(opened, writer) {
+                Ok(()) => {}
+                Err(fault) => return Err(fault),
+            }
+            match opened {
+                Ok(()) => match serve(most - 1, lines, reader, writer, engine, answerer) {
+                    Ok(()) => Ok(End::Done),
+                    Err(fault) => Err(fault),
+                },
+                Err(_) => Ok(End::Refused),
+            }
+        }
+        Event::End => {
+            let opened = open(alloc, lines.unended(), engine);
+            match answer_opening(opened, writer) {
+                Ok(()) => {}
+                Err(fault) => return Err(fault),
+            }
+            match opened {
+                Ok(()) => Ok(End::Done),
+                Err(_) => Ok(End::Refused),
+            }
+        }
+        Event::Fault => Err(Fault::Read),
+    }
 }
 
 // Begins with the design that the puzzle line gives.
-fn open<D: Bench>(alloc: Global, line: Option<&[u8]>, bench: &mut D) -> Result<(), Refusal>
-    requires { D.ready bench.old }
-    ensures ready { D.ready bench.new }
-    ensures opens { Opens D.Begins bench.old (option_map (λ l. l.now) line.entry) result bench.new }
+fn open<E: Engine>(alloc: Global, line: Option<&[u8]>, engine: &mut E) -> Result<(), Refusal>
+    requires { E.ready engine.old }
+    ensures ready { E.ready engine.new }
+    ensures opens { Opens (option_map (λ l. l.now) line.entry) result (E.state engine.new) }
 {
     let Some(text) = line else {
         return Err(Refusal::LineTooLong);
     };
     match puzzle_of(alloc, text) {
-        Ok(design) => match bench.begin(design) {
+        Ok(design) => match engine.begin(design) {
             Ok(()) => Ok(()),
             Err(refusal) => Err(refusal),
         },
@@ -64,53 +149,5 @@ fn answer_opening<W: Write>(opened: Result<(), Refusal>, writer: &mut W) -> Resu
     match opened {
         Ok(()) => write_whole(writer, b"ok 0\n"),
         Err(refusal) => write_whole(writer, refusal_line(refusal).as_bytes()),
-    }
-}
-
-/// Opens a session with the first line, and answers the lines after it; `most` lines at most, the first among them.
-pub fn session_over<R: Read, W: Write, D: Bench>(
-    alloc: Global,
-    most: u64,
-    lines: &mut Lines,
-    reader: &mut R,
-    writer: &mut W,
-    bench: &mut D,
-) -> Result<End, Fault>
-    requires some { 0 < most }
-    requires buffer { IsReady lines.old }
-    requires fresh { ahead lines.old ≡ [] }
-    requires ready { D.ready bench.old }
-    ensures ready { D.ready bench.new }
-    ensures run { (taken : List ℕ) × Consumes (R.remaining reader.old) (R.remaining reader.new) taken
-        × SessionSays D.Begins D.Says (limits_from most lines.old) bench.old taken result
-        (R.remaining reader.new) (W.contents writer.old) (W.contents writer.new) }
-{
-    match lines.next_line(reader) {
-        Event::Line => {
-            let opened = open(alloc, lines.ended(), bench);
-            match answer_opening(opened, writer) {
-                Ok(()) => {}
-                Err(fault) => return Err(fault),
-            }
-            match opened {
-                Ok(()) => match serve(most - 1, lines, reader, writer, bench) {
-                    Ok(()) => Ok(End::Done),
-                    Err(fault) => Err(fault),
-                },
-                Err(_) => Ok(End::Refused),
-            }
-        }
-        Event::End => {
-            let opened = open(alloc, lines.unended(), bench);
-            match answer_opening(opened, writer) {
-                Ok(()) => {}
-                Err(fault) => return Err(fault),
-            }
-            match opened {
-                Ok(()) => Ok(End::Done),
-                Err(_) => Ok(End::Refused),
-            }
-        }
-        Event::Fault => Err(Fault::Read),
     }
 }

@@ -1,10 +1,11 @@
 use Rattle.poly_cli.specs.Buffered.{IsReady}
+use Rattle.poly_cli.specs.Slow.{Slow}
 use Rattle.poly_cli.proofs.Answered.{Answered}
 use Rattle.poly_cli.proofs.serving.serve.Given as goal
 
 abbrev pub invariant-loop-answered : goal.invariant-loop-answered
 invariant-loop-answered g l = record {
   buffer : IsReady l.lines;
-  ready : g.D.Responder.ready l.desk;
-  so_far : Answered g.D.Responder.Says l.fn.lines l.lines l.fn.desk l.desk (g.R.Read.remaining l.fn.reader) (g.R.Read.remaining l.reader) (g.W.Write.contents l.fn.writer) (g.W.Write.contents l.writer) l.answered;
+  ready : g.E.Engine.ready l.engine;
+  so_far : Answered Slow l.fn.lines l.lines (g.E.Engine.state l.fn.engine) (g.E.Engine.state l.engine) (g.R.Read.remaining l.fn.reader) (g.R.Read.remaining l.reader) (g.W.Write.contents l.fn.writer) (g.W.Write.contents l.writer) l.answered;
 }

@@ -1,0 +1,50 @@
+-- Output that is written in parts.
+use Rattle.std.proofs.Common.{◌≡◌, ◌+◌, ◌<◌, ◌++◌, ◌∷◌, [], ℕ, List, map, sym, ◌∙◌, ap, subst, append_assoc, append-nil, take, drop, length, get_or, Result, Ok, Err, Option}
+use Rattle.std.specs.Io.KnownBytes.{Appends}
+use Rattle.std.specs.List.{flat_map}
+use Rattle.std.proofs.lemmas.List.{take_more, take-append-drop}
+use Rattle.std.proofs.lemmas.List.Concat.{flat_map-append}
+use Rattle.poly_tiling.specs.Puzzle.{View}
+use Rattle.poly_tiling.specs.TilingOrder.{placed}
+use Rattle.poly_cli.specs.declared.writing.Fault.{Fault}
+use Rattle.poly_cli.specs.Replies.{tiling_text, tilings_text}
+use Rattle.poly_cli.specs.Runs.{Writes}
+use Rattle.poly_cli.specs.Slow.{list_text}
+use Rattle.poly_cli.proofs.Known.{appends_more}
+use Rattle.poly_cli.proofs.Going.{map_append}
+
+module _ (old mid new : Option (List ℕ)) (before x : List ℕ) (a : Appends old mid before) where
+  -- the last part
+  pub writes_last : (r : Result (Unit {0}) Fault) (out : List ℕ) → Writes r mid new x → before ++ x ≡ out → Writes r old new out
+  writes_last (Ok u) out w e = subst (λ z. Appends old new z) e (appends_more old mid new before x a w)
+  writes_last (Err f) out w e = (w.0, before ++ w.1, w.2, appends_more old mid new before w.1 a w.3, append_assoc before w.1 w.2 ∙ ap (λ z. before ++ z) w.4 ∙ e)
+
+  -- a part that was not written whole, before others
+  pub writes_part : (f : Fault) (out rest : List ℕ) → Writes (Err f) mid new x → before ++ (x ++ rest) ≡ out → Writes (Err f) old new out
+  writes_part f out rest w e = (
+    w.0,
+    before ++ w.1,
+    w.2 ++ rest,
+    appends_more old mid new before w.1 a w.3,
+    append_assoc before w.1 (w.2 ++ rest) ∙ ap (λ z. before ++ z) (sym (append_assoc w.1 w.2 rest) ∙ ap (λ z. z ++ rest) w.4) ∙ e,
+  )
+
+-- the lines of the first tilings
+abbrev pub lines_to : View → List (List ℕ) → ℕ → List ℕ
+lines_to v all i = flat_map tiling_text (map (placed v) (take i all))
+
+pub lines_more : (v : View) (all : List (List ℕ)) (i : ℕ) (T : List ℕ) → i < length all → T ≡ get_or all i [] → lines_to v all (i + 1) ≡ lines_to v all i ++ tiling_text (placed v T)
+lines_more v all i T lt is =
+    ap (λ z. flat_map tiling_text (map (placed v) z)) (take_more all i [] lt ∙ ap (λ U. take i all ++ U ∷ []) (sym is)) ∙ ap (flat_map tiling_text) (map_append (placed v) (take i all) (T ∷ []))
+    ∙ flat_map-append tiling_text (map (placed v) (take i all)) (placed v T ∷ []) ∙ ap (λ z. lines_to v all i ++ z) (append-nil (tiling_text (placed v T)))
+
+-- what is left of a listing after a tiling
+pub lines_left : (v : View) (all : List (List ℕ)) (i : ℕ) (T : List ℕ) → i < length all → T ≡ get_or all i [] →
+    (rest : List ℕ) × (lines_to v all i ++ (tiling_text (placed v T) ++ rest) ≡ list_text (map (placed v) all))
+lines_left v all i T lt is =
+    let tail = flat_map tiling_text (map (placed v) (drop (i + 1) all)) in
+    let end = tilings_text (length (map (placed v) all)) in
+    let parts : flat_map tiling_text (map (placed v) all) ≡ (lines_to v all i ++ tiling_text (placed v T)) ++ tail
+    = ap (λ z. flat_map tiling_text (map (placed v) z)) (sym (take-append-drop (i + 1) all)) ∙ ap (flat_map tiling_text) (map_append (placed v) (take (i + 1) all) (drop (i + 1) all))
+    ∙ flat_map-append tiling_text (map (placed v) (take (i + 1) all)) (map (placed v) (drop (i + 1) all)) ∙ ap (λ z. z ++ tail) (lines_more v all i T lt is) in
+    (tail ++ end, sym (ap (λ z. z ++ end) parts ∙ append_assoc (lines_to v all i ++ tiling_text (placed v T)) tail end ∙ append_assoc (lines_to v all i) (tiling_text (placed v T)) (tail ++ end)))

@@ -1,0 +1,79 @@
+//! The plain engine: it keeps the design and its steps, and searches anew at each question. What is faster is compared with it.
+ghost use Rattle.std.specs.Prelude.{◌≡◌, ◌⊎◌, [], Err, IfErr, IfOk, OnErr, OnOk};
+ghost use Rattle.poly_tiling.specs.Listings.{HasOverTilings};
+ghost use Rattle.poly_cli.specs.Listings.{IsListing};
+ghost use Rattle.poly_cli.specs.Slow.{State, opened};
+
+use crate::engine::{Engine, Listing};
+use poly_design::{Change, Design};
+use poly_grid::{Grid, Refusal};
+use poly_tiling::{View, list_tilings, over_shows, sort_tilings};
+use poly_undo::History;
+use std::alloc::Global;
+use std::marker::Model;
+
+/// An engine that keeps the design and its steps alone.
+#[derive(Drop)]
+pub struct Plain {
+    alloc: Global,
+    design: Design,
+    history: History<Change, ()>,
+    edition: u64,
+}
+
+impl Model for Plain {
+    ghost use Rattle.poly_cli.specs.Slow.{State, changes_of};
+
+    ghost Value = { State };
+
+    ghost view = { λ p. record { design = p.design; edition = p.edition; undo = changes_of p.history.undo; redo = changes_of p.history.redo } };
+}
+
+impl Plain {
+    /// An engine on a square grid without cells and pieces, until it begins with a design. The only refusal is `Memory`.
+    pub fn new(alloc: Global) -> Result<Plain, Refusal>
+        ensures ok { IfOk result (λ p. p ≡ opened (record { grid = Grid.Square; cells = []; pieces = [] })) }
+        ensures why { IfErr result (λ e. e ≡ Refusal.Memory) }
+    {
+        Ok(Plain {
+            alloc,
+            design: Design::empty(alloc, Grid::Square),
+            history: History::new(alloc)?,
+            edition: 0,
+        })
+    }
+}
+
+impl Engine for Plain {
+    ghost state = { λ p. p };
+
+    fn begin(&mut self, design: Design) -> Result<(), Refusal> {
+        let history = History::new(self.alloc)?;
+        self.design = design;
+        self.history = history;
+        self.edition = 0;
+        Ok(())
+    }
+
+    fn tilings(&mut self) -> Result<Listing, Refusal> {
+        listing_of(self.alloc, &self.design)
+    }
+}
+
+// All tilings of the design, by a search.
+fn listing_of(alloc: Global, design: &Design) -> Result<Listing, Refusal>
+    ensures ok { IfOk result (λ listing. IsListing design.now listing.view listing.tilings.items) }
+    ensures full { result ≡ Err Refusal.CatalogueFull → HasOverTilings 1000000 design.now }
+    ensures why { IfErr result (λ e. (e ≡ Refusal.CatalogueFull) ⊎ (e ≡ Refusal.Memory)) }
+{
+    let view = View::plain(alloc, design)?;
+    // That a design is within its limits is what this call says of it.
+    let _cells = design.cells();
+    over_shows();
+    let mut tilings = match list_tilings(alloc, &view) {
+        Ok(tilings) => tilings,
+        Err(refusal) => return Err(refusal),
+    };
+    sort_tilings(alloc, &view, &mut tilings)?;
+    Ok(Listing { view, tilings })
+}

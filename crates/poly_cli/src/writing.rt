@@ -1,0 +1,43 @@
+//! Writing whole replies.
+ghost use Rattle.std.specs.Io.KnownBytes.{Appends};
+ghost use Rattle.poly_cli.specs.Runs.{Writes};
+
+use std::io::Write;
+
+/// Why a session ended early.
+#[derive(Debug, Drop, Clone, Copy, PartialEq, Eq)]
+pub enum Fault {
+    /// The reader failed, or the input went over a limit.
+    Read,
+    /// The writer failed.
+    Write,
+}
+
+/// Writes all bytes. At an error the writer took the first of them.
+pub fn write_bytes<W: Write>(writer: &mut W, bytes: &[u8]) -> Result<(), Fault>
+    ensures { Writes result (W.contents writer.old) (W.contents writer.new) bytes.now }
+{
+    let mut at = 0;
+    while at < bytes.len() {
+        match writer.write(&bytes[at..]) {
+            Ok(0) => return Err(Fault::Write),
+            Ok(n) => at += n,
+            Err(_) => return Err(Fault::Write),
+        }
+    }
+    Ok(())
+}
+
+/// Writes all bytes and flushes. At an error the writer took the first of them, perhaps all.
+pub fn write_whole<W: Write>(writer: &mut W, bytes: &[u8]) -> Result<(), Fault>
+    ensures { Writes result (W.contents writer.old) (W.contents writer.new) bytes.now }
+{
+    match write_bytes(writer, bytes) {
+        Ok(()) => {}
+        Err(fault) => return Err(fault),
+    }
+    match writer.flush() {
+        Ok(()) => Ok(()),
+        Err(_) => Err(Fault::Write),
+    }
+}
