@@ -9,6 +9,11 @@ pub mod Testing
 pub mod Boards
 pub mod Naming
 pub mod CellsRead
+pub mod CellWords
+pub mod Numbers
+pub mod FewCells
+pub mod CopiesWords
+pub mod Blank
 pub mod PiecesRead
 pub mod Texts
 pub mod Puzzles
@@ -18,4 +23,6 @@ pub mod Placed
 pub mod Covered
 pub mod Printable
 pub mod Written
-pub mod Blank
+pub mod Paths
+pub mod Stepped
+pub mod LineReplies

@@ -3,6 +3,7 @@ pub mod Buffered
 pub mod Runs
 pub mod Slow
 pub mod Listings
+pub mod Paths
 pub mod Replies
 pub mod Gives
 pub mod Json
@@ -12,6 +13,7 @@ pub mod Board
 pub mod Head
 pub mod Names
 pub mod Words
+pub mod Commands
 pub mod Fields
 pub mod Piece
 pub mod Puzzle

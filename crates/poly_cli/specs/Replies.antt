@@ -1,5 +1,5 @@
 -- The text of replies.
-use Rattle.std.specs.Prelude.{◌≡◌, ℕ, ◌+◌, List, [], ◌∷◌, ◌++◌, length, codes, sum_by}
+use Rattle.std.specs.Prelude.{◌≡◌, ℕ, ◌+◌, List, [], ◌∷◌, ◌++◌, length, codes, sum_by, Result, Ok, Err}
 use Rattle.std.specs.List.{flat_map, join_by}
 use Rattle.std.specs.Fmt.{decimal}
 use Rattle.poly_grid.specs.Spot.{Spot}
@@ -12,6 +12,11 @@ refusal_text e = codes "no " ++ decimal (code_of e) ++ 32 ∷ name_of e ++ 10 �
 
 abbrev pub ok_text : ℕ → List ℕ
 ok_text edition = codes "ok " ++ decimal edition ++ 10 ∷ []
+
+-- the reply to a step: the edition after it, or its refusal
+abbrev pub step_text : Result ℕ Refusal → List ℕ
+step_text (Ok edition) = ok_text edition
+step_text (Err e) = refusal_text e
 
 abbrev pub tilings_text : ℕ → List ℕ
 tilings_text n = codes "tilings " ++ decimal n ++ 10 ∷ []

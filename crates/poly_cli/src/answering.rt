@@ -1,11 +1,11 @@
 //! Answers to the lines after the puzzle line.
-ghost use Rattle.std.specs.Prelude.{◌≡◌, ◌⊎◌, ◌==◌, ◌≤◌, ℕ, List, IfErr, map, option_map, true, vec_capacity};
-ghost use Rattle.std.specs.List.{All, list_all};
+ghost use Rattle.std.specs.Prelude.{◌≡◌, ◌⊎◌, ◌≤◌, ℕ, List, IfErr, map, option_map, true, vec_capacity};
+ghost use Rattle.std.specs.List.{All};
 ghost use Rattle.poly_tiling.specs.Puzzle.{is_tiling};
 ghost use Rattle.poly_tiling.specs.Shows.{names};
 ghost use Rattle.poly_tiling.specs.TilingOrder.{placed};
 ghost use Rattle.poly_cli.specs.Listings.{IsPrintable};
-ghost use Rattle.poly_cli.specs.Replies.{covered, refusal_text, tiling_text};
+ghost use Rattle.poly_cli.specs.Replies.{covered, refusal_text, step_text, tiling_text};
 ghost use Rattle.poly_cli.specs.Runs.{Writes};
 ghost use Rattle.poly_cli.specs.Slow.{Answers, IsRefusal, Slow, Tells, count_text, list_text};
 
@@ -57,10 +57,7 @@ impl Answerer {
         let Some(text) = line else {
             return refuse(Refusal::LineTooLong, writer);
         };
-        if is_blank(text) {
-            return Ok(());
-        }
-        match asked(self.alloc, text) {
+        match asked(self.alloc, engine.grid(), text) {
             Ok(None) => Ok(()),
             Ok(Some(command)) => self.answer(engine, command, writer),
             Err(refusal) => refuse(refusal, writer),
@@ -79,8 +76,33 @@ impl Answerer {
             × Writes result (W.contents writer.old) (W.contents writer.new) out }
     {
         match command {
+            Command::Edit(edit) => {
+                let stepped = engine.edit(&edit);
+                self.step(stepped, writer)
+            }
+            Command::Undo => {
+                let stepped = engine.undo();
+                self.step(stepped, writer)
+            }
+            Command::Redo => {
+                let stepped = engine.redo();
+                self.step(stepped, writer)
+            }
             Command::Count => self.count(engine, writer),
             Command::ListAll => self.list(engine, writer),
+        }
+    }
+
+    // Writes the edition after a step, or its refusal.
+    fn step<W: Write>(&mut self, stepped: Result<u64, Refusal>, writer: &mut W) -> Result<(), Fault>
+        ensures { Writes result (W.contents writer.old) (W.contents writer.new) (step_text stepped) }
+    {
+        match stepped {
+            Ok(edition) => {
+                self.reply.ok(edition);
+                write_whole(writer, self.reply.as_bytes())
+            }
+            Err(refusal) => refuse(refusal, writer),
         }
     }
 
@@ -162,11 +184,4 @@ fn refuse<W: Write>(refusal: Refusal, writer: &mut W) -> Result<(), Fault>
     ensures { Writes result (W.contents writer.old) (W.contents writer.new) (refusal_text refusal) }
 {
     write_whole(writer, refusal_line(refusal).as_bytes())
-}
-
-// Whether the line has no word. It takes no memory to know.
-fn is_blank(line: &[u8]) -> bool
-    ensures { result ≡ list_all (λ b. b == 32) line.now }
-{
-    line.iter().all(|byte| *byte == b' ')
 }

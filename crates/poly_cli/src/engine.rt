@@ -2,13 +2,13 @@
 //!
 //! A session knows nothing of how an engine searches, or of what it keeps between two questions: it knows the state that the engine is
 //! in by the definitions alone.
-ghost use Rattle.std.specs.Prelude.{◌≡◌, ◌⊎◌, Err, IfOk, IfErr, OnOk, OnErr};
+ghost use Rattle.std.specs.Prelude.{◌≡◌, ◌⊎◌, ◌+◌, Err, IfOk, IfErr, OnOk, OnErr};
 ghost use Rattle.poly_tiling.specs.Listings.{HasOverTilings};
 ghost use Rattle.poly_cli.specs.Listings.{IsListing};
-ghost use Rattle.poly_cli.specs.Slow.{State, opened};
+ghost use Rattle.poly_cli.specs.Slow.{State, EditRefused, Edits, RedoRefused, Redoes, UndoRefused, Undoes, opened};
 
-use poly_design::Design;
-use poly_grid::Refusal;
+use poly_design::{Design, Edit};
+use poly_grid::{Grid, Refusal};
 use poly_tiling::{Tiling, View};
 
 /// All tilings of a design, in their order.
@@ -35,6 +35,47 @@ pub trait Engine {
         ensures ok { OnOk result (state self.new ≡ opened design) }
         ensures err { OnErr result (state self.new ≡ state self.old) }
         ensures why { IfErr result (λ e. e ≡ Refusal.Memory) };
+
+    /// The grid of the design.
+    fn grid(&self) -> Grid
+        requires ready { ready self.now }
+        ensures { result ≡ (state self.now).design.grid };
+
+    /// Makes the edit, and answers the edition after it.
+    ///
+    /// Refused as `Design::check` says, then with `Spent` where the editions are used up; `Memory` may stand in place of any answer. A
+    /// refused edit leaves the engine as it was.
+    fn edit(&mut self, edit: &Edit) -> Result<u64, Refusal>
+        requires ready { ready self.old }
+        ensures ready { ready self.new }
+        ensures ok { OnOk result (Edits (state self.old) edit.now (state self.new)) }
+        ensures next { IfOk result (λ n. n ≡ (state self.old).edition + 1) }
+        ensures err { OnErr result (state self.new ≡ state self.old) }
+        ensures why { IfErr result (λ e. EditRefused (state self.old) edit.now e ⊎ (e ≡ Refusal.Memory)) };
+
+    /// Makes the last change backwards that isn't undone, and answers the edition after it.
+    ///
+    /// Refused with `NothingToUndo` where there is none, then with `Spent` where the editions are used up; `Memory` may stand in place
+    /// of any answer. A refused undo leaves the engine as it was.
+    fn undo(&mut self) -> Result<u64, Refusal>
+        requires ready { ready self.old }
+        ensures ready { ready self.new }
+        ensures ok { OnOk result (Undoes (state self.old) (state self.new)) }
+        ensures next { IfOk result (λ n. n ≡ (state self.old).edition + 1) }
+        ensures err { OnErr result (state self.new ≡ state self.old) }
+        ensures why { IfErr result (λ e. UndoRefused (state self.old) e ⊎ (e ≡ Refusal.Memory)) };
+
+    /// Makes the change again that was undone last, and answers the edition after it.
+    ///
+    /// Refused with `NothingToRedo` where there is none, then with `Spent` where the editions are used up; `Memory` may stand in place
+    /// of any answer. A refused redo leaves the engine as it was.
+    fn redo(&mut self) -> Result<u64, Refusal>
+        requires ready { ready self.old }
+        ensures ready { ready self.new }
+        ensures ok { OnOk result (Redoes (state self.old) (state self.new)) }
+        ensures next { IfOk result (λ n. n ≡ (state self.old).edition + 1) }
+        ensures err { OnErr result (state self.new ≡ state self.old) }
+        ensures why { IfErr result (λ e. RedoRefused (state self.old) e ⊎ (e ≡ Refusal.Memory)) };
 
     /// All tilings of the design.
     ///

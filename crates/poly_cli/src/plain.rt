@@ -5,7 +5,7 @@ ghost use Rattle.poly_cli.specs.Listings.{IsListing};
 ghost use Rattle.poly_cli.specs.Slow.{State, opened};
 
 use crate::engine::{Engine, Listing};
-use poly_design::{Change, Design};
+use poly_design::{Change, Design, Edit};
 use poly_grid::{Grid, Refusal};
 use poly_tiling::{View, list_tilings, over_shows, sort_tilings};
 use poly_undo::History;
@@ -22,11 +22,14 @@ pub struct Plain {
 }
 
 impl Model for Plain {
+    ghost use Rattle.poly_cli.specs.Paths.{IsOnWay};
     ghost use Rattle.poly_cli.specs.Slow.{State, changes_of};
 
     ghost Value = { State };
 
     ghost view = { λ p. record { design = p.design; edition = p.edition; undo = changes_of p.history.undo; redo = changes_of p.history.redo } };
+
+    ghost invariant = { λ p. IsOnWay p.design (changes_of p.history.undo) (changes_of p.history.redo) };
 }
 
 impl Plain {
@@ -53,6 +56,51 @@ impl Engine for Plain {
         self.history = history;
         self.edition = 0;
         Ok(())
+    }
+
+    fn grid(&self) -> Grid {
+        self.design.grid()
+    }
+
+    fn edit(&mut self, edit: &Edit) -> Result<u64, Refusal> {
+        let change = match self.design.check(edit) {
+            Ok(change) => change,
+            Err(refusal) => return Err(refusal),
+        };
+        let Some(edition) = self.edition.checked_add(1) else {
+            return Err(Refusal::Spent);
+        };
+        self.design.make(&change)?;
+        self.history.push(change, None);
+        self.edition = edition;
+        Ok(edition)
+    }
+
+    fn undo(&mut self) -> Result<u64, Refusal> {
+        let Some(step) = self.history.last() else {
+            return Err(Refusal::NothingToUndo);
+        };
+        let Some(edition) = self.edition.checked_add(1) else {
+            return Err(Refusal::Spent);
+        };
+        let change = step.change.copy()?.inverse();
+        self.design.make(&change)?;
+        let _ = self.history.back(None);
+        self.edition = edition;
+        Ok(edition)
+    }
+
+    fn redo(&mut self) -> Result<u64, Refusal> {
+        let Some(step) = self.history.ahead() else {
+            return Err(Refusal::NothingToRedo);
+        };
+        let Some(edition) = self.edition.checked_add(1) else {
+            return Err(Refusal::Spent);
+        };
+        self.design.make(&step.change)?;
+        let _ = self.history.forward(None);
+        self.edition = edition;
+        Ok(edition)
     }
 
     fn tilings(&mut self) -> Result<Listing, Refusal> {

@@ -1,10 +1,11 @@
-use crate::{Command, ReplyLine, asked, name_of, puzzle_of, refusal_line, words_of};
+use crate::{ReplyLine, puzzle_of, refusal_line};
 use poly_design::{Mode, Name, Placement};
 use poly_grid::{Cell, Grid, Refusal};
 use poly_shape::Cells;
 use std::alloc::Global;
 use std::test::Fail;
 
+mod limits;
 mod sessions;
 
 fn cell(x: u64, y: u64) -> Result<Cell, Refusal> {
@@ -46,28 +47,6 @@ fn replies(rt: HostRuntime) -> Result<(), Fail> {
     assert_eq!(rt; reply.as_bytes(), b"tiling -\n".as_slice());
     assert_eq!(rt; refusal_line(Refusal::Busy { pending: 3 }), "no 29 Busy\n");
     assert_eq!(rt; refusal_line(Refusal::BadJson), "no 1 BadJson\n");
-    Ok(())
-}
-
-#[test]
-fn words_and_commands(rt: HostRuntime) -> Result<(), Fail> {
-    let alloc = rt.alloc();
-    let words = words_of(alloc, b"  pin  A 0,0 ")?;
-    assert_eq!(rt; words.len(), 3);
-    assert!(rt; asked(alloc, b" count ") == Ok(Some(Command::Count)));
-    assert!(rt; asked(alloc, b"list") == Ok(Some(Command::ListAll)));
-    assert!(rt; asked(alloc, b"   ") == Ok(None));
-    assert!(rt; asked(alloc, b"") == Ok(None));
-    for line in [
-        b"fly".as_slice(),
-        b"count 1".as_slice(),
-        b"counts".as_slice(),
-        b"count\t".as_slice(),
-    ] {
-        assert!(rt; asked(alloc, line) == Err(Refusal::BadCommand));
-    }
-    assert!(rt; name_of(b"A_9").is_some());
-    assert!(rt; name_of(b"A-").is_none());
     Ok(())
 }
 

@@ -1,18 +1,13 @@
-use Rattle.std.proofs.Common.{[], refl, sym, subst, ◌∙◌}
-use Rattle.poly_cli.specs.Replies.{refusal_text}
-use Rattle.poly_cli.specs.Slow.{Replies}
-use Rattle.poly_cli.proofs.Known.{appends_none}
-use Rattle.poly_cli.proofs.Blank.{blank_asks, refused_says}
+use Rattle.std.proofs.Common.{subst, Ok}
+use Rattle.poly_cli.specs.Commands.{Asks}
+use Rattle.poly_cli.proofs.LineReplies.{command_says}
 use Rattle.poly_cli.proofs.answering.Answerer.respond.Goals as goal
 
-pub returns-then-is_blank-clause-says : goal.returns-then-is_blank-clause-says
-returns-then-is_blank-clause-says g c =
+pub returns-in-Ok-Some-clause-says : goal.returns-in-Ok-Some-clause-says
+returns-in-Ok-Some-clause-says g c =
     let s = g.E.Engine.state c.args.engine.now in
-    let none = blank_asks c.in-Some.text.now (sym c.is_blank.ensures ∙ c.if-is_blank.true) in
-    ([], rw c.in-Some.is (subst (λ a. Replies a s [] s) (sym none) (refl, refl)), appends_none _)
-
-pub returns-in-Err-clause-says : goal.returns-in-Err-clause-says
-returns-in-Err-clause-says g c =
-    let e = c.in-Err.refusal in
-    let said = refused_says c.in-Some.text.now (g.E.Engine.state c.args.engine.now) e (sym c.is_blank.ensures ∙ c.if-is_blank.false) c.in-Err.ensures in
-    (refusal_text e, rw c.in-Some.is said, c.refuse-in-Err.ensures)
+    let t = g.E.Engine.state c.answer.new.engine in
+    let line = c.in-Some.text.now in
+    let a = c.answer.ensures.says in
+    let asked = subst (λ o. Asks c.grid.result line (Ok o)) c.in-Ok-Some.field-0-is c.in-Ok-Some.ensures.says in
+    (a.0, rw c.in-Some.is (command_says s c.grid.result c.grid.ensures line c.in-Ok-Some.command a.0 t asked a.1), a.2)

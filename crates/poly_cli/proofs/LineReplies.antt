@@ -1,0 +1,58 @@
+-- What stands as the reply to a line, by what was asked of it.
+use Rattle.std.proofs.Common.{◌≡◌, ℕ, ◌+◌, List, [], ◌∷◌, refl, sym, ap, subst, inl, inr, Option, Some, None, Result, Ok, Err}
+use Rattle.std.specs.Prelude.{◌⊎◌, IfErr, IfOk, OnErr, OnOk}
+use Rattle.poly_grid.specs.declared.grid.Grid.{Grid}
+use Rattle.poly_grid.specs.declared.refusal.Refusal.{Refusal}
+use Rattle.poly_grid.specs.declared.refusal.Refusal.TheVariants.{Memory}
+use Rattle.poly_cli.specs.declared.command.Command.{Command}
+use Rattle.poly_cli.specs.Commands.{AskedBy, Asks, CommandSays}
+use Rattle.poly_cli.specs.Gives.{◌>>=◌}
+use Rattle.poly_cli.specs.Replies.{ok_text, refusal_text, step_text}
+use Rattle.poly_cli.specs.Slow.{State, Answers, IsRefusal, Replies, Steps, WordsSay}
+use Rattle.poly_cli.specs.Words.{words_of}
+
+some_command : (r : Result Command Refusal) → Ok None ≡ (r >>= λ c. Ok (Some c)) → ⊥
+some_command (Ok c) e = cc
+some_command (Err f) e = cc
+
+same_command : (r : Result Command Refusal) (c : Command) → Ok (Some c) ≡ (r >>= λ x. Ok (Some x)) → r ≡ Ok c
+same_command (Ok x) c e = cc
+same_command (Err f) c e = absurd cc
+
+same_refusal : (r : Result Command Refusal) (e : Refusal) → Err e ≡ (r >>= λ c. Ok (Some c)) → r ≡ Err e
+same_refusal (Ok c) e h = absurd cc
+same_refusal (Err f) e h = cc
+
+module _ (s : State) (g : Grid) (standing : g ≡ s.design.grid) where
+  -- nothing was asked
+  pub none_says : (line : List ℕ) → Asks g line (Ok None) → WordsSay (words_of line) s [] s
+  none_says line a = go (words_of line) a
+    where
+      go : (words : List (List ℕ)) → AskedBy g words (Ok None) → WordsSay words s [] s
+      go [] a = (refl, refl)
+      go (word ∷ words) a = absurd (some_command a.0 a.2)
+
+  -- a command was asked, and answered
+  pub command_says : (line : List ℕ) (c : Command) (out : List ℕ) (t : State) → Asks g line (Ok (Some c)) → Answers c s out t ⊎ IsRefusal Memory s out t → WordsSay (words_of line) s out t
+  command_says line c out t a h = go (words_of line) a h
+    where
+      go : (words : List (List ℕ)) → AskedBy g words (Ok (Some c)) → Answers c s out t ⊎ IsRefusal Memory s out t → WordsSay words s out t
+      go [] a h = absurd cc
+      go (word ∷ words) a (inl h) = inl (a.0, subst (λ d. CommandSays d (word ∷ words) a.0) standing a.1, subst (λ r. Replies r s out t) (sym (same_command a.0 c a.2)) h)
+      go (word ∷ words) a (inr m) = inr m
+
+  -- the words of a line that has some were refused, or memory ran out
+  pub refusal_says : (line : List ℕ) (e : Refusal) → (words_of line ≡ [] → ◌≡◌ {A = Result (Option Command) Refusal} (Err e) (Ok None)) → (e ≡ Memory) ⊎ Asks g line (Err e) → WordsSay (words_of line) s (refusal_text e) s
+  refusal_says line e blank a = go (words_of line) blank a
+    where
+      go : (words : List (List ℕ)) → (words ≡ [] → ◌≡◌ {A = Result (Option Command) Refusal} (Err e) (Ok None)) → (e ≡ Memory) ⊎ AskedBy g words (Err e) → WordsSay words s (refusal_text e) s
+      go [] blank a = let none = blank refl in absurd cc
+      go (word ∷ words) blank (inl m) = inr (refl, ap refusal_text m)
+      go (word ∷ words) blank (inr a) = inl (a.0, subst (λ d. CommandSays d (word ∷ words) a.0) standing a.1, subst (λ r. Replies r s (refusal_text e) s) (sym (same_refusal a.0 e a.2)) (refl, refl))
+
+-- what an engine answers to a step
+pub step_says : (Leads : State → Type 0) (Refused : Refusal → Type 0) (s t : State) (r : Result ℕ Refusal) → OnOk r (Leads t) → IfOk r (λ n. n ≡ s.edition + 1) → OnErr r (t ≡ s) → IfErr r (λ e. Refused e ⊎ (e ≡ Memory))
+    → Steps Leads Refused s (step_text r) t ⊎ IsRefusal Memory s (step_text r) t
+step_says Leads Refused s t (Ok n) leads next same why = inl (inl (leads, ap ok_text next))
+step_says Leads Refused s t (Err e) leads next same (inl refused) = inl (inr (e, refused, (same, refl)))
+step_says Leads Refused s t (Err e) leads next same (inr m) = inr (same, ap refusal_text m)
