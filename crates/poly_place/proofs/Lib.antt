@@ -1,6 +1,5 @@
 pub mod Numbers
 pub mod Pinned
-pub mod Listed
 pub mod Righted
 pub mod Differences
 pub mod Grow

@@ -13,3 +13,6 @@ pub use delta::Delta;
 pub use interner::Interner;
 pub use plan::Plan;
 pub use table::Table;
+
+#[cfg(test)]
+mod tests;

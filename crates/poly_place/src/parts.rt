@@ -1,18 +1,16 @@
 //! A design as its lists: placements, pins, and items with their bounds.
-ghost use Rattle.std.specs.Prelude.{◌≡◌, ◌≤◌, ◌++◌, true, List, ℕ, OnOk, IfOk, IfErr, length, map};
+ghost use Rattle.std.specs.Prelude.{◌≡◌, ◌≤◌, ◌++◌, OnOk, IfOk, IfErr, length};
 ghost use Rattle.poly_design.specs.Limits.{IsDesign};
 ghost use Rattle.poly_design.specs.Listed.{IsListOf};
 ghost use Rattle.poly_design.specs.PlacementOrder.{placement_cmp};
-ghost use Rattle.poly_tiling.specs.Shows.{cell_bound, item_bounds, piece_bound};
-ghost use Rattle.poly_tiling.specs.Tilings.{IsPin, bounds_of_mode};
-ghost use Rattle.poly_place.specs.Parts.{ArePartsOf, are_small};
+ghost use Rattle.poly_tiling.specs.Tilings.{IsPin};
+ghost use Rattle.poly_place.specs.Parts.{ArePartsOf};
 ghost use Rattle.poly_place.specs.Pins.{pin_list};
 
-use poly_design::{Design, Mode, Name, Placement, Spec};
-use poly_grid::{Cell, Refusal};
-use poly_tiling::Item;
+use poly_design::{Design, Name, Placement, Spec};
+use poly_grid::Refusal;
+use poly_tiling::{Item, item_list};
 use std::alloc::Global;
-use std::collections::BTreeMap;
 
 /// A design's placements and pins, both in placement order, and its items with their bounds, in item order.
 #[derive(Drop)]
@@ -30,7 +28,7 @@ impl Parts {
     {
         let places = design.places()?;
         let pins = pins(alloc, design)?;
-        let bounds = bounds(alloc, design)?;
+        let bounds = item_list(alloc, design)?;
         Ok(Parts {
             places,
             pins,
@@ -43,6 +41,7 @@ impl Parts {
 fn pins(alloc: Global, design: &Design) -> Result<Vec<Placement>, Refusal>
     ensures ok { IfOk result (λ list. IsListOf placement_cmp (IsPin design.now) list.items) }
     ensures few { IfOk result (λ list. length list.items ≤ 64) }
+    ensures design { OnOk result (IsDesign design.now) }
     ensures why { IfErr result (λ e. e ≡ Refusal.Memory) }
 {
     let mut pins = Vec::new(alloc);
@@ -63,54 +62,4 @@ fn add_pin(pins: &mut Vec<Placement>, name: Name, spec: &Spec) -> Result<(), Ref
             Ok(())
         }
     }
-}
-
-// The items with their bounds, in item order.
-fn bounds(alloc: Global, design: &Design) -> Result<Vec<(Item, u8, u8)>, Refusal>
-    ensures ok { IfOk result (λ list. list.items ≡ item_bounds design.now) }
-    ensures small { IfOk result (λ list. are_small list.items ≡ true) }
-    ensures design { OnOk result (IsDesign design.now) }
-    ensures why { IfErr result (λ e. e ≡ Refusal.Memory) }
-{
-    let mut list = Vec::with_capacity(alloc, design.cell_count() + design.piece_count())?;
-    add_cells(&mut list, design.cells())?;
-    add_pieces(&mut list, design.pieces())?;
-    Ok(list)
-}
-
-fn add_cells(list: &mut Vec<(Item, u8, u8)>, cells: &BTreeMap<Cell, Mode>) -> Result<(), Refusal>
-    requires { are_small list.old.items ≡ true }
-    ensures ok { OnOk result (list.new.items ≡ list.old.items ++ map cell_bound cells.now.entries) }
-    ensures small { are_small list.new.items ≡ true }
-    ensures why { IfErr result (λ e. e ≡ Refusal.Memory) }
-{
-    for (cell, mode) in cells {
-        let (least, most) = cell_bounds(*mode);
-        list.push((Item::Cell(*cell), least, most))?;
-    }
-    Ok(())
-}
-
-fn cell_bounds(mode: Mode) -> (u8, u8)
-    ensures least { result.0 ≡ (bounds_of_mode mode).least }
-    ensures most { result.1 ≡ (bounds_of_mode mode).most }
-{
-    match mode {
-        Mode::Required => (1, 1),
-        Mode::Optional => (0, 1),
-        Mode::Blocked => (0, 0),
-    }
-}
-
-fn add_pieces(list: &mut Vec<(Item, u8, u8)>, pieces: &BTreeMap<Name, Spec>) -> Result<(), Refusal>
-    requires { are_small list.old.items ≡ true }
-    ensures ok { OnOk result (list.new.items ≡ list.old.items ++ map piece_bound pieces.now.entries) }
-    ensures small { are_small list.new.items ≡ true }
-    ensures why { IfErr result (λ e. e ≡ Refusal.Memory) }
-{
-    for (name, spec) in pieces {
-        let copies = spec.copies;
-        list.push((Item::Piece(*name), copies.least(), copies.most()))?;
-    }
-    Ok(())
 }

@@ -17,6 +17,7 @@ pub use laws::{
     listings_show, numbers_may_grow, numbers_reach, numbers_show, over_shows, ranks_compare,
 };
 pub use lister::list_tilings;
+pub use numbering::item_list;
 pub use numbers::{ascends, has_all, has_number};
 pub use order::sort_tilings;
 pub use tiling::Tiling;

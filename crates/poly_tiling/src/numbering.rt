@@ -45,8 +45,8 @@ fn first_numbers(alloc: Global, placements: &[Placement]) -> Result<Vec<u32>, Re
     Ok(list)
 }
 
-// The items of the design in their order, with their bounds.
-fn item_list(alloc: Global, design: &Design) -> Result<Vec<(Item, u8, u8)>, Refusal>
+/// The items of a design in item order, each with its least and its most. The only refusal is `Memory`.
+pub fn item_list(alloc: Global, design: &Design) -> Result<Vec<(Item, u8, u8)>, Refusal>
     ensures ok { IfOk result (λ list. list.items ≡ item_bounds design.now) }
     ensures small { IfOk result (λ list. list_all (λ b. nat_le b.1 b.2 && nat_le b.2 16) list.items ≡ true) }
     ensures why { IfErr result (λ e. e ≡ Refusal.Memory) }
