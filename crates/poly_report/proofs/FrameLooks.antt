@@ -86,7 +86,7 @@ module _ (v : View) (A : List Atom) (first : ℕ) (t : Table) (live have raised 
       (open_in v A (get_or t.numbers.items j 0) && has_item v (get_or t.numbers.items j 0) (item_of v b)) ≡ (has_bit live (64 * at + j) && has_bit t.rows.items (64 * (t.width * b) + j))
   row_says at b e l j h = sym (ap (λ x. x && has_bit t.rows.items (64 * (t.width * b) + j)) (top_row at j e h) ∙ ap (λ x. open_in v A (get_or t.numbers.items j 0) && x) (K.table.rows b j l h))
 
-  open_first : (q : ℕ) → mem v.live q ≡ true → open_in v A q ≡ true → mem t.numbers.items q ≡ true
+  pub open_first : (q : ℕ) → mem v.live q ≡ true → open_in v A q ≡ true → mem t.numbers.items q ≡ true
   open_first q m o = K.table.all q m (open_before v (take first A) (drop first A) q (live_once v K.table.well) (mem_in _ q m) (subst (λ xs. open_in v xs q ≡ true) (sym (take-append-drop first A)) o))
 
   pub options_once : (f : ℕ → Bool) → distinct (filter f t.numbers.items) ≡ true

@@ -18,3 +18,5 @@ pub mod FramePicks
 pub mod FrameSteps
 pub mod FrameOpen
 pub mod FrameLooks
+pub mod FrameMembers
+pub mod FrameArms

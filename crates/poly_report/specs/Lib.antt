@@ -12,4 +12,5 @@ pub mod Laws
 pub mod Bits
 pub mod FrameItems
 pub mod FrameTable
+pub mod FrameMembers
 pub mod FrameSteps

@@ -12,8 +12,11 @@ ghost use Rattle.poly_report.specs.Trees.{heads};
 ghost use Rattle.poly_report.specs.Shapes.{arms_list};
 ghost use Rattle.poly_report.specs.Walk.{back_to, is_due, is_open, is_option, step_back, with_step};
 
+mod arms;
+mod busy;
 mod items;
 mod looks;
+mod members;
 mod steps;
 mod table;
 
@@ -38,6 +41,7 @@ pub struct Frame<'a> {
     path: Vec<Atom>,
     given: usize,
     members: Vec<u32>,
+    sizes: Vec<usize>,
     options: Vec<u32>,
     table: Table,
     steps: Steps,
@@ -51,7 +55,7 @@ impl<'a> Model for Frame<'a> {
 
     ghost view = { λ f. record { scene = f.view.now; atoms = f.path.items; given = f.given } };
 
-    ghost invariant = { λ f. IsFrame f.view.now f.path f.given f.members f.options f.table f.steps };
+    ghost invariant = { λ f. IsFrame f.view.now f.path f.given f.members f.sizes f.options f.table f.steps };
 }
 
 impl<'a> Frame<'a> {
@@ -73,6 +77,7 @@ impl<'a> Frame<'a> {
         path.extend_from_slice(atoms)?;
         let mut members = Vec::with_capacity(alloc, pins + given + STEPS)?;
         plain::make_base(view, atoms, &mut members);
+        let sizes = Vec::with_capacity(alloc, STEPS)?;
         let options = Vec::with_capacity(alloc, live)?;
         let cells = guess_cells(alloc, view.items())?;
         let mut raised = Vec::with_capacity(alloc, STEPS * 17)?;
@@ -84,6 +89,7 @@ impl<'a> Frame<'a> {
             path,
             given,
             members,
+            sizes,
             options,
             table,
             steps,
@@ -118,8 +124,15 @@ impl<'a> Frame<'a> {
             &mut self.steps,
             placement,
         );
+        members::pick(
+            self.view,
+            &self.path,
+            self.given,
+            &mut self.members,
+            &mut self.sizes,
+            placement,
+        );
         self.path.push_reserved(Atom::Has(placement));
-        plain::make_base(self.view, &self.path, &mut self.members);
     }
 
     /// Leaves the placement: the atoms have one more, that it is out.
@@ -135,8 +148,15 @@ impl<'a> Frame<'a> {
             &mut self.steps,
             placement,
         );
+        members::leave(
+            self.view,
+            &self.path,
+            self.given,
+            &self.members,
+            &mut self.sizes,
+            placement,
+        );
         self.path.push_reserved(Atom::Lacks(placement));
-        plain::make_base(self.view, &self.path, &mut self.members);
     }
 
     /// Takes the last step back.
@@ -153,8 +173,14 @@ impl<'a> Frame<'a> {
             &mut self.steps,
             mark - self.given,
         );
+        members::back(
+            self.view,
+            &self.path,
+            self.given,
+            &mut self.members,
+            &mut self.sizes,
+        );
         self.path.truncate(mark);
-        plain::make_base(self.view, &self.path, &mut self.members);
     }
 
     /// Takes back the steps after a mark.
@@ -162,17 +188,8 @@ impl<'a> Frame<'a> {
         requires { self.old.given ≤ mark }
         ensures { self.new ≡ back_to self.old mark }
     {
-        if mark < self.path.len() {
-            steps::back(
-                self.view,
-                &self.path,
-                self.given,
-                &self.table,
-                &mut self.steps,
-                mark - self.given,
-            );
-            self.path.truncate(mark);
-            plain::make_base(self.view, &self.path, &mut self.members);
+        while self.mark() > mark {
+            self.back();
         }
     }
 
@@ -234,6 +251,16 @@ impl<'a> Frame<'a> {
     pub fn dead(&self, placement: u32) -> bool
         ensures { result ≡ dead self.now.scene self.now.atoms placement }
     {
+        if looks::stands_open(
+            self.view,
+            &self.path,
+            self.given,
+            &self.table,
+            &self.steps,
+            placement,
+        ) {
+            return false;
+        }
         plain::is_dead(self.view, &self.path, placement)
     }
 
@@ -241,13 +268,25 @@ impl<'a> Frame<'a> {
     pub fn arms_fit(&self, item: Item, arms: &[Arm]) -> bool
         ensures { result ≡ arms_fit self.now.scene self.now.atoms item (heads (arms_list arms.now)) }
     {
-        plain::arms_are_right(self.view, &self.path, &self.members, &item, arms)
+        arms::are_right(
+            self.view,
+            &self.path,
+            self.given,
+            &self.table,
+            &self.steps,
+            &self.members,
+            &item,
+            arms,
+        )
     }
 
     /// The base, ascending, where it is a tiling that meets the atoms: all that a Found stands for.
     pub fn found(&self) -> Option<&[u32]>
         ensures { MatchOption result (in_family self.now.scene self.now.atoms (base self.now.scene self.now.atoms) ≡ false) (λ t. (t.now ≡ base self.now.scene self.now.atoms) × (in_family self.now.scene self.now.atoms (base self.now.scene self.now.atoms) ≡ true)) }
     {
+        if looks::is_short(self.view, &self.path, self.given, &self.table, &self.steps) {
+            return None;
+        }
         if !plain::is_member(self.view, &self.path, &self.members) {
             return None;
         }

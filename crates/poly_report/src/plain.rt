@@ -21,8 +21,8 @@ use poly_design::Name;
 use poly_grid::Cell;
 use poly_tiling::{Item, View, has_number};
 
-// Puts a number into its place in an ascending list, if it is not there.
-fn put_number(numbers: &mut Vec<u32>, number: u32)
+/// Puts a number into its place in an ascending list, if it is not there.
+pub(crate) fn put_number(numbers: &mut Vec<u32>, number: u32)
     requires { vec_len numbers.old < vec_capacity numbers.old }
     ensures items { numbers.new.items ≡ put number numbers.old.items }
     ensures len { vec_len numbers.new ≤ vec_len numbers.old + 1 }
@@ -343,7 +343,7 @@ pub fn next_due(view: &View, atoms: &[Atom], members: &[u32]) -> Option<Item>
     }
 }
 
-fn is_arm(arms: &[Arm], number: u32) -> bool
+pub(crate) fn is_arm(arms: &[Arm], number: u32) -> bool
     ensures { result ≡ list_any (λ a. a.placement == number) arms.now }
 {
     arms.iter().any(|a| a.placement == number)
@@ -355,7 +355,7 @@ fn is_no_arm(arms: &[Arm], number: u32) -> bool
     arms.iter().all(|a| number != a.placement)
 }
 
-fn arms_have(view: &View, arms: &[Arm], item: &Item) -> bool
+pub(crate) fn arms_have(view: &View, arms: &[Arm], item: &Item) -> bool
     ensures { result ≡ list_all (λ a. has_item view.now a.placement item.now) arms.now }
 {
     arms.iter().all(|a| view.covers(a.placement, *item))
@@ -367,7 +367,7 @@ fn is_apart(arms: &[Arm], number: u32) -> bool
     is_no_arm(arms, number)
 }
 
-fn arms_once(arms: &[Arm]) -> bool
+pub(crate) fn arms_once(arms: &[Arm]) -> bool
     ensures { result ≡ distinct (heads (arms_list arms.now)) }
 {
     let mut left = arms;

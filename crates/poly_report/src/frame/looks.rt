@@ -4,20 +4,23 @@ ghost use Rattle.std.specs.List.{filter, list_all};
 ghost use Rattle.poly_tiling.specs.declared.item.Item.{Item};
 ghost use Rattle.poly_tiling.specs.Lists.{mem};
 ghost use Rattle.poly_tiling.specs.Puzzle.{count, has_item};
+ghost use Rattle.poly_atom.specs.Atoms.{in_family};
 ghost use Rattle.poly_atom.specs.Hopeless.{base};
 ghost use Rattle.poly_report.specs.Holds.{asks, open_in};
 ghost use Rattle.poly_report.specs.Bits.{in_both};
 ghost use Rattle.poly_report.specs.FrameItems.{item_of};
 ghost use Rattle.poly_report.specs.FrameSteps.{StepsKeep};
 
+use crate::frame::busy::{Busy, busy_words, common};
 use crate::frame::items::{guess_of, index_of};
-use crate::frame::steps::Steps;
+use crate::frame::steps::{Steps, number_at};
 use crate::frame::table::Table;
 use crate::{bits, plain};
 use poly_atom::Atom;
 use poly_tiling::{Item, View};
 
-fn guess_item(cells: &[usize], item: &Item) -> usize {
+/// A guess for where an item stands.
+pub(crate) fn guess_item(cells: &[usize], item: &Item) -> usize {
     match item {
         Item::Cell(cell) => guess_of(cells, *cell),
         Item::Piece(_) => 0,
@@ -112,22 +115,101 @@ pub(crate) fn first_open(
     }
 }
 
-// How many numbers are in both rows, or some number not below `most` where there are so many.
-fn common(live: &[u64], at: usize, rows: &[u64], from: usize, width: usize, most: usize) -> usize
-    requires live { at + width ≤ length live.now }
-    requires rows { from + width ≤ length rows.now }
+/// Whether the number's placement is known to be open.
+pub(crate) fn stands_open(
+    view: &View,
+    path: &[Atom],
+    first: usize,
+    table: &Table,
+    steps: &Steps,
+    number: u32,
+) -> bool
+    requires kept { StepsKeep view.now path.now first table.now steps.now }
+    ensures { result ≡ true → (mem view.now.live number ≡ true) × (open_in view.now path.now number ≡ true) }
 {
-    let mut all = 0usize;
-    for k in 0..width {
-        let both = live[at + k] & rows[from + k];
-        if both != 0 {
-            all = all.saturating_add(both.count_ones() as usize);
-            if most <= all {
-                return all;
-            }
+    let _ = view;
+    let _ = path;
+    let at = steps.live.len() - table.width;
+    match number_at(table, number) {
+        None => false,
+        Some(j) => bits::has(&steps.live, at, j),
+    }
+}
+
+// Whether the base has too few of the item at a place.
+fn is_below(table: &Table, steps: &Steps, b: usize) -> bool
+    requires have { b < length steps.now.have.items }
+    requires asked { b < length table.now.asked.items }
+    ensures { result ≡ nat_lt (slice_index steps.now.have.items b) (slice_index table.now.asked.items b) }
+{
+    steps.have[b] < u64::from(table.asked[b])
+}
+
+/// Whether the base is known to have too few of some item of the view.
+pub(crate) fn is_short(
+    view: &View,
+    path: &[Atom],
+    first: usize,
+    table: &Table,
+    steps: &Steps,
+) -> bool
+    requires kept { StepsKeep view.now path.now first table.now steps.now }
+    ensures { result ≡ true → in_family view.now path.now (base view.now path.now) ≡ false }
+{
+    let _ = view;
+    let _ = path;
+    for b in 0..steps.have.len() {
+        if is_below(table, steps, b) {
+            return true;
         }
     }
-    all
+    false
+}
+
+// How many options the item at a place has beyond what it still needs, plus one: 0 where they are too few; some number
+// not below `fewest` where it is not less than that. None where the base has enough.
+fn spare(
+    table: &Table,
+    steps: &Steps,
+    at: usize,
+    busy: &Busy,
+    b: usize,
+    fewest: usize,
+) -> Option<usize>
+    requires have { b < length steps.now.have.items }
+    requires asked { b < length table.now.asked.items }
+    requires live { at + table.now.width ≤ length steps.now.live.items }
+    requires rows { table.now.width * b + table.now.width ≤ length table.now.rows.items }
+    ensures { MatchOption result (nat_lt (slice_index steps.now.have.items b) (slice_index table.now.asked.items b) ≡ false) (λ _. nat_lt (slice_index steps.now.have.items b) (slice_index table.now.asked.items b) ≡ true) }
+{
+    let have = steps.have[b];
+    let asked = u64::from(table.asked[b]);
+    if asked <= have {
+        return None;
+    }
+    let needed = (asked - have) as usize - 1;
+    let from = table.width * b;
+    let filled = filled_words(table, b);
+    let most = fewest.saturating_add(needed);
+    let n = common(
+        &steps.live,
+        at,
+        busy,
+        &table.rows,
+        from,
+        &filled,
+        table.width,
+        most,
+    );
+    Some(n.saturating_sub(needed))
+}
+
+fn filled_words(table: &Table, b: usize) -> Busy {
+    if b < table.busy.len() {
+        table.busy[b]
+    } else {
+        Busy::all()
+    }
 }
 
 /// An item of the view of which the base has too few, one with the fewest options beyond what it still needs.
@@ -144,24 +226,16 @@ pub(crate) fn next_listed(
     let _ = view;
     let _ = path;
     let at = steps.live.len() - table.width;
+    let busy = busy_words(&steps.live, at, table.width);
     let mut best = None;
     let mut fewest = usize::MAX;
     for b in 0..steps.have.len() {
-        let have = steps.have[b];
-        let asked = u64::from(table.asked[b]);
-        if have < asked {
-            let needed = (asked - have) as usize;
-            let n = common(
-                &steps.live,
-                at,
-                &table.rows,
-                table.width * b,
-                table.width,
-                fewest.saturating_add(needed),
-            );
-            let spare = n.saturating_sub(needed);
-            if best.is_none() || spare < fewest {
-                fewest = spare;
+        if let Some(n) = spare(table, steps, at, &busy, b, fewest) {
+            if n == 0 {
+                return Some(b);
+            }
+            if best.is_none() || n < fewest {
+                fewest = n;
                 best = Some(b);
             }
         }

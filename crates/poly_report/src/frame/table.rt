@@ -13,6 +13,7 @@ ghost use Rattle.poly_report.specs.Bits.{has_bit};
 ghost use Rattle.poly_report.specs.FrameItems.{item_at, item_of};
 
 use crate::bits;
+use crate::frame::busy::{Busy, busy_rows};
 use crate::frame::items::{guess_cells, guess_of, index_of, note_items, raise};
 use poly_atom::Atom;
 use poly_grid::{Cell, Refusal};
@@ -28,6 +29,7 @@ pub(crate) struct Table {
     pub(crate) cells: Vec<usize>,
     pub(crate) width: usize,
     pub(crate) rows: Vec<u64>,
+    pub(crate) busy: Vec<Busy>,
     pub(crate) limits: Vec<u8>,
     pub(crate) asked: Vec<u8>,
     pub(crate) listed: bool,
@@ -483,6 +485,7 @@ pub(crate) fn table_of(
     let limits = limits_of(alloc, bounds, &uppers)?;
     let asked = asked_of(alloc, view, atoms, &cells)?;
     let listed = all_listed(bounds, atoms);
+    let busy = busy_rows(alloc, &rows, width, bounds.len())?;
     Ok(Table {
         numbers,
         stands,
@@ -490,6 +493,7 @@ pub(crate) fn table_of(
         cells,
         width,
         rows,
+        busy,
         limits,
         asked,
         listed,

@@ -1,0 +1,128 @@
+-- What the rows say of the arms of a Branch, of dead placements and of a base that is short.
+use Rattle.std.proofs.Common.{◌≡◌, ℕ, zero, suc, ◌+◌, ◌-◌, ◌*◌, ◌<◌, ◌≤◌, Bool, true, false, cond, max, min, not, ◌&&◌, ◌||◌, eqb, ltb, leb, List, [], ◌∷◌, ◌++◌, inl, inr, refl, sym, ap, subst, ◌∙◌, arith, length, get_or, take}
+use Rattle.std.specs.List.{list_any, list_all}
+use Rattle.std.proofs.lemmas.Bool.{and_from, and_parts, both_ways, cases_Bool, eqb-true, false_from_ne_true, leb-true, ltb-true, not_from_false, not-true, or_parts}
+use Rattle.std.proofs.lemmas.List.{take_more}
+use Rattle.poly_tiling.specs.declared.item.Item.{Item}
+use Rattle.poly_tiling.specs.Lists.{distinct, mem, one, tally}
+use Rattle.poly_tiling.specs.Puzzle.{View, clash, count, has_item, is_tiling, items, least, same_item}
+use Rattle.poly_tiling.proofs.Lists.{In, in_mem, mem_in}
+use Rattle.poly_tiling.proofs.Counts.{tally_within}
+use Rattle.poly_tiling.proofs.Orders.{live_once}
+use Rattle.poly_tiling.proofs.Tilings.{parts, same_item_is}
+use Rattle.poly_atom.specs.declared.atom.Atom.{Atom}
+use Rattle.poly_atom.specs.declared.atom.Atom.TheVariants.{AtLeast, AtMost, Has, Lacks}
+use Rattle.poly_atom.specs.Atoms.{in_family, meets, meets_all}
+use Rattle.poly_atom.specs.Hopeless.{base, lacks}
+use Rattle.poly_report.specs.declared.tree.Arm.{Arm}
+use Rattle.poly_report.specs.Holds.{asks, dead, lower, open_in, others, ruled_out, upper}
+use Rattle.poly_report.specs.Bits.{NoneIn, in_both}
+use Rattle.poly_report.specs.FrameItems.{item_of}
+use Rattle.poly_report.specs.FrameTable.{TableShows}
+use Rattle.poly_report.specs.FrameSteps.{Kept}
+use Rattle.poly_report.specs.declared.frame.table.Table.{Table}
+use Rattle.poly_report.proofs.FrameSteps.{top_have, top_level}
+use Rattle.poly_report.proofs.FrameLooks.{open_first, row_says}
+
+-- an open placement is not dead
+pub open_lives : (v : View) (A : List Atom) (p : ℕ) → mem v.live p ≡ true → open_in v A p ≡ true → dead v A p ≡ false
+open_lives v A p m o =
+    let free = not-true _ (and_parts (not (mem (base v A) p)) (not (ruled_out v A p)) o).1 in
+    let full = list_any (λ i. leb (upper v A i) (others v (base v A) p i)) (items v p) in
+    let apart = (or_parts (list_any (λ a. lacks a p) A || list_any (λ q. clash v p q) (base v A)) full free).0 in
+    let named = (or_parts (list_any (λ a. lacks a p) A) (list_any (λ q. clash v p q) (base v A)) apart).0 in
+    ap (λ b. not b || list_any (λ a. lacks a p) A) m ∙ named
+
+-- a base that meets the atoms has as many of each item as is asked for
+asks_met : (v : View) (T : List ℕ) (i : Item) (A : List Atom) → least v i ≤ count v T i → meets_all v T A ≡ true → asks v A i ≤ count v T i
+asks_met v T i [] h m = h
+asks_met v T i (Has p ∷ A) h m = asks_met v T i A h (and_parts (mem T p) (meets_all v T A) m).1
+asks_met v T i (Lacks p ∷ A) h m = asks_met v T i A h (and_parts (not (mem T p)) (meets_all v T A) m).1
+asks_met v T i (AtLeast j n ∷ A) h m =
+    let ms = and_parts (leb n (count v T j)) (meets_all v T A) m in
+    which (same_item j i) (λ e. subst (λ k. n ≤ count v T k) (same_item_is j i e) (leb-true n _ ms.0)) (asks_met v T i A h ms.1)
+  where
+    which : (b : Bool) → (b ≡ true → n ≤ count v T i) → asks v A i ≤ count v T i → cond b (max n (asks v A i)) (asks v A i) ≤ count v T i
+    which true f g = omega (arith, f refl, g)
+    which false f g = g
+asks_met v T i (AtMost j n ∷ A) h m = asks_met v T i A h (and_parts (leb (count v T j) n) (meets_all v T A) m).1
+
+pub short_none : (v : View) (A : List Atom) (T : List ℕ) (i : Item) → ltb (count v T i) (asks v A i) ≡ true → in_family v A T ≡ false
+short_none v A T i h = false_from_ne_true (in_family v A T) (λ f.
+    let fs = and_parts (is_tiling v T) (meets_all v T A) f in
+    let less = ltb-true (count v T i) (asks v A i) h in
+    absurd (omega (arith, less, asks_met v T i A ((parts v T fs.0).enough i) fs.1)))
+
+none_of : (f : ℕ → Bool) (xs : List ℕ) → tally f xs ≡ 0 → (x : ℕ) → In x xs → f x ≡ false
+none_of f [] z x i = absurd i
+none_of f (y ∷ ys) z x (inl e) = false_from_ne_true (f x) (λ t. absurd (omega (arith, z, ap one (ap f e ∙ t))))
+none_of f (y ∷ ys) z x (inr i) = none_of f ys (omega (arith, z)) x i
+
+pub tally_more : (g : ℕ → Bool) (xs : List ℕ) (k : ℕ) → k < length xs → tally g (take (k + 1) xs) ≡ tally g (take k xs) + one (g (get_or xs k 0))
+tally_more g xs k h = ap (λ ys. tally g ys) (take_more xs k 0 h) ∙ tally_end (take k xs)
+  where
+    tally_end : (ys : List ℕ) → tally g (ys ++ get_or xs k 0 ∷ []) ≡ tally g ys + one (g (get_or xs k 0))
+    tally_end [] = omega arith
+    tally_end (y ∷ ys) = omega (arith, tally_end ys)
+
+gap : (g : ℕ → Bool) (xs : List ℕ) (low d : ℕ) → low + d ≤ length xs → ((x : ℕ) → low ≤ x → x < low + d → g (get_or xs x 0) ≡ false) → tally g (take (low + d) xs) ≡ tally g (take low xs)
+gap g xs low zero h out = ap (λ n. tally g (take n xs)) same
+  where
+    same : low + 0 ≡ low
+    same = omega arith
+gap g xs low (suc d) h out =
+    ap (λ n. tally g (take n xs)) next ∙ tally_more g xs (low + d) (omega arith)
+    ∙ omega (arith, gap g xs low d (omega arith) (λ x l m. out x l (omega arith)), ap one (out (low + d) (omega arith) (omega arith)))
+  where
+    next : low + suc d ≡ low + d + 1
+    next = omega arith
+
+pub tally_gap : (g : ℕ → Bool) (xs : List ℕ) (low j : ℕ) → low ≤ j → j ≤ length xs → ((x : ℕ) → low ≤ x → x < j → g (get_or xs x 0) ≡ false) → tally g (take j xs) ≡ tally g (take low xs)
+tally_gap g xs low j h l out = ap (λ n. tally g (take n xs)) split ∙ gap g xs low (j - low) (omega arith) (λ x a b. out x a (omega arith))
+  where
+    split : j ≡ low + (j - low)
+    split = omega arith
+
+-- where the base has none of an item, what is loose is open
+pub loose_open : (v : View) (A : List Atom) (first : ℕ) (t : Table) (live have raised marks : List ℕ) → Kept v A first t live have raised marks → (i : Item) (arm : ℕ → Bool) → count v (base v A) i ≡ 0 →
+    tally (λ p. open_in v A p && has_item v p i && not (arm p)) t.numbers.items ≡ tally (λ p. has_item v p i && not (ruled_out v A p) && not (arm p)) v.live
+loose_open v A first t live have raised marks K i arm z =
+    omega (arith, tally_within g f t.numbers.items v.live K.table.once down, tally_within f g v.live t.numbers.items (live_once v K.table.well) up)
+  where
+    f : ℕ → Bool
+    f p = has_item v p i && not (ruled_out v A p) && not (arm p)
+
+    g : ℕ → Bool
+    g p = open_in v A p && has_item v p i && not (arm p)
+
+    down : (x : ℕ) → In x t.numbers.items → g x ≡ true → In x v.live × (f x ≡ true)
+    down x k e =
+        let two = and_parts (open_in v A x && has_item v x i) (not (arm x)) e in
+        let one' = and_parts (open_in v A x) (has_item v x i) two.0 in
+        let free = (and_parts (not (mem (base v A) x)) (not (ruled_out v A x)) one'.0).1 in
+        (mem_in v.live x (K.table.begun x (in_mem t.numbers.items x k)).0, and_from _ _ (and_from _ _ one'.1 free) two.1)
+
+    up : (x : ℕ) → In x v.live → f x ≡ true → In x t.numbers.items × (g x ≡ true)
+    up x k e =
+        let two = and_parts (has_item v x i && not (ruled_out v A x)) (not (arm x)) e in
+        let one' = and_parts (has_item v x i) (not (ruled_out v A x)) two.0 in
+        let out : mem (base v A) x ≡ false = false_from_ne_true _ (λ m. both_ways (has_item v x i) (none_of (λ p. has_item v p i) (base v A) z x (mem_in _ x m)) one'.0) in
+        let opened : open_in v A x ≡ true = and_from _ _ (not_from_false _ out) one'.1 in
+        (mem_in _ x (open_first v A first t live have raised marks K x (in_mem v.live x k) opened), and_from _ _ (and_from _ _ opened one'.0) two.1)
+
+-- a number that is in both rows, and is no arm
+pub loose_says : (v : View) (A : List Atom) (first : ℕ) (t : Table) (live have raised marks : List ℕ) → Kept v A first t live have raised marks → (i : Item) (arm : ℕ → Bool) (at b : ℕ) → at ≡ length live - t.width → b < length v.bounds → same_item (item_of v b) i ≡ true →
+    (j : ℕ) → j < length t.numbers.items → (open_in v A (get_or t.numbers.items j 0) && has_item v (get_or t.numbers.items j 0) i && not (arm (get_or t.numbers.items j 0))) ≡ (in_both live at t.rows.items (t.width * b) j && not (arm (get_or t.numbers.items j 0)))
+loose_says v A first t live have raised marks K i arm at b e l s j h =
+    ap (λ k. open_in v A (get_or t.numbers.items j 0) && has_item v (get_or t.numbers.items j 0) k && not (arm (get_or t.numbers.items j 0))) (sym (same_item_is (item_of v b) i s))
+    ∙ ap (λ x. x && not (arm (get_or t.numbers.items j 0))) (row_says v A first t live have raised marks K at b e l j h)
+
+-- what is asked for is all that a Branch needs where the base has none
+pub lower_says : (v : View) (A : List Atom) (first : ℕ) (t : Table) (live have raised marks : List ℕ) → Kept v A first t live have raised marks → (i : Item) (b : ℕ) → b < length v.bounds → same_item (item_of v b) i ≡ true → get_or have b 0 ≡ 0 →
+    (count v (base v A) i ≡ 0) × (get_or t.asked.items b 0 ≡ lower v A i)
+lower_says v A first t live have raised marks K i b h s z =
+    let is = same_item_is (item_of v b) i s in
+    let none : count v (base v A) (item_of v b) ≡ 0 = sym (top_have v A first t live have raised marks K b h) ∙ z in
+    let asked : get_or t.asked.items b 0 ≡ asks v A (item_of v b) = K.table.asked b h ∙ sym ((top_level v A first t live have raised marks K).asked (item_of v b)) in
+    let low : get_or t.asked.items b 0 ≡ lower v A (item_of v b) = omega (arith, asked, none) in
+    (ap (λ k. count v (base v A) k) (sym is) ∙ none, low ∙ ap (λ k. lower v A k) is)

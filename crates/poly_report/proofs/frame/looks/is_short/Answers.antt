@@ -1,0 +1,16 @@
+use Rattle.std.proofs.Common.{arith, length, sym, ◌<◌, ◌∙◌}
+use Rattle.poly_atom.specs.Hopeless.{base}
+use Rattle.poly_report.specs.FrameItems.{item_of}
+use Rattle.poly_report.proofs.FrameArms.{short_none}
+use Rattle.poly_report.proofs.FrameLooks.{due_says}
+use Rattle.poly_report.proofs.frame.looks.is_short.Goals as goal
+
+pub returns-then-is_below : goal.returns-then-is_below
+returns-then-is_below c = λ _.
+    let s = c.args.steps.now in
+    let v = c.args.view.now in
+    let A = c.args.path.now in
+    let K = c.requires.kept in
+    let b = c.loop-b.b in
+    let low : b < length v.bounds = omega (arith, c.loop-b-test.true, c.len-b-end.ensures, s.have.ok.0, K.have_len) in
+    short_none v A (base v A) (item_of v b) (due_says v A c.args.first c.args.table.now s.live.items s.have.items s.raised.items s.marks.items K b low ∙ sym c.is_below.ensures ∙ c.if-is_below.true)

@@ -1,0 +1,114 @@
+//! Which words of a row have bits. Counts by them skip the words that are empty; nothing rests on them but time.
+ghost use Rattle.std.specs.Prelude.{IfErr, length, ◌+◌, ◌<◌, ◌≡◌, ◌≤◌};
+
+use poly_grid::Refusal;
+use std::alloc::Global;
+
+/// A bit for each word of a row. A design has at most 20,000 placements, so a row has at most 313 words.
+#[derive(Clone, Copy)]
+pub(crate) struct Busy([u64; 5]);
+
+impl Busy {
+    /// All words.
+    pub(crate) fn all() -> Busy {
+        Busy([u64::MAX; 5])
+    }
+}
+
+/// The words that have bits in the row that begins at word `at`.
+pub(crate) fn busy_words(words: &[u64], at: usize, width: usize) -> Busy
+    requires { at + width ≤ length words.now }
+{
+    let mut busy = [0u64; 5];
+    for k in 0..width.min(320) {
+        if words[at + k] != 0 {
+            busy[k / 64] |= 1u64 << (k % 64);
+        }
+    }
+    Busy(busy)
+}
+
+/// The words that have bits in each of a number of rows.
+pub(crate) fn busy_rows(
+    alloc: Global,
+    rows: &[u64],
+    width: usize,
+    count: usize,
+) -> Result<Vec<Busy>, Refusal>
+    ensures { IfErr result (λ e. e ≡ Refusal.Memory) }
+{
+    let mut all = Vec::with_capacity(alloc, count)?;
+    let mut at = 0usize;
+    for row in 0..count {
+        let _ = row;
+        if rows.len() - at < width {
+            return Ok(all);
+        }
+        all.push(busy_words(rows, at, width))?;
+        at += width;
+    }
+    Ok(all)
+}
+
+// How many numbers both rows have in those words of 64 that are in the mask; at `most` it stops.
+fn count_in(
+    words: &[u64],
+    at: usize,
+    rows: &[u64],
+    from: usize,
+    width: usize,
+    first: usize,
+    mask: u64,
+    most: usize,
+) -> usize
+    requires words { at + width ≤ length words.now }
+    requires rows { from + width ≤ length rows.now }
+    requires first { first < 320 }
+{
+    let mut left = mask;
+    let mut all = 0usize;
+    for _ in 0..64u32 {
+        if left == 0 || most <= all {
+            return all;
+        }
+        let k = first + left.trailing_zeros() as usize;
+        left &= left - 1;
+        if k < width {
+            all = all.saturating_add((words[at + k] & rows[from + k]).count_ones() as usize);
+        }
+    }
+    all
+}
+
+/// How many numbers both rows have, or some number not below `most` where there are so many.
+pub(crate) fn common(
+    words: &[u64],
+    at: usize,
+    busy: &Busy,
+    rows: &[u64],
+    from: usize,
+    filled: &Busy,
+    width: usize,
+    most: usize,
+) -> usize
+    requires words { at + width ≤ length words.now }
+    requires rows { from + width ≤ length rows.now }
+{
+    let mut all = 0usize;
+    for c in 0..5usize {
+        let mask = busy.0[c] & filled.0[c];
+        if mask != 0 && all < most {
+            all = all.saturating_add(count_in(
+                words,
+                at,
+                rows,
+                from,
+                width,
+                64 * c,
+                mask,
+                most - all,
+            ));
+        }
+    }
+    all
+}
