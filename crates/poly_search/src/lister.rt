@@ -59,8 +59,9 @@ fn push_rest(alloc: Global, frame: &Frame<'_>, list: &mut Listing) -> Result<(),
     Ok(())
 }
 
-/// Lists the family of the frame's atoms, and says whether it came to the end of it; what it left is among the rests.
-/// The steps on the frame stay below `end`, and the recursion goes no deeper than `depth`. The frame stays as it was.
+/// Lists the family of the frame's atoms, and says whether it came to the end of it: if not, what is left is among the
+/// rests. The steps on the frame stay below `end`, and the recursion goes no deeper than `depth`. The frame stays as it
+/// was.
 #[cycle(sweep)]
 pub fn sweep(
     alloc: Global,
@@ -76,6 +77,8 @@ pub fn sweep(
     ensures same { OnOk result (frame.new ≡ frame.old) }
     ensures swept { OnOk result (Swept frame.old.scene frame.old.atoms list.old.found.items list.new.found.items (lists list.old.rests.items) (lists list.new.rests.items)) }
     ensures lighter { OnOk result (IsLighter frame.old.scene frame.old.atoms (lists list.old.rests.items) (lists list.new.rests.items)) }
+    ensures whole { IfOk result (λ whole. whole ≡ true → lists list.new.rests.items ≡ lists list.old.rests.items) }
+    ensures left { IfOk result (λ whole. whole ≡ false → length (lists list.old.rests.items) < length (lists list.new.rests.items)) }
     ensures options { OnOk result (list.new.options.items ≡ list.old.options.items) }
     ensures why { IfErr result (λ e. e ≡ Refusal.Memory) }
 {
@@ -103,6 +106,8 @@ fn sweep_item(
     ensures same { OnOk result (frame.new ≡ frame.old) }
     ensures swept { OnOk result (Swept frame.old.scene frame.old.atoms list.old.found.items list.new.found.items (lists list.old.rests.items) (lists list.new.rests.items)) }
     ensures lighter { OnOk result (IsLighter frame.old.scene frame.old.atoms (lists list.old.rests.items) (lists list.new.rests.items)) }
+    ensures whole { IfOk result (λ whole. whole ≡ true → lists list.new.rests.items ≡ lists list.old.rests.items) }
+    ensures left { IfOk result (λ whole. whole ≡ false → length (lists list.old.rests.items) < length (lists list.new.rests.items)) }
     ensures options { OnOk result (list.new.options.items ≡ list.old.options.items) }
     ensures why { IfErr result (λ e. e ≡ Refusal.Memory) }
 {
@@ -134,6 +139,8 @@ fn sweep_options(
     ensures same { OnOk result (frame.new ≡ frame.old) }
     ensures swept { OnOk result (Swept frame.old.scene frame.old.atoms list.old.found.items list.new.found.items (lists list.old.rests.items) (lists list.new.rests.items)) }
     ensures lighter { OnOk result (IsLighter frame.old.scene frame.old.atoms (lists list.old.rests.items) (lists list.new.rests.items)) }
+    ensures whole { IfOk result (λ whole. whole ≡ true → lists list.new.rests.items ≡ lists list.old.rests.items) }
+    ensures left { IfOk result (λ whole. whole ≡ false → length (lists list.old.rests.items) < length (lists list.new.rests.items)) }
     ensures options { OnOk result (list.new.options.items ≡ list.old.options.items) }
     ensures why { IfErr result (λ e. e ≡ Refusal.Memory) }
 {
@@ -166,6 +173,8 @@ fn sweep_open(
     ensures same { OnOk result (frame.new ≡ frame.old) }
     ensures swept { OnOk result (Swept frame.old.scene frame.old.atoms list.old.found.items list.new.found.items (lists list.old.rests.items) (lists list.new.rests.items)) }
     ensures lighter { OnOk result (IsLighter frame.old.scene frame.old.atoms (lists list.old.rests.items) (lists list.new.rests.items)) }
+    ensures whole { IfOk result (λ whole. whole ≡ true → lists list.new.rests.items ≡ lists list.old.rests.items) }
+    ensures left { IfOk result (λ whole. whole ≡ false → length (lists list.old.rests.items) < length (lists list.new.rests.items)) }
     ensures options { OnOk result (list.new.options.items ≡ list.old.options.items) }
     ensures why { IfErr result (λ e. e ≡ Refusal.Memory) }
 {
@@ -203,6 +212,8 @@ fn sweep_arm(
     ensures more { IfOk result (λ whole. whole ≡ true → Partly frame.old.scene frame.old.atoms frame.new.atoms list.old.found.items list.new.found.items (lists list.old.rests.items) (lists list.new.rests.items)) }
     ensures swept { IfOk result (λ whole. whole ≡ false → Swept frame.old.scene frame.old.atoms list.old.found.items list.new.found.items (lists list.old.rests.items) (lists list.new.rests.items)) }
     ensures lighter { IfOk result (λ whole. whole ≡ false → IsLighter frame.old.scene frame.old.atoms (lists list.old.rests.items) (lists list.new.rests.items)) }
+    ensures whole { IfOk result (λ whole. whole ≡ true → lists list.new.rests.items ≡ lists list.old.rests.items) }
+    ensures left { IfOk result (λ whole. whole ≡ false → length (lists list.old.rests.items) < length (lists list.new.rests.items)) }
     ensures options { OnOk result (list.new.options.items ≡ list.old.options.items) }
     ensures why { IfErr result (λ e. e ≡ Refusal.Memory) }
 {
@@ -231,6 +242,8 @@ fn sweep_below(
     ensures same { OnOk result (frame.new ≡ frame.old) }
     ensures room { IfOk result (λ whole. whole ≡ true → length frame.new.atoms < end) }
     ensures swept { OnOk result (Swept frame.old.scene frame.old.atoms list.old.found.items list.new.found.items (lists list.old.rests.items) (lists list.new.rests.items)) }
+    ensures whole { IfOk result (λ whole. whole ≡ true → lists list.new.rests.items ≡ lists list.old.rests.items) }
+    ensures left { IfOk result (λ whole. whole ≡ false → length (lists list.old.rests.items) < length (lists list.new.rests.items)) }
     ensures options { OnOk result (list.new.options.items ≡ list.old.options.items) }
     ensures why { IfErr result (λ e. e ≡ Refusal.Memory) }
 {

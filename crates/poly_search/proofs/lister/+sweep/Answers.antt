@@ -79,6 +79,7 @@ sweep_options-loop-at-preserved t c =
       low = omega (arith, i.low);
       path = passed_more w c.loop-at.frame c.sweep_arm.new.frame xs c.loop-at.list.options.items c.args.from c.loop-at.at c.index-placement.result.now i.low lt i.options c.index-placement.ensures i.path g.step;
       room = g.room whole;
+      left = g.whole whole ∙ i.left;
       options = g.options ∙ i.options;
       swept = partly_more w.scene w.atoms c.loop-at.frame.atoms c.sweep_arm.new.frame.atoms _ _ _ _ _ _ i.swept part;
     }

@@ -29,6 +29,7 @@ invariant-sweep_options-loop-at l = record {
   path : l.frame ≡ record l.fn.frame { atoms = behind l.fn.frame.atoms (take (l.at - l.from) (drop l.from l.fn.list.options.items)) };
   room : length l.frame.atoms < l.end;
   options : l.list.options.items ≡ l.fn.list.options.items;
+  left : lists l.list.rests.items ≡ lists l.fn.list.rests.items;
   swept : Partly l.fn.frame.scene l.fn.frame.atoms l.frame.atoms l.fn.list.found.items l.list.found.items (lists l.fn.list.rests.items) (lists l.list.rests.items);
 }
 
@@ -39,6 +40,7 @@ invariant-sweep_open-loop-placement l = record {
   back : take (length l.fn.frame.atoms) l.frame.atoms ≡ l.fn.frame.atoms;
   room : length l.frame.atoms < l.end;
   options : l.list.options.items ≡ l.fn.list.options.items;
+  left : lists l.list.rests.items ≡ lists l.fn.list.rests.items;
   swept : Partly l.fn.frame.scene l.fn.frame.atoms l.frame.atoms l.fn.list.found.items l.list.found.items (lists l.fn.list.rests.items) (lists l.list.rests.items);
 }
 
