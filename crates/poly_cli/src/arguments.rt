@@ -1,39 +1,52 @@
-//! The program's arguments, read by `clap`.
+//! The arguments of the program.
+ghost use Rattle.std.specs.Prelude.{codes, map};
+ghost use Rattle.clap.specs.Words.{FailsBy, fault_of, new_app};
 
 use clap::{Command, Error};
 use std::alloc::Global;
 
-/// What `--help` tells beside the arguments.
-const ABOUT: &str = "Every tiling of a polyomino or polyhex puzzle.
+const ABOUT: &str =
+    "A workbench for polyomino puzzles: standard input is a puzzle line and then a command to a line, standard output has the replies.";
 
-Reads a puzzle line from standard input, then one command to a line, and writes the replies to standard output.";
-
-/// Reads the words of a command line, the program's name first. There is nothing to choose yet, so an answer says only
-/// that no word was wrong.
-///
-/// An error is a request for help, whose text goes to standard output, or a word that is no argument; it knows its text and
-/// the status to exit with.
-pub fn read_arguments<'a>(alloc: Global, words: &'a [&'a str]) -> Result<(), Error> {
+/// Reads the words of the command line, the program's own name first. There is no option yet but `--help`: an error holds the text of
+/// the help or of a mistake, or says that memory ran out. `Error::print` writes it where it belongs, help to standard output and the
+/// rest to standard error, and `Error::exit_code` is 0 for help and 2 for the rest.
+pub fn read_arguments(alloc: Global, words: &[&str]) -> Result<(), Error>
+    ensures { FailsBy (fault_of (new_app (codes "polybench")) (map (λ w. w.now) words.now)) result }
+{
     let command = Command::new(alloc, "polybench").about(ABOUT);
-    let _ = command.try_get_matches_from(words)?;
-    Ok(())
+    match command.try_get_matches_from(words) {
+        Ok(matches) => {
+            drop(matches);
+            Ok(())
+        }
+        Err(error) => Err(error),
+    }
 }
 
 #[cfg(test)]
 mod tests {
     use super::*;
-    use std::test::Fail;
+    use clap::error::ErrorKind;
+
+    // The kind of the error and the status that it asks for.
+    fn fault(alloc: Global, words: &[&str]) -> Option<(ErrorKind, i32)> {
+        match read_arguments(alloc, words) {
+            Ok(()) => None,
+            Err(error) => Some((error.kind(), error.exit_code())),
+        }
+    }
 
     #[test]
-    fn words_and_statuses(rt: HostRuntime) -> Result<(), Fail> {
+    fn help_is_the_one_option(rt: HostRuntime) {
         let alloc = rt.alloc();
-        assert!(rt; read_arguments(alloc, &["polybench"]).is_ok());
-        for (word, status) in [("--help", 0), ("-h", 0), ("--fly", 2), ("fly", 2)] {
-            match read_arguments(alloc, &["polybench", word]) {
-                Ok(()) => assert!(rt; false),
-                Err(error) => assert_eq!(rt; error.exit_code(), status),
-            }
+        assert!(rt; fault(alloc, &["polybench"]).is_none());
+        assert!(rt; fault(alloc, &["polybench", "--help"]) == Some((ErrorKind::DisplayHelp, 0)));
+        for word in ["--workers", "-x", "puzzle.json"] {
+            assert!(rt;
+                fault(alloc, &["polybench", word]) == Some((ErrorKind::UnknownArgument, 2)),
+                "{word}"
+            );
         }
-        Ok(())
     }
 }
