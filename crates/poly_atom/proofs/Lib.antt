@@ -11,3 +11,4 @@ pub mod Halves
 pub mod Counted
 pub mod Opposites
 pub mod Grows
+pub mod Trimmed

@@ -13,6 +13,8 @@ use poly_tiling::{Item, View};
 use std::alloc::Global;
 use std::test::Fail;
 
+mod boards;
+
 #[test]
 fn negation_of_each_kind(rt: HostRuntime) {
     assert_eq!(rt; Atom::Has(3).negated(), Atom::Lacks(3));

@@ -53,9 +53,9 @@ impl Design {
         ensures ok { IfOk result (λ n. IsCount placement_cmp (IsPlacement (record { grid = self.now.grid; cells = self.now.cells; pieces = set_spec self.now.pieces name spec.now })) n) }
         ensures why { IfErr result (λ e. e ≡ Refusal.Memory) }
     {
-        let gone = placements_of_some(self.alloc, &self.cells, name, self.pieces.get(&name))?;
-        let come = placements_of_some(self.alloc, &self.cells, name, spec.as_ref())?;
-        Ok(self.placement_count - gone.len() + come.len())
+        let before = placements_of_some(self.alloc, &self.cells, name, self.pieces.get(&name))?;
+        let after = placements_of_some(self.alloc, &self.cells, name, spec.as_ref())?;
+        Ok(self.placement_count - before.len() + after.len())
     }
 }
 

@@ -1,4 +1,4 @@
-use Rattle.std.proofs.Common.{◌≡◌, ◌∙◌, sym, ap, subst}
+use Rattle.std.proofs.Common.{◌∙◌, sym, ap, subst}
 use Rattle.poly_design.specs.Layout.{Layout}
 use Rattle.poly_design.specs.Limits.{IsDesign}
 use Rattle.poly_design.specs.Changes.{changed}
