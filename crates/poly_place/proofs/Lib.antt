@@ -6,3 +6,5 @@ pub mod Grow
 pub mod Planned
 pub mod Marks
 pub mod RunOut
+pub mod Untouched
+pub mod Turned

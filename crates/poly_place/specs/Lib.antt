@@ -7,3 +7,4 @@ pub mod Falls
 pub mod Differences
 pub mod Delta
 pub mod Spent
+pub mod Touched

@@ -2,11 +2,13 @@
 ghost use Rattle.std.specs.Prelude.{◌≡◌, ◌↔◌, ◌⊎◌, ◌^◌, ◌<◌, ◌++◌, ◌∷◌, [], Some, Err, IfSome, IsNone, IsTrue, IfOk, IfErr, OnOk, OnErr, length, slice_get, take};
 ghost use Rattle.std.specs.List.{Contains};
 ghost use Rattle.poly_place.specs.Interned.{AreNumbersOf, AreTooMany, Gives, GoesOnWith};
+ghost use Rattle.poly_place.specs.Touched.{number_cmp};
 
 use indexmap::IndexSet;
 use poly_design::Placement;
 use poly_grid::Refusal;
 use std::alloc::Global;
+use std::cmp::Ordering;
 use std::marker::Model;
 
 /// A number for each placement that was ever given one. Numbers count up from 0, and a number never changes its placement.
@@ -71,6 +73,13 @@ impl Interner {
         ensures { result ≡ slice_get self.now number }
     {
         self.all.get_index(number as usize).copied()
+    }
+
+    // How the placements of two numbers compare. A number that was not given out comes first.
+    pub(crate) fn compare(&self, first: u32, second: u32) -> Ordering
+        ensures { result ≡ number_cmp self.now first second }
+    {
+        self.placement(first).cmp(&self.placement(second))
     }
 
     /// All placements, in the order of their numbers. The only refusal is `Memory`.

@@ -1,6 +1,7 @@
 //! How a plan is made.
 ghost use Rattle.std.specs.Prelude.{◌≡◌, ◌⊎◌, Err, IfOk, IfErr};
 ghost use Rattle.std.specs.Arc.{arc_value};
+ghost use Rattle.poly_design.specs.Changes.{changed};
 ghost use Rattle.poly_design.specs.Layout.{Layout};
 ghost use Rattle.poly_tiling.specs.Names.{WellNamed};
 ghost use Rattle.poly_tiling.specs.Shows.{Shows};
@@ -14,7 +15,8 @@ use crate::interner::Interner;
 use crate::parts::Parts;
 use crate::plan::Plan;
 use crate::sides::Sides;
-use poly_design::Design;
+use crate::turn::turned;
+use poly_design::{Change, Design};
 use poly_grid::Refusal;
 use poly_tiling::View;
 use std::alloc::Global;
@@ -38,6 +40,31 @@ pub(crate) fn lead(
 {
     let parts = Parts::of(alloc, after)?;
     let next = Sides::of(alloc, names, parts)?;
+    let plan = plan_between(alloc, names, sides, next)?;
+    Ok(plan)
+}
+
+/// The plan of a change of the design that the sides show. After is the design after it.
+///
+/// Refused with `Spent` where there are more placements than numbers, and else only with `Memory`.
+pub(crate) fn lead_by(
+    alloc: Global,
+    names: &mut Interner,
+    sides: &Sides,
+    design: &Design,
+    change: &Change,
+    after: &Design,
+) -> Result<Plan, Refusal>
+    requires well { WellNamed (by_sides names.old sides.now) }
+    requires shows { Shows (by_sides names.old sides.now) design.now }
+    requires after { after.now ≡ changed design.now change.now }
+    ensures grows { GoesOn names.old names.new }
+    ensures ok { IfOk result (λ p. IsPlanFor (by_sides names.old sides.now) design.now after.now (arc_value p.view) p.delta) }
+    ensures given { IfOk result (λ p. (arc_value p.view).placements ≡ names.new) }
+    ensures spent { result ≡ Err Refusal.Spent → IsSpent names.old after.now }
+    ensures why { IfErr result (λ e. (e ≡ Refusal.Spent) ⊎ (e ≡ Refusal.Memory)) }
+{
+    let next = turned(alloc, names, sides, change, after)?;
     let plan = plan_between(alloc, names, sides, next)?;
     Ok(plan)
 }

@@ -8,6 +8,7 @@ mod parts;
 mod plan;
 mod sides;
 mod table;
+mod turn;
 
 pub use delta::Delta;
 pub use interner::Interner;

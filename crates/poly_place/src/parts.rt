@@ -37,8 +37,8 @@ impl Parts {
     }
 }
 
-// The pins, in placement order.
-fn pins(alloc: Global, design: &Design) -> Result<Vec<Placement>, Refusal>
+/// The pins, in placement order. The only refusal is `Memory`.
+pub(crate) fn pins(alloc: Global, design: &Design) -> Result<Vec<Placement>, Refusal>
     ensures ok { IfOk result (λ list. IsListOf placement_cmp (IsPin design.now) list.items) }
     ensures few { IfOk result (λ list. length list.items ≤ 64) }
     ensures design { OnOk result (IsDesign design.now) }

@@ -10,7 +10,7 @@ ghost use Rattle.poly_place.specs.Right.{IsRight};
 ghost use Rattle.poly_place.specs.Spent.{IsSpent};
 
 use crate::interner::Interner;
-use crate::lead::{lead, view_of};
+use crate::lead::{lead, lead_by, view_of};
 use crate::parts::Parts;
 use crate::plan::Plan;
 use crate::sides::Sides;
@@ -98,9 +98,29 @@ impl Table {
         ensures why { IfErr result (λ e. (e ≡ Refusal.Spent) ⊎ (e ≡ Refusal.Memory)) }
     {
         match after(design, change) {
-            Ok(after) => self.plan_to(&after),
+            Ok(after) => self.plan_by(design, change, &after),
             Err(refusal) => Err(refusal),
         }
+    }
+
+    fn plan_by(&mut self, design: &Design, change: &Change, after: &Design) -> Result<Plan, Refusal>
+        requires standing { IsRight self.old design.now }
+        requires after { after.now ≡ changed design.now change.now }
+        ensures ok { IfOk result (λ p. IsPlanFor self.old design.now after.now (arc_value p.view) p.delta) }
+        ensures last { IfOk result (λ p. (arc_value p.view).placements ≡ self.new.placements) }
+        ensures stays { Grown self.old self.new }
+        ensures right { IsRight self.new design.now }
+        ensures spent { result ≡ Err Refusal.Spent → IsSpent self.old.placements after.now }
+        ensures why { IfErr result (λ e. (e ≡ Refusal.Spent) ⊎ (e ≡ Refusal.Memory)) }
+    {
+        lead_by(
+            self.alloc,
+            &mut self.names,
+            &self.sides,
+            design,
+            change,
+            after,
+        )
     }
 
     /// Puts the plan in, without memory. It has to be the last plan that the table made.

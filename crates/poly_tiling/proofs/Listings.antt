@@ -46,7 +46,7 @@ then_equal Less q e = (e, absurd (cc))
 then_equal Equal q e = (refl, e)
 then_equal Greater q e = (e, absurd (cc))
 
-same_placement : IsAntisymmetric placement_cmp
+pub same_placement : IsAntisymmetric placement_cmp
 same_placement a b e =
     let both = then_equal (name_cmp a.name b.name) (cells_cmp a.cells b.cells) e in
     let names : a.name ≡ b.name = slice_cmp-IsAntisymmetric nat_cmp-IsAntisymmetric a.name b.name both.0 in
@@ -57,7 +57,7 @@ same_placements : IsAntisymmetric (slice_cmp placement_cmp)
 same_placements = slice_cmp-IsAntisymmetric same_placement
 
 -- neither above nor the same is below
-below_by : {X : Type 0} {R : X → X → Ordering} → IsTotalOrder R → IsAntisymmetric R → (x y : X) → is_lt (R y x) ≡ false → x ≢ y → R x y ≡ Less
+pub below_by : {X : Type 0} {R : X → X → Ordering} → IsTotalOrder R → IsAntisymmetric R → (x y : X) → is_lt (R y x) ≡ false → x ≢ y → R x y ≡ Less
 below_by {X} {R} o same x y h d = go (R x y) refl
   where
     go : (r : Ordering) → R x y ≡ r → R x y ≡ Less
@@ -66,7 +66,7 @@ below_by {X} {R} o same x y h d = go (R x y) refl
     go Greater e = let f : R y x ≡ Less = o.antisymm y x ∙ ap ordering_reverse e in let g : true ≡ false = sym (ap is_lt f) ∙ h in cc
 
 -- where each element is below the next, each is below all that follow
-steps_ascend : {X : Type 0} {R : X → X → Ordering} → IsTotalOrder R → (xs : List X) → ((k : ℕ) (d : X) → k + 1 < length xs → R (get_or xs k d) (get_or xs (k + 1) d) ≡ Less) → IsAscending R xs
+pub steps_ascend : {X : Type 0} {R : X → X → Ordering} → IsTotalOrder R → (xs : List X) → ((k : ℕ) (d : X) → k + 1 < length xs → R (get_or xs k d) (get_or xs (k + 1) d) ≡ Less) → IsAscending R xs
 steps_ascend {X} {R} o xs step i j d l m = subst (λ n. R (get_or xs i d) (get_or xs n d) ≡ Less) (omega arith) (far (j - (i + 1)) (omega arith))
   where
     far : (n : ℕ) → i + 1 + n < length xs → R (get_or xs i d) (get_or xs (i + 1 + n) d) ≡ Less
@@ -108,7 +108,7 @@ distinct_filter_at keep n ns h ih false = ih
 distinct_filter_at keep n ns h ih true = and_from _ _ (all_from (λ y. cond (eqb n y) false true) (filter keep ns) (λ y i.
     all_in (λ y. cond (eqb n y) false true) ns (and_parts (list_all (λ y. cond (eqb n y) false true) ns) (distinct ns) h).0 y (filter_in keep ns y i).0)) ih
 
-distinct_filter : (keep : ℕ → Bool) (ns : List ℕ) → distinct ns ≡ true → distinct (filter keep ns) ≡ true
+pub distinct_filter : (keep : ℕ → Bool) (ns : List ℕ) → distinct ns ≡ true → distinct (filter keep ns) ≡ true
 distinct_filter keep [] h = refl
 distinct_filter keep (n ∷ ns) h = distinct_filter_at keep n ns h (distinct_filter keep ns (distinct_rest n ns h)) (keep n)
 
@@ -126,7 +126,7 @@ placed_count v T wn t i =
     let b = tally_within f f T (kept v T) (ascending_distinct T t.up) (λ n j e. (in_kept v T t n j, e)) in
     omega (arith, a, b, names_count v i T, names_count v i (kept v T))
 
-apart_from : (xs : List Placement) → IsAscending placement_cmp xs → AllPairs (λ x y. x ≢ y) xs
+pub apart_from : (xs : List Placement) → IsAscending placement_cmp xs → AllPairs (λ x y. x ≢ y) xs
 apart_from xs up i j d l m e = not_below_itself placement_total (get_or xs j d) (subst (λ z. placement_cmp z (get_or xs j d) ≡ Less) e (up i j d l m))
 
 placed_tiles : (v : View) (d : Layout) (T : List ℕ) → WellNamed v → Shows v d → is_tiling v T ≡ true → IsTilingInOrder d (placed v T)

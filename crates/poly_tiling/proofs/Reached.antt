@@ -34,7 +34,7 @@ numbers v d s (x ∷ S) h =
 heads_stand : (v : View) (n : ℕ) (N : List ℕ) (x : Placement) (S : List Placement) → StandFor v.placements (n ∷ N) (x ∷ S) → (slice_get v.placements n ≡ Some x) × StandFor v.placements N S
 heads_stand v n N x S e = (cc, cc)
 
-not_both : (v : View) (N : List ℕ) (S : List Placement) → StandFor v.placements N S → AllPairs (λ x y. x ≢ y) S → distinct N ≡ true
+pub not_both : (v : View) (N : List ℕ) (S : List Placement) → StandFor v.placements N S → AllPairs (λ x y. x ≢ y) S → distinct N ≡ true
 not_both v [] S e h = refl
 not_both v (n ∷ N) [] e h = cc
 not_both v (n ∷ N) (x ∷ S) e h =

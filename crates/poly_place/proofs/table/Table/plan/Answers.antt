@@ -8,11 +8,7 @@ use Rattle.poly_place.specs.Delta.{IsPlanFor}
 use Rattle.poly_place.proofs.table.Table.plan.Goals as goal
 
 pub returns-in-Ok-clause-ok : goal.returns-in-Ok-clause-ok
-returns-in-Ok-clause-ok c =
-    subst (λ (d : Layout). IfOk c.plan_to.result (λ (p : Plan). IsPlanFor c.args.self.now c.args.design.now d (arc_value p.view) p.delta)) c.in-Ok.ensures.ok (c.plan_to.ensures.ok c.args.design.now c.requires.standing)
-
-pub returns-in-Ok-clause-right : goal.returns-in-Ok-clause-right
-returns-in-Ok-clause-right c = c.plan_to.ensures.right c.args.design.now c.requires.standing
+returns-in-Ok-clause-ok c = subst (λ (d : Layout). IfOk c.plan_by.result (λ (p : Plan). IsPlanFor c.args.self.now c.args.design.now d (arc_value p.view) p.delta)) c.in-Ok.ensures.ok c.plan_by.ensures.ok
 
 pub returns-in-Err-clause-stays : goal.returns-in-Err-clause-stays
 returns-in-Err-clause-stays c = (([], sym (append-nil c.args.self.now.placements)), refl, refl, refl)

@@ -1,0 +1,24 @@
+-- What a change of one cell or one piece may touch.
+use Rattle.std.specs.List.{list_any}
+use Rattle.std.specs.Option.{option_cmp}
+use Rattle.std.specs.Prelude.{ℕ, Bool, List, None, Option, Some, false, nat_eq, slice_get}
+use Rattle.std.specs.Cmp.Lexicographic.{pointwise}
+use Rattle.std.specs.declared.cmp.Ordering.{Ordering}
+use Rattle.poly_shape.specs.Order.{spot_eq}
+use Rattle.poly_design.specs.PlacementOrder.{placement_cmp}
+use Rattle.poly_design.specs.declared.change.Change.{Change}
+use Rattle.poly_design.specs.declared.change.Change.TheVariants.{Cell, Piece}
+use Rattle.poly_design.specs.declared.placement.Placement.{Placement}
+
+-- the placement covers the changed cell, or is one of the changed piece
+abbrev pub touches : Change → Placement → Bool
+touches (Cell c before after) p = list_any (λ k. spot_eq k c) p.cells
+touches (Piece name before after) p = pointwise nat_eq p.name name
+
+abbrev pub touches_named : Change → Option Placement → Bool
+touches_named x None = false
+touches_named x (Some p) = touches x p
+
+-- two numbers in the order of what they name
+abbrev pub number_cmp : List Placement → ℕ → ℕ → Ordering
+number_cmp all m n = option_cmp placement_cmp (slice_get all m) (slice_get all n)

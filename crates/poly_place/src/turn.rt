@@ -1,0 +1,147 @@
+//! The sides after a change of one cell or one piece.
+//!
+//! A placement that neither covers the changed cell nor belongs to the changed piece stays what it was. So only the
+//! placements over the cell or of the piece are found anew, and their numbers come in between the others.
+ghost use Rattle.std.specs.Prelude.{◌≡◌, ◌⊎◌, ◌++◌, Err, IfErr, IfOk, IsSome, OnOk, filter, nat_eq, not, slice_get, true};
+ghost use Rattle.std.specs.Cmp.Lexicographic.{pointwise};
+ghost use Rattle.std.specs.List.{list_any};
+ghost use Rattle.std.specs.List.Sorted.{IsPermutation, IsSorted};
+ghost use Rattle.poly_shape.specs.Order.{spot_eq};
+ghost use Rattle.poly_design.specs.Changes.{changed};
+ghost use Rattle.poly_design.specs.Layout.{Layout, spec_of};
+ghost use Rattle.poly_design.specs.Listed.{IsListOf};
+ghost use Rattle.poly_design.specs.PlacementOrder.{placement_cmp};
+ghost use Rattle.poly_design.specs.Placements.{IsPlacement};
+ghost use Rattle.poly_tiling.specs.Names.{WellNamed};
+ghost use Rattle.poly_tiling.specs.Shows.{Shows};
+ghost use Rattle.poly_place.specs.Delta.{GivesInOrder};
+ghost use Rattle.poly_place.specs.Interned.{GoesOn};
+ghost use Rattle.poly_place.specs.Right.{IsRight};
+ghost use Rattle.poly_place.specs.Sides.{by_sides};
+ghost use Rattle.poly_place.specs.Spent.{IsSpent};
+ghost use Rattle.poly_place.specs.Touched.{number_cmp, touches, touches_named};
+
+use crate::interner::Interner;
+use crate::parts::pins;
+use crate::sides::Sides;
+use poly_design::{Change, Design, Name, Placement};
+use poly_grid::{Cell, Refusal};
+use poly_tiling::item_list;
+use std::alloc::{AllocError, Global};
+
+/// The sides after the change. New numbers go to placements first, then to pins.
+///
+/// Refused with `Spent` where there are more placements than numbers, and else only with `Memory`.
+pub(crate) fn turned(
+    alloc: Global,
+    names: &mut Interner,
+    sides: &Sides,
+    change: &Change,
+    after: &Design,
+) -> Result<Sides, Refusal>
+    ensures right { (d : Layout) → WellNamed (by_sides names.old sides.now) → Shows (by_sides names.old sides.now) d → after.now ≡ changed d change.now → IfOk result (λ s. IsRight (by_sides names.new s) after.now) }
+    ensures grows { GoesOn names.old names.new }
+    ensures gives { OnOk result (GivesInOrder after.now names.old names.new) }
+    ensures spent { result ≡ Err Refusal.Spent → IsSpent names.old after.now }
+    ensures why { IfErr result (λ e. (e ≡ Refusal.Spent) ⊎ (e ≡ Refusal.Memory)) }
+{
+    let found = found(alloc, change, after)?;
+    let pinned = pins(alloc, after)?;
+    let bounds = item_list(alloc, after)?;
+    let kept = untouched(alloc, names, &sides.live, change)?;
+    let fresh = names.give_all(alloc, &found)?;
+    let live = merged(names, kept, &fresh)?;
+    let pins = names.give_all(alloc, &pinned)?;
+    Ok(Sides { live, bounds, pins })
+}
+
+// The placements after the change that it touches, in ascending order.
+fn found(alloc: Global, change: &Change, after: &Design) -> Result<Vec<Placement>, Refusal>
+    ensures ok { IfOk result (λ list. IsListOf placement_cmp (λ p. IsPlacement after.now p × (touches change.now p ≡ true)) list.items) }
+    ensures why { IfErr result (λ e. e ≡ Refusal.Memory) }
+{
+    match change {
+        Change::Cell { cell, .. } => found_on(*cell, after),
+        Change::Piece { name, .. } => found_of(alloc, *name, after),
+    }
+}
+
+fn found_on(cell: Cell, after: &Design) -> Result<Vec<Placement>, Refusal>
+    ensures ok { IfOk result (λ list. IsListOf placement_cmp (λ p. IsPlacement after.now p × (list_any (λ k. spot_eq k cell) p.cells ≡ true)) list.items) }
+    ensures why { IfErr result (λ e. e ≡ Refusal.Memory) }
+{
+    let list = after.places_on(cell)?;
+    Ok(list)
+}
+
+// The placements of the piece, none where it is not there.
+fn found_of(alloc: Global, name: Name, after: &Design) -> Result<Vec<Placement>, Refusal>
+    ensures ok { IfOk result (λ list. IsListOf placement_cmp (λ p. IsPlacement after.now p × (pointwise nat_eq p.name name ≡ true)) list.items) }
+    ensures why { IfErr result (λ e. e ≡ Refusal.Memory) }
+{
+    match after.spec(name) {
+        None => Ok(Vec::new(alloc)),
+        Some(_) => found_there(name, after),
+    }
+}
+
+fn found_there(name: Name, after: &Design) -> Result<Vec<Placement>, Refusal>
+    requires { IsSome (spec_of after.now name) }
+    ensures ok { IfOk result (λ list. IsListOf placement_cmp (λ p. IsPlacement after.now p × (pointwise nat_eq p.name name ≡ true)) list.items) }
+    ensures why { IfErr result (λ e. e ≡ Refusal.Memory) }
+{
+    match after.places_of(name) {
+        Ok(list) => Ok(list),
+        Err(_) => Err(Refusal::Memory),
+    }
+}
+
+// The numbers that the change leaves alone.
+fn untouched(
+    alloc: Global,
+    names: &Interner,
+    live: &[u32],
+    change: &Change,
+) -> Result<Vec<u32>, AllocError>
+    ensures { IfOk result (λ list. list.items ≡ filter (λ n. not (touches_named change.now (slice_get names.now n))) live.now) }
+{
+    live.iter()
+        .filter(|n| !is_touched(names, **n, change))
+        .copied()
+        .collect(alloc)
+}
+
+fn is_touched(names: &Interner, number: u32, change: &Change) -> bool
+    ensures { result ≡ touches_named change.now (slice_get names.now number) }
+{
+    match names.placement(number) {
+        Some(placement) => touches(change, &placement),
+        None => false,
+    }
+}
+
+fn touches(change: &Change, placement: &Placement) -> bool
+    ensures { result ≡ touches change.now placement.now }
+{
+    match change {
+        Change::Cell { cell, .. } => has(placement.cells.as_slice(), *cell),
+        Change::Piece { name, .. } => placement.name == *name,
+    }
+}
+
+fn has(cells: &[Cell], cell: Cell) -> bool
+    ensures { result ≡ list_any (λ k. spot_eq k cell) cells.now }
+{
+    cells.iter().any(|c| *c == cell)
+}
+
+// Both lists in the order of what they name.
+fn merged(names: &Interner, kept: Vec<u32>, fresh: &[u32]) -> Result<Vec<u32>, AllocError>
+    ensures same { IfOk result (λ list. IsPermutation (kept.items ++ fresh.now) list.items) }
+    ensures sorted { IfOk result (λ list. IsSorted (number_cmp names.now) list.items) }
+{
+    let mut live = kept;
+    live.extend_from_slice(fresh)?;
+    live.sort_by(|a, b| names.compare(*a, *b))?;
+    Ok(live)
+}
