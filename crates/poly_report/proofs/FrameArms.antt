@@ -21,6 +21,7 @@ use Rattle.poly_report.specs.FrameItems.{item_of}
 use Rattle.poly_report.specs.FrameTable.{TableShows}
 use Rattle.poly_report.specs.FrameSteps.{Kept}
 use Rattle.poly_report.specs.declared.frame.table.Table.{Table}
+use Rattle.poly_report.proofs.Ruled.{asks_is}
 use Rattle.poly_report.proofs.FrameSteps.{top_have, top_level}
 use Rattle.poly_report.proofs.FrameLooks.{open_first, row_says}
 
@@ -33,25 +34,12 @@ open_lives v A p m o =
     let named = (or_parts (list_any (λ a. lacks a p) A) (list_any (λ q. clash v p q) (base v A)) apart).0 in
     ap (λ b. not b || list_any (λ a. lacks a p) A) m ∙ named
 
--- a base that meets the atoms has as many of each item as is asked for
-asks_met : (v : View) (T : List ℕ) (i : Item) (A : List Atom) → least v i ≤ count v T i → meets_all v T A ≡ true → asks v A i ≤ count v T i
-asks_met v T i [] h m = h
-asks_met v T i (Has p ∷ A) h m = asks_met v T i A h (and_parts (mem T p) (meets_all v T A) m).1
-asks_met v T i (Lacks p ∷ A) h m = asks_met v T i A h (and_parts (not (mem T p)) (meets_all v T A) m).1
-asks_met v T i (AtLeast j n ∷ A) h m =
-    let ms = and_parts (leb n (count v T j)) (meets_all v T A) m in
-    which (same_item j i) (λ e. subst (λ k. n ≤ count v T k) (same_item_is j i e) (leb-true n _ ms.0)) (asks_met v T i A h ms.1)
-  where
-    which : (b : Bool) → (b ≡ true → n ≤ count v T i) → asks v A i ≤ count v T i → cond b (max n (asks v A i)) (asks v A i) ≤ count v T i
-    which true f g = omega (arith, f refl, g)
-    which false f g = g
-asks_met v T i (AtMost j n ∷ A) h m = asks_met v T i A h (and_parts (leb (count v T j) n) (meets_all v T A) m).1
-
+-- a base that is short is no tiling that meets the atoms
 pub short_none : (v : View) (A : List Atom) (T : List ℕ) (i : Item) → ltb (count v T i) (asks v A i) ≡ true → in_family v A T ≡ false
 short_none v A T i h = false_from_ne_true (in_family v A T) (λ f.
     let fs = and_parts (is_tiling v T) (meets_all v T A) f in
     let less = ltb-true (count v T i) (asks v A i) h in
-    absurd (omega (arith, less, asks_met v T i A ((parts v T fs.0).enough i) fs.1)))
+    absurd (omega (arith, less, asks_is v T i ((parts v T fs.0).enough i) A fs.1)))
 
 none_of : (f : ℕ → Bool) (xs : List ℕ) → tally f xs ≡ 0 → (x : ℕ) → In x xs → f x ≡ false
 none_of f [] z x i = absurd i

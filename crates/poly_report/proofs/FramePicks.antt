@@ -47,7 +47,7 @@ cell_in : (a : Placement) (c : Spot) → In (Cell c) (items_of (Some a)) → In 
 cell_in a c (inl e) = absurd (true≢false (ap is_piece e))
 cell_in a c (inr k) = let s = map_in (λ d. Cell d) a.cells (Cell c) k in let e : s.0 ≡ c = cc s.2 in subst (λ d. In d a.cells) e s.1
 
-shared : (o u : Option Placement) → share_cell o u ≡ true → (c : Spot) × In (Cell c) (items_of o) × In (Cell c) (items_of u)
+pub shared : (o u : Option Placement) → share_cell o u ≡ true → (c : Spot) × In (Cell c) (items_of o) × In (Cell c) (items_of u)
 shared None u h = absurd (true≢false (sym h))
 shared (Some a) None h = absurd (true≢false (sym h))
 shared (Some a) (Some b) h =
@@ -55,7 +55,7 @@ shared (Some a) (Some b) h =
     let s = any_in (λ d. spot_eq d r.0) b.cells r.2 in
     (r.0, inr (in_map (λ d. Cell d) a.cells r.0 r.1), inr (in_map (λ d. Cell d) b.cells r.0 (subst (λ d. In d b.cells) (same_spot_is s.0 r.0 s.2) s.1)))
 
-sharing : (o u : Option Placement) (c : Spot) → In (Cell c) (items_of o) → In (Cell c) (items_of u) → share_cell o u ≡ true
+pub sharing : (o u : Option Placement) (c : Spot) → In (Cell c) (items_of o) → In (Cell c) (items_of u) → share_cell o u ≡ true
 sharing None u c h k = absurd h
 sharing (Some a) None c h k = absurd k
 sharing (Some a) (Some b) c h k = any_from (λ d. has_cell b.cells d) a.cells c (cell_in a c h) (any_from (λ d. spot_eq d c) b.cells c (cell_in b c k) (spot_equiv.refl c))

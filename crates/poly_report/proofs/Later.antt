@@ -56,7 +56,7 @@ upper_le_most v i (Lacks p ∷ A) = upper_le_most v i A
 upper_le_most v i (AtLeast j n ∷ A) = upper_le_most v i A
 upper_le_most v i (AtMost j n ∷ A) = let r = upper_le_most v i A in cond_both (same_item j i) (min n (upper v A i)) (upper v A i) (λ k. k ≤ most v i) (λ e. omega arith) (λ e. r)
 
-upper_le_atom : (v : View) (i : Item) (n : ℕ) (A : List Atom) → In (AtMost i n) A → upper v A i ≤ n
+pub upper_le_atom : (v : View) (i : Item) (n : ℕ) (A : List Atom) → In (AtMost i n) A → upper v A i ≤ n
 upper_le_atom v i n [] k = absurd k
 upper_le_atom v i n (Has p ∷ A) (inl e) = cc
 upper_le_atom v i n (Has p ∷ A) (inr k) = upper_le_atom v i n A k

@@ -20,3 +20,4 @@ pub mod FrameOpen
 pub mod FrameLooks
 pub mod FrameMembers
 pub mod FrameArms
+pub mod FrameSound

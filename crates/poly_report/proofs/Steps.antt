@@ -39,10 +39,10 @@ any_same : {X : Type 0} (f g : X → Bool) (xs : List X) → ((x : X) → f x �
 any_same f g [] e = refl
 any_same f g (x ∷ xs) e = ap (λ b. b || list_any f xs) (e x) ∙ ap (λ b. g x || b) (any_same f g xs e)
 
-lacks_pick : (A : List Atom) (p q : ℕ) → list_any (λ a. lacks a q) (A ++ Has p ∷ []) ≡ list_any (λ a. lacks a q) A
+pub lacks_pick : (A : List Atom) (p q : ℕ) → list_any (λ a. lacks a q) (A ++ Has p ∷ []) ≡ list_any (λ a. lacks a q) A
 lacks_pick A p q = any_append (λ a. lacks a q) A (Has p ∷ []) ∙ or_false (list_any (λ a. lacks a q) A)
 
-lacks_leave : (A : List Atom) (p q : ℕ) → list_any (λ a. lacks a q) (A ++ Lacks p ∷ []) ≡ (list_any (λ a. lacks a q) A || eqb p q)
+pub lacks_leave : (A : List Atom) (p q : ℕ) → list_any (λ a. lacks a q) (A ++ Lacks p ∷ []) ≡ (list_any (λ a. lacks a q) A || eqb p q)
 lacks_leave A p q = any_append (λ a. lacks a q) A (Lacks p ∷ []) ∙ ap (λ b. list_any (λ a. lacks a q) A || b) (or_false (eqb p q))
 
 leave_at : (m l c f e : Bool) → (not m && not (((l || e) || c) || f)) ≡ ((not m && not ((l || c) || f)) && not e)
@@ -95,7 +95,7 @@ any_put_at f p q qs ih true c e = or_again (f q) (list_any f qs) ∙ ap (λ z. f
 any_put_at f p q qs ih false true e = refl
 any_put_at f p q qs ih false false e = ap (λ b. f q || b) ih ∙ or_turn (f q) (f p) (list_any f qs)
 
-any_put : (f : ℕ → Bool) (p : ℕ) (qs : List ℕ) → list_any f (put p qs) ≡ (f p || list_any f qs)
+pub any_put : (f : ℕ → Bool) (p : ℕ) (qs : List ℕ) → list_any f (put p qs) ≡ (f p || list_any f qs)
 any_put f p [] = refl
 any_put f p (q ∷ qs) = any_put_at f p q qs (any_put f p qs) (eqb p q) (ltb p q) refl
 
@@ -109,7 +109,7 @@ le_one u o true = same_truth _ _
     (λ e. or_right (leb u o) _ e)
     (λ e. elim (or_cases (leb u o) (leb u (o + 1)) e) [ inl a ↦ let b = leb-true u o a in le-leb u (o + 1) (omega arith) | inr a ↦ a ])
 
-others_put : (v : View) (xs : List ℕ) (p q : ℕ) (i : Item) → mem xs p ≡ false → eqb p q ≡ false → others v (put p xs) q i ≡ others v xs q i + one (has_item v p i)
+pub others_put : (v : View) (xs : List ℕ) (p q : ℕ) (i : Item) → mem xs p ≡ false → eqb p q ≡ false → others v (put p xs) q i ≡ others v xs q i + one (has_item v p i)
 others_put v xs p q i m n = tally_put (λ r. has_item v r i && not (eqb r q)) p xs m ∙ ap (λ b. others v xs q i + one (has_item v p i && not b)) n ∙ ap (λ b. others v xs q i + one b) (and_true_right (has_item v p i))
 
 pick_at : (m l k c f g : Bool) → (not m && not ((l || (k || c)) || (f || g))) ≡ ((not m && not ((l || c) || f)) && (not k && not g))

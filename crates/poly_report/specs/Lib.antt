@@ -13,4 +13,5 @@ pub mod Bits
 pub mod FrameItems
 pub mod FrameTable
 pub mod FrameMembers
+pub mod FrameSound
 pub mod FrameSteps

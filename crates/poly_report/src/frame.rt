@@ -17,6 +17,7 @@ mod busy;
 mod items;
 mod looks;
 mod members;
+mod sound;
 mod steps;
 mod table;
 
@@ -42,6 +43,7 @@ pub struct Frame<'a> {
     given: usize,
     members: Vec<u32>,
     sizes: Vec<usize>,
+    sound: usize,
     options: Vec<u32>,
     table: Table,
     steps: Steps,
@@ -55,7 +57,7 @@ impl<'a> Model for Frame<'a> {
 
     ghost view = { λ f. record { scene = f.view.now; atoms = f.path.items; given = f.given } };
 
-    ghost invariant = { λ f. IsFrame f.view.now f.path f.given f.members f.sizes f.options f.table f.steps };
+    ghost invariant = { λ f. IsFrame f.view.now f.path f.given f.members f.sizes f.sound f.options f.table f.steps };
 }
 
 impl<'a> Frame<'a> {
@@ -78,6 +80,7 @@ impl<'a> Frame<'a> {
         let mut members = Vec::with_capacity(alloc, pins + given + STEPS)?;
         plain::make_base(view, atoms, &mut members);
         let sizes = Vec::with_capacity(alloc, STEPS)?;
+        let sound = sound::begin(view, atoms, &members);
         let options = Vec::with_capacity(alloc, live)?;
         let cells = guess_cells(alloc, view.items())?;
         let mut raised = Vec::with_capacity(alloc, STEPS * 17)?;
@@ -90,6 +93,7 @@ impl<'a> Frame<'a> {
             given,
             members,
             sizes,
+            sound,
             options,
             table,
             steps,
@@ -115,6 +119,7 @@ impl<'a> Frame<'a> {
         requires { length self.old.atoms < self.old.given + 4096 }
         ensures { self.new ≡ with_step self.old (Atom.Has placement) }
     {
+        let opened = self.stands_open(placement);
         steps::pick(
             self.view,
             &self.path,
@@ -132,6 +137,9 @@ impl<'a> Frame<'a> {
             &mut self.sizes,
             placement,
         );
+        self.sound = sound::pick(
+            self.view, &self.path, self.given, self.sound, placement, opened,
+        );
         self.path.push_reserved(Atom::Has(placement));
     }
 
@@ -140,6 +148,7 @@ impl<'a> Frame<'a> {
         requires { length self.old.atoms < self.old.given + 4096 }
         ensures { self.new ≡ with_step self.old (Atom.Lacks placement) }
     {
+        let opened = self.stands_open(placement);
         steps::leave(
             self.view,
             &self.path,
@@ -155,6 +164,9 @@ impl<'a> Frame<'a> {
             &self.members,
             &mut self.sizes,
             placement,
+        );
+        self.sound = sound::leave(
+            self.view, &self.path, self.given, self.sound, placement, opened,
         );
         self.path.push_reserved(Atom::Lacks(placement));
     }
@@ -180,6 +192,7 @@ impl<'a> Frame<'a> {
             &mut self.members,
             &mut self.sizes,
         );
+        self.sound = sound::back(self.view, &self.path, self.given, self.sound);
         self.path.truncate(mark);
     }
 
@@ -251,14 +264,7 @@ impl<'a> Frame<'a> {
     pub fn dead(&self, placement: u32) -> bool
         ensures { result ≡ dead self.now.scene self.now.atoms placement }
     {
-        if looks::stands_open(
-            self.view,
-            &self.path,
-            self.given,
-            &self.table,
-            &self.steps,
-            placement,
-        ) {
+        if self.stands_open(placement) {
             return false;
         }
         plain::is_dead(self.view, &self.path, placement)
@@ -284,13 +290,42 @@ impl<'a> Frame<'a> {
     pub fn found(&self) -> Option<&[u32]>
         ensures { MatchOption result (in_family self.now.scene self.now.atoms (base self.now.scene self.now.atoms) ≡ false) (λ t. (t.now ≡ base self.now.scene self.now.atoms) × (in_family self.now.scene self.now.atoms (base self.now.scene self.now.atoms) ≡ true)) }
     {
-        if looks::is_short(self.view, &self.path, self.given, &self.table, &self.steps) {
-            return None;
+        match looks::judge(
+            self.view,
+            &self.path,
+            self.given,
+            &self.table,
+            &self.steps,
+            self.sound,
+        ) {
+            Some(true) => Some(&self.members),
+            Some(false) => None,
+            None => self.found_plainly(),
         }
+    }
+
+    // The base, where it is a tiling that meets the atoms, by asking the view.
+    fn found_plainly(&self) -> Option<&[u32]>
+        ensures { MatchOption result (in_family self.now.scene self.now.atoms (base self.now.scene self.now.atoms) ≡ false) (λ t. (t.now ≡ base self.now.scene self.now.atoms) × (in_family self.now.scene self.now.atoms (base self.now.scene self.now.atoms) ≡ true)) }
+    {
         if !plain::is_member(self.view, &self.path, &self.members) {
             return None;
         }
         Some(&self.members)
+    }
+
+    // Whether the placement is known to be open.
+    fn stands_open(&self, placement: u32) -> bool
+        ensures { result ≡ true → (mem self.now.scene.live placement ≡ true) × (is_open self.now placement ≡ true) }
+    {
+        looks::stands_open(
+            self.view,
+            &self.path,
+            self.given,
+            &self.table,
+            &self.steps,
+            placement,
+        )
     }
 }
 

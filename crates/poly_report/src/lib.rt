@@ -16,3 +16,6 @@ pub use laws::{steps_come_back, tree_tilings_belong, trees_keep_holding, trees_s
 pub use leaf::Leaves;
 pub use size::{DEPTH, NODES, fits};
 pub use tree::{Arm, Report, Tree};
+
+#[cfg(test)]
+mod tests;

@@ -1,5 +1,5 @@
 //! What a frame is asked: which placements are open, and which item is due.
-ghost use Rattle.std.specs.Prelude.{Bool, MatchOption, false, length, nat_lt, not, slice_index, true, vec_capacity, vec_len, ℕ, ◌&&◌, ◌*◌, ◌+◌, ◌<◌, ◌^◌, ◌≡◌, ◌≤◌};
+ghost use Rattle.std.specs.Prelude.{Bool, IfSome, MatchOption, false, length, nat_lt, not, slice_index, true, vec_capacity, vec_len, ℕ, ◌&&◌, ◌*◌, ◌+◌, ◌<◌, ◌^◌, ◌≡◌, ◌≤◌};
 ghost use Rattle.std.specs.List.{filter, list_all};
 ghost use Rattle.poly_tiling.specs.declared.item.Item.{Item};
 ghost use Rattle.poly_tiling.specs.Lists.{mem};
@@ -9,6 +9,7 @@ ghost use Rattle.poly_atom.specs.Hopeless.{base};
 ghost use Rattle.poly_report.specs.Holds.{asks, open_in};
 ghost use Rattle.poly_report.specs.Bits.{in_both};
 ghost use Rattle.poly_report.specs.FrameItems.{item_of};
+ghost use Rattle.poly_report.specs.FrameSound.{SoundShows};
 ghost use Rattle.poly_report.specs.FrameSteps.{StepsKeep};
 
 use crate::frame::busy::{Busy, busy_words, common};
@@ -154,7 +155,8 @@ pub(crate) fn is_short(
     steps: &Steps,
 ) -> bool
     requires kept { StepsKeep view.now path.now first table.now steps.now }
-    ensures { result ≡ true → in_family view.now path.now (base view.now path.now) ≡ false }
+    ensures short { result ≡ true → in_family view.now path.now (base view.now path.now) ≡ false }
+    ensures enough { result ≡ false → (b : ℕ) → b < length view.now.bounds → nat_lt (count view.now (base view.now path.now) (item_of view.now b)) (asks view.now path.now (item_of view.now b)) ≡ false }
 {
     let _ = view;
     let _ = path;
@@ -164,6 +166,28 @@ pub(crate) fn is_short(
         }
     }
     false
+}
+
+/// Whether the base is a tiling that meets the atoms, where the rows tell that.
+pub(crate) fn judge(
+    view: &View,
+    path: &[Atom],
+    first: usize,
+    table: &Table,
+    steps: &Steps,
+    sound: usize,
+) -> Option<bool>
+    requires kept { StepsKeep view.now path.now first table.now steps.now }
+    requires sound { SoundShows view.now path.now first sound }
+    ensures { IfSome result (λ b. in_family view.now path.now (base view.now path.now) ≡ b) }
+{
+    if is_short(view, path, first, table, steps) {
+        return Some(false);
+    }
+    if table.listed && sound > path.len() - first {
+        return Some(true);
+    }
+    None
 }
 
 // How many options the item at a place has beyond what it still needs, plus one: 0 where they are too few; some number

@@ -1,0 +1,17 @@
+-- When the base of a frame's atoms wants nothing but more members.
+use Rattle.std.specs.Prelude.{Bool, List, length, not, take, true, ℕ, ◌&&◌, ◌+◌, ◌<◌, ◌≡◌, ◌≤◌}
+use Rattle.std.specs.List.{list_all}
+use Rattle.poly_tiling.specs.Lists.{mem}
+use Rattle.poly_tiling.specs.Puzzle.{View}
+use Rattle.poly_atom.specs.declared.atom.Atom.{Atom}
+use Rattle.poly_atom.specs.Hopeless.{base}
+use Rattle.poly_report.specs.Holds.{ruled_out}
+
+-- each member is a placement of the design and is not ruled out
+abbrev pub is_sound : View → List Atom → Bool
+is_sound v A = list_all (λ p. mem v.live p && not (ruled_out v A p)) (base v A)
+
+-- the base was sound after each of the first steps, as many as are counted, the given atoms being the first
+pub record SoundShows (v : View) (A : List Atom) (first sound : ℕ) : Type 0 where
+  pub few : sound + first ≤ length A + 1
+  pub levels : (k : ℕ) → k < sound → is_sound v (take (first + k) A) ≡ true
