@@ -1,4 +1,4 @@
-use Rattle.std.proofs.Common.{◌≡◌, ℕ, ◌+◌, ◌<◌, ◌≤◌, length, ◌++◌, [], ◌∷◌, true, arith, rules, sym, ap, subst, ◌∙◌}
+use Rattle.std.proofs.Common.{◌≡◌, ℕ, ◌+◌, ◌<◌, ◌≤◌, length, ◌++◌, [], ◌∷◌, List, true, arith, rules, sym, ap, subst, ◌∙◌}
 use Rattle.poly_tiling.specs.Lists.{distinct}
 use Rattle.poly_report.specs.Gather.{lists}
 use Rattle.poly_report.specs.Walk.{Walk}
@@ -80,7 +80,7 @@ sweep_options-loop-at-preserved t c =
       path = passed_more w c.loop-at.frame c.sweep_arm.new.frame xs c.loop-at.list.options.items c.args.from c.loop-at.at c.index-placement.result.now i.low lt i.options c.index-placement.ensures i.path g.step;
       room = g.room whole;
       left = g.whole whole ∙ i.left;
-      options = g.options ∙ i.options;
+      options = ◌∙◌ {A = List ℕ} g.options i.options;
       swept = partly_more w.scene w.atoms c.loop-at.frame.atoms c.sweep_arm.new.frame.atoms _ _ _ _ _ _ i.swept part;
     }
 
