@@ -1,5 +1,5 @@
 -- The differences between two designs, by their lists.
-use Rattle.std.proofs.Common.{Bool, List, None, Option, Some, [], ap, arith, cond, eqb, false, if◌then◌else◌, inl, inr, leb, length, ltb, map, not, refl, slice_get, subst, sym, true, ℕ, ◌&&◌, ◌++◌, ◌<◌, ◌∙◌, ◌∷◌, ◌≡◌, ◌≢◌, ◌≤◌, ◌⊎◌, ◌↔◌}
+use Rattle.std.proofs.Common.{Bool, List, None, Option, Some, [], ap, arith, cond, false, if◌then◌else◌, inl, inr, length, map, not, refl, slice_get, subst, sym, true, ℕ, ◌&&◌, ◌<◌, ◌∙◌, ◌∷◌, ◌≡◌, ◌≢◌, ◌≤◌, ◌↔◌}
 use Rattle.std.specs.Prelude.{filter, nat_lt}
 use Rattle.std.specs.List.{AllPairs, Contains, cons_option, filter_map, list_all, list_any}
 use Rattle.std.specs.Map.{keys_of}
@@ -8,13 +8,10 @@ use Rattle.std.specs.declared.cmp.Ordering.{Ordering}
 use Rattle.std.specs.declared.cmp.Ordering.TheVariants.{Equal, Greater, Less}
 use Rattle.std.specs.Cmp.{tied_itself}
 use Rattle.std.proofs.lemmas.Bool.{and_from, and_parts, both_ways, false_from_ne_true, lt-ltb, ltb-true, not-true, not_from_false}
-use mathlib.Core.Bool.{true≢false}
-use Rattle.poly_grid.specs.Spot.{Spot}
 use Rattle.poly_shape.specs.Order.{IsAscending}
 use Rattle.poly_design.specs.Layout.{Layout}
 use Rattle.poly_design.specs.Listed.{IsListOf}
 use Rattle.poly_design.specs.Name.{name_cmp}
-use Rattle.poly_design.specs.declared.mode.Mode.{Mode}
 use Rattle.poly_design.specs.declared.placement.Placement.{Placement}
 use Rattle.poly_design.specs.declared.spec.Spec.{Spec}
 use Rattle.poly_tiling.specs.declared.item.Item.{Item}

@@ -1,10 +1,10 @@
 -- Numbers that are found, given out one after another, and taken back.
-use Rattle.std.proofs.Common.{Bool, if◌then◌else◌, List, None, Option, Some, [], ap, arith, false, get_or, inl, inr, length, map, position, refl, slice_get, subst, suc, sym, take, true, zero, ℕ, ◌&&◌, ◌++◌, ◌+◌, ◌<◌, ◌^◌, ◌∙◌, ◌∷◌, ◌≡◌, ◌≢◌, ◌≤◌, ◌⊎◌, nat_eq, append_assoc}
+use Rattle.std.proofs.Common.{Bool, if◌then◌else◌, List, Option, Some, [], ap, arith, false, get_or, inl, inr, length, map, position, refl, slice_get, subst, suc, sym, take, true, zero, ℕ, ◌&&◌, ◌++◌, ◌+◌, ◌<◌, ◌^◌, ◌∙◌, ◌∷◌, ◌≡◌, ◌≢◌, ◌≤◌, nat_eq, append_assoc}
 use mathlib.Core.Bool.{true≢false}
 use Rattle.std.specs.Cmp.Lexicographic.{pointwise}
 use Rattle.std.specs.List.{AllPairs, Contains, list_any}
-use Rattle.std.proofs.lemmas.List.{append-nil, get_or_append_left, get_or-take, length-append, length-take, map-append, map_more, take_all}
-use Rattle.std.proofs.lemmas.List.Elements.{Contains-append_left, Contains-append_cases, Contains-get_or, Contains-push_cases, Contains-push}
+use Rattle.std.proofs.lemmas.List.{append-nil, get_or-take, length-append, length-take, map-append, map_more, take_all}
+use Rattle.std.proofs.lemmas.List.Elements.{Contains-append_left, Contains-append_cases, Contains-get_or, Contains-push_cases}
 use Rattle.std.proofs.lemmas.List.Quantifiers.{all_pairs_push, position-Some}
 use Rattle.std.proofs.lemmas.Option.{slice_get-get_or}
 use Rattle.std.specs.declared.cmp.Ordering.TheVariants.{Less}

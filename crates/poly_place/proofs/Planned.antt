@@ -2,13 +2,11 @@
 use Rattle.std.proofs.Common.{List, ap, filter, map, refl, subst, sym, true, ℕ, ◌++◌, ◌∙◌, ◌≡◌, ◌↔◌}
 use Rattle.std.specs.Prelude.{nat_lt}
 use Rattle.std.specs.List.{filter_map}
-use Rattle.poly_shape.specs.Order.{IsAscending}
 use Rattle.poly_design.specs.Layout.{Layout}
 use Rattle.poly_design.specs.Listed.{IsListOf}
 use Rattle.poly_design.specs.Name.{name_cmp}
 use Rattle.poly_design.specs.Placements.{IsPlacement}
 use Rattle.poly_design.specs.declared.placement.Placement.{Placement}
-use Rattle.poly_tiling.specs.Lists.{mem}
 use Rattle.poly_tiling.specs.Names.{WellNamed, item_cmp, items_ascend}
 use Rattle.poly_tiling.specs.Puzzle.{Bound, bound_in}
 use Rattle.poly_tiling.specs.Shows.{IsNamed, Shows, item_bounds}

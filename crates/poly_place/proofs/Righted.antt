@@ -1,5 +1,5 @@
 -- Numbers given to the parts of a design make a table that is right for it.
-use Rattle.std.proofs.Common.{Bool, List, None, Option, Some, [], ap, arith, false, inl, inr, length, map, refl, slice_get, subst, sym, true, ℕ, ◌&&◌, ◌++◌, ◌<◌, ◌∙◌, ◌∷◌, ◌≡◌, ◌≢◌, ◌⊎◌, ◌↔◌}
+use Rattle.std.proofs.Common.{List, Some, [], ap, inl, inr, length, map, refl, slice_get, subst, sym, true, ℕ, ◌++◌, ◌∙◌, ◌∷◌, ◌≡◌, ◌↔◌}
 use Rattle.std.specs.Prelude.{nat_lt}
 use Rattle.std.specs.List.{Contains, list_all, list_any}
 use Rattle.std.specs.Map.{keys_of}
@@ -10,7 +10,6 @@ use Rattle.poly_grid.specs.Spot.{Spot}
 use Rattle.poly_shape.specs.Order.{IsAscending, spot_cmp}
 use Rattle.poly_design.specs.Layout.{Layout}
 use Rattle.poly_design.specs.Limits.{IsDesign}
-use Rattle.poly_design.specs.Listed.{IsListOf}
 use Rattle.poly_design.specs.Name.{name_cmp}
 use Rattle.poly_design.specs.PlacementOrder.{placement_cmp}
 use Rattle.poly_design.specs.Placements.{IsPlacement}
@@ -18,11 +17,10 @@ use Rattle.poly_design.specs.declared.mode.Mode.{Mode}
 use Rattle.poly_design.specs.declared.placement.Placement.{Placement}
 use Rattle.poly_design.specs.declared.spec.Spec.{Spec}
 use Rattle.poly_design.proofs.Rows.{unblocked_exactly}
-use Rattle.poly_tiling.specs.declared.item.Item.{Item}
 use Rattle.poly_tiling.specs.declared.item.Item.TheVariants.{Cell, Piece}
-use Rattle.poly_tiling.specs.Names.{WellNamed, below, in_order, item_cmp, items_ascend, placed_below}
+use Rattle.poly_tiling.specs.Names.{below, in_order, item_cmp, items_ascend, placed_below}
 use Rattle.poly_tiling.specs.Puzzle.{Bound, View, items, items_of, same_item}
-use Rattle.poly_tiling.specs.Shows.{IsNamed, Shows, cell_bound, item_bounds, piece_bound}
+use Rattle.poly_tiling.specs.Shows.{IsNamed, cell_bound, item_bounds, piece_bound}
 use Rattle.poly_tiling.proofs.Contained.{contains_in, in_contains, pairs_head, pairs_rest}
 use Rattle.poly_tiling.proofs.Lists.{In, all_append, all_from, all_map, any_from, in_append_left, in_append_right, in_map}
 use Rattle.poly_tiling.proofs.Shown.{some_same}

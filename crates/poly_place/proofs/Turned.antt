@@ -1,5 +1,5 @@
 -- The numbers after a change of one cell or one piece: those that it leaves alone, and those of what is found anew.
-use Rattle.std.proofs.Common.{Bool, List, None, Option, Some, [], ap, arith, cond, eqb, false, get_or, inl, inr, length, map, not, refl, slice_get, subst, suc, sym, true, zero, ℕ, ◌++◌, ◌+◌, ◌<◌, ◌∙◌, ◌∷◌, ◌≡◌, ◌≢◌, ◌⊎◌}
+use Rattle.std.proofs.Common.{Bool, List, Some, [], ap, arith, eqb, false, get_or, inl, inr, length, map, not, refl, slice_get, subst, suc, sym, true, zero, ℕ, ◌++◌, ◌+◌, ◌<◌, ◌∙◌, ◌∷◌, ◌≡◌, ◌≢◌, ◌⊎◌}
 use Rattle.std.specs.Prelude.{filter}
 use Rattle.std.specs.List.{AllPairs, Contains, cons_option, filter_map}
 use Rattle.std.specs.List.Sorted.{IsPermutation, IsSorted}

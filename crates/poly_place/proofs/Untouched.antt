@@ -1,8 +1,8 @@
 -- What a change does not touch stays a placement, or stays none.
-use Rattle.std.proofs.Common.{Bool, List, None, Option, Some, [], ap, cond, false, inl, inr, refl, subst, sym, true, ℕ, ◌∙◌, ◌∷◌, ◌≡◌, ◌≢◌, ◌↔◌}
+use Rattle.std.proofs.Common.{Bool, List, None, Option, Some, [], ap, cond, false, inl, inr, refl, subst, sym, true, ℕ, ◌∙◌, ◌∷◌, ◌≡◌, ◌≢◌}
 use Rattle.std.specs.Prelude.{nat_eq, unwrap_or}
 use Rattle.std.specs.List.{Contains, list_any}
-use Rattle.std.specs.Map.{keys_of, lookup, remove_entry}
+use Rattle.std.specs.Map.{lookup, remove_entry}
 use Rattle.std.specs.BTreeMap.{insert_entry, is_at}
 use Rattle.std.specs.Cmp.Lexicographic.{bytes_decides, nat_list_cmp_total, nat_list_eq_equiv, pointwise}
 use Rattle.std.specs.Cmp.{tied_itself}
@@ -12,14 +12,14 @@ use Rattle.std.specs.declared.cmp.Ordering.{Ordering}
 use Rattle.std.specs.declared.cmp.Ordering.TheVariants.{Equal, Greater, Less}
 use Rattle.std.proofs.lemmas.Bool.{both_ways}
 use Rattle.poly_grid.specs.Spot.{Spot}
-use Rattle.poly_shape.specs.Order.{spot_cmp, spot_eq, spot_equiv}
+use Rattle.poly_shape.specs.Order.{spot_eq, spot_equiv}
 use Rattle.poly_shape.proofs.Ascending.{same_spot}
 use Rattle.poly_design.specs.Changes.{changed, set_mode, set_spec}
 use Rattle.poly_design.specs.Layout.{Layout, mode_at, spec_of}
 use Rattle.poly_design.specs.Listed.{IsListOf}
 use Rattle.poly_design.specs.PlacementOrder.{placement_cmp}
 use Rattle.poly_design.specs.Name.{name_cmp}
-use Rattle.poly_design.specs.Placements.{IsMovedTo, IsPlace, IsPlacement, IsUnblocked}
+use Rattle.poly_design.specs.Placements.{IsPlace, IsPlacement, IsUnblocked}
 use Rattle.poly_design.specs.declared.change.Change.{Change}
 use Rattle.poly_design.specs.declared.change.Change.TheVariants.{Cell, Piece}
 use Rattle.poly_design.specs.declared.mode.Mode.{Mode}

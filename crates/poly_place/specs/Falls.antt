@@ -1,5 +1,5 @@
 -- The most of one piece in two lists of bounds.
-use Rattle.std.specs.Prelude.{ℕ, ◌&&◌, Bool, List, None, Option, Some, nat_lt, if◌then◌else◌}
+use Rattle.std.specs.Prelude.{ℕ, ◌&&◌, List, None, Option, Some, nat_lt, if◌then◌else◌}
 use Rattle.std.specs.List.{list_any}
 use Rattle.poly_tiling.specs.declared.item.Item.{Item}
 use Rattle.poly_tiling.specs.declared.item.Item.TheVariants.{Cell, Piece}

@@ -1,5 +1,5 @@
 -- The pin of one piece.
-use Rattle.std.specs.Prelude.{ℕ, List, Option, option_to_list}
+use Rattle.std.specs.Prelude.{ℕ, List, option_to_list}
 use Rattle.std.specs.Option.{option_map}
 use Rattle.poly_design.specs.declared.placement.Placement.{Placement}
 use Rattle.poly_design.specs.declared.spec.Spec.{Spec}

@@ -90,17 +90,6 @@ impl Interner {
         Ok(Vec::from_slice(alloc, self.all.as_slice())?)
     }
 
-    /// Makes room for so many more numbers.
-    ///
-    /// The only refusal is `Memory`.
-    pub fn reserve(&mut self, more: usize) -> Result<(), Refusal>
-        ensures same { self.new ≡ self.old }
-        ensures why { IfErr result (λ e. e ≡ Refusal.Memory) }
-    {
-        self.all.reserve(more)?;
-        Ok(())
-    }
-
     /// The number of the placement, which is the next number where it has none yet.
     ///
     /// Refused with `Spent` where the placement has no number and all are given out, and else only with `Memory`. A
@@ -172,6 +161,15 @@ impl Interner {
             }
         }
         Ok(numbers)
+    }
+
+    // Makes room for so many more numbers.
+    fn reserve(&mut self, more: usize) -> Result<(), Refusal>
+        ensures same { self.new ≡ self.old }
+        ensures why { IfErr result (λ e. e ≡ Refusal.Memory) }
+    {
+        self.all.reserve(more)?;
+        Ok(())
     }
 
     // Takes back the numbers that a refused call gave out.

@@ -164,7 +164,6 @@ fn numbers_are_given_once(rt: HostRuntime) -> Result<(), Fail> {
     };
     let mut names = Interner::new(alloc);
     assert!(rt; names.is_empty());
-    names.reserve(2)?;
     assert_eq!(rt; names.number(&there), None);
     assert_eq!(rt; names.give(&there)?, 0);
     assert_eq!(rt;

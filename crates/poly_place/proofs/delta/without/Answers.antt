@@ -1,4 +1,4 @@
-use Rattle.std.proofs.Common.{List, Bool, filter, not, get_or, false, ap, ◌∙◌, sym}
+use Rattle.std.proofs.Common.{List, Bool, filter, not, get_or, false, ap, ◌∙◌}
 use Rattle.poly_place.proofs.Marks.{unmarked_are}
 use Rattle.poly_place.proofs.delta.without.Goals as goal
 

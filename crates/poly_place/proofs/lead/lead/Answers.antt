@@ -1,6 +1,5 @@
 use Rattle.std.proofs.Common.{sym, ap, subst}
 use Rattle.poly_tiling.specs.Puzzle.{View}
-use Rattle.poly_tiling.specs.Shows.{Shows}
 use Rattle.poly_place.specs.Delta.{IsPlanFor}
 use Rattle.poly_place.specs.Interned.{GoesOn}
 use Rattle.poly_place.specs.Right.{IsRight}

@@ -1,4 +1,4 @@
-use Rattle.std.proofs.Common.{ap, subst, sym, ◌≡◌}
+use Rattle.std.proofs.Common.{ap, subst, sym}
 use Rattle.poly_tiling.specs.Puzzle.{View}
 use Rattle.poly_place.specs.Delta.{IsPlanFor}
 use Rattle.poly_place.specs.Interned.{GoesOn}

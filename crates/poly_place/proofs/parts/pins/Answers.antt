@@ -1,4 +1,4 @@
-use Rattle.std.proofs.Common.{◌≡◌, ◌∙◌, ◌≤◌, List, ap, arith, length, subst, sym}
+use Rattle.std.proofs.Common.{◌≤◌, List, ap, arith, length, subst, sym}
 use Rattle.poly_design.specs.Listed.{IsListOf}
 use Rattle.poly_design.specs.PlacementOrder.{placement_cmp}
 use Rattle.poly_design.specs.declared.placement.Placement.{Placement}

@@ -1,5 +1,4 @@
-use Rattle.std.proofs.Common.{◌≡◌, Err, Result, ℕ, ap, arith, subst, sym}
-use Rattle.poly_grid.specs.declared.refusal.Refusal.{Refusal}
+use Rattle.std.proofs.Common.{◌≡◌, Err, ap, arith}
 use Rattle.poly_grid.specs.declared.refusal.Refusal.TheVariants.{Spent}
 use Rattle.poly_place.proofs.Numbers.{all_given, goes_on, too_many}
 use Rattle.poly_place.proofs.interner.Interner.give_all.Goals as goal

@@ -1,4 +1,4 @@
-use Rattle.std.proofs.Common.{ap, subst, sym}
+use Rattle.std.proofs.Common.{subst, sym}
 use Rattle.std.specs.Arc.{arc_value}
 use Rattle.std.specs.Prelude.{IfOk}
 use Rattle.poly_tiling.specs.Names.{Grown}
@@ -6,7 +6,6 @@ use Rattle.poly_tiling.specs.Puzzle.{View}
 use Rattle.poly_tiling.specs.Shows.{Shows}
 use Rattle.poly_place.specs.declared.plan.Plan.{Plan}
 use Rattle.poly_place.specs.Delta.{IsPlanFor}
-use Rattle.poly_place.specs.Right.{IsRight}
 use Rattle.poly_place.specs.Sides.{by_sides}
 use Rattle.poly_place.proofs.Grow.{grown_shows, grown_well, grows_on}
 use Rattle.poly_place.proofs.table.Table.plan_to.Goals as goal
