@@ -124,6 +124,16 @@ printf 'ok 0\n' >"$room/wanted"
 ./polybench <"$room/input" >"$room/output" 2>"$room/errors"
 judge "a million lines and one more" 3 "$?" $'polybench: read fault\n'
 
+# Of 257 changes the last 256 can be undone.
+{
+    printf '%s\n' "$dominoes"
+    for change in $(seq 257); do
+        if [ $((change % 2)) -eq 1 ]; then echo 'cell 0,0 optional'; else echo 'cell 0,0 required'; fi
+    done
+    yes undo | head -n 257
+} >"$room/input"
+on_file "257 undos" "$room/input" "$(seq 0 513 | sed 's/^/ok /')"$'\nno 16 NothingToUndo\n' 0
+
 # The twelve pentominoes on three rows of twenty.
 printf '%s\ncount\n' '{"format":1,"grid":"square","board":["####################","####################","####################"],"pieces":[{"name":"F","cells":[[1,0],[2,0],[0,1],[1,1],[1,2]]},{"name":"I","cells":[[0,0],[0,1],[0,2],[0,3],[0,4]]},{"name":"L","cells":[[0,0],[0,1],[0,2],[0,3],[1,3]]},{"name":"N","cells":[[1,0],[1,1],[0,2],[1,2],[0,3]]},{"name":"P","cells":[[0,0],[1,0],[0,1],[1,1],[0,2]]},{"name":"T","cells":[[0,0],[1,0],[2,0],[1,1],[1,2]]},{"name":"U","cells":[[0,0],[2,0],[0,1],[1,1],[2,1]]},{"name":"V","cells":[[0,0],[0,1],[0,2],[1,2],[2,2]]},{"name":"W","cells":[[0,0],[0,1],[1,1],[1,2],[2,2]]},{"name":"X","cells":[[1,0],[0,1],[1,1],[2,1],[1,2]]},{"name":"Y","cells":[[1,0],[0,1],[1,1],[1,2],[1,3]]},{"name":"Z","cells":[[0,0],[1,0],[1,1],[1,2],[2,2]]}]}' >"$room/input"
 on_file "the twelve pentominoes on three by twenty" "$room/input" $'ok 0\ntilings 8\n' 0

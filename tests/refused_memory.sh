@@ -75,7 +75,7 @@ play() {
     echo "refused memory: $name, $((at - 1)) allocations" >&2
 }
 
-for name in two_dominoes a_first_design drop_and_undo; do
+for name in two_dominoes a_first_design drop_and_undo mirror_with_a_pin copies an_optional_piece_comes refused_commands; do
     play "$name"
 done
 echo "$passed passed, $failed failed"
