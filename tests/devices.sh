@@ -1,11 +1,6 @@
 #!/usr/bin/env bash
 # What only a running program shows: exit statuses, standard error, devices that fail, and long inputs.
-set -u
-cd "$(dirname "${BASH_SOURCE[0]}")/.." || exit 2
-room=$(mktemp -d)
-trap 'rm -rf "$room"' EXIT
-passed=0
-failed=0
+. "$(dirname "${BASH_SOURCE[0]}")/setup.bash"
 dominoes='{"format":1,"grid":"square","board":["##","##"],"pieces":[{"name":"A","cells":[[0,0],[1,0]]},{"name":"B","cells":[[0,0],[1,0]]}]}'
 
 # Judges a run that left its standard output and error in the room: name, wanted status, status, wanted error.
@@ -29,7 +24,7 @@ on_file() {
     judge "$1" "$4" "$?" ""
 }
 
-# Help goes to standard output, and wrong words to standard error.
+# Help goes to standard output.
 ./polybench --help </dev/null >"$room/output" 2>"$room/errors"
 status=$?
 if [ "$status" -eq 0 ] && grep -q '^Usage: polybench' "$room/output" && [ ! -s "$room/errors" ]; then
@@ -38,26 +33,24 @@ else
     failed=$((failed + 1))
     echo "failed: help (status $status)"
 fi
-for words in '--fly' 'fly' '--help=1'; do
-    ./polybench $words </dev/null >"$room/output" 2>"$room/errors"
+
+# An argument that has to be refused before any input is read: its text goes to standard error.
+refused_argument() {
+    local status
+    ./polybench "$1" </dev/null >"$room/output" 2>"$room/errors"
     status=$?
     if [ "$status" -eq 2 ] && [ -s "$room/errors" ] && [ ! -s "$room/output" ]; then
         passed=$((passed + 1))
     else
         failed=$((failed + 1))
-        echo "failed: the argument $words (status $status)"
+        echo "failed: the argument $1 (status $status)"
     fi
-done
+}
 
-# Words that are no UTF-8 are refused before any input is read.
-./polybench "$(printf '\377')" </dev/null >"$room/output" 2>"$room/errors"
-status=$?
-if [ "$status" -eq 2 ] && [ -s "$room/errors" ] && [ ! -s "$room/output" ]; then
-    passed=$((passed + 1))
-else
-    failed=$((failed + 1))
-    echo "failed: an argument that is no UTF-8 (status $status)"
-fi
+refused_argument '--fly'
+refused_argument 'fly'
+refused_argument '--help=1'
+refused_argument "$(printf '\377')"
 
 # No byte at all is a puzzle line of no bytes.
 on_file "empty input" /dev/null $'no 1 BadJson\n' 1
@@ -138,5 +131,4 @@ on_file "257 undos" "$room/input" "$(seq 0 513 | sed 's/^/ok /')"$'\nno 16 Nothi
 printf '%s\ncount\n' '{"format":1,"grid":"square","board":["####################","####################","####################"],"pieces":[{"name":"F","cells":[[1,0],[2,0],[0,1],[1,1],[1,2]]},{"name":"I","cells":[[0,0],[0,1],[0,2],[0,3],[0,4]]},{"name":"L","cells":[[0,0],[0,1],[0,2],[0,3],[1,3]]},{"name":"N","cells":[[1,0],[1,1],[0,2],[1,2],[0,3]]},{"name":"P","cells":[[0,0],[1,0],[0,1],[1,1],[0,2]]},{"name":"T","cells":[[0,0],[1,0],[2,0],[1,1],[1,2]]},{"name":"U","cells":[[0,0],[2,0],[0,1],[1,1],[2,1]]},{"name":"V","cells":[[0,0],[0,1],[0,2],[1,2],[2,2]]},{"name":"W","cells":[[0,0],[0,1],[1,1],[1,2],[2,2]]},{"name":"X","cells":[[1,0],[0,1],[1,1],[2,1],[1,2]]},{"name":"Y","cells":[[1,0],[0,1],[1,1],[1,2],[1,3]]},{"name":"Z","cells":[[0,0],[1,0],[1,1],[1,2],[2,2]]}]}' >"$room/input"
 on_file "the twelve pentominoes on three by twenty" "$room/input" $'ok 0\ntilings 8\n' 0
 
-echo "$passed passed, $failed failed"
-[ "$failed" -eq 0 ]
+close

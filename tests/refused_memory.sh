@@ -4,12 +4,7 @@
 # In place of one reply there may then stand `no 22 Memory`, and nothing else may change: the command that was refused
 # has left no trace, so all other replies are those of the script without it. Where the arguments can't be read for want
 # of memory, they are refused, and nothing is answered.
-set -u
-cd "$(dirname "${BASH_SOURCE[0]}")/.." || exit 2
-room=$(mktemp -d)
-trap 'rm -rf "$room"' EXIT
-passed=0
-failed=0
+. "$(dirname "${BASH_SOURCE[0]}")/setup.bash"
 
 if ! cc -O1 -shared -fPIC -o "$room/refuse.so" tests/refuse_allocation.c -ldl; then
     echo "failed: the C compiler, which the linker of the toolchain needs too, could not build tests/refuse_allocation.c"
@@ -78,5 +73,4 @@ play() {
 for name in two_dominoes a_first_design drop_and_undo mirror_with_a_pin copies an_optional_piece_comes refused_commands; do
     play "$name"
 done
-echo "$passed passed, $failed failed"
-[ "$failed" -eq 0 ]
+close

@@ -5,12 +5,7 @@
 # In a transcript a line that begins with `> ` is typed, and the lines after it are what the program answers; a line
 # that begins with `#` is for the reader, but `# status N` says that the program has to end with status N, not 0. The
 # blocks of a document between ```text and ``` are one transcript together.
-set -u
-cd "$(dirname "${BASH_SOURCE[0]}")/.." || exit 2
-room=$(mktemp -d)
-trap 'rm -rf "$room"' EXIT
-passed=0
-failed=0
+. "$(dirname "${BASH_SOURCE[0]}")/setup.bash"
 
 # Plays the transcript in the file under the name.
 play() {
@@ -37,5 +32,4 @@ for document in README.md docs/GUIDE.md; do
     sed -n '/^```text$/,/^```$/p' "$document" | grep -v '^```' >"$room/transcript"
     play "the transcript in $document" "$room/transcript"
 done
-echo "$passed passed, $failed failed"
-[ "$failed" -eq 0 ]
+close
