@@ -5,7 +5,11 @@ use poly_shape::Cells;
 use std::alloc::Global;
 use std::test::Fail;
 
+mod devices;
+mod edits;
 mod limits;
+mod openings;
+mod puzzles;
 mod sessions;
 
 fn cell(x: u64, y: u64) -> Result<Cell, Refusal> {

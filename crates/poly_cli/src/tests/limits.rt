@@ -3,7 +3,7 @@
 use crate::answering::Answerer;
 use crate::lines::Lines;
 use crate::serving::serve;
-use crate::tests::sessions::{Pieces, Small};
+use crate::tests::devices::{Pieces, Small};
 use crate::{Fault, LINE_LIMIT, Plain};
 use poly_grid::Refusal;
 use std::alloc::Global;
