@@ -1,19 +1,20 @@
 -- What the rows say of the arms of a Branch, of dead placements and of a base that is short.
 use Rattle.std.proofs.Common.{◌≡◌, ℕ, zero, suc, ◌+◌, ◌-◌, ◌*◌, ◌<◌, ◌≤◌, Bool, true, false, cond, max, min, not, ◌&&◌, ◌||◌, eqb, ltb, leb, List, [], ◌∷◌, ◌++◌, inl, inr, refl, sym, ap, subst, ◌∙◌, arith, length, get_or, take}
 use Rattle.std.specs.List.{list_any, list_all}
-use Rattle.std.proofs.lemmas.Bool.{and_from, and_parts, both_ways, cases_Bool, eqb-true, false_from_ne_true, leb-true, ltb-true, not_from_false, not-true, or_parts}
+use Rattle.std.proofs.lemmas.Bool.{and_from, and_parts, both_ways, cases_Bool, eqb-true, false_from_ne_true, leb-true, lt-ltb, ltb-true, not_from_false, not-true, or_parts}
 use Rattle.std.proofs.lemmas.List.{take_more}
 use Rattle.poly_tiling.specs.declared.item.Item.{Item}
 use Rattle.poly_tiling.specs.Lists.{distinct, mem, one, tally}
 use Rattle.poly_tiling.specs.Puzzle.{View, clash, count, has_item, is_tiling, items, least, same_item}
-use Rattle.poly_tiling.proofs.Lists.{In, in_mem, mem_in}
-use Rattle.poly_tiling.proofs.Counts.{tally_within}
+use Rattle.poly_tiling.proofs.Lists.{In, in_mem, mem_in, same_truth}
+use Rattle.poly_tiling.proofs.Counts.{ascending_distinct, tally_within}
 use Rattle.poly_tiling.proofs.Orders.{live_once}
 use Rattle.poly_tiling.proofs.Tilings.{parts, same_item_is}
 use Rattle.poly_atom.specs.declared.atom.Atom.{Atom}
 use Rattle.poly_atom.specs.declared.atom.Atom.TheVariants.{AtLeast, AtMost, Has, Lacks}
 use Rattle.poly_atom.specs.Atoms.{in_family, meets, meets_all}
 use Rattle.poly_atom.specs.Hopeless.{base, lacks}
+use Rattle.poly_atom.proofs.Bases.{base_up}
 use Rattle.poly_report.specs.declared.tree.Arm.{Arm}
 use Rattle.poly_report.specs.Holds.{asks, dead, lower, open_in, others, ruled_out, upper}
 use Rattle.poly_report.specs.Bits.{NoneIn, in_both}
@@ -41,11 +42,6 @@ short_none v A T i h = false_from_ne_true (in_family v A T) (λ f.
     let less = ltb-true (count v T i) (asks v A i) h in
     absurd (omega (arith, less, asks_is v T i ((parts v T fs.0).enough i) A fs.1)))
 
-none_of : (f : ℕ → Bool) (xs : List ℕ) → tally f xs ≡ 0 → (x : ℕ) → In x xs → f x ≡ false
-none_of f [] z x i = absurd i
-none_of f (y ∷ ys) z x (inl e) = false_from_ne_true (f x) (λ t. absurd (omega (arith, z, ap one (ap f e ∙ t))))
-none_of f (y ∷ ys) z x (inr i) = none_of f ys (omega (arith, z)) x i
-
 pub tally_more : (g : ℕ → Bool) (xs : List ℕ) (k : ℕ) → k < length xs → tally g (take (k + 1) xs) ≡ tally g (take k xs) + one (g (get_or xs k 0))
 tally_more g xs k h = ap (λ ys. tally g ys) (take_more xs k 0 h) ∙ tally_end (take k xs)
   where
@@ -71,32 +67,79 @@ tally_gap g xs low j h l out = ap (λ n. tally g (take n xs)) split ∙ gap g xs
     split : j ≡ low + (j - low)
     split = omega arith
 
--- where the base has none of an item, what is loose is open
-pub loose_open : (v : View) (A : List Atom) (first : ℕ) (t : Table) (live have raised marks : List ℕ) → Kept v A first t live have raised marks → (i : Item) (arm : ℕ → Bool) → count v (base v A) i ≡ 0 →
-    tally (λ p. open_in v A p && has_item v p i && not (arm p)) t.numbers.items ≡ tally (λ p. has_item v p i && not (ruled_out v A p) && not (arm p)) v.live
-loose_open v A first t live have raised marks K i arm z =
-    omega (arith, tally_within g f t.numbers.items v.live K.table.once down, tally_within f g v.live t.numbers.items (live_once v K.table.well) up)
+parted : (a b : Bool) → one a ≡ one (a && not b) + one (a && b)
+parted true true = omega arith
+parted true false = omega arith
+parted false b = omega arith
+
+-- what passes a test, without those of a second kind and among them
+apart : (f g : ℕ → Bool) (xs : List ℕ) → tally f xs ≡ tally (λ p. f p && not (g p)) xs + tally (λ p. f p && g p) xs
+apart f g [] = omega arith
+apart f g (x ∷ xs) = omega (arith, parted (f x) (g x), apart f g xs)
+
+-- what is loose is open, or it is a member that is not ruled out
+pub loose_parts : (v : View) (A : List Atom) (first : ℕ) (t : Table) (live have raised marks : List ℕ) → Kept v A first t live have raised marks → (i : Item) (arm : ℕ → Bool) →
+    tally (λ p. open_in v A p && has_item v p i && not (arm p)) t.numbers.items + tally (λ p. has_item v p i && (mem v.live p && not (ruled_out v A p)) && not (arm p)) (base v A)
+    ≡ tally (λ p. has_item v p i && not (ruled_out v A p) && not (arm p)) v.live
+loose_parts v A first t live have raised marks K i arm =
+    omega (
+      arith,
+      apart f (λ p. mem T p) v.live,
+      tally_within g out t.numbers.items v.live K.table.once down,
+      tally_within out g v.live t.numbers.items once up,
+      tally_within h in' T v.live (ascending_distinct T (base_up v A)) here,
+      tally_within in' h v.live T once there,
+    )
   where
+    T : List ℕ
+    T = base v A
+
+    once : distinct v.live ≡ true
+    once = live_once v K.table.well
+
     f : ℕ → Bool
     f p = has_item v p i && not (ruled_out v A p) && not (arm p)
 
     g : ℕ → Bool
     g p = open_in v A p && has_item v p i && not (arm p)
 
-    down : (x : ℕ) → In x t.numbers.items → g x ≡ true → In x v.live × (f x ≡ true)
+    h : ℕ → Bool
+    h p = has_item v p i && (mem v.live p && not (ruled_out v A p)) && not (arm p)
+
+    out : ℕ → Bool
+    out p = f p && not (mem T p)
+
+    in' : ℕ → Bool
+    in' p = f p && mem T p
+
+    down : (x : ℕ) → In x t.numbers.items → g x ≡ true → In x v.live × (out x ≡ true)
     down x k e =
         let two = and_parts (open_in v A x && has_item v x i) (not (arm x)) e in
         let one' = and_parts (open_in v A x) (has_item v x i) two.0 in
-        let free = (and_parts (not (mem (base v A) x)) (not (ruled_out v A x)) one'.0).1 in
-        (mem_in v.live x (K.table.begun x (in_mem t.numbers.items x k)).0, and_from _ _ (and_from _ _ one'.1 free) two.1)
+        let free = and_parts (not (mem T x)) (not (ruled_out v A x)) one'.0 in
+        (mem_in v.live x (K.table.begun x (in_mem t.numbers.items x k)).0, and_from _ _ (and_from _ _ (and_from _ _ one'.1 free.1) two.1) free.0)
 
-    up : (x : ℕ) → In x v.live → f x ≡ true → In x t.numbers.items × (g x ≡ true)
+    up : (x : ℕ) → In x v.live → out x ≡ true → In x t.numbers.items × (g x ≡ true)
     up x k e =
-        let two = and_parts (has_item v x i && not (ruled_out v A x)) (not (arm x)) e in
+        let three = and_parts (f x) (not (mem T x)) e in
+        let two = and_parts (has_item v x i && not (ruled_out v A x)) (not (arm x)) three.0 in
         let one' = and_parts (has_item v x i) (not (ruled_out v A x)) two.0 in
-        let out : mem (base v A) x ≡ false = false_from_ne_true _ (λ m. both_ways (has_item v x i) (none_of (λ p. has_item v p i) (base v A) z x (mem_in _ x m)) one'.0) in
-        let opened : open_in v A x ≡ true = and_from _ _ (not_from_false _ out) one'.1 in
+        let opened : open_in v A x ≡ true = and_from _ _ three.1 one'.1 in
         (mem_in _ x (open_first v A first t live have raised marks K x (in_mem v.live x k) opened), and_from _ _ (and_from _ _ opened one'.0) two.1)
+
+    here : (x : ℕ) → In x T → h x ≡ true → In x v.live × (in' x ≡ true)
+    here x k e =
+        let two = and_parts (has_item v x i && (mem v.live x && not (ruled_out v A x))) (not (arm x)) e in
+        let one' = and_parts (has_item v x i) (mem v.live x && not (ruled_out v A x)) two.0 in
+        let right = and_parts (mem v.live x) (not (ruled_out v A x)) one'.1 in
+        (mem_in v.live x right.0, and_from _ _ (and_from _ _ (and_from _ _ one'.0 right.1) two.1) (in_mem T x k))
+
+    there : (x : ℕ) → In x v.live → in' x ≡ true → In x T × (h x ≡ true)
+    there x k e =
+        let three = and_parts (f x) (mem T x) e in
+        let two = and_parts (has_item v x i && not (ruled_out v A x)) (not (arm x)) three.0 in
+        let one' = and_parts (has_item v x i) (not (ruled_out v A x)) two.0 in
+        (mem_in T x three.1, and_from _ _ (and_from _ _ one'.0 (and_from _ _ (in_mem v.live x k) one'.1)) two.1)
 
 -- a number that is in both rows, and is no arm
 pub loose_says : (v : View) (A : List Atom) (first : ℕ) (t : Table) (live have raised marks : List ℕ) → Kept v A first t live have raised marks → (i : Item) (arm : ℕ → Bool) (at b : ℕ) → at ≡ length live - t.width → b < length v.bounds → same_item (item_of v b) i ≡ true →
@@ -105,12 +148,14 @@ loose_says v A first t live have raised marks K i arm at b e l s j h =
     ap (λ k. open_in v A (get_or t.numbers.items j 0) && has_item v (get_or t.numbers.items j 0) k && not (arm (get_or t.numbers.items j 0))) (sym (same_item_is (item_of v b) i s))
     ∙ ap (λ x. x && not (arm (get_or t.numbers.items j 0))) (row_says v A first t live have raised marks K at b e l j h)
 
--- what is asked for is all that a Branch needs where the base has none
-pub lower_says : (v : View) (A : List Atom) (first : ℕ) (t : Table) (live have raised marks : List ℕ) → Kept v A first t live have raised marks → (i : Item) (b : ℕ) → b < length v.bounds → same_item (item_of v b) i ≡ true → get_or have b 0 ≡ 0 →
-    (count v (base v A) i ≡ 0) × (get_or t.asked.items b 0 ≡ lower v A i)
-lower_says v A first t live have raised marks K i b h s z =
-    let is = same_item_is (item_of v b) i s in
-    let none : count v (base v A) (item_of v b) ≡ 0 = sym (top_have v A first t live have raised marks K b h) ∙ z in
-    let asked : get_or t.asked.items b 0 ≡ asks v A (item_of v b) = K.table.asked b h ∙ sym ((top_level v A first t live have raised marks K).asked (item_of v b)) in
-    let low : get_or t.asked.items b 0 ≡ lower v A (item_of v b) = omega (arith, asked, none) in
-    (ap (λ k. count v (base v A) k) (sym is) ∙ none, low ∙ ap (λ k. lower v A k) is)
+-- what a Branch needs is the greater of what is asked for and what the base has
+pub lower_says : (v : View) (A : List Atom) (first : ℕ) (t : Table) (live have raised marks : List ℕ) → Kept v A first t live have raised marks → (i : Item) (b : ℕ) → b < length v.bounds → same_item (item_of v b) i ≡ true →
+    max (get_or t.asked.items b 0) (get_or have b 0) ≡ lower v A i
+lower_says v A first t live have raised marks K i b h s =
+    let held = top_have v A first t live have raised marks K b h in
+    let asked = K.table.asked b h ∙ sym ((top_level v A first t live have raised marks K).asked (item_of v b)) in
+    ap (λ n. max n (get_or have b 0)) asked ∙ ap (λ n. max (asks v A (item_of v b)) n) held ∙ ap (λ k. lower v A k) (same_item_is (item_of v b) i s)
+
+-- fewer than what is left of a number
+pub less_left : (a b c : ℕ) → ltb a (c - b) ≡ ltb (a + b) c
+less_left a b c = same_truth _ _ (λ e. lt-ltb _ _ (omega (arith, ltb-true _ _ e))) (λ e. lt-ltb _ _ (omega (arith, ltb-true _ _ e)))

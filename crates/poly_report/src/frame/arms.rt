@@ -1,11 +1,11 @@
-//! Whether the arms of a Branch fit, told by the rows where the base has none of the item.
+//! Whether the arms of a Branch fit: the rows tell what is open, and the members of the base are asked one by one.
 ghost use Rattle.std.specs.Prelude.{Bool, MatchOption, length, nat_lt, not, slice_index, true, ℕ, ◌&&◌, ◌*◌, ◌+◌, ◌<◌, ◌==◌, ◌^◌, ◌≡◌, ◌≤◌};
 ghost use Rattle.std.specs.List.{list_any};
-ghost use Rattle.poly_tiling.specs.Lists.{one, tally};
-ghost use Rattle.poly_tiling.specs.Puzzle.{same_item};
+ghost use Rattle.poly_tiling.specs.Lists.{mem, one, tally};
+ghost use Rattle.poly_tiling.specs.Puzzle.{has_item, same_item};
 ghost use Rattle.poly_atom.specs.Hopeless.{base};
 ghost use Rattle.poly_report.specs.Bits.{in_both};
-ghost use Rattle.poly_report.specs.Holds.{arms_fit};
+ghost use Rattle.poly_report.specs.Holds.{arms_fit, ruled_out};
 ghost use Rattle.poly_report.specs.Trees.{heads};
 ghost use Rattle.poly_report.specs.Shapes.{arms_list};
 ghost use Rattle.poly_report.specs.FrameItems.{item_of};
@@ -13,6 +13,7 @@ ghost use Rattle.poly_report.specs.FrameSteps.{StepsKeep};
 
 use crate::frame::items::index_of;
 use crate::frame::looks::guess_item;
+use crate::frame::sound::is_right;
 use crate::frame::steps::Steps;
 use crate::frame::table::Table;
 use crate::tree::Arm;
@@ -47,13 +48,28 @@ fn count_loose(table: &Table, live: &[u64], at: usize, from: usize, arms: &[Arm]
     n
 }
 
-// Whether the arms fit where the base has none of the item.
+// How many members of the base have the item, are placements of the design that are not ruled out, and are no arms.
+fn count_held(view: &View, path: &[Atom], members: &[u32], item: &Item, arms: &[Arm]) -> usize
+    requires { members.now ≡ base view.now path.now }
+    ensures { result ≡ tally (λ p. has_item view.now p item.now && (mem view.now.live p && not (ruled_out view.now path.now p)) && not (list_any (λ a. a.placement == p) arms.now)) members.now }
+{
+    let mut n = 0;
+    for p in members {
+        if view.covers(*p, *item) && is_right(view, path, members, *p) && !plain::is_arm(arms, *p) {
+            n += 1;
+        }
+    }
+    n
+}
+
+// Whether the arms fit, for an item of the view.
 fn fits_by_rows(
     view: &View,
     path: &[Atom],
     first: usize,
     table: &Table,
     steps: &Steps,
+    members: &[u32],
     b: usize,
     item: &Item,
     arms: &[Arm],
@@ -61,10 +77,9 @@ fn fits_by_rows(
     requires kept { StepsKeep view.now path.now first table.now steps.now }
     requires row { b < length view.now.bounds }
     requires same { same_item (item_of view.now b) item.now ≡ true }
-    requires none { slice_index steps.now.have.items b ≡ 0 }
+    requires members { members.now ≡ base view.now path.now }
     ensures { result ≡ arms_fit view.now path.now item.now (heads (arms_list arms.now)) }
 {
-    let _ = path;
     if !plain::arms_once(arms) {
         return false;
     }
@@ -72,8 +87,9 @@ fn fits_by_rows(
         return false;
     }
     let at = steps.live.len() - table.width;
-    let n = count_loose(table, &steps.live, at, table.width * b, arms);
-    n < table.asked[b] as usize
+    let held = count_held(view, path, members, item, arms);
+    let low = (table.asked[b] as usize).max(steps.have[b] as usize);
+    count_loose(table, &steps.live, at, table.width * b, arms) < low.saturating_sub(held)
 }
 
 /// Whether the arms of a Branch are right, whatever hangs under them.
@@ -93,9 +109,7 @@ pub(crate) fn are_right(
 {
     let _ = first;
     match index_of(view.items(), guess_item(&table.cells, item), *item) {
-        Some(b) if steps.have[b] == 0 => {
-            fits_by_rows(view, path, first, table, steps, b, item, arms)
-        }
-        _ => plain::arms_are_right(view, path, members, item, arms),
+        Some(b) => fits_by_rows(view, path, first, table, steps, members, b, item, arms),
+        None => plain::arms_are_right(view, path, members, item, arms),
     }
 }

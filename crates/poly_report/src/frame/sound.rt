@@ -11,7 +11,8 @@ use crate::plain;
 use poly_atom::Atom;
 use poly_tiling::{View, has_number};
 
-fn is_right(view: &View, atoms: &[Atom], members: &[u32], number: u32) -> bool
+/// Whether the number is a placement of the design that is not ruled out.
+pub(crate) fn is_right(view: &View, atoms: &[Atom], members: &[u32], number: u32) -> bool
     requires { members.now ≡ base view.now atoms.now }
     ensures { result ≡ (mem view.now.live number && not (ruled_out view.now atoms.now number)) }
 {
