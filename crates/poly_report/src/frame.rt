@@ -20,6 +20,8 @@ mod members;
 mod sound;
 mod steps;
 mod table;
+#[cfg(test)]
+mod walks;
 
 use crate::frame::items::guess_cells;
 use crate::frame::steps::{Steps, start};

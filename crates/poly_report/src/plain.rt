@@ -132,7 +132,7 @@ fn over(atom: &Atom, item: &Item, least: u8) -> u8
     }
 }
 
-fn least_of(view: &View, atoms: &[Atom], item: &Item) -> u8
+pub(crate) fn least_of(view: &View, atoms: &[Atom], item: &Item) -> u8
     ensures { result ≡ asks view.now atoms.now item.now }
 {
     let mut least = view.bounds(*item).0;

@@ -3,7 +3,7 @@ ghost use Rattle.std.specs.Prelude.{IfOk, OnOk, ◌≡◌, ◌≢◌};
 ghost use Rattle.poly_design.specs.Limits.{AreOfGrid, NoneBlocked};
 
 use crate::tree::{Arm, Tree};
-use crate::{Frame, cut_up, fits, plain};
+use crate::{Frame, cut_up, fits};
 use poly_atom::Atom;
 use poly_design::{CellsSet, Copies, Design, Mode, Name, Placement, Spec};
 use poly_grid::{Cell, Grid, Refusal};
@@ -41,24 +41,38 @@ fn cells(alloc: Global, points: &[(u64, u64)]) -> Result<Cells, Refusal> {
     Cells::new(&list)
 }
 
-fn rectangle(alloc: Global, mode: Mode) -> Result<BTreeMap<Cell, Mode>, Refusal>
+fn rectangle(
+    alloc: Global,
+    width: u64,
+    height: u64,
+    mode: Mode,
+) -> Result<BTreeMap<Cell, Mode>, Refusal>
     requires { mode ≢ Mode.Blocked }
     ensures { IfOk result (λ board. NoneBlocked board.entries) }
 {
     let mut board = BTreeMap::new(alloc);
-    for y in 0..2u64 {
-        for x in 0..2u64 {
+    for y in 0..height {
+        for x in 0..width {
             board.insert(cell(x, y)?, mode)?;
         }
     }
     Ok(board)
 }
 
-fn domino(alloc: Global) -> Result<Spec, Refusal>
+/// A piece, and how many copies of it there are at least and at most.
+#[derive(Clone, Copy)]
+pub(crate) struct Piece {
+    pub(crate) name: &'static [u8],
+    pub(crate) cells: &'static [(u64, u64)],
+    pub(crate) least: u64,
+    pub(crate) most: u64,
+}
+
+fn spec(alloc: Global, piece: &Piece) -> Result<Spec, Refusal>
     ensures { IfOk result (λ spec. spec.shape.grid ≡ Grid.Square) }
 {
-    let cells = cells(alloc, &[(0, 0), (1, 0)])?;
-    let Some(copies) = Copies::new(1, 1) else {
+    let cells = cells(alloc, piece.cells)?;
+    let Some(copies) = Copies::new(piece.least, piece.most) else {
         return Err(Refusal::BadField);
     };
     let shape = Shape::from_cells(Grid::Square, cells.as_slice())?;
@@ -71,19 +85,28 @@ fn domino(alloc: Global) -> Result<Spec, Refusal>
     })
 }
 
-fn pieces(alloc: Global, names: &[&[u8]]) -> Result<BTreeMap<Name, Spec>, Refusal>
+fn pieces(alloc: Global, given: &[Piece]) -> Result<BTreeMap<Name, Spec>, Refusal>
     ensures { IfOk result (λ pieces. AreOfGrid Grid.Square pieces.entries) }
 {
     let mut pieces = BTreeMap::new(alloc);
-    for name in names {
-        pieces.insert(Name::new(name)?, domino(alloc)?)?;
+    for piece in given {
+        pieces.insert(Name::new(piece.name)?, spec(alloc, piece)?)?;
     }
     Ok(pieces)
 }
 
-fn square(alloc: Global) -> Result<View, Refusal> {
-    let board = rectangle(alloc, Mode::Required)?;
-    let pieces = pieces(alloc, &[b"A", b"B"])?;
+// A design whose board is a rectangle of cells of one mode.
+pub(crate) fn view_of(
+    alloc: Global,
+    width: u64,
+    height: u64,
+    mode: Mode,
+    given: &[Piece],
+) -> Result<View, Refusal>
+    requires { mode ≢ Mode.Blocked }
+{
+    let board = rectangle(alloc, width, height, mode)?;
+    let pieces = pieces(alloc, given)?;
     if board.len() > 256 {
         return Err(Refusal::TooManyCells);
     }
@@ -92,6 +115,32 @@ fn square(alloc: Global) -> Result<View, Refusal> {
     }
     let design = Design::of_parts(alloc, Grid::Square, board, pieces)?;
     View::plain(alloc, &design)
+}
+
+/// A domino with this name.
+pub(crate) fn domino(name: &'static [u8], least: u64, most: u64) -> Piece {
+    Piece {
+        name,
+        cells: &[(0, 0), (1, 0)],
+        least,
+        most,
+    }
+}
+
+/// A piece of one cell with this name.
+pub(crate) fn one_cell(name: &'static [u8], least: u64, most: u64) -> Piece {
+    Piece {
+        name,
+        cells: &[(0, 0)],
+        least,
+        most,
+    }
+}
+
+/// The square with the dominoes A and B.
+pub(crate) fn square(alloc: Global) -> Result<View, Refusal> {
+    let given = [domino(b"A", 1, 1), domino(b"B", 1, 1)];
+    view_of(alloc, 2, 2, Mode::Required, &given)
 }
 
 fn named(alloc: Global, name: &[u8], points: &[(u64, u64)]) -> Result<Placement, Refusal> {
@@ -206,22 +255,43 @@ fn a_split_leaves_two_rests(rt: HostRuntime) -> Result<(), Fail> {
     Ok(())
 }
 
+// How many options each item of the view has, in the order of the items: the cells and then the pieces.
+fn counts(alloc: Global, view: &View, frame: &mut Frame<'_>) -> Result<Vec<usize>, Refusal>
+    ensures { frame.new ≡ frame.old }
+{
+    let mut counts = Vec::new(alloc);
+    for bound in view.items() {
+        counts.push(frame.options(bound.0).len())?;
+    }
+    Ok(counts)
+}
+
 #[test]
 fn a_step_leaves_one_open(rt: HostRuntime) -> Result<(), Fail> {
     let alloc = rt.alloc();
     let view = square(alloc)?;
-    let b = Item::Piece(Name::new(b"B")?);
-    let corner = Item::Cell(cell(1, 1)?);
+    let all = [4usize, 4, 4, 4, 4, 4];
+    let one = [0usize, 0, 1, 1, 0, 1];
     let mut frame = Frame::new(alloc, &view, &[])?;
-    assert_eq!(rt; frame.options(b).len(), 4);
-    assert_eq!(rt; frame.options(corner).len(), 4);
+    assert_eq!(rt;
+        counts(alloc, &view, &mut frame)?.as_slice(),
+        all.as_slice()
+    );
     frame.pick(A_UP);
-    assert_eq!(rt; frame.options(b), [B_DOWN].as_slice());
-    assert_eq!(rt; frame.options(corner), [B_DOWN].as_slice());
+    assert_eq!(rt;
+        counts(alloc, &view, &mut frame)?.as_slice(),
+        one.as_slice()
+    );
+    assert_eq!(rt;
+        frame.options(Item::Piece(Name::new(b"B")?)),
+        [B_DOWN].as_slice()
+    );
     assert_eq!(rt; frame.first_open(), Some(B_DOWN));
     frame.back();
-    assert_eq!(rt; frame.options(b).len(), 4);
-    assert_eq!(rt; frame.options(corner).len(), 4);
+    assert_eq!(rt;
+        counts(alloc, &view, &mut frame)?.as_slice(),
+        all.as_slice()
+    );
     Ok(())
 }
 
@@ -240,42 +310,5 @@ fn a_frame_finds_what_fills_the_square(rt: HostRuntime) -> Result<(), Fail> {
     assert!(rt; frame.found().is_none());
     assert!(rt; frame.dead(A_UP));
     assert!(rt; !frame.dead(B_UP));
-    Ok(())
-}
-
-// Whether the frame's options of an item, and some more of what it says, are what the view says when it is asked
-// placement by placement.
-fn agrees(alloc: Global, view: &View, frame: &mut Frame<'_>, item: Item) -> Result<bool, Refusal>
-    requires { frame.old.scene ≡ view.now }
-    ensures { frame.new ≡ frame.old }
-{
-    let pins = view.pins().len();
-    let steps = frame.atoms().len();
-    let mut members = Vec::with_capacity(alloc, pins + steps)?;
-    plain::make_base(view, frame.atoms(), &mut members);
-    let mut ready = Vec::with_capacity(alloc, view.live().len())?;
-    plain::list_ready(view, frame.atoms(), &members, &item, &mut ready);
-    let due = plain::next_due(view, frame.atoms(), &members);
-    let open = plain::first_open(view, frame.atoms(), &members);
-    if frame.next_due().is_some() != due.is_some() || frame.first_open() != open {
-        return Ok(false);
-    }
-    Ok(frame.options(item) == ready.as_slice())
-}
-
-#[test]
-fn the_rows_say_what_the_view_says(rt: HostRuntime) -> Result<(), Fail> {
-    let alloc = rt.alloc();
-    let view = square(alloc)?;
-    let item = Item::Cell(cell(1, 0)?);
-    let mut frame = Frame::new(alloc, &view, &[Atom::Lacks(B_LEFT)])?;
-    assert!(rt; agrees(alloc, &view, &mut frame, item)?);
-    frame.pick(A_LEFT);
-    assert!(rt; agrees(alloc, &view, &mut frame, item)?);
-    frame.leave(B_DOWN);
-    assert!(rt; agrees(alloc, &view, &mut frame, item)?);
-    frame.back();
-    frame.back();
-    assert!(rt; agrees(alloc, &view, &mut frame, item)?);
     Ok(())
 }
