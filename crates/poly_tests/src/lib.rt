@@ -1,0 +1,9 @@
+//! Tests that cross crates: what one crate answers is compared with what another one does. There is nothing else here.
+#![tactic(auto)]
+
+#[cfg(test)]
+mod designs;
+#[cfg(test)]
+mod solvers;
+#[cfg(test)]
+mod tables;

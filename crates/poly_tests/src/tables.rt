@@ -1,0 +1,142 @@
+//! A table that was led through edits, undos and redos shows what a new table of the design shows, but for its numbers.
+ghost use Rattle.std.specs.Prelude.{◌≡◌, IfOk, OnOk};
+ghost use Rattle.poly_design.specs.Changes.{changed};
+ghost use Rattle.poly_design.specs.Limits.{IsDesign};
+ghost use Rattle.poly_place.specs.Right.{IsRight};
+
+use crate::designs::{change_of, design_of};
+use poly_design::{Change, Design};
+use poly_grid::Refusal;
+use poly_place::Table;
+use poly_tiling::View;
+use std::alloc::Global;
+use std::test::Fail;
+
+// Leads the design and its table through the change.
+fn lead(design: &mut Design, table: &mut Table, change: &Change) -> Result<(), Refusal>
+    requires standing { IsRight table.old design.old }
+    requires limits { IsDesign (changed design.old change.now) }
+    ensures right { OnOk result (IsRight table.new design.new) }
+    ensures made { OnOk result (design.new ≡ changed design.old change.now) }
+    ensures within { OnOk result (IsDesign design.new) }
+{
+    let plan = match table.plan(design, change) {
+        Ok(plan) => plan,
+        Err(refusal) => return Err(refusal),
+    };
+    design.make(change)?;
+    table.make(plan);
+    Ok(())
+}
+
+// Whether the numbers of both lists name the same placements, one by one.
+fn name_the_same(a: &View, b: &View, of_a: &[u32], of_b: &[u32]) -> bool {
+    of_a.len() == of_b.len()
+        && of_a
+            .iter()
+            .zip(of_b)
+            .all(|(x, y)| a.placement(*x) == b.placement(*y))
+}
+
+// Whether the table shows what a new table of the design shows.
+fn is_as_new(alloc: Global, design: &Design, table: &Table) -> Result<bool, Refusal> {
+    let led = table.view()?;
+    let anew = Table::of(alloc, design)?.view()?;
+    Ok(
+        name_the_same(&led, &anew, led.live(), anew.live())
+            && name_the_same(&led, &anew, led.pins(), anew.pins())
+            && led.items() == anew.items(),
+    )
+}
+
+// Whether the table is as new where the change is undone and made again. It leaves the change undone.
+fn is_as_new_back(
+    alloc: Global,
+    design: &mut Design,
+    table: &mut Table,
+    change: &Change,
+    back: &Change,
+) -> Result<bool, Refusal>
+    requires standing { IsRight table.old design.old }
+    requires before { IsDesign (changed design.old back.now) }
+    requires after { IsDesign design.old }
+    requires again { changed (changed design.old back.now) change.now ≡ design.old }
+    ensures right { OnOk result (IsRight table.new design.new) }
+    ensures undone { OnOk result (design.new ≡ changed design.old back.now) }
+{
+    lead(design, table, back)?;
+    let undone = is_as_new(alloc, design, table)?;
+    lead(design, table, change)?;
+    let made_again = is_as_new(alloc, design, table)?;
+    lead(design, table, back)?;
+    Ok(undone && made_again)
+}
+
+// The change that the line asks for, and the change that takes it back.
+fn both_ways(alloc: Global, design: &Design, line: &[u8]) -> Result<(Change, Change), Refusal>
+    ensures before { OnOk result (IsDesign design.now) }
+    ensures after { IfOk result (λ ways. IsDesign (changed design.now ways.0)) }
+    ensures back { IfOk result (λ ways. changed (changed design.now ways.0) ways.1 ≡ design.now) }
+{
+    // That a design is within its limits is what this call says of it.
+    let _cells = design.cells();
+    match change_of(alloc, design, line) {
+        Ok(change) => match change.copy() {
+            Ok(copy) => Ok((change, copy.inverse())),
+            Err(refusal) => Err(refusal),
+        },
+        Err(refusal) => Err(refusal),
+    }
+}
+
+// Whether the table is as new all along the edits that the lines ask for, and on the way back, where each edit is undone,
+// made again and undone.
+fn is_as_new_along(
+    alloc: Global,
+    design: &mut Design,
+    table: &mut Table,
+    lines: &[&[u8]],
+) -> Result<bool, Refusal>
+    requires standing { IsRight table.old design.old }
+    ensures right { OnOk result (IsRight table.new design.new) }
+    ensures back { OnOk result (design.new ≡ design.old) }
+{
+    let Some((line, later)) = lines.split_first() else {
+        return is_as_new(alloc, design, table);
+    };
+    let (change, back) = both_ways(alloc, design, line)?;
+    lead(design, table, &change)?;
+    let later_too = is_as_new_along(alloc, design, table, later)?;
+    let back_too = is_as_new_back(alloc, design, table, &change, &back)?;
+    Ok(later_too && back_too)
+}
+
+const DOMINOES: &[u8] =
+    b"{\"format\":1,\"grid\":\"square\",\"board\":[\"##\",\"##\"],\"pieces\":[{\"name\":\"A\",\"cells\":[[0,0],[1,0]]},{\"name\":\"B\",\"cells\":[[0,0],[1,0]]}]}";
+
+#[test]
+fn along_edits(rt: HostRuntime) -> Result<(), Fail> {
+    let alloc = rt.alloc();
+    let lines: [&[u8]; 16] = [
+        b"cell 2,0 optional",
+        b"pin A 1,0 2,0",
+        b"cell 1,0 blocked",
+        b"add C optional off 0,0 0,1 1,1",
+        b"mirror C on",
+        b"cell 1,0 required",
+        b"forbid B 0,0 0,1",
+        b"copies B 0 3",
+        b"drop A",
+        b"cell 0,0 optional",
+        b"cell 3,0 required",
+        b"allow B 0,0 0,1",
+        b"add A required on 0,0 1,0 2,0",
+        b"mirror C off",
+        b"need B required",
+        b"cell 2,0 blocked",
+    ];
+    let mut design = design_of(alloc, DOMINOES, &[])?;
+    let mut table = Table::of(alloc, &design)?;
+    assert!(rt; is_as_new_along(alloc, &mut design, &mut table, &lines)?);
+    Ok(())
+}
