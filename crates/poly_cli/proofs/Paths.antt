@@ -2,12 +2,9 @@
 use Rattle.std.proofs.Common.{◌≡◌, ◌+◌, ◌-◌, ℕ, zero, suc, List, [], ◌∷◌, ◌++◌, refl, sym, ◌∙◌, ap, subst, arith, map, drop, length, reverse}
 use Rattle.std.proofs.lemmas.List.{reverse-append}
 use Rattle.poly_design.specs.Changes.{HasBefore, changed}
-use Rattle.poly_design.specs.Edits.{IsAccepted, change_of}
 use Rattle.poly_design.specs.Layout.{Layout}
 use Rattle.poly_design.specs.Limits.{IsDesign}
 use Rattle.poly_design.specs.declared.change.Change.{Change}
-use Rattle.poly_design.specs.declared.edit.Edit.{Edit}
-use Rattle.poly_design.specs.declared.edit.Edit.TheVariants as edit
 use Rattle.poly_undo.specs.Steps.{newest}
 use Rattle.poly_cli.specs.Paths.{IsPath, IsOnWay}
 
@@ -43,22 +40,6 @@ pub path_drop : (n : ℕ) (from to : Layout) (changes : List Change) → IsPath 
 path_drop zero from to changes p = (from, p)
 path_drop (suc n) from to [] p = (from, p)
 path_drop (suc n) from to (c ∷ changes) p = path_drop n (changed from c) to changes p.2
-
--- what an edit asks for finds its before side standing
-stands : (d : Layout) (e : Edit) → HasBefore d (change_of d e)
-stands d (edit.Add name shape need mirror) = refl
-stands d (edit.Drop name) = refl
-stands d (edit.Need name need) = refl
-stands d (edit.Copies name copies) = refl
-stands d (edit.Mirror name mirror) = refl
-stands d (edit.Cell cell mode) = refl
-stands d (edit.Pin name cells) = refl
-stands d (edit.Unpin name) = refl
-stands d (edit.Forbid name cells) = refl
-stands d (edit.Allow name cells) = refl
-
-pub accepted_stands : (d : Layout) (e : Edit) (c : Change) → IsAccepted d e c → HasBefore d c
-accepted_stands d e c a = subst (HasBefore d) (sym a.is) (stands d e)
 
 turned : (changes : List Change) (c : Change) → reverse (changes ++ c ∷ []) ≡ c ∷ reverse changes
 turned changes c = reverse-append changes (c ∷ [])

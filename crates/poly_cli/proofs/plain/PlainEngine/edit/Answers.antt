@@ -1,6 +1,7 @@
 use Rattle.std.proofs.Common.{◌≡◌, ◌+◌, ◌∙◌, sym, subst, ap}
 use Rattle.poly_cli.specs.Slow.{State, Edits, changes_of}
-use Rattle.poly_cli.proofs.Paths.{accepted_stands, edited_way, same_way}
+use Rattle.poly_cli.proofs.Paths.{edited_way, same_way}
+use Rattle.poly_design.proofs.Restored.{accepted_before}
 use Rattle.poly_cli.proofs.Stepped.{changes_newest, same_state}
 use Rattle.poly_cli.proofs.plain.PlainEngine.edit.Goals as goal
 
@@ -11,7 +12,7 @@ invariant_of-self-2 c =
     let change = c.in-Ok.change in
     let accepted = c.in-Ok.ensures.ok in
     same_way (sym c.in_ok-make.ensures.ok) (sym (ap changes_of c.push.ensures.undo ∙ changes_newest h.undo _)) (sym (ap changes_of c.push.ensures.redo))
-    (edited_way d (changes_of h.undo) (changes_of h.redo) change c.self.invariant (accepted_stands d c.args.edit.now change accepted) accepted.design)
+    (edited_way d (changes_of h.undo) (changes_of h.redo) change c.self.invariant (accepted_before d c.args.edit.now change accepted) accepted.design)
 
 pub returns-clause-ok : goal.returns-clause-ok
 returns-clause-ok c =
