@@ -1,5 +1,5 @@
 -- A step that is taken back leaves no trace.
-use Rattle.std.proofs.Common.{List, [], ap, arith, length, length-append, ℕ, ◌++◌, ◌-◌, ◌∙◌, ◌∷◌, ◌≡◌}
+use Rattle.std.proofs.Common.{List, [], ap, arith, length, length-append, ◌++◌, ◌-◌, ◌∙◌, ◌∷◌, ◌≡◌}
 use Rattle.std.proofs.Math.Seq.{take-append_seam}
 use Rattle.poly_tiling.specs.Lists.{tally}
 use Rattle.poly_atom.specs.declared.atom.Atom.{Atom}

@@ -1,25 +1,22 @@
 -- What the rows say of the arms of a Branch, of dead placements and of a base that is short.
-use Rattle.std.proofs.Common.{◌≡◌, ℕ, zero, suc, ◌+◌, ◌-◌, ◌*◌, ◌<◌, ◌≤◌, Bool, true, false, cond, max, min, not, ◌&&◌, ◌||◌, eqb, ltb, leb, List, [], ◌∷◌, ◌++◌, inl, inr, refl, sym, ap, subst, ◌∙◌, arith, length, get_or, take}
-use Rattle.std.specs.List.{list_any, list_all}
-use Rattle.std.proofs.lemmas.Bool.{and_from, and_parts, both_ways, cases_Bool, eqb-true, false_from_ne_true, leb-true, lt-ltb, ltb-true, not_from_false, not-true, or_parts}
+use Rattle.std.proofs.Common.{◌≡◌, ℕ, zero, suc, ◌+◌, ◌-◌, ◌*◌, ◌<◌, ◌≤◌, Bool, true, false, max, not, ◌&&◌, ◌||◌, ltb, leb, List, [], ◌∷◌, ◌++◌, sym, ap, ◌∙◌, arith, length, get_or, take}
+use Rattle.std.specs.List.{list_any}
+use Rattle.std.proofs.lemmas.Bool.{and_from, and_parts, false_from_ne_true, lt-ltb, ltb-true, not-true, or_parts}
 use Rattle.std.proofs.lemmas.List.{take_more}
 use Rattle.poly_tiling.specs.declared.item.Item.{Item}
 use Rattle.poly_tiling.specs.Lists.{distinct, mem, one, tally}
-use Rattle.poly_tiling.specs.Puzzle.{View, clash, count, has_item, is_tiling, items, least, same_item}
+use Rattle.poly_tiling.specs.Puzzle.{View, clash, count, has_item, is_tiling, items, same_item}
 use Rattle.poly_tiling.proofs.Lists.{In, in_mem, mem_in, same_truth}
 use Rattle.poly_tiling.proofs.Counts.{ascending_distinct, tally_within}
 use Rattle.poly_tiling.proofs.Orders.{live_once}
 use Rattle.poly_tiling.proofs.Tilings.{parts, same_item_is}
 use Rattle.poly_atom.specs.declared.atom.Atom.{Atom}
-use Rattle.poly_atom.specs.declared.atom.Atom.TheVariants.{AtLeast, AtMost, Has, Lacks}
-use Rattle.poly_atom.specs.Atoms.{in_family, meets, meets_all}
+use Rattle.poly_atom.specs.Atoms.{in_family, meets_all}
 use Rattle.poly_atom.specs.Hopeless.{base, lacks}
 use Rattle.poly_atom.proofs.Bases.{base_up}
-use Rattle.poly_report.specs.declared.tree.Arm.{Arm}
 use Rattle.poly_report.specs.Holds.{asks, dead, lower, open_in, others, ruled_out, upper}
-use Rattle.poly_report.specs.Bits.{NoneIn, in_both}
+use Rattle.poly_report.specs.Bits.{in_both}
 use Rattle.poly_report.specs.FrameItems.{item_of}
-use Rattle.poly_report.specs.FrameTable.{TableShows}
 use Rattle.poly_report.specs.FrameSteps.{Kept}
 use Rattle.poly_report.specs.declared.frame.table.Table.{Table}
 use Rattle.poly_report.proofs.Ruled.{asks_is}

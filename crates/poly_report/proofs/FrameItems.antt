@@ -1,20 +1,20 @@
 -- Items by their places.
-use Rattle.std.proofs.Common.{◌≡◌, ℕ, zero, suc, ◌+◌, ◌<◌, ◌≤◌, Bool, true, false, ◌&&◌, ◌||◌, eqb, List, [], ◌∷◌, ◌++◌, inl, inr, refl, sym, ap, subst, ◌∙◌, arith, map, length, get_or, take, ltb, ◌-◌, ◌^◌, get_or-set_other, get_or-set_same}
+use Rattle.std.proofs.Common.{◌≡◌, ℕ, zero, suc, ◌+◌, ◌<◌, ◌≤◌, Bool, true, false, ◌||◌, eqb, List, [], ◌∷◌, ◌++◌, inl, inr, refl, sym, ap, subst, ◌∙◌, arith, map, length, get_or, take, ltb, ◌-◌, ◌^◌, get_or-set_other, get_or-set_same}
 use Rattle.std.proofs.Math.ListN.{set}
-use Rattle.std.specs.List.{list_any, list_all, AllPairs}
+use Rattle.std.specs.List.{list_any, list_all}
 use Rattle.std.specs.Ordering.{is_lt}
 use Rattle.std.specs.Cmp.{tied_itself}
 use Rattle.std.specs.Cmp.Lexicographic.{nat_list_cmp_total}
-use Rattle.std.proofs.lemmas.Bool.{eqb-true, eq-eqb, ne_eqb, and_parts, and_from, both_ways, false_from_ne_true, true≢false, lt-ltb, ltb-true, cases_Bool, cases_eq}
+use Rattle.std.proofs.lemmas.Bool.{eqb-true, eq-eqb, ne_eqb, and_parts, and_from, both_ways, false_from_ne_true, lt-ltb, ltb-true, cases_Bool, cases_eq}
 use Rattle.std.proofs.lemmas.List.{take_more, length-append, map-append, get_or_read}
 use Rattle.poly_grid.specs.Spot.{Spot}
 use Rattle.std.specs.declared.cmp.Ordering.TheVariants.{Equal, Less}
 use Rattle.poly_shape.specs.Order.{IsAscending, spot_cmp, spot_total}
 use Rattle.poly_tiling.specs.declared.item.Item.{Item}
 use Rattle.poly_tiling.specs.declared.item.Item.TheVariants.{Cell, Piece}
-use Rattle.poly_tiling.specs.Lists.{one, tally}
+use Rattle.poly_tiling.specs.Lists.{one}
 use Rattle.poly_tiling.specs.Names.{item_cmp, items_ascend}
-use Rattle.poly_tiling.specs.Puzzle.{Bound, View, same_item}
+use Rattle.poly_tiling.specs.Puzzle.{Bound, same_item}
 use Rattle.poly_tiling.proofs.Lists.{In, all_append, all_in, any_append, any_in, map_in, same_truth, tally_append}
 use Rattle.poly_tiling.proofs.Tilings.{same_item_is, same_item_self}
 use Rattle.poly_report.specs.FrameItems.{Noted, item_at, no_bound, times}

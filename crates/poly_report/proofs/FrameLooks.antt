@@ -1,25 +1,24 @@
 -- What the rows of a frame answer.
-use Rattle.std.proofs.Common.{◌≡◌, ℕ, zero, suc, ◌+◌, ◌-◌, ◌*◌, ◌<◌, ◌≤◌, Bool, true, false, cond, not, ◌&&◌, eqb, ltb, nat_lt, List, [], ◌∷◌, ◌++◌, inl, inr, refl, sym, ap, subst, ◌∙◌, arith, length, get_or, take, drop}
+use Rattle.std.proofs.Common.{◌≡◌, ℕ, zero, suc, ◌+◌, ◌-◌, ◌*◌, ◌<◌, ◌≤◌, Bool, true, false, cond, not, ◌&&◌, nat_lt, List, [], ◌∷◌, ◌++◌, inl, inr, refl, sym, ap, subst, ◌∙◌, arith, length, get_or, take, drop}
 use Rattle.std.specs.List.{filter, list_any, list_all}
 use Rattle.std.proofs.Math.Nat.{mul-le-mul_left}
 use Rattle.std.proofs.lemmas.List.{take_more, take_all, take-append-drop}
-use Rattle.std.proofs.lemmas.Bool.{and_from, and_parts, both_ways, cases_Bool, false_from_ne_true, not_from_false, not-true, ltb-true}
+use Rattle.std.proofs.lemmas.Bool.{and_from, and_parts, both_ways, false_from_ne_true, not_from_false, not-true}
 use Rattle.poly_tiling.specs.declared.item.Item.{Item}
 use Rattle.poly_tiling.specs.Lists.{distinct, mem}
 use Rattle.poly_tiling.specs.Puzzle.{Bound, View, count, has_item, same_item}
 use Rattle.poly_tiling.proofs.Lists.{In, all_from, all_in, in_mem, mem_in, same_truth}
 use Rattle.poly_tiling.proofs.Named.{listed_item}
 use Rattle.poly_tiling.proofs.Orders.{live_once}
-use Rattle.poly_tiling.proofs.Tilings.{same_item_is, same_item_self}
+use Rattle.poly_tiling.proofs.Tilings.{same_item_self}
 use Rattle.poly_atom.specs.declared.atom.Atom.{Atom}
 use Rattle.poly_atom.specs.declared.atom.Atom.TheVariants.{AtLeast, AtMost, Has, Lacks}
 use Rattle.poly_atom.specs.Hopeless.{base}
 use Rattle.poly_report.specs.Holds.{asks, open_in}
 use Rattle.poly_report.specs.Plain.{of_asked}
 use Rattle.poly_report.specs.Bits.{NoneIn, has_bit, in_both}
-use Rattle.poly_report.specs.FrameItems.{item_at, item_of, no_bound}
-use Rattle.poly_report.specs.FrameTable.{HaveShows, TableShows, place}
-use Rattle.poly_report.specs.FrameSteps.{Kept, LevelShows, mark_of}
+use Rattle.poly_report.specs.FrameItems.{item_of, no_bound}
+use Rattle.poly_report.specs.FrameSteps.{Kept}
 use Rattle.poly_report.specs.declared.frame.table.Table.{Table}
 use Rattle.poly_report.proofs.Due.{none_due}
 use Rattle.poly_report.proofs.Opens.{open_before}

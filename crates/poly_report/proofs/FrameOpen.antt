@@ -1,24 +1,23 @@
 -- What was open at the start, and the rows of the table.
-use Rattle.std.proofs.Common.{◌≡◌, ℕ, zero, suc, ◌+◌, ◌*◌, ◌^◌, ◌<◌, ◌≤◌, Bool, true, false, not, max, ◌&&◌, ◌||◌, eqb, leb, ltb, List, [], ◌∷◌, ◌++◌, inl, inr, refl, sym, ap, subst, ◌∙◌, arith, length, get_or, take, replicate}
-use Rattle.std.specs.List.{filter, list_any, list_all}
+use Rattle.std.proofs.Common.{◌≡◌, ℕ, zero, suc, ◌+◌, ◌*◌, ◌<◌, ◌≤◌, Bool, true, false, not, max, ◌&&◌, ◌||◌, eqb, ltb, List, [], ◌∷◌, inl, inr, refl, sym, ap, subst, ◌∙◌, arith, length, get_or, take, replicate}
+use Rattle.std.specs.List.{list_any, list_all}
 use Rattle.std.proofs.Math.ListN.{set}
 use Rattle.std.proofs.Math.Nat.{mul-le-mul_left}
-use Rattle.std.proofs.lemmas.Bool.{and_from, and_parts, both_ways, cases_Bool, cases_eq, cases_lt, eq-eqb, eqb-true, false_from_ne_true, le-leb, lt-ltb, ltb-true, ne_eqb, or_cases, or_left, or_right, true≢false}
+use Rattle.std.proofs.lemmas.Bool.{and_from, and_parts, both_ways, cases_eq, cases_lt, eq-eqb, eqb-true, false_from_ne_true, le-leb, lt-ltb, ltb-true, ne_eqb, or_cases, or_left, or_right, true≢false}
 use Rattle.std.proofs.lemmas.List.{get_or-set_other, get_or-set_same, take_more}
-use Rattle.poly_tiling.specs.declared.item.Item.{Item}
 use Rattle.poly_tiling.specs.Lists.{distinct, mem, one}
-use Rattle.poly_tiling.specs.Puzzle.{View, count, has_item, items, most, same_item}
-use Rattle.poly_tiling.proofs.Lists.{In, all_append, any_from, any_in, same_truth}
+use Rattle.poly_tiling.specs.Puzzle.{View, count, has_item, items, same_item}
+use Rattle.poly_tiling.proofs.Lists.{all_append, any_from, any_in, same_truth}
 use Rattle.poly_tiling.proofs.Tilings.{bound_none, same_item_self}
 use Rattle.poly_atom.specs.declared.atom.Atom.{Atom}
 use Rattle.poly_atom.specs.Hopeless.{base, lacks}
 use Rattle.poly_report.specs.Holds.{open_in, upper}
 use Rattle.poly_report.specs.Bits.{has_bit}
-use Rattle.poly_report.specs.FrameItems.{Noted, item_at, item_of, times}
+use Rattle.poly_report.specs.FrameItems.{Noted, item_of, times}
 use Rattle.poly_report.specs.FrameTable.{HaveShows, RowsShow, ShutShows, UppersShow, place, shut_at}
 use Rattle.poly_report.proofs.Words.{no_bits}
 use Rattle.poly_report.proofs.Later.{upper_le_most}
-use Rattle.poly_report.proofs.FramePicks.{is_shut, low_in, one_true, open_is_free, place_of, some_times, times_some}
+use Rattle.poly_report.proofs.FramePicks.{is_shut, one_true, open_is_free, place_of, some_times, times_some}
 use Rattle.poly_report.proofs.FrameSteps.{distinct_at}
 
 pub shut_shows : (v : View) (A : List Atom) (T us hs : List ℕ) → T ≡ base v A → UppersShow v A us → HaveShows v T hs → ShutShows v.bounds us hs (is_shut v A)

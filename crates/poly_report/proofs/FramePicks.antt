@@ -1,7 +1,7 @@
 -- What taking or leaving a placement closes, item by item.
-use Rattle.std.proofs.Common.{◌≡◌, ℕ, zero, suc, ◌+◌, ◌*◌, ◌<◌, ◌≤◌, Bool, true, false, cond, not, ◌&&◌, ◌||◌, eqb, leb, ltb, List, [], ◌∷◌, ◌++◌, inl, inr, refl, sym, ap, subst, ◌∙◌, arith, map, length, get_or, Option, None, Some, slice_get}
+use Rattle.std.proofs.Common.{◌≡◌, ℕ, zero, suc, ◌+◌, ◌<◌, ◌≤◌, Bool, true, false, not, ◌&&◌, ◌||◌, eqb, leb, ltb, List, [], ◌∷◌, ◌++◌, inl, inr, refl, sym, ap, subst, ◌∙◌, arith, length, get_or, Option, None, Some, slice_get}
 use Rattle.std.specs.List.{list_any, list_all}
-use Rattle.std.proofs.lemmas.Bool.{eqb-true, eq-eqb, ne_eqb, and_parts, and_from, or_parts, or_cases, or_left, or_right, both_ways, not-true, not_from_false, false_from_ne_true, leb-true, leb-false, le-leb, ltb-true, lt-ltb, cases_Bool, cases_eq, true≢false}
+use Rattle.std.proofs.lemmas.Bool.{eq-eqb, ne_eqb, and_parts, and_from, or_parts, or_cases, or_left, or_right, both_ways, not-true, not_from_false, false_from_ne_true, le-leb, ltb-true, lt-ltb, cases_Bool, cases_eq, true≢false}
 use Rattle.poly_grid.specs.Spot.{Spot}
 use Rattle.poly_shape.specs.Order.{spot_eq, spot_equiv}
 use Rattle.poly_design.specs.declared.placement.Placement.{Placement}
@@ -20,9 +20,9 @@ use Rattle.poly_atom.specs.Hopeless.{base, lacks}
 use Rattle.poly_atom.proofs.Bases.{base_up}
 use Rattle.poly_report.specs.Holds.{open_in, others, ruled_out, upper}
 use Rattle.poly_report.specs.Bits.{has_bit}
-use Rattle.poly_report.specs.FrameItems.{Noted, item_at, item_of, no_bound, times}
+use Rattle.poly_report.specs.FrameItems.{Noted, item_at, item_of, times}
 use Rattle.poly_report.specs.FrameTable.{RowsShow, limit_at, place, shut_at}
-use Rattle.poly_report.proofs.Steps.{base_leave, base_pick, open_leave, open_pick, tally_put, upper_pick}
+use Rattle.poly_report.proofs.Steps.{base_leave, base_pick, open_pick, tally_put, upper_pick}
 
 pub has_in : (v : View) (p : ℕ) (i : Item) → has_item v p i ≡ true → In i (items v p)
 has_in v p i h = let r = any_in (λ j. same_item j i) (items v p) h in subst (λ k. In k (items v p)) (same_item_is r.0 i r.2) r.1

@@ -1,15 +1,15 @@
 -- Steps that leave the base sound, and what a sound base is that is not short.
 use Rattle.std.proofs.Common.{◌≡◌, ℕ, zero, suc, ◌+◌, ◌-◌, ◌<◌, ◌≤◌, Bool, true, false, cond, max, not, ◌&&◌, ◌||◌, eqb, ltb, leb, List, [], ◌∷◌, ◌++◌, inl, inr, refl, sym, ap, subst, ◌∙◌, arith, length, slice_get, take, length-append, length-take}
-use Rattle.std.specs.List.{list_any, list_all}
+use Rattle.std.specs.List.{list_any}
 use Rattle.std.proofs.lemmas.Bool.{and_from, and_parts, both_ways, cases_Bool, cases_lt, eq-eqb, eqb-true, false_from_ne_true, le-leb, leb-true, lt-ltb, ne_eqb, not_from_false, not-true, or_from, or_parts}
 use Rattle.std.proofs.lemmas.List.{take-append-le, take_all}
 use Rattle.poly_tiling.specs.declared.item.Item.{Item}
-use Rattle.poly_tiling.specs.Lists.{ascending, distinct, mem, one, put, tally}
+use Rattle.poly_tiling.specs.Lists.{distinct, mem, one}
 use Rattle.poly_tiling.specs.Puzzle.{View, clash, count, has_item, is_tiling, items, least, same_item, share_cell}
 use Rattle.poly_tiling.proofs.Lists.{In, all_from, all_in, any_from, any_in, in_mem, mem_in, tally_none}
 use Rattle.poly_tiling.proofs.Ascending.{distinct_rest, not_head, put_in}
 use Rattle.poly_tiling.proofs.Counts.{ascending_distinct, tally_fewer}
-use Rattle.poly_tiling.proofs.Tilings.{IsTiling, same_item_self, whole}
+use Rattle.poly_tiling.proofs.Tilings.{same_item_self, whole}
 use Rattle.poly_atom.specs.declared.atom.Atom.{Atom}
 use Rattle.poly_atom.specs.declared.atom.Atom.TheVariants.{AtLeast, AtMost, Has, Lacks}
 use Rattle.poly_atom.specs.Atoms.{in_family, meets, meets_all}

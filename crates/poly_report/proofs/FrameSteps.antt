@@ -1,13 +1,13 @@
 -- The levels of a frame, one for the given atoms and one for each step.
-use Rattle.std.proofs.Common.{◌≡◌, ℕ, zero, suc, ◌+◌, ◌-◌, ◌*◌, ◌^◌, ◌<◌, ◌≤◌, Bool, true, false, not, ◌&&◌, ◌||◌, eqb, leb, ltb, List, [], ◌∷◌, ◌++◌, cond, max, inl, inr, refl, sym, ap, subst, ◌∙◌, arith, map, length, min, get_or, take, drop}
+use Rattle.std.proofs.Common.{◌≡◌, ℕ, zero, suc, ◌+◌, ◌-◌, ◌*◌, ◌^◌, ◌<◌, ◌≤◌, Bool, true, false, not, ◌&&◌, eqb, leb, ltb, List, [], ◌∷◌, ◌++◌, cond, max, inl, inr, refl, sym, ap, subst, ◌∙◌, arith, length, get_or, take, drop}
 use Rattle.std.specs.List.{list_any, list_all}
 use Rattle.std.proofs.Math.Nat.{mul-le-mul_left}
 use Rattle.std.proofs.Math.Seq.{drop-append_seam, drop-length, get_or-append_seam}
 use Rattle.std.proofs.lemmas.List.{take-append-le, take_all, take_rest, length-append, length-take, drop-append-le, get_or-take, get_or_append_left, get_or_past, take-append-drop}
-use Rattle.std.proofs.lemmas.Bool.{cases_lt, cases_eq, eq-eqb, eqb-true, ne_eqb, both_ways, false_from_ne_true, and_from, and_parts, not_from_false, not-true, true≢false}
+use Rattle.std.proofs.lemmas.Bool.{cases_lt, cases_eq, eq-eqb, eqb-true, ne_eqb, both_ways, false_from_ne_true, and_from, and_parts, true≢false}
 use Rattle.poly_tiling.specs.declared.item.Item.{Item}
-use Rattle.poly_tiling.specs.Lists.{distinct, mem, one, tally}
-use Rattle.poly_tiling.specs.Puzzle.{View, count, has_item, items, same_item}
+use Rattle.poly_tiling.specs.Lists.{distinct, mem, one}
+use Rattle.poly_tiling.specs.Puzzle.{View, count, items, same_item}
 use Rattle.poly_tiling.proofs.Lists.{In, all_append, in_mem, mem_in, same_truth, tally_append}
 use Rattle.poly_tiling.proofs.Ascending.{distinct_rest, not_head}
 use Rattle.poly_atom.specs.declared.atom.Atom.{Atom}
@@ -16,8 +16,8 @@ use Rattle.poly_atom.specs.Hopeless.{base}
 use Rattle.poly_report.specs.Holds.{asks, open_in, upper}
 use Rattle.poly_report.specs.Bits.{has_bit}
 use Rattle.poly_report.specs.FrameItems.{Noted, item_of, times}
-use Rattle.poly_report.specs.FrameTable.{HaveShows, RowsShow, StandsShow, TableShows, limit_at, place}
-use Rattle.poly_report.specs.FrameSteps.{HaveAt, Kept, LevelShows, RowShows, mark_of}
+use Rattle.poly_report.specs.FrameTable.{HaveShows, StandsShow, TableShows, limit_at, place}
+use Rattle.poly_report.specs.FrameSteps.{Kept, LevelShows, RowShows, mark_of}
 use Rattle.poly_report.specs.declared.frame.table.Table.{Table}
 use Rattle.poly_report.proofs.Steps.{open_leave, upper_leave, upper_pick}
 use Rattle.poly_report.proofs.Words.{take_bits}

@@ -1,24 +1,22 @@
 -- The table of a frame.
-use Rattle.std.proofs.Common.{◌≡◌, ℕ, zero, suc, ◌+◌, ◌-◌, ◌*◌, ◌^◌, ◌<◌, ◌≤◌, Bool, true, false, cond, max, min, not, ◌&&◌, ◌||◌, eqb, leb, ltb, List, [], ◌∷◌, ◌++◌, ◌⊎◌, inl, inr, refl, sym, ap, subst, ◌∙◌, arith, map, length, get_or, take, drop}
+use Rattle.std.proofs.Common.{◌≡◌, ℕ, zero, suc, ◌+◌, ◌<◌, ◌≤◌, Bool, true, false, cond, not, ◌||◌, List, [], ◌∷◌, inl, inr, refl, sym, ap, subst, ◌∙◌, arith, map, length, get_or, take, drop}
 use Rattle.std.proofs.Math.ListN.{set}
-use Rattle.std.specs.List.{list_any, list_all, filter}
-use Rattle.std.proofs.lemmas.Bool.{eqb-true, eq-eqb, ne_eqb, and_parts, and_from, or_parts, or_cases, or_left, or_right, both_ways, not-true, not_from_false, false_from_ne_true, leb-true, leb-false, le-leb, ltb-true, lt-ltb, cases_Bool, cases_eq, cases_lt, true≢false, cond-false}
+use Rattle.std.specs.List.{filter}
+use Rattle.std.proofs.lemmas.Bool.{and_parts, both_ways, false_from_ne_true, cases_Bool, cases_eq, true≢false, cond-false}
 use Rattle.std.proofs.lemmas.List.{take_more, get_or-set_other, get_or-set_same}
 use Rattle.poly_tiling.specs.declared.item.Item.{Item}
-use Rattle.poly_tiling.specs.declared.item.Item.TheVariants.{Cell, Piece}
-use Rattle.poly_tiling.specs.Lists.{one, tally, mem, distinct}
+use Rattle.poly_tiling.specs.Lists.{one, tally}
 use Rattle.poly_tiling.specs.Names.{items_ascend}
-use Rattle.poly_tiling.specs.Puzzle.{Bound, View, bound_in, count, has_item, is_piece, items, least, most, same_item}
-use Rattle.poly_tiling.proofs.Lists.{In, all_in, any_from, any_in, any_none, same_truth, tally_append}
-use Rattle.poly_tiling.proofs.Tilings.{same_item_is, same_item_self, bound_none}
+use Rattle.poly_tiling.specs.Puzzle.{Bound, View, bound_in, count, has_item, items, same_item}
+use Rattle.poly_tiling.proofs.Lists.{tally_append}
+use Rattle.poly_tiling.proofs.Tilings.{same_item_is, same_item_self}
 use Rattle.poly_atom.specs.declared.atom.Atom.{Atom}
 use Rattle.poly_atom.specs.declared.atom.Atom.TheVariants.{Has, Lacks, AtLeast, AtMost}
-use Rattle.poly_atom.specs.Hopeless.{base}
 use Rattle.poly_report.specs.Holds.{asks, upper}
 use Rattle.poly_report.specs.Plain.{allowed, needed}
 use Rattle.poly_report.specs.FrameItems.{Noted, item_at, item_of, no_bound, times}
 use Rattle.poly_report.specs.FrameTable.{AskedShow, HaveShows, UppersShow}
-use Rattle.poly_report.proofs.FrameItems.{item_once, times_le}
+use Rattle.poly_report.proofs.FrameItems.{item_once}
 
 -- the bounds of the item at a place
 pub bound_at : (bs : List Bound) (b : ℕ) (f : Bound → ℕ) → items_ascend bs ≡ true → b < length bs → bound_in bs (item_at bs b) f ≡ f (get_or bs b no_bound)

@@ -1,7 +1,6 @@
 -- Items by their places among the items of a view.
 use Rattle.std.specs.Prelude.{List, length, nat_lt, slice_index_or, true, ℕ, ◌<◌, ◌==◌, ◌≡◌, ◌≤◌}
 use Rattle.std.specs.List.{list_all, list_any}
-use Rattle.poly_grid.specs.Spot.{Spot}
 use Rattle.poly_tiling.specs.declared.item.Item.{Item}
 use Rattle.poly_tiling.specs.declared.item.Item.TheVariants.{Cell}
 use Rattle.poly_tiling.specs.Lists.{one, tally}

@@ -1,5 +1,5 @@
 -- What a frame keeps while it moves.
-use Rattle.std.specs.Prelude.{Bool, List, false, length, nat_lt, slice_index, slice_index_or, take, drop, true, ℕ, ◌*◌, ◌+◌, ◌<◌, ◌≡◌, ◌≤◌}
+use Rattle.std.specs.Prelude.{List, false, length, nat_lt, slice_index, slice_index_or, take, drop, true, ℕ, ◌*◌, ◌+◌, ◌<◌, ◌≡◌, ◌≤◌}
 use Rattle.std.specs.List.{list_all}
 use Rattle.std.specs.Vec.{vec_capacity}
 use Rattle.poly_tiling.specs.declared.item.Item.{Item}

@@ -1,4 +1,4 @@
-use Rattle.std.proofs.Common.{arith, subst, ◌*◌, ◌+◌, ℕ}
+use Rattle.std.proofs.Common.{arith, subst, ℕ}
 use Rattle.poly_report.specs.Bits.{NoneIn, in_both}
 use Rattle.poly_report.proofs.Words.{first_both, none_both}
 use Rattle.poly_report.proofs.bits.next_both.Goals as goal

@@ -1,4 +1,4 @@
-use Rattle.std.proofs.Common.{ℕ, ◌*◌, ◌+◌, ◌<◌, ◌≤◌}
+use Rattle.std.proofs.Common.{◌*◌, ◌+◌, ◌<◌, ◌≤◌}
 use Rattle.poly_report.specs.Bits.{NoneIn, in_both}
 use Rattle.poly_report.proofs.bits.next_both.Given as goal
 

@@ -1,4 +1,4 @@
-use Rattle.std.proofs.Common.{arith, bit_or, get_or, sym, ℕ, ◌%◌, ◌*◌, ◌+◌, ◌/◌, ◌^◌, ◌||◌, ◌≡◌, eqb, subst}
+use Rattle.std.proofs.Common.{bit_or, sym, ℕ, ◌%◌, ◌*◌, ◌+◌, ◌/◌, ◌^◌, ◌||◌, ◌≡◌, eqb, subst}
 use Rattle.std.proofs.Math.ListN.{set}
 use Rattle.std.proofs.lemmas.List.{get_or_read}
 use Rattle.poly_report.specs.Bits.{has_bit}

@@ -1,4 +1,4 @@
-use Rattle.std.proofs.Common.{arith, bit_and, w64, get_or, sym, not, ℕ, ◌%◌, ◌*◌, ◌+◌, ◌/◌, ◌^◌, ◌&&◌, ◌≡◌, eqb, subst}
+use Rattle.std.proofs.Common.{bit_and, w64, sym, not, ℕ, ◌%◌, ◌*◌, ◌+◌, ◌/◌, ◌^◌, ◌&&◌, ◌≡◌, eqb, subst}
 use Rattle.std.proofs.Math.ListN.{set}
 use Rattle.std.specs.Int.{bit_not}
 use Rattle.std.proofs.lemmas.List.{get_or_read}

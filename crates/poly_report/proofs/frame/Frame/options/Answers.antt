@@ -1,4 +1,4 @@
-use Rattle.std.proofs.Common.{List, ap, arith, length, refl, subst, ℕ, ◌&&◌, ◌∙◌, ◌≡◌}
+use Rattle.std.proofs.Common.{List, ap, arith, refl, subst, ℕ, ◌&&◌, ◌∙◌, ◌≡◌}
 use Rattle.std.specs.List.{filter}
 use Rattle.poly_tiling.specs.Lists.{distinct, mem}
 use Rattle.poly_tiling.specs.Puzzle.{has_item}

@@ -1,4 +1,4 @@
-use Rattle.std.proofs.Common.{Bool, List, ap, eqb, get_or, length, ltb, max, not, subst, sym, ℕ, ◌&&◌, ◌*◌, ◌+◌, ◌-◌, ◌<◌, ◌∙◌, ◌≡◌, arith}
+use Rattle.std.proofs.Common.{ap, eqb, get_or, ltb, max, not, sym, ℕ, ◌&&◌, ◌*◌, ◌+◌, ◌-◌, ◌∙◌, ◌≡◌, arith}
 use Rattle.std.specs.List.{list_any}
 use Rattle.std.proofs.lemmas.List.{get_or_read}
 use Rattle.poly_tiling.specs.Lists.{mem, tally}

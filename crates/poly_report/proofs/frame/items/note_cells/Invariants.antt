@@ -1,4 +1,4 @@
-use Rattle.std.proofs.Common.{List, length, map, take, vec_capacity, vec_len, ℕ, ◌++◌, ◌+◌, ◌≡◌, ◌≤◌}
+use Rattle.std.proofs.Common.{List, map, take, vec_capacity, vec_len, ℕ, ◌++◌, ◌+◌, ◌≡◌, ◌≤◌}
 use Rattle.poly_tiling.specs.declared.item.Item.TheVariants.{Cell}
 use Rattle.poly_report.specs.FrameItems.{Noted}
 use Rattle.poly_report.proofs.frame.items.note_cells.Given as goal

@@ -1,4 +1,4 @@
-use Rattle.std.proofs.Common.{Bool, List, ap, arith, false, length, subst, sym, true, ◌+◌, ◌++◌, ◌<◌, ◌∙◌, ◌∷◌, ℕ, ◌≡◌, ◌≤◌, get_or, take, [], rules}
+use Rattle.std.proofs.Common.{Bool, List, ap, arith, false, length, sym, ◌++◌, ◌<◌, ◌∙◌, ◌∷◌, ℕ, ◌≡◌, ◌≤◌, get_or, take, [], rules}
 use Rattle.std.specs.List.{filter}
 use Rattle.std.proofs.lemmas.List.{get_or_read}
 use Rattle.poly_report.specs.Bits.{NoneIn, in_both}

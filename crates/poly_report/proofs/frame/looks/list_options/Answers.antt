@@ -1,7 +1,6 @@
-use Rattle.std.proofs.Common.{List, ap, false, length, subst, ℕ, ◌<◌, ◌∙◌, ◌≡◌}
-use Rattle.poly_tiling.specs.Puzzle.{Bound, has_item, same_item}
-use Rattle.poly_report.specs.FrameItems.{item_at, item_of}
-use Rattle.poly_report.specs.Holds.{open_in}
+use Rattle.std.proofs.Common.{List, false, length, subst, ℕ, ◌<◌, ◌∙◌, ◌≡◌}
+use Rattle.poly_tiling.specs.Puzzle.{Bound, same_item}
+use Rattle.poly_report.specs.FrameItems.{item_at}
 use Rattle.poly_report.proofs.FrameLooks.{none_has}
 use Rattle.poly_report.proofs.frame.looks.list_options.Goals as goal
 

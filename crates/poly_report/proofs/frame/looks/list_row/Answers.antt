@@ -1,4 +1,4 @@
-use Rattle.std.proofs.Common.{ap, sym, ◌&&◌, ◌*◌, ◌+◌, ◌-◌, ◌<◌, ◌∙◌, ◌≡◌}
+use Rattle.std.proofs.Common.{ap, sym, ◌&&◌, ◌*◌, ◌+◌, ◌-◌, ◌∙◌}
 use Rattle.poly_tiling.specs.Puzzle.{has_item}
 use Rattle.poly_report.specs.Bits.{has_bit}
 use Rattle.poly_report.specs.FrameItems.{item_of}

@@ -1,4 +1,4 @@
-use Rattle.std.proofs.Common.{None, MatchOption, false, get_or, length, nat_lt, true, ℕ, ◌<◌, ◌≡◌}
+use Rattle.std.proofs.Common.{MatchOption, false, get_or, length, nat_lt, true, ℕ, ◌<◌, ◌≡◌}
 use Rattle.poly_report.proofs.frame.looks.next_listed.Given as goal
 
 abbrev pub invariant-loop-b : goal.invariant-loop-b

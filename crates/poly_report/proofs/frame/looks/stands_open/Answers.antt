@@ -1,4 +1,4 @@
-use Rattle.std.proofs.Common.{ap, get_or, subst, sym, true, ℕ, ◌*◌, ◌+◌, ◌-◌, ◌∙◌, ◌≡◌}
+use Rattle.std.proofs.Common.{ap, subst, sym, true, ℕ, ◌*◌, ◌+◌, ◌-◌, ◌∙◌, ◌≡◌}
 use Rattle.poly_tiling.specs.Lists.{mem}
 use Rattle.poly_report.specs.Bits.{has_bit}
 use Rattle.poly_report.specs.Holds.{open_in}

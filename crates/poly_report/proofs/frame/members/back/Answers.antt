@@ -1,6 +1,5 @@
 use Rattle.std.proofs.Common.{List, ap, arith, get_or, length, subst, sym, take, ℕ, ◌-◌, ◌<◌, ◌∙◌, ◌≡◌}
 use Rattle.std.proofs.lemmas.List.{get_or_read}
-use Rattle.poly_atom.specs.Hopeless.{base}
 use Rattle.poly_report.specs.FrameMembers.{SizesShow}
 use Rattle.poly_report.proofs.FrameMembers.{back_left, back_same, back_sizes}
 use Rattle.poly_report.proofs.frame.members.back.Goals as goal

@@ -1,4 +1,4 @@
-use Rattle.std.proofs.Common.{Global, Vec, ap, arith, eqb, false, get_or, length, rules, sym, true, ◌<◌, ◌∙◌, ◌≡◌, ℕ, drop, take, ◌++◌, ◌+◌}
+use Rattle.std.proofs.Common.{Global, Vec, ap, arith, get_or, length, sym, ◌<◌, ◌∙◌, ◌≡◌, ℕ, drop, take, ◌++◌, ◌+◌}
 use Rattle.std.proofs.lemmas.Bool.{eq-eqb}
 use Rattle.std.proofs.lemmas.List.{get_or_read}
 use Rattle.poly_report.proofs.FrameMembers.{without_at, without_none}

@@ -1,4 +1,4 @@
-use Rattle.std.proofs.Common.{List, ap, arith, drop, get_or, length, ltb, subst, sym, true, ℕ, ◌+◌, ◌<◌, ◌∙◌, ◌≡◌, ◌≤◌}
+use Rattle.std.proofs.Common.{ap, arith, drop, get_or, length, ltb, sym, ◌+◌, ◌<◌, ◌∙◌, ◌≡◌}
 use Rattle.std.specs.List.{list_all}
 use Rattle.std.proofs.lemmas.List.{get_or_read, take_rest}
 use Rattle.poly_report.specs.FrameItems.{times}

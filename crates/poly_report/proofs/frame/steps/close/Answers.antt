@@ -1,4 +1,4 @@
-use Rattle.std.proofs.Common.{arith, get_or, length, ◌+◌, ◌<◌}
+use Rattle.std.proofs.Common.{arith, get_or, length, ◌+◌}
 use Rattle.std.proofs.Math.Nat.{mul-le-mul_left}
 use Rattle.poly_report.proofs.FrameItems.{low_at}
 use Rattle.poly_report.proofs.frame.steps.close.Goals as goal

@@ -1,4 +1,4 @@
-use Rattle.std.proofs.Common.{ap, arith, get_or, length, sym, ◌<◌, ◌∙◌, ◌≡◌}
+use Rattle.std.proofs.Common.{ap, arith, get_or, length, ◌<◌, ◌∙◌, ◌≡◌}
 use Rattle.std.proofs.lemmas.List.{get_or_read}
 use Rattle.poly_report.proofs.FrameSteps.{not_listed}
 use Rattle.poly_report.proofs.frame.steps.number_at.Goals as goal

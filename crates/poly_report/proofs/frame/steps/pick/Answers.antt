@@ -1,7 +1,6 @@
-use Rattle.std.proofs.Common.{List, Vec, [], ap, arith, drop, get_or, length, refl, subst, sym, take, vec_len, ℕ, ◌++◌, ◌+◌, ◌-◌, ◌<◌, ◌∙◌, ◌∷◌, ◌≡◌, ◌≤◌}
+use Rattle.std.proofs.Common.{[], ap, arith, length, refl, sym, vec_len, ◌++◌, ◌∙◌, ◌∷◌, ◌≡◌, ◌≤◌}
 use Rattle.std.proofs.lemmas.List.{length-append}
 use Rattle.poly_tiling.specs.Lists.{mem}
-use Rattle.poly_report.specs.FrameSteps.{Kept}
 use Rattle.poly_report.proofs.FrameSteps.{added, copied_from, have_small, kept_as, marks_from, own_none, own_taken, pick_again, pick_made, raised_few, taken_before, taken_past}
 use Rattle.poly_report.proofs.frame.steps.pick.Goals as goal
 

@@ -1,4 +1,4 @@
-use Rattle.std.proofs.Common.{arith, false, length, ltb, true, ◌<◌, ◌∙◌, ◌≡◌}
+use Rattle.std.proofs.Common.{arith, length, ◌∙◌, ◌≡◌}
 use Rattle.std.proofs.lemmas.Bool.{false_from_ne_true, lt-ltb, ltb-true}
 use Rattle.poly_report.proofs.FrameSteps.{kept_start}
 use Rattle.poly_report.proofs.frame.steps.start.Goals as goal

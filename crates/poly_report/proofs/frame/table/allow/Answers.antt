@@ -2,7 +2,7 @@ use Rattle.std.proofs.Common.{ap, arith, get_or, length, min, sym, ◌<◌, ◌�
 use Rattle.std.proofs.lemmas.List.{get_or_read}
 use Rattle.poly_report.specs.FrameItems.{item_at}
 use Rattle.poly_report.specs.Plain.{allowed}
-use Rattle.poly_report.proofs.FrameTable.{nowhere, written}
+use Rattle.poly_report.proofs.FrameTable.{written}
 use Rattle.poly_report.proofs.frame.table.allow.Goals as goal
 
 pub returns-in-Some-clause-value : goal.returns-in-Some-clause-value

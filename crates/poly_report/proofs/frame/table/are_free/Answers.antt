@@ -1,4 +1,4 @@
-use Rattle.std.proofs.Common.{ap, get_or, map, subst, sym, ◌∙◌, ◌≡◌}
+use Rattle.std.proofs.Common.{ap, get_or, map, sym, ◌∙◌, ◌≡◌}
 use Rattle.std.specs.List.{list_any}
 use Rattle.poly_tiling.specs.Puzzle.{Bound}
 use Rattle.poly_tiling.proofs.Coded.{any_map}

@@ -1,6 +1,5 @@
 use Rattle.std.proofs.Common.{List, ap, arith, drop, get_or, length, map, subst, sym, ◌+◌, ◌-◌, ◌<◌, ◌∙◌, ◌≡◌, ℕ}
 use Rattle.poly_tiling.specs.Puzzle.{Bound}
-use Rattle.poly_atom.specs.declared.atom.Atom.{Atom}
 use Rattle.poly_report.specs.Plain.{needed}
 use Rattle.poly_report.specs.FrameItems.{item_at}
 use Rattle.poly_report.specs.FrameTable.{AskedShow}

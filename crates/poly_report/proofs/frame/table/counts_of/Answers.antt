@@ -1,4 +1,4 @@
-use Rattle.std.proofs.Common.{List, [], ap, arith, get_or, length, refl, subst, sym, take, ℕ, ◌+◌, ◌<◌, ◌∙◌, ◌++◌, ◌≡◌}
+use Rattle.std.proofs.Common.{ap, arith, get_or, length, take, ◌+◌, ◌<◌, ◌∙◌, ◌++◌, ◌≡◌}
 use Rattle.poly_report.specs.FrameItems.{item_of, times}
 use Rattle.poly_report.proofs.FrameTable.{count_le, counted_more, length_take_le}
 use Rattle.poly_report.proofs.frame.table.counts_of.Goals as goal

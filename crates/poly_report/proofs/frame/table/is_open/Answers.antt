@@ -1,4 +1,3 @@
-use Rattle.std.proofs.Common.{sym, ◌∙◌}
 use Rattle.poly_report.proofs.FrameOpen.{is_open_no, is_open_yes, shut_shows}
 use Rattle.poly_report.proofs.FramePicks.{is_shut}
 use Rattle.poly_report.proofs.frame.table.is_open.Goals as goal

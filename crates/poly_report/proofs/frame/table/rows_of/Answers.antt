@@ -1,13 +1,10 @@
-use Rattle.std.proofs.Common.{List, ap, arith, get_or, length, ltb, replicate, rules, subst, sym, ℕ, ◌++◌, ◌&&◌, ◌<◌, ◌∙◌, ◌≡◌, false, ◌||◌, eqb}
+use Rattle.std.proofs.Common.{List, ap, get_or, replicate, rules, subst, ℕ, ◌++◌, ◌∙◌, ◌≡◌, ◌||◌, eqb}
 use Rattle.std.specs.List.{list_any}
-use Rattle.std.proofs.lemmas.Bool.{false_from_ne_true, ltb-true}
-use Rattle.std.proofs.lemmas.Grind.{common_steps}
 use Rattle.poly_tiling.specs.Puzzle.{has_item}
 use Rattle.poly_report.specs.Bits.{has_bit}
 use Rattle.poly_report.specs.FrameItems.{item_of}
 use Rattle.poly_report.specs.FrameTable.{place}
-use Rattle.poly_report.proofs.Words.{no_bits}
-use Rattle.poly_report.proofs.FrameOpen.{rows_done, rows_start, rows_step}
+use Rattle.poly_report.proofs.FrameOpen.{rows_start, rows_step}
 use Rattle.poly_report.proofs.frame.table.rows_of.Goals as goal
 
 pub loop-j-init : goal.loop-j-init

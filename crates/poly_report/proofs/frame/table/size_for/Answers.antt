@@ -1,4 +1,4 @@
-use Rattle.std.proofs.Common.{arith, get_or, ◌+◌, ◌≤◌, ◌^◌, rules}
+use Rattle.std.proofs.Common.{rules}
 use Rattle.poly_report.proofs.FrameOpen.{size_step}
 use Rattle.poly_report.proofs.frame.table.size_for.Goals as goal
 

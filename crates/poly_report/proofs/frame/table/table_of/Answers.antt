@@ -1,10 +1,10 @@
-use Rattle.std.proofs.Common.{List, ap, arith, get_or, length, subst, sym, true, ℕ, ◌/◌, ◌+◌, ◌<◌, ◌∙◌, ◌≡◌}
-use Rattle.std.specs.List.{filter, list_all, list_any}
+use Rattle.std.proofs.Common.{List, ap, arith, get_or, length, subst, sym, true, ℕ, ◌/◌, ◌+◌, ◌∙◌, ◌≡◌}
+use Rattle.std.specs.List.{list_all, list_any}
 use Rattle.std.proofs.lemmas.Bool.{and_from, and_parts}
 use Rattle.poly_tiling.specs.Lists.{distinct, mem}
 use Rattle.poly_tiling.specs.Puzzle.{Bound, count, same_item}
 use Rattle.poly_tiling.proofs.Orders.{live_once}
-use Rattle.poly_report.specs.Holds.{open_in, upper}
+use Rattle.poly_report.specs.Holds.{open_in}
 use Rattle.poly_report.specs.Plain.{of_asked}
 use Rattle.poly_report.specs.FrameItems.{item_at, item_of}
 use Rattle.poly_report.specs.FrameTable.{RowsShow, StandsShow, limit_at}
