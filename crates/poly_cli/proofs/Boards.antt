@@ -1,17 +1,15 @@
 -- The cells of a board, and how a map takes them one after another.
-use Rattle.std.proofs.Common.{◌≡◌, ◌≢◌, ◌+◌, ◌*◌, ◌≤◌, ◌<◌, ℕ, zero, suc, Bool, true, false, List, [], ◌∷◌, ◌++◌, length, map, take, get_or, cond, refl, sym, ap, subst, ◌∙◌, arith, length-append, Option, Some, None, add-one, append_assoc, append-nil, inl, inr}
+use Rattle.std.proofs.Common.{◌≡◌, ◌≢◌, ◌+◌, ◌*◌, ◌≤◌, ◌<◌, ℕ, zero, suc, Bool, true, false, List, [], ◌∷◌, ◌++◌, length, take, get_or, cond, refl, sym, ap, subst, ◌∙◌, arith, length-append, Option, Some, None, append_assoc, append-nil, inl, inr}
 use Rattle.std.specs.Prelude.{◌⊎◌, nat_le, count_by, sum_by, is_some, ◌==◌, if◌then◌else◌}
-use Rattle.std.specs.List.{All, AllPass, Contains, list_all}
+use Rattle.std.specs.List.{All, AllPass, list_all}
 use Rattle.std.specs.BTreeMap.{insert_entry}
 use Rattle.std.specs.Ordering.{nat_cmp, ordering_then}
 use Rattle.std.specs.Cmp.{nat_cmp_is}
-use Rattle.std.specs.declared.cmp.Ordering.{Ordering}
-use Rattle.std.specs.declared.cmp.Ordering.TheVariants.{Less, Equal, Greater}
-use Rattle.std.proofs.lemmas.Grind.{common_steps}
+use Rattle.std.specs.declared.cmp.Ordering.TheVariants.{Equal, Greater}
 use Rattle.std.proofs.lemmas.Bool.{cases_lt, and_parts, leb-true}
 use Rattle.std.proofs.lemmas.List.Sums.{sum_by-cons, AllPass-from_list_all}
-use Rattle.std.proofs.lemmas.List.{take_more, take_all, length-take-le}
-use Rattle.std.proofs.lemmas.List.Elements.{Contains-append_cases, All-contains}
+use Rattle.std.proofs.lemmas.List.{take_more, length-take-le}
+use Rattle.std.proofs.lemmas.List.Elements.{All-contains}
 use Rattle.serde_json.specs.View.{view}
 use Rattle.serde_json.specs.declared.value.Value.{Value}
 use Rattle.poly_grid.specs.Spot.{Spot}
@@ -21,7 +19,7 @@ use Rattle.poly_design.specs.declared.mode.Mode.{Mode}
 use Rattle.poly_design.specs.declared.mode.Mode.TheVariants.{Required, Optional, Blocked}
 use Rattle.poly_cli.specs.Board.{AreBefore, open_mode, is_open, is_mark, is_row, is_board, row_cells, cells_from, board_cells, with_mode}
 use Rattle.poly_cli.specs.Json as json
-use Rattle.poly_cli.specs.Views.{views, rows_of}
+use Rattle.poly_cli.specs.Views.{rows_of}
 use Rattle.poly_cli.proofs.Testing.{rows_length, rows_pass}
 
 -- how many cells

@@ -1,14 +1,13 @@
 -- How long the parts of a reply line are.
-use Rattle.std.proofs.Common.{◌≡◌, ℕ, zero, suc, ◌+◌, ◌*◌, ◌^◌, ◌<◌, ◌≤◌, List, [], ◌∷◌, ◌++◌, length, take, drop, get_or, refl, sym, ap, ◌∙◌, arith, rules, lit<, lit≤, append_assoc, append-nil}
+use Rattle.std.proofs.Common.{◌≡◌, ℕ, zero, suc, ◌+◌, ◌^◌, ◌<◌, ◌≤◌, List, [], ◌∷◌, ◌++◌, length, take, get_or, sym, ap, ◌∙◌, arith, append_assoc, append-nil}
 use Rattle.std.specs.Fmt.{decimal}
-use Rattle.std.specs.List.{flat_map, join_by, sum_by, fold}
+use Rattle.std.specs.List.{flat_map, fold}
 use Rattle.std.proofs.lemmas.Fmt.{length-decimal-le}
-use Rattle.std.proofs.lemmas.List.{take_more, take_all}
+use Rattle.std.proofs.lemmas.List.{take_more}
 use Rattle.std.proofs.lemmas.List.Concat.{flat_map-append}
-use Rattle.std.proofs.lemmas.Grind.{common_steps}
 use Rattle.poly_grid.specs.Spot.{Spot}
 use Rattle.poly_design.specs.declared.placement.Placement.{Placement}
-use Rattle.poly_cli.specs.Replies.{cell_text, cells_text, placement_text, placements_text, covered}
+use Rattle.poly_cli.specs.Replies.{cell_text, cells_text, covered}
 
 pub number_short : (n : ℕ) → n < 2 ^ 64 → length (decimal n) ≤ 20
 number_short n lt = let below : n < 10 ^ 20 = omega (arith, lt) in search (length-decimal-le, below, lt, arith)

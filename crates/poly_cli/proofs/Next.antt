@@ -1,13 +1,13 @@
 -- The next line, step by step.
-use Rattle.std.proofs.Common.{◌≡◌, ◌+◌, ◌<◌, ◌++◌, List, [], ℕ, length, refl, sym, ◌∙◌, ap, subst, append-nil, arith, length-append}
+use Rattle.std.proofs.Common.{◌≡◌, ◌+◌, ◌++◌, List, [], ℕ, length, refl, sym, ◌∙◌, ap, append-nil, arith, length-append}
 use Rattle.std.specs.declared.option.Option.{Option}
-use Rattle.std.specs.Io.KnownBytes.{Consumes, IsAtEnd}
+use Rattle.std.specs.Io.KnownBytes.{Consumes}
 use Rattle.poly_cli.specs.declared.lines.Lines.{Lines}
 use Rattle.poly_cli.specs.declared.lines.Event.TheVariants.{Line, End, Fault}
-use Rattle.poly_cli.specs.Cutting.{open_line, whole_lines}
+use Rattle.poly_cli.specs.Cutting.{open_line}
 use Rattle.poly_cli.specs.Buffered.{ahead, EndsLine, EndsNone, NextLine, Reads}
 use Rattle.poly_cli.proofs.Cuts.{then_line, then_none, parts_cut, parts_read}
-use Rattle.poly_cli.proofs.Known.{consumes_more, consumes_none}
+use Rattle.poly_cli.proofs.Known.{consumes_more}
 
 -- what is known of the bytes that were cut so far, none of which ended a line
 pub record SoFar (old now : Lines) (left_old left : Option (List ℕ)) : Type 0 where

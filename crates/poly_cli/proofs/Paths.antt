@@ -1,5 +1,5 @@
 -- Ways from one design to another: how they grow and shrink at their ends.
-use Rattle.std.proofs.Common.{◌≡◌, ◌+◌, ◌-◌, ℕ, zero, suc, List, [], ◌∷◌, ◌++◌, refl, sym, ◌∙◌, ap, subst, arith, map, drop, length, reverse}
+use Rattle.std.proofs.Common.{◌≡◌, ◌-◌, ℕ, zero, suc, List, [], ◌∷◌, ◌++◌, refl, sym, ap, subst, drop, length, reverse}
 use Rattle.std.proofs.lemmas.List.{reverse-append}
 use Rattle.poly_design.specs.Changes.{HasBefore, changed}
 use Rattle.poly_design.specs.Layout.{Layout}

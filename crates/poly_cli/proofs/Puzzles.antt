@@ -1,6 +1,6 @@
 -- The steps of a puzzle line, joined.
-use Rattle.std.proofs.Common.{◌≡◌, ℕ, List, [], Result, Ok, Err, refl, ap, sym, subst, inl, inr}
-use Rattle.std.specs.Prelude.{◌⊎◌, ◌↔◌, IsOk, IfOk, IfErr}
+use Rattle.std.proofs.Common.{◌≡◌, ℕ, List, [], Result, Ok, Err, refl, ap, subst, inl, inr}
+use Rattle.std.specs.Prelude.{◌⊎◌, IsOk, IfOk, IfErr}
 use Rattle.serde_json.specs.Data.{Data}
 use Rattle.poly_grid.specs.Spot.{Spot}
 use Rattle.poly_grid.specs.declared.refusal.Refusal.{Refusal}

@@ -1,7 +1,7 @@
 -- What an undo and a redo make of the steps of a history.
-use Rattle.std.proofs.Common.{◌≡◌, ◌+◌, ◌-◌, ◌<◌, ℕ, zero, suc, List, [], ◌∷◌, ◌++◌, refl, sym, ◌∙◌, ap, subst, arith, map, drop, length, length-append, Option, None, Some, slice_get, reverse}
+use Rattle.std.proofs.Common.{◌≡◌, ◌-◌, ℕ, suc, List, [], ◌∷◌, ◌++◌, refl, sym, ◌∙◌, ap, subst, arith, drop, length, length-append, Some, slice_get, reverse}
 use Rattle.std.proofs.lemmas.List.{drop-map, length-map}
-use Rattle.poly_design.specs.Changes.{HasBefore, changed, inverse_of}
+use Rattle.poly_design.specs.Changes.{HasBefore, changed}
 use Rattle.poly_design.specs.Layout.{Layout}
 use Rattle.poly_design.specs.Limits.{IsDesign}
 use Rattle.poly_design.specs.declared.change.Change.{Change}

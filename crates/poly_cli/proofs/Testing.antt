@@ -1,5 +1,5 @@
 -- Tests of the elements of a list of JSON, by the values in memory.
-use Rattle.std.proofs.Common.{◌≡◌, ℕ, Bool, List, length, map, ◌∙◌}
+use Rattle.std.proofs.Common.{◌≡◌, Bool, List, length, ◌∙◌}
 use Rattle.std.specs.List.{list_all}
 use Rattle.std.proofs.lemmas.List.{length-map}
 use Rattle.std.proofs.lemmas.List.Folds.{list_all-map}

@@ -1,5 +1,5 @@
 -- The outer object of a puzzle line: exactly its keys, each with a value of its kind.
-use Rattle.std.specs.Prelude.{ℕ, ◌&&◌, ◌==◌, List, codes, Option, Some, None}
+use Rattle.std.specs.Prelude.{ℕ, ◌&&◌, ◌==◌, List, codes, Option}
 use Rattle.serde_json.specs.Data.{Data}
 use Rattle.serde_json.specs.Find.{get, as_object}
 use Rattle.serde_json.specs.Events.{members_len}

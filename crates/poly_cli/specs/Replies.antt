@@ -1,5 +1,5 @@
 -- The text of replies.
-use Rattle.std.specs.Prelude.{◌≡◌, ℕ, ◌+◌, List, [], ◌∷◌, ◌++◌, length, codes, sum_by, Result, Ok, Err}
+use Rattle.std.specs.Prelude.{ℕ, List, [], ◌∷◌, ◌++◌, length, codes, sum_by, Result, Ok, Err}
 use Rattle.std.specs.List.{flat_map, join_by}
 use Rattle.std.specs.Fmt.{decimal}
 use Rattle.poly_grid.specs.Spot.{Spot}

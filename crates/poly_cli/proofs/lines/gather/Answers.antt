@@ -1,6 +1,6 @@
-use Rattle.std.proofs.Common.{rules, arith, ◌≡◌, ◌+◌, take, length, [], refl, subst}
+use Rattle.std.proofs.Common.{rules, subst}
 use Rattle.std.proofs.lemmas.List.{take_all}
-use Rattle.poly_cli.proofs.Cuts.{none_yet, goes_on, comes_to_end}
+use Rattle.poly_cli.proofs.Cuts.{goes_on, comes_to_end}
 use Rattle.poly_cli.specs.Buffered.{EndsNone}
 use Rattle.poly_cli.proofs.lines.gather.Goals as goal
 

@@ -1,4 +1,4 @@
-use Rattle.std.proofs.Common.{arith, ◌≡◌, ◌+◌, ◌<◌, ◌≤◌, ◌++◌, ◌∷◌, [], ℕ, List, take, length, vec_len, sym, ◌∙◌, ap, subst}
+use Rattle.std.proofs.Common.{arith, ◌+◌, ◌++◌, ◌∷◌, [], ◌∙◌, ap}
 use Rattle.poly_cli.proofs.Cuts.{take_short, take_long}
 use Rattle.poly_cli.proofs.lines.keep.Goals as goal
 

@@ -1,4 +1,4 @@
-use Rattle.std.proofs.Common.{◌≡◌, inr, sym, true≢false}
+use Rattle.std.proofs.Common.{inr, sym, true≢false}
 use Rattle.poly_cli.proofs.Texts.{read_ok, read_err}
 use Rattle.poly_cli.proofs.puzzle.json_of.Goals as goal
 

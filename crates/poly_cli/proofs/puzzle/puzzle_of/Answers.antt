@@ -1,4 +1,3 @@
-use Rattle.std.proofs.Common.{◌≡◌, refl}
 use Rattle.serde_json.specs.View.{view}
 use Rattle.poly_cli.specs.Views.{head_view}
 use Rattle.poly_cli.proofs.Boards.{none_blocked}

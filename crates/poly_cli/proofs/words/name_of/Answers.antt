@@ -1,4 +1,4 @@
-use Rattle.std.proofs.Common.{◌≡◌, refl, sym, true≢false}
+use Rattle.std.proofs.Common.{refl, sym, true≢false}
 use Rattle.poly_cli.proofs.Naming.{is_name_from, no_name_from}
 use Rattle.poly_cli.proofs.words.name_of.Goals as goal
 

@@ -1,4 +1,4 @@
-use Rattle.std.proofs.Common.{rules, arith, ◌≡◌, ◌+◌, ◌-◌, take, drop, length, [], refl, sym, subst}
+use Rattle.std.proofs.Common.{◌-◌, take, drop}
 use Rattle.poly_cli.proofs.Cuts.{ahead_found, ahead_past, ahead_none}
 use Rattle.poly_cli.proofs.lines.Lines.cut.Goals as goal
 

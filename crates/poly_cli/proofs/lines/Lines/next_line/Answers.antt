@@ -1,6 +1,5 @@
-use Rattle.std.proofs.Common.{rules, ◌≡◌, [], refl, append-nil}
+use Rattle.std.proofs.Common.{rules, [], refl, append-nil}
 use Rattle.poly_cli.specs.Cutting.{open_line}
-use Rattle.poly_cli.specs.Buffered.{ahead}
 use Rattle.poly_cli.proofs.Cuts.{nothing_yet}
 use Rattle.poly_cli.proofs.Known.{consumes_none}
 use Rattle.poly_cli.proofs.Next.{found_line, found_end, found_fault, reads_on}

@@ -1,4 +1,4 @@
-use Rattle.std.proofs.Common.{◌≡◌, sym, subst}
+use Rattle.std.proofs.Common.{sym, subst}
 use Rattle.poly_design.specs.Limits.{IsDesign}
 use Rattle.poly_cli.specs.Paths.{IsOnWay}
 use Rattle.poly_cli.specs.Slow.{changes_of}

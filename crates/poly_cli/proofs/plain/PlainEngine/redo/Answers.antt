@@ -1,4 +1,4 @@
-use Rattle.std.proofs.Common.{◌≡◌, ◌+◌, ◌∙◌, sym, subst, ap, refl}
+use Rattle.std.proofs.Common.{◌∙◌, sym, subst, ap, refl}
 use Rattle.poly_design.specs.Changes.{changed}
 use Rattle.poly_cli.specs.Slow.{State, Redoes, changes_of}
 use Rattle.poly_cli.proofs.Paths.{same_way}

@@ -1,10 +1,8 @@
-use Rattle.std.proofs.Common.{◌≡◌, ◌+◌, ◌∙◌, ◌++◌, ◌∷◌, [], sym, subst, ap, refl}
+use Rattle.std.proofs.Common.{◌≡◌, ◌∙◌, sym, subst, ap, refl}
 use Rattle.poly_design.specs.Changes.{HasBefore, changed, inverse_of}
 use Rattle.poly_design.specs.Layout.{Layout}
 use Rattle.poly_design.specs.Limits.{IsDesign}
 use Rattle.poly_design.specs.declared.change.Change.{Change}
-use Rattle.poly_undo.specs.declared.step.Step.{Step}
-use Rattle.poly_cli.specs.Paths.{IsOnWay}
 use Rattle.poly_cli.specs.Slow.{State, Undoes, changes_of}
 use Rattle.poly_cli.proofs.Paths.{same_way}
 use Rattle.poly_cli.proofs.Stepped.{changes_push, next_taken, same_state, some_taken, undo_made, undone_design}

@@ -1,5 +1,4 @@
-use Rattle.std.proofs.Common.{◌≡◌, ◌+◌, ◌++◌, take, sym, ap, ◌∙◌}
-use Rattle.poly_cli.specs.Board.{row_cells}
+use Rattle.std.proofs.Common.{sym, ◌∙◌}
 use Rattle.poly_cli.proofs.Boards.{board_bounds, rows_more}
 use Rattle.poly_cli.proofs.puzzle.board.cells_of_rows.Goals as goal
 

@@ -1,4 +1,4 @@
-use Rattle.std.proofs.Common.{◌≡◌, ◌≤◌, arith}
+use Rattle.std.proofs.Common.{arith}
 use Rattle.std.proofs.lemmas.Grind.{common_steps}
 use Rattle.poly_cli.proofs.Boards.{board_length}
 use Rattle.poly_cli.proofs.puzzle.board.is_small.Goals as goal

@@ -1,6 +1,5 @@
-use Rattle.std.proofs.Common.{◌≡◌, ◌+◌, ◌*◌, ◌∷◌, [], arith, ◌∙◌}
-use Rattle.poly_cli.specs.Board.{with_mode}
-use Rattle.poly_cli.proofs.Boards.{insert_last, before_more, before_append, with_mode_before}
+use Rattle.std.proofs.Common.{◌+◌, ◌*◌, ◌∷◌, [], arith, ◌∙◌}
+use Rattle.poly_cli.proofs.Boards.{insert_last, before_more, before_append}
 use Rattle.poly_cli.proofs.puzzle.board.put_cell.Goals as goal
 
 pub returns-in_ok-insert-clause-ok : goal.returns-in_ok-insert-clause-ok

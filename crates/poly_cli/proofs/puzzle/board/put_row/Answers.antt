@@ -1,4 +1,4 @@
-use Rattle.std.proofs.Common.{◌≡◌, ◌+◌, ◌*◌, ◌++◌, take, get_or, arith, sym, ap, ◌∙◌, append_assoc}
+use Rattle.std.proofs.Common.{◌+◌, ◌*◌, ◌++◌, take, get_or, arith, sym, ap, ◌∙◌, append_assoc}
 use Rattle.poly_cli.specs.Board.{open_mode, row_cells, with_mode}
 use Rattle.poly_cli.proofs.Boards.{before_more, row_more}
 use Rattle.poly_cli.proofs.puzzle.board.put_row.Goals as goal

@@ -1,4 +1,4 @@
-use Rattle.std.proofs.Common.{rules, inr, ◌≡◌, refl, sym, ◌∙◌}
+use Rattle.std.proofs.Common.{inr}
 use Rattle.poly_cli.proofs.CellsRead.{cells_step, cells_stop, cells_done}
 use Rattle.poly_cli.proofs.puzzle.piece.cells_of.Goals as goal
 

@@ -1,7 +1,6 @@
-use Rattle.std.proofs.Common.{◌≡◌, rules, arith, refl, sym, subst, ap}
-use Rattle.poly_design.specs.Name.{name_cmp}
+use Rattle.std.proofs.Common.{arith}
 use Rattle.poly_cli.specs.Views.{said_view}
-use Rattle.poly_cli.proofs.PiecesRead.{piece_step, length_insert, of_grid_insert, spec_grid, are_of_grid, OfGrid}
+use Rattle.poly_cli.proofs.PiecesRead.{piece_step, length_insert, of_grid_insert, spec_grid, are_of_grid}
 use Rattle.poly_cli.proofs.puzzle.piece.pieces_of.Goals as goal
 
 pub loop-value-preserved : goal.loop-value-preserved

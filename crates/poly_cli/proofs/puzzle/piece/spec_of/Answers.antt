@@ -1,4 +1,4 @@
-use Rattle.std.proofs.Common.{rules, ◌≡◌, refl, subst, sym}
+use Rattle.std.proofs.Common.{refl, subst}
 use Rattle.poly_cli.specs.Piece.{ShapeSays}
 use Rattle.poly_cli.proofs.puzzle.piece.spec_of.Goals as goal
 

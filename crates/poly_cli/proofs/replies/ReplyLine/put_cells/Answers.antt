@@ -1,5 +1,4 @@
-use Rattle.std.proofs.Common.{◌≡◌, ◌+◌, ◌*◌, ◌≤◌, ◌++◌, ◌∷◌, ℕ, [], length, take, ap, ◌∙◌, arith, length-append}
-use Rattle.poly_cli.specs.Replies.{cells_text}
+use Rattle.std.proofs.Common.{◌∷◌, [], length, ap, ◌∙◌, arith, length-append}
 use Rattle.poly_cli.proofs.Digits.{text_first, text_next}
 use Rattle.poly_cli.proofs.replies.ReplyLine.put_cells.Goals as goal
 use Rattle.poly_cli.proofs.replies.ReplyLine.put_cells.Goals.{then-i-gt0, else-i-gt0}
