@@ -7,11 +7,14 @@ use Rattle.std.proofs.lemmas.List.{length-append}
 use Rattle.poly_design.specs.Layout.{Layout}
 use Rattle.poly_design.specs.declared.placement.Placement.{Placement}
 use Rattle.poly_tiling.specs.Names.{Grown, WellNamed, below, in_order, placed_below}
-use Rattle.poly_tiling.specs.Puzzle.{View, items, items_of, same_item}
+use Rattle.poly_tiling.specs.Puzzle.{View, has_item, items, items_of, same_item}
 use Rattle.poly_tiling.specs.Shows.{IsNamed, Shows}
 use Rattle.poly_tiling.proofs.Contained.{contains_in}
 use Rattle.poly_tiling.proofs.Lists.{In, all_from, all_in, slice_get_front}
+use Rattle.poly_tiling.specs.declared.item.Item.{Item}
+use Rattle.poly_place.specs.Index.{IsIndex, Row, row_in}
 use Rattle.poly_place.specs.Interned.{GoesOn}
+use Rattle.poly_place.proofs.Rows.{live_with, with_from, with_live}
 
 abbrev pub grown : View → List Placement → View
 grown t all = record { placements = all; live = t.live; bounds = t.bounds; pins = t.pins }
@@ -67,6 +70,19 @@ grown_shows t all d w g s = record {
   pins = λ p. let a = named_still t all g t.pins w.pins_named p in let b = s.pins p in (λ h. b.0 (a.0 h), λ h. a.1 (b.1 h));
   bounds = s.bounds;
 }
+
+-- the index stays right
+pub grown_index : (t : View) (all : List Placement) (rows : List Row) → WellNamed t → GoesOn t.placements all → IsIndex t rows → IsIndex (grown t all) rows
+grown_index t all rows w g x =
+    let same : (n : ℕ) → In n t.live → (i : Item) → has_item (grown t all) n i ≡ has_item t n i =
+    λ n j i. ap (λ o. list_any (λ j. same_item j i) (items_of o)) (stays t.placements all g n (all_in (λ n. nat_lt n (length t.placements)) t.live w.named n j)) in
+    record {
+      items = x.items;
+      numbers = λ i. with_from (grown t all) i (row_in rows i)
+          (λ n j. let r = with_live t i (row_in rows i) (x.numbers i) n j in (r.0, same n r.0 i ∙ r.1))
+          (λ n j h. live_with t i (row_in rows i) (x.numbers i) n j (sym (same n j i) ∙ h))
+          (x.numbers i).apart;
+    }
 
 pub grows_on : (t : View) (all : List Placement) → GoesOn t.placements all → Grown t (grown t all)
 grows_on t all g = ((g.more, g.appended), refl, refl, refl)

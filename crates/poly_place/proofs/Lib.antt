@@ -8,3 +8,5 @@ pub mod Marks
 pub mod RunOut
 pub mod Untouched
 pub mod Turned
+pub mod Rows
+pub mod Indexed

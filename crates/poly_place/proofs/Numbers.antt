@@ -112,7 +112,7 @@ contains_of_take xs n x (k, lt, e) = let a = length-take n xs in (k, omega (arit
 contains_next : {X : Type 0} (xs : List X) (i : ℕ) (x : X) → i < length xs → x ≡ get_or xs i x → Contains (take (i + 1) xs) x
 contains_next xs i x lt is = (i, omega (arith, length-take (i + 1) xs), get_or-take (i + 1) xs i x (omega arith) ∙ sym is)
 
-get_or_any : {X : Type 0} (xs : List X) (i : ℕ) (d e : X) → i < length xs → get_or xs i d ≡ get_or xs i e
+pub get_or_any : {X : Type 0} (xs : List X) (i : ℕ) (d e : X) → i < length xs → get_or xs i d ≡ get_or xs i e
 get_or_any xs i d e lt = let a = slice_get-get_or xs i d lt in let b = slice_get-get_or xs i e lt in cc
 
 below_later : (ps : List Placement) (i : ℕ) (p q : Placement) → IsAscending placement_cmp ps → i < length ps → p ≡ get_or ps i p → Contains (take i ps) q → placement_cmp q p ≡ Less
@@ -171,7 +171,7 @@ all_given old ps now i ns w le =
       },
     )
 
-take_front : (xs ys : List Placement) → take (length xs) (xs ++ ys) ≡ xs
+pub take_front : {X : Type 0} (xs ys : List X) → take (length xs) (xs ++ ys) ≡ xs
 take_front [] ys = refl
 take_front (x ∷ xs) ys = ap (λ l. x ∷ l) (take_front xs ys)
 

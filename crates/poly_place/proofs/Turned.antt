@@ -39,11 +39,11 @@ use Rattle.poly_place.proofs.Untouched.{untouched_stays, untouched_was}
 
 -- ---- numbers that stand once
 
-apart_list : (xs : List ℕ) → distinct xs ≡ true → AllPairs (λ x y. x ≢ y) xs
+pub apart_list : (xs : List ℕ) → distinct xs ≡ true → AllPairs (λ x y. x ≢ y) xs
 apart_list [] h = pairs_none (λ x y. x ≢ y)
 apart_list (x ∷ xs) h = pairs_cons (λ x y. x ≢ y) x xs (λ y i e. not_head x xs h (subst (λ z. In z xs) (sym e) i)) (apart_list xs (distinct_rest x xs h))
 
-apart_both : (xs ys : List ℕ) → AllPairs (λ x y. x ≢ y) xs → AllPairs (λ x y. x ≢ y) ys → ((n : ℕ) → In n xs → In n ys → ⊥) → AllPairs (λ x y. x ≢ y) (xs ++ ys)
+pub apart_both : (xs ys : List ℕ) → AllPairs (λ x y. x ≢ y) xs → AllPairs (λ x y. x ≢ y) ys → ((n : ℕ) → In n xs → In n ys → ⊥) → AllPairs (λ x y. x ≢ y) (xs ++ ys)
 apart_both [] ys a b far = b
 apart_both (x ∷ xs) ys a b far = pairs_cons (λ x y. x ≢ y) x (xs ++ ys)
     (λ y i e. elim (in_append_cases y xs ys i) [

@@ -8,3 +8,4 @@ pub mod Differences
 pub mod Delta
 pub mod Spent
 pub mod Touched
+pub mod Index

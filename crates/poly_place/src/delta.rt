@@ -50,7 +50,12 @@ fn without(
     Ok(list)
 }
 
-fn unmarked(alloc: Global, numbers: &[u32], marks: &[bool]) -> Result<Vec<u32>, AllocError>
+/// The numbers without a mark.
+pub(crate) fn unmarked(
+    alloc: Global,
+    numbers: &[u32],
+    marks: &[bool],
+) -> Result<Vec<u32>, AllocError>
     ensures { IfOk result (λ list. list.items ≡ filter (λ n. not (slice_index_or marks.now n false)) numbers.now) }
 {
     numbers
@@ -69,8 +74,8 @@ fn is_marked(marks: &[bool], number: u32) -> bool
     }
 }
 
-// A mark for each number of the list.
-fn marks_of(alloc: Global, count: usize, numbers: &[u32]) -> Result<Vec<bool>, Refusal>
+/// A mark for each number of the list. All numbers are below the count.
+pub(crate) fn marks_of(alloc: Global, count: usize, numbers: &[u32]) -> Result<Vec<bool>, Refusal>
     requires { list_all (λ n. nat_lt n count) numbers.now ≡ true }
     ensures ok { IfOk result (λ marks. (n : ℕ) → slice_index_or marks.items n false ≡ mem numbers.now n) }
     ensures why { IfErr result (λ e. e ≡ Refusal.Memory) }

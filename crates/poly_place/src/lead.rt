@@ -6,11 +6,13 @@ ghost use Rattle.poly_design.specs.Layout.{Layout};
 ghost use Rattle.poly_tiling.specs.Names.{WellNamed};
 ghost use Rattle.poly_tiling.specs.Shows.{Shows};
 ghost use Rattle.poly_place.specs.Delta.{IsDelta, IsPlanFor};
+ghost use Rattle.poly_place.specs.Index.{IsIndex};
 ghost use Rattle.poly_place.specs.Interned.{GoesOn};
 ghost use Rattle.poly_place.specs.Sides.{by_sides};
 ghost use Rattle.poly_place.specs.Spent.{IsSpent};
 
 use crate::delta::differences;
+use crate::index::Index;
 use crate::interner::Interner;
 use crate::parts::Parts;
 use crate::plan::Plan;
@@ -40,7 +42,8 @@ pub(crate) fn lead(
 {
     let parts = Parts::of(alloc, after)?;
     let next = Sides::of(alloc, names, parts)?;
-    let plan = plan_between(alloc, names, sides, next)?;
+    let index = Index::of(alloc, names, &next)?;
+    let plan = plan_between(alloc, names, sides, next, index)?;
     Ok(plan)
 }
 
@@ -51,11 +54,13 @@ pub(crate) fn lead_by(
     alloc: Global,
     names: &mut Interner,
     sides: &Sides,
+    index: &Index,
     design: &Design,
     change: &Change,
     after: &Design,
 ) -> Result<Plan, Refusal>
     requires well { WellNamed (by_sides names.old sides.now) }
+    requires indexed { IsIndex (by_sides names.old sides.now) index.now.rows.items }
     requires shows { Shows (by_sides names.old sides.now) design.now }
     requires after { after.now ≡ changed design.now change.now }
     ensures grows { GoesOn names.old names.new }
@@ -65,7 +70,8 @@ pub(crate) fn lead_by(
     ensures why { IfErr result (λ e. (e ≡ Refusal.Spent) ⊎ (e ≡ Refusal.Memory)) }
 {
     let next = turned(alloc, names, sides, change, after)?;
-    let plan = plan_between(alloc, names, sides, next)?;
+    let next_index = index.changed_by(alloc, names, change, &next)?;
+    let plan = plan_between(alloc, names, sides, next, next_index)?;
     Ok(plan)
 }
 
@@ -74,9 +80,11 @@ fn plan_between(
     names: &Interner,
     sides: &Sides,
     next: Sides,
+    index: Index,
 ) -> Result<Plan, Refusal>
     requires standing { WellNamed (by_sides names.now sides.now) }
     requires next { WellNamed (by_sides names.now next) }
+    requires indexed { IsIndex (by_sides names.now next) index.rows.items }
     ensures view { IfOk result (λ p. arc_value p.view ≡ by_sides names.now next) }
     ensures delta { (before after : Layout) → Shows (by_sides names.now sides.now) before → Shows (by_sides names.now next) after → IfOk result (λ p. IsDelta (by_sides names.now next) before after p.delta) }
     ensures why { IfErr result (λ e. e ≡ Refusal.Memory) }
@@ -88,6 +96,7 @@ fn plan_between(
         delta,
         view: shared,
         sides: next,
+        index,
     })
 }
 

@@ -2,6 +2,7 @@
 #![tactic(auto)]
 
 mod delta;
+mod index;
 mod interner;
 mod lead;
 mod parts;

@@ -2,8 +2,10 @@
 ghost use Rattle.std.specs.Prelude.{◌≡◌, IfOk, IfErr};
 ghost use Rattle.std.specs.Arc.{arc_value};
 ghost use Rattle.poly_tiling.specs.Names.{WellNamed};
+ghost use Rattle.poly_place.specs.Index.{IsIndex};
 
 use crate::delta::Delta;
+use crate::index::Index;
 use crate::sides::Sides;
 use poly_tiling::View;
 use std::sync::Arc;
@@ -16,6 +18,8 @@ pub struct Plan {
     /// The design after.
     pub view: Arc<View>,
     pub(crate) sides: Sides,
+    pub(crate) index: Index,
     ghost well: { WellNamed (arc_value view) },
     ghost shown: { arc_value view ≡ record { placements = (arc_value view).placements; live = sides.live.items; bounds = sides.bounds.items; pins = sides.pins.items } },
+    ghost indexed: { IsIndex (arc_value view) index.rows.items },
 }

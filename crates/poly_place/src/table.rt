@@ -6,9 +6,11 @@ ghost use Rattle.poly_design.specs.Layout.{Layout};
 ghost use Rattle.poly_design.specs.Limits.{IsDesign};
 ghost use Rattle.poly_tiling.specs.Names.{Grown};
 ghost use Rattle.poly_place.specs.Delta.{IsPlanFor};
+ghost use Rattle.poly_place.specs.Index.{AreNumbersWith};
 ghost use Rattle.poly_place.specs.Right.{IsRight};
 ghost use Rattle.poly_place.specs.Spent.{IsSpent};
 
+use crate::index::Index;
 use crate::interner::Interner;
 use crate::lead::{lead, lead_by, view_of};
 use crate::parts::Parts;
@@ -16,7 +18,7 @@ use crate::plan::Plan;
 use crate::sides::Sides;
 use poly_design::{Change, Design};
 use poly_grid::Refusal;
-use poly_tiling::View;
+use poly_tiling::{Item, View};
 use std::alloc::Global;
 use std::marker::Model;
 
@@ -26,18 +28,19 @@ pub struct Table {
     alloc: Global,
     names: Interner,
     sides: Sides,
+    index: Index,
 }
 
 impl Model for Table {
     ghost use Rattle.poly_tiling.specs.Puzzle.{View};
-    ghost use Rattle.poly_tiling.specs.Names.{WellNamed};
+    ghost use Rattle.poly_place.specs.Index.{IsIndexed};
     ghost use Rattle.poly_place.specs.Sides.{by_sides};
 
     ghost Value = { View };
 
     ghost view = { λ t. by_sides t.names t.sides };
 
-    ghost invariant = { λ t. WellNamed (by_sides t.names t.sides) };
+    ghost invariant = { λ t. IsIndexed (by_sides t.names t.sides) t.index.rows.items };
 }
 
 impl Table {
@@ -51,11 +54,15 @@ impl Table {
         let mut names = Interner::new(alloc);
         let parts = Parts::of(alloc, design)?;
         match Sides::of(alloc, &mut names, parts) {
-            Ok(sides) => Ok(Table {
-                alloc,
-                names,
-                sides,
-            }),
+            Ok(sides) => {
+                let index = Index::of(alloc, &names, &sides)?;
+                Ok(Table {
+                    alloc,
+                    names,
+                    sides,
+                    index,
+                })
+            }
             Err(refusal) => Err(refusal),
         }
     }
@@ -66,6 +73,13 @@ impl Table {
         ensures why { IfErr result (λ e. e ≡ Refusal.Memory) }
     {
         view_of(self.alloc, &self.names, &self.sides)
+    }
+
+    /// The numbers of the design's placements that have the item, each once; none where the item isn't there.
+    pub fn numbers(&self, item: &Item) -> &[u32]
+        ensures { AreNumbersWith self.now item.now result.now }
+    {
+        self.index.numbers(item)
     }
 
     /// The plan that leads from the design that the table is right for to the design after.
@@ -117,6 +131,7 @@ impl Table {
             self.alloc,
             &mut self.names,
             &self.sides,
+            &self.index,
             design,
             change,
             after,
@@ -130,6 +145,7 @@ impl Table {
         ensures right { (d : Layout) → IsRight (arc_value plan.view) d → IsRight self.new d }
     {
         self.sides = plan.sides;
+        self.index = plan.index;
     }
 }
 

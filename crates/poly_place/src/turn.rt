@@ -111,6 +111,21 @@ fn untouched(
         .collect(alloc)
 }
 
+/// The numbers that the change touches.
+pub(crate) fn touched(
+    alloc: Global,
+    names: &Interner,
+    live: &[u32],
+    change: &Change,
+) -> Result<Vec<u32>, AllocError>
+    ensures { IfOk result (λ list. list.items ≡ filter (λ n. touches_named change.now (slice_get names.now n)) live.now) }
+{
+    live.iter()
+        .filter(|n| is_touched(names, **n, change))
+        .copied()
+        .collect(alloc)
+}
+
 fn is_touched(names: &Interner, number: u32, change: &Change) -> bool
     ensures { result ≡ touches_named change.now (slice_get names.now number) }
 {

@@ -11,6 +11,9 @@ use Rattle.poly_place.proofs.lead.lead.Goals as goal
 pub plan_between-requires-clause-standing : goal.plan_between-requires-clause-standing
 plan_between-requires-clause-standing c = grown_well (by_sides c.args.names.now c.args.sides.now) c.of-2.new.names c.requires c.in_ok-next.ensures.grows
 
+pub of-requires-3 : goal.of-requires-3
+of-requires-3 c = (c.in_ok-next.ensures.right c.args.after.now c.in_ok-parts.ensures.ok).well
+
 pub plan_between-requires-clause-next : goal.plan_between-requires-clause-next
 plan_between-requires-clause-next c = (c.in_ok-next.ensures.right c.args.after.now c.in_ok-parts.ensures.ok).well
 

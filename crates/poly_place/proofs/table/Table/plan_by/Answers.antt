@@ -7,11 +7,14 @@ use Rattle.poly_tiling.specs.Shows.{Shows}
 use Rattle.poly_place.specs.declared.plan.Plan.{Plan}
 use Rattle.poly_place.specs.Delta.{IsPlanFor}
 use Rattle.poly_place.specs.Sides.{by_sides}
-use Rattle.poly_place.proofs.Grow.{grown_shows, grown_well, grows_on}
+use Rattle.poly_place.proofs.Grow.{grown_index, grown_shows, grown_well, grows_on}
 use Rattle.poly_place.proofs.table.Table.plan_by.Goals as goal
 
 pub invariant_of-self : goal.invariant_of-self
-invariant_of-self c = grown_well (by_sides c.self.inside.names c.self.inside.sides) c.lead_by.new.names c.self.invariant c.lead_by.ensures.grows
+invariant_of-self c = record {
+  well = grown_well (by_sides c.self.inside.names c.self.inside.sides) c.lead_by.new.names c.self.invariant.well c.lead_by.ensures.grows;
+  index = grown_index (by_sides c.self.inside.names c.self.inside.sides) c.lead_by.new.names c.self.inside.index.rows.items c.self.invariant.well c.lead_by.ensures.grows c.self.invariant.index;
+}
 
 pub returns-clause-ok : goal.returns-clause-ok
 returns-clause-ok c =
@@ -22,7 +25,7 @@ returns-clause-stays c = subst (λ (t : View). Grown t (by_sides c.lead_by.new.n
 
 pub returns-clause-right : goal.returns-clause-right
 returns-clause-right c = record {
-  well = grown_well (by_sides c.self.inside.names c.self.inside.sides) c.lead_by.new.names c.self.invariant c.lead_by.ensures.grows;
-  shows = grown_shows (by_sides c.self.inside.names c.self.inside.sides) c.lead_by.new.names c.args.design.now c.self.invariant c.lead_by.ensures.grows
+  well = grown_well (by_sides c.self.inside.names c.self.inside.sides) c.lead_by.new.names c.self.invariant.well c.lead_by.ensures.grows;
+  shows = grown_shows (by_sides c.self.inside.names c.self.inside.sides) c.lead_by.new.names c.args.design.now c.self.invariant.well c.lead_by.ensures.grows
       (subst (λ (t : View). Shows t c.args.design.now) (sym c.self.view_is) c.requires.standing.shows);
 }

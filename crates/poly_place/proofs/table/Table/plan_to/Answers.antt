@@ -7,11 +7,14 @@ use Rattle.poly_tiling.specs.Shows.{Shows}
 use Rattle.poly_place.specs.declared.plan.Plan.{Plan}
 use Rattle.poly_place.specs.Delta.{IsPlanFor}
 use Rattle.poly_place.specs.Sides.{by_sides}
-use Rattle.poly_place.proofs.Grow.{grown_shows, grown_well, grows_on}
+use Rattle.poly_place.proofs.Grow.{grown_index, grown_shows, grown_well, grows_on}
 use Rattle.poly_place.proofs.table.Table.plan_to.Goals as goal
 
 pub invariant_of-self : goal.invariant_of-self
-invariant_of-self c = grown_well (by_sides c.self.inside.names c.self.inside.sides) c.lead.new.names c.self.invariant c.lead.ensures.grows
+invariant_of-self c = record {
+  well = grown_well (by_sides c.self.inside.names c.self.inside.sides) c.lead.new.names c.self.invariant.well c.lead.ensures.grows;
+  index = grown_index (by_sides c.self.inside.names c.self.inside.sides) c.lead.new.names c.self.inside.index.rows.items c.self.invariant.well c.lead.ensures.grows c.self.invariant.index;
+}
 
 pub returns-clause-ok : goal.returns-clause-ok
 returns-clause-ok c = λ before right.
@@ -23,6 +26,6 @@ returns-clause-stays c = subst (λ (t : View). Grown t (by_sides c.lead.new.name
 
 pub returns-clause-right : goal.returns-clause-right
 returns-clause-right c = λ before right. record {
-  well = grown_well (by_sides c.self.inside.names c.self.inside.sides) c.lead.new.names c.self.invariant c.lead.ensures.grows;
-  shows = grown_shows (by_sides c.self.inside.names c.self.inside.sides) c.lead.new.names before c.self.invariant c.lead.ensures.grows (subst (λ (t : View). Shows t before) (sym c.self.view_is) right.shows);
+  well = grown_well (by_sides c.self.inside.names c.self.inside.sides) c.lead.new.names c.self.invariant.well c.lead.ensures.grows;
+  shows = grown_shows (by_sides c.self.inside.names c.self.inside.sides) c.lead.new.names before c.self.invariant.well c.lead.ensures.grows (subst (λ (t : View). Shows t before) (sym c.self.view_is) right.shows);
 }
