@@ -5,7 +5,7 @@ use crate::{Interner, Table};
 use poly_design::{CellsSet, Copies, Design, Edit, Mode, Name, Placement, Spec};
 use poly_grid::{Cell, Grid, Refusal};
 use poly_shape::{Cells, Shape};
-use poly_tiling::{Tiling, sort_tilings};
+use poly_tiling::{Item, Tiling, sort_tilings};
 use std::alloc::Global;
 use std::collections::BTreeMap;
 use std::test::Fail;
@@ -103,6 +103,55 @@ fn a_table_of_two_dominoes(rt: HostRuntime) -> Result<(), Fail> {
     assert_eq!(rt; view.live(), [0, 1, 2, 3, 4, 5, 6, 7].as_slice());
     assert_eq!(rt; view.items().len(), 6);
     assert_eq!(rt; view.pins().len(), 0);
+    Ok(())
+}
+
+// How many numbers each cell of the square has.
+fn cell_counts(alloc: Global, table: &Table) -> Result<Vec<usize>, Refusal> {
+    let mut counts = Vec::new(alloc);
+    for point in &SQUARE {
+        let item = Item::Cell(cell(point.0, point.1)?);
+        counts.push(table.numbers(&item).len())?;
+    }
+    Ok(counts)
+}
+
+fn piece_count(table: &Table, name: &[u8]) -> Result<usize, Refusal> {
+    let item = Item::Piece(Name::new(name)?);
+    Ok(table.numbers(&item).len())
+}
+
+#[test]
+fn numbers_of_each_item(rt: HostRuntime) -> Result<(), Fail> {
+    let alloc = rt.alloc();
+    let table = Table::of(alloc, &design(alloc, &SQUARE, &[], 1)?)?;
+    assert_eq!(rt;
+        cell_counts(alloc, &table)?.as_slice(),
+        [4, 4, 4, 4].as_slice()
+    );
+    assert_eq!(rt; piece_count(&table, b"A")?, 4);
+    assert_eq!(rt; piece_count(&table, b"B")?, 4);
+    assert_eq!(rt; piece_count(&table, b"C")?, 0);
+    Ok(())
+}
+
+#[test]
+fn a_blocked_cell_has_no_numbers(rt: HostRuntime) -> Result<(), Fail> {
+    let alloc = rt.alloc();
+    let design = design(alloc, &SQUARE, &[], 1)?;
+    let mut table = Table::of(alloc, &design)?;
+    let change = design.check(&Edit::Cell {
+        cell: cell(0, 0)?,
+        mode: Mode::Blocked,
+    })?;
+    let plan = table.plan(&design, &change)?;
+    assert_eq!(rt; plan.delta.gone.len(), 4);
+    table.make(plan);
+    assert_eq!(rt;
+        cell_counts(alloc, &table)?.as_slice(),
+        [0, 2, 2, 4].as_slice()
+    );
+    assert_eq!(rt; piece_count(&table, b"A")?, 2);
     Ok(())
 }
 

@@ -5,7 +5,7 @@ ghost use Rattle.poly_design.specs.Limits.{IsDesign};
 ghost use Rattle.poly_place.specs.Right.{IsRight};
 
 use crate::designs::{change_of, design_of};
-use poly_design::{Change, Design};
+use poly_design::{Change, Design, Placement};
 use poly_grid::Refusal;
 use poly_place::Table;
 use poly_tiling::View;
@@ -38,14 +38,38 @@ fn name_the_same(a: &View, b: &View, of_a: &[u32], of_b: &[u32]) -> bool {
             .all(|(x, y)| a.placement(*x) == b.placement(*y))
 }
 
+// Whether some number of the list names the placement.
+fn is_named(view: &View, numbers: &[u32], placement: &Option<Placement>) -> bool {
+    numbers.iter().any(|n| view.placement(*n) == *placement)
+}
+
+// Whether the numbers of both lists name the same placements, in any order. The numbers of a list are all different.
+fn name_the_same_set(a: &View, b: &View, of_a: &[u32], of_b: &[u32]) -> bool {
+    of_a.len() == of_b.len() && of_a.iter().all(|x| is_named(b, of_b, &a.placement(*x)))
+}
+
+// Whether both tables have the same placements for each item of the first.
+fn have_the_same_by_item(led: &Table, anew: &Table) -> Result<bool, Refusal> {
+    let a = led.view()?;
+    let b = anew.view()?;
+    for bound in a.items() {
+        if !name_the_same_set(&a, &b, led.numbers(&bound.0), anew.numbers(&bound.0)) {
+            return Ok(false);
+        }
+    }
+    Ok(true)
+}
+
 // Whether the table shows what a new table of the design shows.
 fn is_as_new(alloc: Global, design: &Design, table: &Table) -> Result<bool, Refusal> {
+    let new_table = Table::of(alloc, design)?;
     let led = table.view()?;
-    let anew = Table::of(alloc, design)?.view()?;
+    let anew = new_table.view()?;
     Ok(
         name_the_same(&led, &anew, led.live(), anew.live())
             && name_the_same(&led, &anew, led.pins(), anew.pins())
-            && led.items() == anew.items(),
+            && led.items() == anew.items()
+            && have_the_same_by_item(table, &new_table)?,
     )
 }
 
