@@ -9,7 +9,7 @@ use poly_grid::Refusal;
 use std::alloc::Global;
 
 /// The change that the line asks for on the design.
-pub fn change_of(alloc: Global, design: &Design, line: &[u8]) -> Result<Change, Refusal>
+pub(crate) fn change_of(alloc: Global, design: &Design, line: &[u8]) -> Result<Change, Refusal>
     ensures stands { IfOk result (λ change. HasBefore design.now change) }
     ensures limits { IfOk result (λ change. IsDesign (changed design.now change)) }
 {
@@ -24,7 +24,7 @@ pub fn change_of(alloc: Global, design: &Design, line: &[u8]) -> Result<Change, 
 }
 
 /// The design of the puzzle line after the edits that the lines ask for.
-pub fn design_of(alloc: Global, puzzle: &[u8], lines: &[&[u8]]) -> Result<Design, Refusal> {
+pub(crate) fn design_of(alloc: Global, puzzle: &[u8], lines: &[&[u8]]) -> Result<Design, Refusal> {
     let mut design = puzzle_of(alloc, puzzle)?;
     for line in lines {
         let change = change_of(alloc, &design, line)?;
