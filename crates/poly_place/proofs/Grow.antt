@@ -5,15 +5,17 @@ use Rattle.std.specs.List.{Contains, list_all, list_any}
 use Rattle.std.proofs.lemmas.Bool.{lt-ltb, ltb-true}
 use Rattle.std.proofs.lemmas.List.{length-append}
 use Rattle.poly_design.specs.Layout.{Layout}
+use Rattle.poly_design.specs.declared.change.Change.{Change}
 use Rattle.poly_design.specs.declared.placement.Placement.{Placement}
 use Rattle.poly_tiling.specs.Names.{Grown, WellNamed, below, in_order, placed_below}
 use Rattle.poly_tiling.specs.Puzzle.{View, has_item, items, items_of, same_item}
 use Rattle.poly_tiling.specs.Shows.{IsNamed, Shows}
 use Rattle.poly_tiling.proofs.Contained.{contains_in}
-use Rattle.poly_tiling.proofs.Lists.{In, all_from, all_in, slice_get_front}
+use Rattle.poly_tiling.proofs.Lists.{In, all_from, all_in, mem_in, slice_get_front}
 use Rattle.poly_tiling.specs.declared.item.Item.{Item}
 use Rattle.poly_place.specs.Index.{IsIndex, Row, row_in}
 use Rattle.poly_place.specs.Interned.{GoesOn}
+use Rattle.poly_place.specs.Touched.{AreMarked, touches_named}
 use Rattle.poly_place.proofs.Rows.{live_with, with_from, with_live}
 
 abbrev pub grown : View → List Placement → View
@@ -83,6 +85,10 @@ grown_index t all rows w g x =
           (λ n j h. live_with t i (row_in rows i) (x.numbers i) n j (sym (same n j i) ∙ h))
           (x.numbers i).apart;
     }
+
+-- marks tell of what was live
+pub grown_marked : (t : View) (all : List Placement) (x : Change) (marks : List Bool) → WellNamed t → GoesOn t.placements all → AreMarked t x marks → AreMarked (grown t all) x marks
+grown_marked t all x marks w g m n live = m n live ∙ sym (ap (λ o. touches_named x o) (stays t.placements all g n (all_in (λ n. nat_lt n (length t.placements)) t.live w.named n (mem_in t.live n live))))
 
 pub grows_on : (t : View) (all : List Placement) → GoesOn t.placements all → Grown t (grown t all)
 grows_on t all g = ((g.more, g.appended), refl, refl, refl)

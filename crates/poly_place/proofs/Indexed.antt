@@ -1,6 +1,6 @@
 -- Scattered numbers are an index: of a whole design, and after a change of one cell or one piece.
-use Rattle.std.proofs.Common.{Bool, List, None, Option, Some, [], ap, false, inl, inr, length, map, not, refl, slice_get, subst, sym, true, ℕ, ◌||◌, ◌++◌, ◌∙◌, ◌∷◌, ◌≡◌, ◌≢◌}
-use Rattle.std.specs.Prelude.{filter, nat_eq, nat_lt}
+use Rattle.std.proofs.Common.{Bool, List, None, Option, Some, [], ap, false, inl, inr, length, map, not, refl, slice_get, subst, sym, true, ℕ, ◌&&◌, ◌||◌, ◌++◌, ◌∙◌, ◌∷◌, ◌≡◌, ◌≢◌}
+use Rattle.std.specs.Prelude.{filter, nat_eq, nat_lt, slice_index_or}
 use Rattle.std.specs.Cmp.Lexicographic.{pointwise}
 use Rattle.std.specs.List.{list_all, list_any}
 use Rattle.std.proofs.lemmas.Bool.{both_ways, cases_Bool, not-true, not_from_false}
@@ -20,12 +20,12 @@ use Rattle.poly_tiling.specs.Names.{WellNamed}
 use Rattle.poly_tiling.specs.Puzzle.{View, has_item, items, items_of, same_item}
 use Rattle.poly_tiling.specs.Shows.{Shows}
 use Rattle.poly_tiling.proofs.Contained.{contains_in, in_contains, one_place, pairs_none}
-use Rattle.poly_tiling.proofs.Lists.{In, all_from, all_in, any_in, filter_in, in_append_cases, in_append_left, in_append_right, in_filter, in_mem, mem_in}
+use Rattle.poly_tiling.proofs.Lists.{In, all_from, all_in, any_in, filter_in, in_append_cases, in_append_left, in_append_right, in_filter, in_mem}
 use Rattle.poly_tiling.proofs.Orders.{live_once}
 use Rattle.poly_tiling.proofs.Shown.{live_given}
 use Rattle.poly_tiling.proofs.Tilings.{same_item_is}
 use Rattle.poly_place.specs.Index.{AreNumbersWith, IsIndex, Row, has_of, item_of, row_in, rows_without, with_numbers}
-use Rattle.poly_place.specs.Touched.{touches, touches_named}
+use Rattle.poly_place.specs.Touched.{AreMarked, touches, touches_named}
 use Rattle.poly_place.proofs.Rows.{items_stay, items_without, live_with, no_row_in, row_grown, row_kept, same_rows, with_from, with_live}
 use Rattle.poly_place.proofs.Turned.{apart_both, apart_list}
 use Rattle.poly_place.proofs.Untouched.{untouched_stays, untouched_was}
@@ -92,11 +92,15 @@ or_false true = refl
 or_false false = refl
 
 -- a change touches what has the cell or the piece that changes
-touched_has : (x : Change) (o : Option Placement) → touches_named x o ≡ list_any (λ j. same_item j (item_of x)) (items_of o)
+pub touched_has : (x : Change) (o : Option Placement) → touches_named x o ≡ list_any (λ j. same_item j (item_of x)) (items_of o)
 touched_has (CellChange c before after) None = refl
 touched_has (PieceChange name before after) None = refl
 touched_has (CellChange c before after) (Some p) = any_cell c p.cells
 touched_has (PieceChange name before after) (Some p) = or_false (pointwise nat_eq p.name name) ∙ ap (λ b. pointwise nat_eq p.name name || b) (sym (no_piece name p.cells))
+
+-- the marks of the changed item's numbers tell what the change touches
+pub row_marked : (v : View) (rows : List Row) (x : Change) (marks : List Bool) → IsIndex v rows → ((n : ℕ) → slice_index_or marks n false ≡ mem (row_in rows (item_of x)) n) → AreMarked v x marks
+row_marked v rows x marks index is n live = is n ∙ (index.numbers (item_of x)).exact n ∙ ap (λ b. b && has_item v n (item_of x)) live ∙ sym (touched_has x (slice_get v.placements n))
 
 -- a number whose placement stays stays live
 crosses : (v u : View) (d e : Layout) → v.placements ≡ u.placements → WellNamed v → Shows v d → Shows u e → (n : ℕ) → In n v.live →
@@ -107,13 +111,16 @@ crosses v u d e same w s t n i stays =
     let one : there.number ≡ n = one_place v.placements w.apart there.number n g.0 (ap (λ (l : List Placement). slice_get l there.number) same ∙ there.names) g.1 in
     subst (λ m. In m u.live) one (contains_in u.live there.number there.stands)
 
-module _ (v u : View) (d : Layout) (x : Change) (old : List Row) (marked : ℕ → Bool) (same : v.placements ≡ u.placements) (w : WellNamed v) (s : Shows v d) (index : IsIndex v old)
-    (wu : WellNamed u) (su : Shows u (changed d x)) (marks : (n : ℕ) → marked n ≡ mem (row_in old (item_of x)) n) where
+module _ (v u : View) (d : Layout) (x : Change) (old : List Row) (marks : List Bool) (found : List ℕ) (same : v.placements ≡ u.placements) (w : WellNamed v) (s : Shows v d) (index : IsIndex v old)
+    (wu : WellNamed u) (su : Shows u (changed d x)) (are : AreMarked v x marks) (come : AreNumbersWith u (item_of x) found) where
   abbrev touch : ℕ → Bool
   touch n = touches_named x (slice_get u.placements n)
 
-  touch_is : (n : ℕ) → touch n ≡ has_item v n (item_of x)
-  touch_is n = touched_has x (slice_get u.placements n) ∙ ap (λ (l : List Placement). list_any (λ j. same_item j (item_of x)) (items_of (slice_get l n))) (sym same)
+  abbrev marked : ℕ → Bool
+  marked n = slice_index_or marks n false
+
+  marked_is : (n : ℕ) → In n v.live → marked n ≡ touch n
+  marked_is n i = are n (in_mem v.live n i) ∙ ap (λ (l : List Placement). touches_named x (slice_get l n)) same
 
   has_same : (n : ℕ) (i : Item) → has_item v n i ≡ has_item u n i
   has_same n i = ap (λ (l : List Placement). list_any (λ j. same_item j i) (items_of (slice_get l n))) same
@@ -127,62 +134,48 @@ module _ (v u : View) (d : Layout) (x : Change) (old : List Row) (marked : ℕ �
   comes : (n : ℕ) → touch n ≡ false → In n u.live → In n v.live
   comes n f i = crosses u v (changed d x) d (sym same) wu su s n i (λ p e h. untouched_was d x p (alone_at n f p e) h)
 
-  -- what is marked of the old numbers is what the change touches
-  unmarked_alone : (n : ℕ) → In n v.live → marked n ≡ false → touch n ≡ false
-  unmarked_alone n l f = elim (cases_Bool (touch n)) [
-    | inl t ↦
-        let there = live_with v (item_of x) (row_in old (item_of x)) (index.numbers (item_of x)) n l (sym (touch_is n) ∙ t) in
-        absurd (both_ways (marked n) f (marks n ∙ in_mem (row_in old (item_of x)) n there))
-    | inr e ↦ e
-  ]
-
-  alone_unmarked : (n : ℕ) → touch n ≡ false → marked n ≡ false
-  alone_unmarked n f = elim (cases_Bool (marked n)) [
-    | inl t ↦
-        let there = with_live v (item_of x) (row_in old (item_of x)) (index.numbers (item_of x)) n (mem_in (row_in old (item_of x)) n (sym (marks n) ∙ t)) in
-        absurd (both_ways (touch n) f (touch_is n ∙ there.1))
-    | inr e ↦ e
-  ]
-
   abbrev kept : Item → List ℕ
   kept i = filter (λ n. not (marked n)) (row_in old i)
 
-  abbrev come : Item → List ℕ
-  come i = filter (λ n. has_item u n i) (filter touch u.live)
+  abbrev fresh : Item → List ℕ
+  fresh i = filter (λ n. has_item u n i) found
 
   still : (i : Item) (n : ℕ) → In n (kept i) → In n u.live × (has_item u n i ≡ true) × (touch n ≡ false)
   still i n h =
       let r = filter_in (λ n. not (marked n)) (row_in old i) n h in
       let was = with_live v i (row_in old i) (index.numbers i) n r.0 in
-      let f = unmarked_alone n was.0 (not-true (marked n) r.1) in
+      let f = sym (marked_is n was.0) ∙ not-true (marked n) r.1 in
       (goes n f was.0, sym (has_same n i) ∙ was.1, f)
 
-  comes_in : (i : Item) (n : ℕ) → In n (come i) → In n u.live × (has_item u n i ≡ true) × (touch n ≡ true)
+  comes_in : (i : Item) (n : ℕ) → In n (fresh i) → In n u.live × (has_item u n i ≡ true) × (touch n ≡ true)
   comes_in i n h =
-      let r = filter_in (λ n. has_item u n i) (filter touch u.live) n h in
-      let t = filter_in touch u.live n r.0 in
-      (t.0, r.1, t.1)
+      let r = filter_in (λ n. has_item u n i) found n h in
+      let t = with_live u (item_of x) found come n r.0 in
+      (t.0, r.1, touched_has x (slice_get u.placements n) ∙ t.1)
 
-  holds : (i : Item) (n : ℕ) → In n u.live → has_item u n i ≡ true → In n (kept i ++ come i)
+  holds : (i : Item) (n : ℕ) → In n u.live → has_item u n i ≡ true → In n (kept i ++ fresh i)
   holds i n l h = elim (cases_Bool (touch n)) [
-    | inl t ↦ in_append_right n (kept i) (come i) (in_filter (λ n. has_item u n i) (filter touch u.live) n (in_filter touch u.live n l t) h)
+    | inl t ↦
+        let there = live_with u (item_of x) found come n l (sym (touched_has x (slice_get u.placements n)) ∙ t) in
+        in_append_right n (kept i) (fresh i) (in_filter (λ n. has_item u n i) found n there h)
     | inr f ↦
-        let was = live_with v i (row_in old i) (index.numbers i) n (comes n f l) (has_same n i ∙ h) in
-        in_append_left n (kept i) (come i) (in_filter (λ n. not (marked n)) (row_in old i) n was (not_from_false (marked n) (alone_unmarked n f)))
+        let was = comes n f l in
+        let there = live_with v i (row_in old i) (index.numbers i) n was (has_same n i ∙ h) in
+        in_append_left n (kept i) (fresh i) (in_filter (λ n. not (marked n)) (row_in old i) n there (not_from_false (marked n) (marked_is n was ∙ f)))
   ]
 
-  turned_row : (i : Item) → AreNumbersWith u i (kept i ++ come i)
-  turned_row i = with_from u i (kept i ++ come i)
-      (λ n j. elim (in_append_cases n (kept i) (come i) j) [
+  turned_row : (i : Item) → AreNumbersWith u i (kept i ++ fresh i)
+  turned_row i = with_from u i (kept i ++ fresh i)
+      (λ n j. elim (in_append_cases n (kept i) (fresh i) j) [
         | inl k ↦ let r = still i n k in (r.0, r.1)
         | inr k ↦ let r = comes_in i n k in (r.0, r.1)
       ])
       (holds i)
-      (apart_both (kept i) (come i)
+      (apart_both (kept i) (fresh i)
       (AllPairs-filter (λ x y. x ≢ y) (λ n. not (marked n)) (row_in old i) (index.numbers i).apart)
-      (AllPairs-filter (λ x y. x ≢ y) (λ n. has_item u n i) (filter touch u.live) (AllPairs-filter (λ x y. x ≢ y) touch u.live (apart_list u.live (live_once u wu))))
+      (AllPairs-filter (λ x y. x ≢ y) (λ n. has_item u n i) found come.apart)
       (λ n a b. both_ways (touch n) (still i n a).2 (comes_in i n b).2))
 
-  pub turned_index : (rows : List Row) → rows ≡ with_numbers (has_of u.placements) (filter touch u.live) (rows_without marked old u.bounds) → IsIndex u rows
-  turned_index rows e = index_from u rows wu (grown_items u marked old (filter touch u.live) rows e) (λ i t.
-      subst (λ ns. AreNumbersWith u i ns) (sym (grown_row u marked old (filter touch u.live) rows i e t)) (turned_row i))
+  pub turned_index : (rows : List Row) → rows ≡ with_numbers (has_of u.placements) found (rows_without marked old u.bounds) → IsIndex u rows
+  turned_index rows e = index_from u rows wu (grown_items u marked old found rows e) (λ i t.
+      subst (λ ns. AreNumbersWith u i ns) (sym (grown_row u marked old found rows i e t)) (turned_row i))

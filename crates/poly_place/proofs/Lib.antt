@@ -10,3 +10,4 @@ pub mod Untouched
 pub mod Turned
 pub mod Rows
 pub mod Indexed
+pub mod Found

@@ -1,6 +1,6 @@
 -- The numbers after a change of one cell or one piece: those that it leaves alone, and those of what is found anew.
 use Rattle.std.proofs.Common.{Bool, List, Some, [], ap, arith, eqb, false, get_or, inl, inr, length, map, not, refl, slice_get, subst, suc, sym, true, zero, ℕ, ◌++◌, ◌+◌, ◌<◌, ◌∙◌, ◌∷◌, ◌≡◌, ◌≢◌, ◌⊎◌}
-use Rattle.std.specs.Prelude.{filter}
+use Rattle.std.specs.Prelude.{filter, slice_index_or}
 use Rattle.std.specs.List.{AllPairs, Contains, cons_option, filter_map}
 use Rattle.std.specs.List.Sorted.{IsPermutation, IsSorted}
 use Rattle.std.specs.Option.{option_cmp}
@@ -26,13 +26,13 @@ use Rattle.poly_tiling.specs.Tilings.{IsPin}
 use Rattle.poly_tiling.proofs.Ascending.{distinct_rest, not_head}
 use Rattle.poly_tiling.proofs.Contained.{contains_in, get_low, in_contains, one_place, pairs_cons, pairs_head, pairs_none, pairs_rest}
 use Rattle.poly_tiling.proofs.Listings.{apart_from, below_by, distinct_filter, same_placement, steps_ascend}
-use Rattle.poly_tiling.proofs.Lists.{In, filter_in, in_append_cases, in_append_left, in_append_right, in_filter, same_truth, slice_get_front}
+use Rattle.poly_tiling.proofs.Lists.{In, filter_in, in_append_cases, in_append_left, in_append_right, in_filter, in_mem, same_truth, slice_get_front}
 use Rattle.poly_tiling.proofs.Orders.{live_once}
 use Rattle.poly_tiling.proofs.Reached.{not_both}
 use Rattle.poly_tiling.proofs.Shown.{live_given, some_same}
 use Rattle.poly_place.specs.Delta.{GivesInOrder}
 use Rattle.poly_place.specs.Interned.{AreNumbersOf, GoesOnWith}
-use Rattle.poly_place.specs.Touched.{number_cmp, touches, touches_named}
+use Rattle.poly_place.specs.Touched.{AreMarked, number_cmp, touches, touches_named}
 use Rattle.poly_place.proofs.Numbers.{first_named, rest_named}
 use Rattle.poly_place.proofs.Righted.{in_number, number_in}
 use Rattle.poly_place.proofs.Untouched.{untouched_stays, untouched_was}
@@ -92,28 +92,32 @@ names_up all ns ps apart e once up = steps_ascend placement_total ps (λ k d l.
 
 -- ---- the placements after the change
 
-record IsKept (v : View) (x : Change) (n : ℕ) : Type 0 where
-  place : Placement
-  live : In n v.live
-  named : slice_get v.placements n ≡ Some place
-  alone : touches x place ≡ false
+pub record IsKept (v : View) (x : Change) (n : ℕ) : Type 0 where
+  pub place : Placement
+  pub live : In n v.live
+  pub named : slice_get v.placements n ≡ Some place
+  pub alone : touches x place ≡ false
 
-kept_is : (v : View) (x : Change) → WellNamed v → (n : ℕ) → In n (filter (λ n. not (touches_named x (slice_get v.placements n))) v.live) → IsKept v x n
-kept_is v x w n i =
-    let r = filter_in (λ n. not (touches_named x (slice_get v.placements n))) v.live n i in
+-- the live numbers without a mark
+abbrev pub unmarked_in : View → List Bool → List ℕ
+unmarked_in v marks = filter (λ n. not (slice_index_or marks n false)) v.live
+
+pub kept_is : (v : View) (x : Change) (marks : List Bool) → WellNamed v → AreMarked v x marks → (n : ℕ) → In n (unmarked_in v marks) → IsKept v x n
+kept_is v x marks w m n i =
+    let r = filter_in (λ n. not (slice_index_or marks n false)) v.live n i in
     let p = live_given v w n r.0 in
-    record { place = p.0; live = r.0; named = p.1; alone = sym (ap (λ o. touches_named x o) p.1) ∙ not-true (touches_named x (slice_get v.placements n)) r.1 }
+    record { place = p.0; live = r.0; named = p.1; alone = sym (ap (λ o. touches_named x o) p.1) ∙ sym (m n (in_mem v.live n r.0)) ∙ not-true (slice_index_or marks n false) r.1 }
 
-stays_named : (old new found : List Placement) → GoesOnWith old found new → (n : ℕ) (p : Placement) → slice_get old n ≡ Some p → slice_get new n ≡ Some p
+pub stays_named : (old new found : List Placement) → GoesOnWith old found new → (n : ℕ) (p : Placement) → slice_get old n ≡ Some p → slice_get new n ≡ Some p
 stays_named old new found g n p e = ap (λ l. slice_get l n) g.appended ∙ slice_get_front old g.more n (get_low old n p e) ∙ e
 
-pub turned_places : (v : View) (d after : Layout) (x : Change) (new : List Placement) (kept fresh both : List ℕ) (found : List Placement) → WellNamed v → Shows v d → after ≡ changed d x →
-    kept ≡ filter (λ n. not (touches_named x (slice_get v.placements n))) v.live → GoesOnWith v.placements found new → AreNumbersOf new fresh found →
+pub turned_places : (v : View) (d after : Layout) (x : Change) (marks : List Bool) (new : List Placement) (kept fresh both : List ℕ) (found : List Placement) → WellNamed v → Shows v d → AreMarked v x marks →
+    after ≡ changed d x → kept ≡ unmarked_in v marks → GoesOnWith v.placements found new → AreNumbersOf new fresh found →
     IsListOf placement_cmp (λ p. IsPlacement after p × (touches x p ≡ true)) found → AllPairs (λ x y. x ≢ y) new → IsPermutation (kept ++ fresh) both → IsSorted (number_cmp new) both →
     (places : List Placement) × AreNumbersOf new both places × IsListOf placement_cmp (IsPlacement after) places
-turned_places v d after x new kept fresh both found w s is k g f l apart moved up =
-    let test : ℕ → Bool = λ n. not (touches_named x (slice_get v.placements n)) in
-    let of_kept : (n : ℕ) → In n kept → IsKept v x n = λ n i. kept_is v x w n (subst (λ ns. In n ns) k i) in
+turned_places v d after x marks new kept fresh both found w s m is k g f l apart moved up =
+    let test : ℕ → Bool = λ n. not (slice_index_or marks n false) in
+    let of_kept : (n : ℕ) → In n kept → IsKept v x n = λ n i. kept_is v x marks w m n (subst (λ ns. In n ns) k i) in
     let from_both : (n : ℕ) → In n both → In n kept ⊎ In n fresh =
     λ n i. in_append_cases n kept fresh (contains_in (kept ++ fresh) n (Contains-permutation both (kept ++ fresh) n (IsPermutation-sym (kept ++ fresh) both moved) (in_contains both n i))) in
     let to_both : (n : ℕ) → In n (kept ++ fresh) → In n both = λ n i. contains_in both n (Contains-permutation (kept ++ fresh) both n moved (in_contains (kept ++ fresh) n i)) in
@@ -158,8 +162,9 @@ turned_places v d after x new kept fresh both found w s is k g f l apart moved u
                 into r.0 p (to_both r.0 (in_append_right r.0 kept fresh r.1)) r.2
             | inr t ↦
                 let o = (s.places p).1 (untouched_was d x p t (subst (λ y. IsPlacement y p) is h)) in
+                let here : In o.number v.live = contains_in v.live o.number o.stands in
                 let i : In o.number kept = subst (λ ns. In o.number ns) (sym k)
-                (in_filter test v.live o.number (contains_in v.live o.number o.stands) (not_from_false (touches_named x (slice_get v.placements o.number)) (ap (λ z. touches_named x z) o.names ∙ t))) in
+                (in_filter test v.live o.number here (not_from_false (slice_index_or marks o.number false) (m o.number (in_mem v.live o.number here) ∙ ap (λ z. touches_named x z) o.names ∙ t))) in
                 into o.number p (to_both o.number (in_append_left o.number kept fresh i)) (stays_named v.placements new found g o.number p o.names)
           ],
         );

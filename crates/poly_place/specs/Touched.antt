@@ -1,7 +1,7 @@
 -- What a change of one cell or one piece may touch.
 use Rattle.std.specs.List.{list_any}
 use Rattle.std.specs.Option.{option_cmp}
-use Rattle.std.specs.Prelude.{ℕ, Bool, List, None, Option, Some, false, nat_eq, slice_get}
+use Rattle.std.specs.Prelude.{ℕ, ◌≡◌, Bool, List, None, Option, Some, false, nat_eq, slice_get, slice_index_or, true}
 use Rattle.std.specs.Cmp.Lexicographic.{pointwise}
 use Rattle.std.specs.declared.cmp.Ordering.{Ordering}
 use Rattle.poly_shape.specs.Order.{spot_eq}
@@ -9,6 +9,8 @@ use Rattle.poly_design.specs.PlacementOrder.{placement_cmp}
 use Rattle.poly_design.specs.declared.change.Change.{Change}
 use Rattle.poly_design.specs.declared.change.Change.TheVariants.{Cell, Piece}
 use Rattle.poly_design.specs.declared.placement.Placement.{Placement}
+use Rattle.poly_tiling.specs.Lists.{mem}
+use Rattle.poly_tiling.specs.Puzzle.{View}
 
 -- the placement covers the changed cell, or is one of the changed piece
 abbrev pub touches : Change → Placement → Bool
@@ -18,6 +20,10 @@ touches (Piece name before after) p = pointwise nat_eq p.name name
 abbrev pub touches_named : Change → Option Placement → Bool
 touches_named x None = false
 touches_named x (Some p) = touches x p
+
+-- the marks tell of each live number whether the change touches its placement
+abbrev pub AreMarked : View → Change → List Bool → Type 0
+AreMarked v x marks = (n : ℕ) → mem v.live n ≡ true → slice_index_or marks n false ≡ touches_named x (slice_get v.placements n)
 
 -- two numbers in the order of what they name
 abbrev pub number_cmp : List Placement → ℕ → ℕ → Ordering

@@ -2,7 +2,7 @@
 //!
 //! Numbers are scattered: each goes to the rows of its placement's piece and cells, which are found by binary search. A
 //! change of one cell or one piece takes the numbers of that item out of all rows, and scatters those that it has after.
-ghost use Rattle.std.specs.Prelude.{◌≡◌, ◌++◌, ◌∷◌, ◌<◌, [], IfOk, IfSome, IfErr, List, OnOk, filter, length, nat_lt, not, slice_get, slice_index_or, true, false};
+ghost use Rattle.std.specs.Prelude.{◌≡◌, ◌++◌, ◌∷◌, ◌<◌, [], IfOk, IfSome, IfErr, List, OnOk, length, nat_lt, slice_index_or, true, false};
 ghost use Rattle.std.specs.List.{list_all, list_any};
 ghost use Rattle.poly_shape.specs.Order.{IsAscending, spot_cmp};
 ghost use Rattle.poly_design.specs.Changes.{changed};
@@ -11,14 +11,14 @@ ghost use Rattle.poly_tiling.specs.Names.{WellNamed, items_ascend};
 ghost use Rattle.poly_tiling.specs.Puzzle.{View, items_of, same_item};
 ghost use Rattle.poly_tiling.specs.Shows.{Shows};
 ghost use Rattle.poly_tiling.specs.declared.item.Item.TheVariants.{Cell as CellItem};
-ghost use Rattle.poly_place.specs.Index.{AreRows, IsIndex, has_of, item_of, place_in, row_in, rows_without, with_numbers};
+ghost use Rattle.poly_place.specs.Index.{AreNumbersWith, AreRows, IsIndex, has_of, item_of, place_in, row_in, rows_without, with_numbers};
 ghost use Rattle.poly_place.specs.Sides.{by_sides};
-ghost use Rattle.poly_place.specs.Touched.{touches_named};
+ghost use Rattle.poly_place.specs.Touched.{AreMarked};
 
 use crate::delta::{marks_of, unmarked};
 use crate::interner::Interner;
 use crate::sides::Sides;
-use crate::turn::touched;
+use crate::turn::Turn;
 use poly_design::{Change, Placement};
 use poly_grid::{Cell, Refusal};
 use poly_tiling::Item;
@@ -87,26 +87,39 @@ impl Index {
         Ok(Index { rows })
     }
 
-    /// The index after a change of one cell or one piece of the design that this index is of. The sides are those after
-    /// it. The only refusal is `Memory`.
-    pub(crate) fn changed_by(
+    /// Marks for the numbers of the cell or the piece that changes. The only refusal is `Memory`.
+    pub(crate) fn marks(
         &self,
         alloc: Global,
         names: &Interner,
         change: &Change,
-        next: &Sides,
-    ) -> Result<Index, Refusal>
+    ) -> Result<Vec<bool>, Refusal>
         requires rows { AreRows self.now.rows.items }
         requires low { list_all (λ n. nat_lt n (length names.now)) (row_in self.now.rows.items (item_of change.now)) ≡ true }
-        requires well { WellNamed (by_sides names.now next.now) }
-        ensures ok { (v : View) (d : Layout) → v.placements ≡ names.now → WellNamed v → Shows v d → IsIndex v self.now.rows.items → Shows (by_sides names.now next.now) (changed d change.now) → IfOk result (λ x. IsIndex (by_sides names.now next.now) x.rows.items) }
+        ensures ok { (v : View) → v.placements ≡ names.now → IsIndex v self.now.rows.items → IfOk result (λ marks. AreMarked v change.now marks.items) }
         ensures why { IfErr result (λ e. e ≡ Refusal.Memory) }
     {
         let item = changed_item(change);
         let marks = marks_of(alloc, names.len(), self.numbers(&item))?;
-        let mut rows = copied(alloc, &self.rows, &next.bounds, &marks)?;
-        let fresh = touched(alloc, names, &next.live, change)?;
-        scatter(&mut rows, names, &fresh)?;
+        Ok(marks)
+    }
+
+    /// The index after a change of one cell or one piece of the design that this index is of: marked numbers go out, and
+    /// those that were found come in. The only refusal is `Memory`.
+    pub(crate) fn changed_by(
+        &self,
+        alloc: Global,
+        names: &Interner,
+        marks: &[bool],
+        turn: &Turn,
+    ) -> Result<Index, Refusal>
+        requires rows { AreRows self.now.rows.items }
+        requires well { WellNamed (by_sides names.now turn.now.sides) }
+        ensures ok { (v : View) (d : Layout) (x : Change) → v.placements ≡ names.now → WellNamed v → Shows v d → IsIndex v self.now.rows.items → AreMarked v x marks.now → Shows (by_sides names.now turn.now.sides) (changed d x) → AreNumbersWith (by_sides names.now turn.now.sides) (item_of x) turn.now.found.items → IfOk result (λ i. IsIndex (by_sides names.now turn.now.sides) i.rows.items) }
+        ensures why { IfErr result (λ e. e ≡ Refusal.Memory) }
+    {
+        let mut rows = copied(alloc, &self.rows, &turn.sides.bounds, marks)?;
+        scatter(&mut rows, names, &turn.found)?;
         Ok(Index { rows })
     }
 

@@ -69,9 +69,10 @@ pub(crate) fn lead_by(
     ensures spent { result ≡ Err Refusal.Spent → IsSpent names.old after.now }
     ensures why { IfErr result (λ e. (e ≡ Refusal.Spent) ⊎ (e ≡ Refusal.Memory)) }
 {
-    let next = turned(alloc, names, sides, change, after)?;
-    let next_index = index.changed_by(alloc, names, change, &next)?;
-    let plan = plan_between(alloc, names, sides, next, next_index)?;
+    let marks = index.marks(alloc, names, change)?;
+    let turn = turned(alloc, names, sides, &marks, change, after)?;
+    let next = index.changed_by(alloc, names, &marks, &turn)?;
+    let plan = plan_between(alloc, names, sides, turn.sides, next)?;
     Ok(plan)
 }
 

@@ -2,7 +2,7 @@
 //!
 //! A placement that neither covers the changed cell nor belongs to the changed piece stays what it was. So only the
 //! placements over the cell or of the piece are found anew, and their numbers come in between the others.
-ghost use Rattle.std.specs.Prelude.{◌≡◌, ◌⊎◌, ◌++◌, Err, IfErr, IfOk, IsSome, OnOk, filter, nat_eq, not, slice_get, true};
+ghost use Rattle.std.specs.Prelude.{◌≡◌, ◌⊎◌, ◌++◌, Err, IfErr, IfOk, IsSome, OnOk, nat_eq, true};
 ghost use Rattle.std.specs.Cmp.Lexicographic.{pointwise};
 ghost use Rattle.std.specs.List.{list_any};
 ghost use Rattle.std.specs.List.Sorted.{IsPermutation, IsSorted};
@@ -19,8 +19,10 @@ ghost use Rattle.poly_place.specs.Interned.{GoesOn};
 ghost use Rattle.poly_place.specs.Right.{IsRight};
 ghost use Rattle.poly_place.specs.Sides.{by_sides};
 ghost use Rattle.poly_place.specs.Spent.{IsSpent};
-ghost use Rattle.poly_place.specs.Touched.{number_cmp, touches, touches_named};
+ghost use Rattle.poly_place.specs.Index.{AreNumbersWith, item_of};
+ghost use Rattle.poly_place.specs.Touched.{AreMarked, number_cmp, touches};
 
+use crate::delta::unmarked;
 use crate::interner::Interner;
 use crate::parts::pins;
 use crate::sides::Sides;
@@ -29,17 +31,28 @@ use poly_grid::{Cell, Refusal};
 use poly_tiling::item_list;
 use std::alloc::{AllocError, Global};
 
-/// The sides after the change. New numbers go to placements first, then to pins.
+/// A design after a change of one cell or one piece, by numbers.
+#[derive(Drop)]
+pub(crate) struct Turn {
+    pub(crate) sides: Sides,
+    /// The numbers of its placements that the change touches, each once.
+    pub(crate) found: Vec<u32>,
+}
+
+/// The design after the change. The marks tell which of its placements before it the change touches. New numbers go to
+/// placements first, then to pins.
 ///
 /// Refused with `Spent` where there are more placements than numbers, and else only with `Memory`.
 pub(crate) fn turned(
     alloc: Global,
     names: &mut Interner,
     sides: &Sides,
+    marks: &[bool],
     change: &Change,
     after: &Design,
-) -> Result<Sides, Refusal>
-    ensures right { (d : Layout) → WellNamed (by_sides names.old sides.now) → Shows (by_sides names.old sides.now) d → after.now ≡ changed d change.now → IfOk result (λ s. IsRight (by_sides names.new s) after.now) }
+) -> Result<Turn, Refusal>
+    ensures right { (d : Layout) → WellNamed (by_sides names.old sides.now) → Shows (by_sides names.old sides.now) d → AreMarked (by_sides names.old sides.now) change.now marks.now → after.now ≡ changed d change.now → IfOk result (λ t. IsRight (by_sides names.new t.sides) after.now) }
+    ensures found { WellNamed (by_sides names.old sides.now) → AreMarked (by_sides names.old sides.now) change.now marks.now → IfOk result (λ t. AreNumbersWith (by_sides names.new t.sides) (item_of change.now) t.found.items) }
     ensures grows { GoesOn names.old names.new }
     ensures gives { OnOk result (GivesInOrder after.now names.old names.new) }
     ensures spent { result ≡ Err Refusal.Spent → IsSpent names.old after.now }
@@ -48,11 +61,14 @@ pub(crate) fn turned(
     let found = found(alloc, change, after)?;
     let pinned = pins(alloc, after)?;
     let bounds = item_list(alloc, after)?;
-    let kept = untouched(alloc, names, &sides.live, change)?;
+    let kept = unmarked(alloc, &sides.live, marks)?;
     let fresh = names.give_all(alloc, &found)?;
     let live = merged(names, kept, &fresh)?;
     let pins = names.give_all(alloc, &pinned)?;
-    Ok(Sides { live, bounds, pins })
+    Ok(Turn {
+        sides: Sides { live, bounds, pins },
+        found: fresh,
+    })
 }
 
 // The placements after the change that it touches, in ascending order.
@@ -94,60 +110,6 @@ fn found_there(name: Name, after: &Design) -> Result<Vec<Placement>, Refusal>
         Ok(list) => Ok(list),
         Err(_) => Err(Refusal::Memory),
     }
-}
-
-// The numbers that the change leaves alone.
-fn untouched(
-    alloc: Global,
-    names: &Interner,
-    live: &[u32],
-    change: &Change,
-) -> Result<Vec<u32>, AllocError>
-    ensures { IfOk result (λ list. list.items ≡ filter (λ n. not (touches_named change.now (slice_get names.now n))) live.now) }
-{
-    live.iter()
-        .filter(|n| !is_touched(names, **n, change))
-        .copied()
-        .collect(alloc)
-}
-
-/// The numbers that the change touches.
-pub(crate) fn touched(
-    alloc: Global,
-    names: &Interner,
-    live: &[u32],
-    change: &Change,
-) -> Result<Vec<u32>, AllocError>
-    ensures { IfOk result (λ list. list.items ≡ filter (λ n. touches_named change.now (slice_get names.now n)) live.now) }
-{
-    live.iter()
-        .filter(|n| is_touched(names, **n, change))
-        .copied()
-        .collect(alloc)
-}
-
-fn is_touched(names: &Interner, number: u32, change: &Change) -> bool
-    ensures { result ≡ touches_named change.now (slice_get names.now number) }
-{
-    match names.placement(number) {
-        Some(placement) => touches(change, &placement),
-        None => false,
-    }
-}
-
-fn touches(change: &Change, placement: &Placement) -> bool
-    ensures { result ≡ touches change.now placement.now }
-{
-    match change {
-        Change::Cell { cell, .. } => has(placement.cells.as_slice(), *cell),
-        Change::Piece { name, .. } => placement.name == *name,
-    }
-}
-
-fn has(cells: &[Cell], cell: Cell) -> bool
-    ensures { result ≡ list_any (λ k. spot_eq k cell) cells.now }
-{
-    cells.iter().any(|c| *c == cell)
 }
 
 // Both lists in the order of what they name.

@@ -1,13 +1,13 @@
-use Rattle.std.proofs.Common.{Err, List, ap, subst, ℕ, ◌++◌, ◌∙◌, ◌≡◌}
+use Rattle.std.proofs.Common.{Err, List, ap, false, subst, ℕ, ◌++◌, ◌∙◌, ◌≡◌}
 use Rattle.std.specs.List.{Contains}
 use Rattle.std.specs.List.Sorted.{IsPermutation}
-use Rattle.std.specs.Prelude.{filter, not, slice_get}
+use Rattle.std.specs.Prelude.{filter, not, slice_index_or}
 use Rattle.std.proofs.lemmas.Result.{err_from_is_err_and}
 use Rattle.poly_grid.specs.declared.refusal.Refusal.TheVariants.{Spent}
 use Rattle.poly_design.specs.declared.placement.Placement.{Placement}
 use Rattle.poly_place.specs.Interned.{AreNumbersOf, GoesOnWith}
 use Rattle.poly_place.specs.Sides.{by_sides}
-use Rattle.poly_place.specs.Touched.{touches_named}
+use Rattle.poly_place.proofs.Found.{found_numbers}
 use Rattle.poly_place.proofs.Righted.{right_from}
 use Rattle.poly_place.proofs.RunOut.{spent_pins, spent_places}
 use Rattle.poly_place.proofs.Turned.{turned_order, turned_places}
@@ -39,13 +39,14 @@ returns-clause-gives c =
     (subst (λ (l : List Placement). GoesOnWith c.give_all.new.self l c.give_all-2.new.self) c.deref-4.ensures.value c.in_ok-pins.ensures.gives)
 
 pub returns-clause-right : goal.returns-clause-right
-returns-clause-right c = λ d w s is.
+returns-clause-right c = λ d w s m is.
     let v = by_sides c.args.names.now c.args.sides.now in
     let x = c.args.change.now in
     let after = c.args.after.now in
     let between = c.give_all.new.self in
-    let t = turned_places v d after x between c.in_ok-kept.kept.items c.in_ok-fresh.fresh.items c.in_ok-live.live.items c.in_ok-found.found.items w s is
-    (c.in_ok-kept.ensures ∙ ap (λ (l : List ℕ). filter (λ n. not (touches_named x (slice_get v.placements n))) l) c.deref.ensures.value)
+    let marks = c.args.marks.now in
+    let t = turned_places v d after x marks between c.in_ok-kept.kept.items c.in_ok-fresh.fresh.items c.in_ok-live.live.items c.in_ok-found.found.items w s m is
+    (c.in_ok-kept.ensures ∙ ap (λ (l : List ℕ). filter (λ n. not (slice_index_or marks n false)) l) c.deref.ensures.value)
     (subst (λ (l : List Placement). GoesOnWith c.args.names.now l between) c.deref-2.ensures.value c.in_ok-fresh.ensures.gives)
     (subst (λ (l : List Placement). AreNumbersOf between c.in_ok-fresh.fresh.items l) c.deref-2.ensures.value c.in_ok-fresh.ensures.ok)
     c.in_ok-found.ensures.ok c.in_ok-fresh.ensures.numbered.apart
@@ -63,3 +64,16 @@ returns-clause-right c = λ d w s is.
     })
     c.in_ok-pins.ensures.numbered t.1 c.in_ok-pins.ensures.gives.appended
     (subst (λ (l : List Placement). AreNumbersOf c.give_all-2.new.self c.in_ok-pins.pins.items l) c.deref-4.ensures.value c.in_ok-pins.ensures.ok)
+
+pub returns-clause-found : goal.returns-clause-found
+returns-clause-found c = λ w m.
+    let v = by_sides c.args.names.now c.args.sides.now in
+    let marks = c.args.marks.now in
+    let between = c.give_all.new.self in
+    found_numbers v (record { placements = c.give_all-2.new.self; live = c.in_ok-live.live.items; bounds = c.in_ok-bounds.bounds.items; pins = c.in_ok-pins.pins.items }) c.args.change.now marks between c.in_ok-pins.ensures.gives.more c.in_ok-kept.kept.items c.in_ok-fresh.fresh.items c.in_ok-found.found.items w m
+    (c.in_ok-kept.ensures ∙ ap (λ (l : List ℕ). filter (λ n. not (slice_index_or marks n false)) l) c.deref.ensures.value)
+    (subst (λ (l : List Placement). GoesOnWith c.args.names.now l between) c.deref-2.ensures.value c.in_ok-fresh.ensures.gives)
+    c.in_ok-pins.ensures.gives.appended
+    (subst (λ (l : List Placement). AreNumbersOf between c.in_ok-fresh.fresh.items l) c.deref-2.ensures.value c.in_ok-fresh.ensures.ok)
+    c.in_ok-found.ensures.ok
+    (subst (λ (l : List ℕ). IsPermutation (c.in_ok-kept.kept.items ++ l) c.in_ok-live.live.items) c.deref-3.ensures.value c.in_ok-live.ensures.same)
