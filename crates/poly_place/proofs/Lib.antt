@@ -11,3 +11,4 @@ pub mod Turned
 pub mod Rows
 pub mod Indexed
 pub mod Found
+pub mod Merging

@@ -1,11 +1,13 @@
 -- The numbers after a change of one cell or one piece: those that it leaves alone, and those of what is found anew.
-use Rattle.std.proofs.Common.{Bool, List, Some, [], ap, arith, eqb, false, get_or, inl, inr, length, map, not, refl, slice_get, subst, suc, sym, true, zero, ℕ, ◌++◌, ◌+◌, ◌<◌, ◌∙◌, ◌∷◌, ◌≡◌, ◌≢◌, ◌⊎◌}
+use Rattle.std.proofs.Common.{Bool, Less, List, None, Option, Some, [], ap, arith, eqb, false, get_or, inl, inr, length, map, not, refl, slice_get, subst, suc, sym, true, zero, ℕ, ◌++◌, ◌+◌, ◌<◌, ◌∙◌, ◌∷◌, ◌≡◌, ◌≢◌, ◌⊎◌}
 use Rattle.std.specs.Prelude.{filter, slice_index_or}
-use Rattle.std.specs.List.{AllPairs, Contains, cons_option, filter_map}
-use Rattle.std.specs.List.Sorted.{IsPermutation, IsSorted}
+use Rattle.std.specs.List.{AllPairs, Contains, cons_option, filter_map, list_all}
+use Rattle.std.specs.List.Sorted.{IsPermutation}
 use Rattle.std.specs.Option.{option_cmp}
 use Rattle.std.specs.Ordering.{is_lt}
-use Rattle.std.proofs.lemmas.Bool.{both_ways, cases_Bool, eq-eqb, eqb-true, not-true, not_from_false}
+use Rattle.std.proofs.lemmas.Bool.{and_parts, both_ways, cases_Bool, eq-eqb, eqb-true, not-true, not_from_false}
+use Rattle.std.proofs.lemmas.List.Kept.{AllPairs-filter}
+use Rattle.std.proofs.lemmas.List.MinMax.{ranks_by}
 use Rattle.std.proofs.lemmas.List.Sorted.{Contains-permutation, IsPermutation-sym}
 use Rattle.std.proofs.lemmas.Bool.Decides.{Decides-eqb}
 use Rattle.std.proofs.lemmas.Map.Keys.{IsDistinct-IsPermutation}
@@ -19,20 +21,20 @@ use Rattle.poly_design.specs.Placements.{IsPlacement}
 use Rattle.poly_design.specs.declared.change.Change.{Change}
 use Rattle.poly_design.specs.declared.placement.Placement.{Placement}
 use Rattle.poly_tiling.specs.Lists.{distinct}
-use Rattle.poly_tiling.specs.Names.{WellNamed}
+use Rattle.poly_tiling.specs.Names.{WellNamed, below, in_order, placed_below}
 use Rattle.poly_tiling.specs.Puzzle.{View}
 use Rattle.poly_tiling.specs.Shows.{Shows}
 use Rattle.poly_tiling.specs.Tilings.{IsPin}
 use Rattle.poly_tiling.proofs.Ascending.{distinct_rest, not_head}
 use Rattle.poly_tiling.proofs.Contained.{contains_in, get_low, in_contains, one_place, pairs_cons, pairs_head, pairs_none, pairs_rest}
 use Rattle.poly_tiling.proofs.Listings.{apart_from, below_by, distinct_filter, same_placement, steps_ascend}
-use Rattle.poly_tiling.proofs.Lists.{In, filter_in, in_append_cases, in_append_left, in_append_right, in_filter, in_mem, same_truth, slice_get_front}
+use Rattle.poly_tiling.proofs.Lists.{In, all_in, filter_in, in_append_cases, in_append_left, in_append_right, in_filter, in_mem, same_truth, slice_get_front}
 use Rattle.poly_tiling.proofs.Orders.{live_once}
 use Rattle.poly_tiling.proofs.Reached.{not_both}
 use Rattle.poly_tiling.proofs.Shown.{live_given, some_same}
 use Rattle.poly_place.specs.Delta.{GivesInOrder}
 use Rattle.poly_place.specs.Interned.{AreNumbersOf, GoesOnWith}
-use Rattle.poly_place.specs.Touched.{AreMarked, number_cmp, touches, touches_named}
+use Rattle.poly_place.specs.Touched.{AreInOrder, AreMarked, comes_before, touches, touches_named}
 use Rattle.poly_place.proofs.Numbers.{first_named, rest_named}
 use Rattle.poly_place.proofs.Righted.{in_number, number_in}
 use Rattle.poly_place.proofs.Untouched.{untouched_stays, untouched_was}
@@ -81,16 +83,16 @@ as_many all (n ∷ ns) [] e = cc
 as_many all (n ∷ ns) (p ∷ ps) e = let r = as_many all ns ps (rest_named all ps n ns p e) in omega arith
 
 -- what sorted numbers name ascends
-names_up : (all : List Placement) (ns : List ℕ) (ps : List Placement) → AllPairs (λ x y. x ≢ y) all → AreNumbersOf all ns ps → AllPairs (λ x y. x ≢ y) ns → IsSorted (number_cmp all) ns → IsAscending placement_cmp ps
+names_up : (all : List Placement) (ns : List ℕ) (ps : List Placement) → AllPairs (λ x y. x ≢ y) all → AreNumbersOf all ns ps → AllPairs (λ x y. x ≢ y) ns → AreInOrder all ns → IsAscending placement_cmp ps
 names_up all ns ps apart e once up = steps_ascend placement_total ps (λ k d l.
     let n = as_many all ns ps e in
     let a = named_at all ns ps e k d (omega arith) in
     let b = named_at all ns ps e (k + 1) d l in
     below_by placement_total same_placement (get_or ps k d) (get_or ps (k + 1) d)
-    (sym (λ i. is_lt (option_cmp placement_cmp (b i) (a i))) ∙ up k 0 (omega arith) (omega arith))
+    (sym (λ i. is_lt (option_cmp placement_cmp (b i) (a i))) ∙ up k (k + 1) 0 (omega arith) (omega arith))
     (λ same. once k (k + 1) 0 (omega arith) (omega arith) (one_place all apart (get_or ns k 0) (get_or ns (k + 1) 0) (get_or ps (k + 1) d) (a ∙ ap Some same) b)))
 
--- ---- the placements after the change
+-- ---- what stays
 
 pub record IsKept (v : View) (x : Change) (n : ℕ) : Type 0 where
   pub place : Placement
@@ -111,9 +113,48 @@ kept_is v x marks w m n i =
 pub stays_named : (old new found : List Placement) → GoesOnWith old found new → (n : ℕ) (p : Placement) → slice_get old n ≡ Some p → slice_get new n ≡ Some p
 stays_named old new found g n p e = ap (λ l. slice_get l n) g.appended ∙ slice_get_front old g.more n (get_low old n p e) ∙ e
 
+-- ---- both lists are in order
+
+names_before : (all : List Placement) (m n : ℕ) (x y : Placement) → slice_get all m ≡ Some x → slice_get all n ≡ Some y → is_lt (placement_cmp x y) ≡ true → comes_before all n m ≡ false
+names_before all m n x y a b h =
+    ap (λ o. is_lt (option_cmp placement_cmp o (slice_get all m))) b
+    ∙ ap (λ o. is_lt (option_cmp placement_cmp (Some y) o)) a
+    ∙ (ranks_by placement_total (λ (p : Placement). p)).one_way x y h
+
+placed : (o q : Option Placement) → placed_below o q ≡ true → (x : Placement) × (y : Placement) × (o ≡ Some x) × (q ≡ Some y) × (is_lt (placement_cmp x y) ≡ true)
+placed None q h = cc
+placed (Some x) None h = cc
+placed (Some x) (Some y) h = (x, y, refl, refl, h)
+
+order_pairs : (v : View) (ns : List ℕ) → in_order v ns ≡ true → AllPairs (λ m n. below v m n ≡ true) ns
+order_pairs v [] h = pairs_none (λ m n. below v m n ≡ true)
+order_pairs v (n ∷ ns) h =
+    let p = and_parts (list_all (λ q. below v n q) ns) (in_order v ns) h in
+    pairs_cons (λ m n. below v m n ≡ true) n ns (λ m i. all_in (λ q. below v n q) ns p.0 m i) (order_pairs v ns p.1)
+
+-- what stays of the live numbers
+pub kept_up : (v : View) (new found : List Placement) (marks : List Bool) → WellNamed v → GoesOnWith v.placements found new → AreInOrder new (unmarked_in v marks)
+kept_up v new found marks w g = AllPairs-filter (λ m n. comes_before new n m ≡ false) (λ n. not (slice_index_or marks n false)) v.live (λ i j d l low.
+    let r = placed (slice_get v.placements (get_or v.live i d)) (slice_get v.placements (get_or v.live j d)) (order_pairs v v.live w.live_up i j d l low) in
+    names_before new (get_or v.live i d) (get_or v.live j d) r.0 r.1 (stays_named v.placements new found g (get_or v.live i d) r.0 r.2) (stays_named v.placements new found g (get_or v.live j d) r.1 r.3) r.4)
+
+-- the numbers of a list that ascends
+pub numbers_up : (all : List Placement) (ns : List ℕ) (ps : List Placement) → AreNumbersOf all ns ps → IsAscending placement_cmp ps → AreInOrder all ns
+numbers_up all [] ps e up = pairs_none (λ m n. comes_before all n m ≡ false)
+numbers_up all (n ∷ ns) [] e up = cc
+numbers_up all (n ∷ ns) (p ∷ ps) e up =
+    let rest = rest_named all ps n ns p e in
+    pairs_cons (λ m n. comes_before all n m ≡ false) n ns
+    (λ m i.
+    let q = number_in all ns ps rest m i in
+    names_before all n m p q.0 (first_named all ps n ns p e) q.2 (ap is_lt (pairs_head (λ a b. placement_cmp a b ≡ Less) p ps up q.0 q.1)))
+    (numbers_up all ns ps rest (pairs_rest (λ a b. placement_cmp a b ≡ Less) p ps up))
+
+-- ---- the placements after the change
+
 pub turned_places : (v : View) (d after : Layout) (x : Change) (marks : List Bool) (new : List Placement) (kept fresh both : List ℕ) (found : List Placement) → WellNamed v → Shows v d → AreMarked v x marks →
     after ≡ changed d x → kept ≡ unmarked_in v marks → GoesOnWith v.placements found new → AreNumbersOf new fresh found →
-    IsListOf placement_cmp (λ p. IsPlacement after p × (touches x p ≡ true)) found → AllPairs (λ x y. x ≢ y) new → IsPermutation (kept ++ fresh) both → IsSorted (number_cmp new) both →
+    IsListOf placement_cmp (λ p. IsPlacement after p × (touches x p ≡ true)) found → AllPairs (λ x y. x ≢ y) new → IsPermutation (kept ++ fresh) both → AreInOrder new both →
     (places : List Placement) × AreNumbersOf new both places × IsListOf placement_cmp (IsPlacement after) places
 turned_places v d after x marks new kept fresh both found w s m is k g f l apart moved up =
     let test : ℕ → Bool = λ n. not (slice_index_or marks n false) in

@@ -1,6 +1,7 @@
 -- What a change of one cell or one piece may touch.
-use Rattle.std.specs.List.{list_any}
+use Rattle.std.specs.List.{AllPairs, list_any}
 use Rattle.std.specs.Option.{option_cmp}
+use Rattle.std.specs.Ordering.{is_lt}
 use Rattle.std.specs.Prelude.{ℕ, ◌≡◌, Bool, List, None, Option, Some, false, nat_eq, slice_get, slice_index_or, true}
 use Rattle.std.specs.Cmp.Lexicographic.{pointwise}
 use Rattle.std.specs.declared.cmp.Ordering.{Ordering}
@@ -28,3 +29,11 @@ AreMarked v x marks = (n : ℕ) → mem v.live n ≡ true → slice_index_or mar
 -- two numbers in the order of what they name
 abbrev pub number_cmp : List Placement → ℕ → ℕ → Ordering
 number_cmp all m n = option_cmp placement_cmp (slice_get all m) (slice_get all n)
+
+-- whether what the first number names comes before what the second names
+abbrev pub comes_before : List Placement → ℕ → ℕ → Bool
+comes_before all m n = is_lt (number_cmp all m n)
+
+-- no number comes before an earlier one
+abbrev pub AreInOrder : List Placement → List ℕ → Type 0
+AreInOrder all numbers = AllPairs (λ m n. comes_before all n m ≡ false) numbers

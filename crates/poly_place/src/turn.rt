@@ -2,10 +2,10 @@
 //!
 //! A placement that neither covers the changed cell nor belongs to the changed piece stays what it was. So only the
 //! placements over the cell or of the piece are found anew, and their numbers come in between the others.
-ghost use Rattle.std.specs.Prelude.{◌≡◌, ◌⊎◌, ◌++◌, Err, IfErr, IfOk, IsSome, OnOk, nat_eq, true};
+ghost use Rattle.std.specs.Prelude.{◌≡◌, ◌⊎◌, ◌++◌, Err, IfErr, IfOk, IsSome, OnOk, false, length, nat_eq, true, ◌≤◌};
 ghost use Rattle.std.specs.Cmp.Lexicographic.{pointwise};
 ghost use Rattle.std.specs.List.{list_any};
-ghost use Rattle.std.specs.List.Sorted.{IsPermutation, IsSorted};
+ghost use Rattle.std.specs.List.Sorted.{IsPartitionPoint, IsPermutation};
 ghost use Rattle.poly_shape.specs.Order.{spot_eq};
 ghost use Rattle.poly_design.specs.Changes.{changed};
 ghost use Rattle.poly_design.specs.Layout.{Layout, spec_of};
@@ -20,7 +20,7 @@ ghost use Rattle.poly_place.specs.Right.{IsRight};
 ghost use Rattle.poly_place.specs.Sides.{by_sides};
 ghost use Rattle.poly_place.specs.Spent.{IsSpent};
 ghost use Rattle.poly_place.specs.Index.{AreNumbersWith, item_of};
-ghost use Rattle.poly_place.specs.Touched.{AreMarked, number_cmp, touches};
+ghost use Rattle.poly_place.specs.Touched.{AreInOrder, AreMarked, comes_before, touches};
 
 use crate::delta::unmarked;
 use crate::interner::Interner;
@@ -51,8 +51,9 @@ pub(crate) fn turned(
     change: &Change,
     after: &Design,
 ) -> Result<Turn, Refusal>
-    ensures right { (d : Layout) → WellNamed (by_sides names.old sides.now) → Shows (by_sides names.old sides.now) d → AreMarked (by_sides names.old sides.now) change.now marks.now → after.now ≡ changed d change.now → IfOk result (λ t. IsRight (by_sides names.new t.sides) after.now) }
-    ensures found { WellNamed (by_sides names.old sides.now) → AreMarked (by_sides names.old sides.now) change.now marks.now → IfOk result (λ t. AreNumbersWith (by_sides names.new t.sides) (item_of change.now) t.found.items) }
+    requires { WellNamed (by_sides names.old sides.now) }
+    ensures right { (d : Layout) → Shows (by_sides names.old sides.now) d → AreMarked (by_sides names.old sides.now) change.now marks.now → after.now ≡ changed d change.now → IfOk result (λ t. IsRight (by_sides names.new t.sides) after.now) }
+    ensures found { AreMarked (by_sides names.old sides.now) change.now marks.now → IfOk result (λ t. AreNumbersWith (by_sides names.new t.sides) (item_of change.now) t.found.items) }
     ensures grows { GoesOn names.old names.new }
     ensures gives { OnOk result (GivesInOrder after.now names.old names.new) }
     ensures spent { result ≡ Err Refusal.Spent → IsSpent names.old after.now }
@@ -63,7 +64,7 @@ pub(crate) fn turned(
     let bounds = item_list(alloc, after)?;
     let kept = unmarked(alloc, &sides.live, marks)?;
     let fresh = names.give_all(alloc, &found)?;
-    let live = merged(names, kept, &fresh)?;
+    let live = merged(alloc, names, &kept, &fresh)?;
     let pins = names.give_all(alloc, &pinned)?;
     Ok(Turn {
         sides: Sides { live, bounds, pins },
@@ -112,13 +113,35 @@ fn found_there(name: Name, after: &Design) -> Result<Vec<Placement>, Refusal>
     }
 }
 
-// Both lists in the order of what they name.
-fn merged(names: &Interner, kept: Vec<u32>, fresh: &[u32]) -> Result<Vec<u32>, AllocError>
-    ensures same { IfOk result (λ list. IsPermutation (kept.items ++ fresh.now) list.items) }
-    ensures sorted { IfOk result (λ list. IsSorted (number_cmp names.now) list.items) }
+// Both lists in one. Where each fresh number belongs is found by halving, so few of the kept ones are looked at.
+fn merged(
+    alloc: Global,
+    names: &Interner,
+    kept: &[u32],
+    fresh: &[u32],
+) -> Result<Vec<u32>, AllocError>
+    requires kept_up { AreInOrder names.now kept.now }
+    requires fresh_up { AreInOrder names.now fresh.now }
+    ensures same { IfOk result (λ list. IsPermutation (kept.now ++ fresh.now) list.items) }
+    ensures sorted { IfOk result (λ list. AreInOrder names.now list.items) }
 {
-    let mut live = kept;
-    live.extend_from_slice(fresh)?;
-    live.sort_by(|a, b| names.compare(*a, *b))?;
+    let mut live = Vec::with_capacity(alloc, kept.len().saturating_add(fresh.len()))?;
+    let mut rest = kept;
+    for number in fresh {
+        let (before, after) = rest.split_at(place_in(names, rest, *number));
+        live.extend_from_slice(before)?;
+        live.push(*number)?;
+        rest = after;
+    }
+    live.extend_from_slice(rest)?;
     Ok(live)
+}
+
+// How many of the numbers come before this one.
+fn place_in(names: &Interner, numbers: &[u32], number: u32) -> usize
+    requires { AreInOrder names.now numbers.now }
+    ensures low { result ≤ length numbers.now }
+    ensures place { IsPartitionPoint (λ n. comes_before names.now n number ≡ true) (λ n. comes_before names.now n number ≡ false) numbers.now result }
+{
+    numbers.partition_point(|n| names.compare(*n, number).is_lt())
 }

@@ -30,7 +30,7 @@ changed_by-requires-clause-well c =
     let t : View = by_sides c.args.names.now c.args.sides.now in
     let are : AreMarked t c.args.change.now c.in_ok-marks.marks.items = c.in_ok-marks.ensures.ok t refl c.requires.indexed in
     let marked : AreMarked t c.args.change.now c.deref.result.now = subst (λ (l : List Bool). AreMarked t c.args.change.now l) (sym c.deref.ensures.value) are in
-    (c.in_ok-turn.ensures.right c.args.design.now c.requires.well c.requires.shows marked c.requires.after).well
+    (c.in_ok-turn.ensures.right c.args.design.now c.requires.shows marked c.requires.after).well
 
 pub plan_between-requires-clause-indexed : goal.plan_between-requires-clause-indexed
 plan_between-requires-clause-indexed c =
@@ -41,21 +41,21 @@ plan_between-requires-clause-indexed c =
     let are : AreMarked t x c.in_ok-marks.marks.items = c.in_ok-marks.ensures.ok t refl c.requires.indexed in
     let marked : AreMarked t x c.deref.result.now = subst (λ (l : List Bool). AreMarked t x l) (sym c.deref.ensures.value) are in
     let again : AreMarked t x c.deref-2.result.now = subst (λ (l : List Bool). AreMarked t x l) (sym c.deref-2.ensures.value) are in
-    let right : IsRight (by_sides all c.in_ok-turn.turn.sides) c.args.after.now = c.in_ok-turn.ensures.right c.args.design.now c.requires.well c.requires.shows marked c.requires.after in
+    let right : IsRight (by_sides all c.in_ok-turn.turn.sides) c.args.after.now = c.in_ok-turn.ensures.right c.args.design.now c.requires.shows marked c.requires.after in
     c.in_ok-next.ensures.ok (by_sides all c.args.sides.now) c.args.design.now x refl
     (grown_well t all c.requires.well g)
     (grown_shows t all c.args.design.now c.requires.well g c.requires.shows)
     (grown_index t all c.args.index.now.rows.items c.requires.well g c.requires.indexed)
     (grown_marked t all x c.deref-2.result.now c.requires.well g again)
     (subst (λ (d : Layout). Shows (by_sides all c.in_ok-turn.turn.sides) d) c.requires.after right.shows)
-    (c.in_ok-turn.ensures.found c.requires.well marked)
+    (c.in_ok-turn.ensures.found marked)
 
 pub plan_between-requires-clause-next : goal.plan_between-requires-clause-next
 plan_between-requires-clause-next c =
     let t : View = by_sides c.args.names.now c.args.sides.now in
     let are : AreMarked t c.args.change.now c.in_ok-marks.marks.items = c.in_ok-marks.ensures.ok t refl c.requires.indexed in
     let marked : AreMarked t c.args.change.now c.deref.result.now = subst (λ (l : List Bool). AreMarked t c.args.change.now l) (sym c.deref.ensures.value) are in
-    (c.in_ok-turn.ensures.right c.args.design.now c.requires.well c.requires.shows marked c.requires.after).well
+    (c.in_ok-turn.ensures.right c.args.design.now c.requires.shows marked c.requires.after).well
 
 pub returns-clause-ok : goal.returns-clause-ok
 returns-clause-ok c =
@@ -64,7 +64,7 @@ returns-clause-ok c =
     let v : View = by_sides c.turned.new.names c.in_ok-turn.turn.sides in
     let are : AreMarked t c.args.change.now c.in_ok-marks.marks.items = c.in_ok-marks.ensures.ok t refl c.requires.indexed in
     let marked : AreMarked t c.args.change.now c.deref.result.now = subst (λ (l : List Bool). AreMarked t c.args.change.now l) (sym c.deref.ensures.value) are in
-    let right : IsRight v c.args.after.now = c.in_ok-turn.ensures.right c.args.design.now c.requires.well c.requires.shows marked c.requires.after in
+    let right : IsRight v c.args.after.now = c.in_ok-turn.ensures.right c.args.design.now c.requires.shows marked c.requires.after in
     subst (λ (w : View). IsPlanFor t c.args.design.now c.args.after.now w c.in_ok-plan.plan.delta) (sym c.in_ok-plan.ensures.view) (record {
       right = right;
       names = (g.more, g.appended);
