@@ -1,14 +1,14 @@
 ghost use Rattle.std.specs.Prelude.{◌≡◌, ◌≢◌, IfOk, OnOk};
 ghost use Rattle.poly_design.specs.Limits.{AreOfGrid, NoneBlocked};
 
-use crate::{Interner, Table};
+use crate::{Delta, Interner, Table};
 use poly_design::{CellsSet, Copies, Design, Edit, Mode, Name, Placement, Spec};
 use poly_grid::{Cell, Grid, Refusal};
 use poly_shape::{Cells, Shape};
-use poly_tiling::{Item, Tiling, sort_tilings};
-use std::alloc::Global;
+use poly_tiling::{Item, Tiling, View, sort_tilings};
+use std::alloc::{AllocGlobal, Global};
 use std::collections::BTreeMap;
-use std::test::Fail;
+use std::process::Abort;
 
 fn cell(x: u64, y: u64) -> Result<Cell, Refusal> {
     match Cell::new(x, y) {
@@ -95,176 +95,207 @@ fn design(
 
 const SQUARE: [(u64, u64); 4] = [(0, 0), (1, 0), (0, 1), (1, 1)];
 
-#[test]
-fn a_table_of_two_dominoes(rt: HostRuntime) -> Result<(), Fail> {
-    let alloc = rt.alloc();
-    let table = Table::of(alloc, &design(alloc, &SQUARE, &[], 1)?)?;
-    let view = table.view()?;
-    assert_eq!(rt; view.live(), [0, 1, 2, 3, 4, 5, 6, 7].as_slice());
-    assert_eq!(rt; view.items().len(), 6);
-    assert_eq!(rt; view.pins().len(), 0);
-    Ok(())
+// The design of two dominoes on these cells.
+fn laid(
+    rt: &(impl AllocGlobal + Abort),
+    required: &[(u64, u64)],
+    optional: &[(u64, u64)],
+    most: u64,
+) -> Design {
+    design(rt.alloc(), required, optional, most).expect(rt, "a design")
 }
 
-// How many numbers each cell of the square has.
-fn cell_counts(alloc: Global, table: &Table) -> Result<Vec<usize>, Refusal> {
-    let mut counts = Vec::new(alloc);
-    for point in &SQUARE {
-        let item = Item::Cell(cell(point.0, point.1)?);
-        counts.push(table.numbers(&item).len())?;
+// The table of two dominoes on two by two cells.
+fn square_table(rt: &(impl AllocGlobal + Abort)) -> Table {
+    let design = laid(rt, &SQUARE, &[], 1);
+    Table::of(rt.alloc(), &design).expect(rt, "a table")
+}
+
+// Asserts what numbers a list has.
+fn expect_numbers(rt: &impl Abort, numbers: &[u32], want: &[u32]) {
+    assert_eq!(rt; numbers, want);
+}
+
+// Asserts how long the lists of a delta are: gone, fresh, needed, unneeded, narrowed, widened, pinned, unpinned.
+fn expect_lengths(rt: &impl Abort, delta: &Delta, want: [usize; 8]) {
+    assert_eq!(rt; delta.gone.len(), want[0], "gone");
+    assert_eq!(rt; delta.fresh.len(), want[1], "fresh");
+    assert_eq!(rt; delta.needed.len(), want[2], "needed");
+    assert_eq!(rt; delta.unneeded.len(), want[3], "unneeded");
+    assert_eq!(rt; delta.narrowed.len(), want[4], "narrowed");
+    assert_eq!(rt; delta.widened.len(), want[5], "widened");
+    assert_eq!(rt; delta.pinned.len(), want[6], "pinned");
+    assert_eq!(rt; delta.unpinned.len(), want[7], "unpinned");
+}
+
+// Asserts how many numbers, items and pins a view has.
+fn expect_counts(rt: &impl Abort, view: &View, live: usize, items: usize, pins: usize) {
+    assert_eq!(rt; view.live().len(), live);
+    assert_eq!(rt; view.items().len(), items);
+    assert_eq!(rt; view.pins().len(), pins);
+}
+
+// Asserts how many numbers each cell of the square has, row by row, and how many a piece has.
+fn expect_sizes(rt: &impl Abort, table: &Table, cells: [usize; 4], name: &[u8], piece: usize) {
+    for k in 0..4usize {
+        let here = cell(SQUARE[k].0, SQUARE[k].1).expect(rt, "a cell");
+        assert_eq!(rt;
+            table.numbers(&Item::Cell(here)).len(),
+            cells[k],
+            "cell {k}"
+        );
     }
-    Ok(counts)
-}
-
-fn piece_count(table: &Table, name: &[u8]) -> Result<usize, Refusal> {
-    let item = Item::Piece(Name::new(name)?);
-    Ok(table.numbers(&item).len())
+    let name = Name::new(name).expect(rt, "a name");
+    assert_eq!(rt; table.numbers(&Item::Piece(name)).len(), piece);
 }
 
 #[test]
-fn numbers_of_each_item(rt: HostRuntime) -> Result<(), Fail> {
-    let alloc = rt.alloc();
-    let table = Table::of(alloc, &design(alloc, &SQUARE, &[], 1)?)?;
-    assert_eq!(rt;
-        cell_counts(alloc, &table)?.as_slice(),
-        [4, 4, 4, 4].as_slice()
-    );
-    assert_eq!(rt; piece_count(&table, b"A")?, 4);
-    assert_eq!(rt; piece_count(&table, b"B")?, 4);
-    assert_eq!(rt; piece_count(&table, b"C")?, 0);
-    Ok(())
+fn a_table_of_two_dominoes(rt: HostRuntime) {
+    let view = square_table(&rt).view().expect(&rt, "memory");
+    expect_numbers(&rt, view.live(), &[0, 1, 2, 3, 4, 5, 6, 7]);
+    expect_counts(&rt, &view, 8, 6, 0);
 }
 
 #[test]
-fn a_blocked_cell_has_no_numbers(rt: HostRuntime) -> Result<(), Fail> {
-    let alloc = rt.alloc();
-    let design = design(alloc, &SQUARE, &[], 1)?;
-    let mut table = Table::of(alloc, &design)?;
-    let change = design.check(&Edit::Cell {
-        cell: cell(0, 0)?,
+fn numbers_of_each_item(rt: HostRuntime) {
+    let table = square_table(&rt);
+    expect_sizes(&rt, &table, [4, 4, 4, 4], b"A", 4);
+    expect_sizes(&rt, &table, [4, 4, 4, 4], b"B", 4);
+    expect_sizes(&rt, &table, [4, 4, 4, 4], b"C", 0);
+}
+
+#[test]
+fn a_blocked_cell_has_no_numbers(rt: HostRuntime) {
+    let design = laid(&rt, &SQUARE, &[], 1);
+    let mut table = Table::of(rt.alloc(), &design).expect(&rt, "a table");
+    let edit = Edit::Cell {
+        cell: Cell::ORIGIN,
         mode: Mode::Blocked,
-    })?;
-    let plan = table.plan(&design, &change)?;
-    assert_eq!(rt; plan.delta.gone.len(), 4);
+    };
+    let change = design.check(&edit).expect(&rt, "a change");
+    let plan = table.plan(&design, &change).expect(&rt, "a plan");
+    expect_lengths(&rt, &plan.delta, [4, 0, 0, 1, 0, 0, 0, 0]);
     table.make(plan);
-    assert_eq!(rt;
-        cell_counts(alloc, &table)?.as_slice(),
-        [0, 2, 2, 4].as_slice()
-    );
-    assert_eq!(rt; piece_count(&table, b"A")?, 2);
-    Ok(())
+    expect_sizes(&rt, &table, [0, 2, 2, 4], b"A", 2);
+}
+
+// Leads the table to a design and asserts how long the delta's lists are. It answers gone and fresh.
+fn led(
+    rt: &(impl AllocGlobal + Abort),
+    table: &mut Table,
+    design: &Design,
+    lengths: [usize; 8],
+) -> (Vec<u32>, Vec<u32>) {
+    let plan = table.plan_to(design).expect(rt, "a plan");
+    expect_lengths(rt, &plan.delta, lengths);
+    let gone = plan.delta.gone.to_vec(rt.alloc()).expect(rt, "memory");
+    let fresh = plan.delta.fresh.to_vec(rt.alloc()).expect(rt, "memory");
+    table.make(plan);
+    (gone, fresh)
 }
 
 #[test]
-fn numbers_come_back(rt: HostRuntime) -> Result<(), Fail> {
-    let alloc = rt.alloc();
-    let mut table = Table::of(alloc, &design(alloc, &SQUARE, &[], 1)?)?;
-    let plan = table.plan_to(&design(alloc, &SQUARE, &[(2, 0)], 1)?)?;
-    assert_eq!(rt; plan.delta.fresh.as_slice(), [8, 9].as_slice());
-    assert_eq!(rt; plan.delta.gone.len(), 0);
-    assert_eq!(rt; plan.delta.needed.len() + plan.delta.unneeded.len(), 0);
-    assert_eq!(rt; plan.delta.narrowed.len() + plan.delta.widened.len(), 0);
-    assert_eq!(rt; plan.delta.pinned.len() + plan.delta.unpinned.len(), 0);
-    table.make(plan);
-    let plan = table.plan_to(&design(alloc, &[(0, 0), (0, 1), (1, 1)], &[(2, 0)], 1)?)?;
-    assert_eq!(rt; plan.delta.gone.len(), 6);
-    assert_eq!(rt; plan.delta.unneeded.len(), 1);
-    assert_eq!(rt; plan.delta.fresh.len() + plan.delta.needed.len(), 0);
-    let gone = plan.delta.gone.to_vec(alloc)?;
-    table.make(plan);
-    let plan = table.plan_to(&design(alloc, &SQUARE, &[(2, 0)], 1)?)?;
-    assert_eq!(rt; plan.delta.fresh.as_slice(), gone.as_slice());
-    assert_eq!(rt; plan.delta.needed.len(), 1);
-    assert_eq!(rt; plan.delta.gone.len() + plan.delta.unneeded.len(), 0);
-    table.make(plan);
-    let view = table.view()?;
-    assert_eq!(rt; view.live().len(), 10);
+fn numbers_come_back(rt: HostRuntime) {
+    let wide = laid(&rt, &SQUARE, &[(2, 0)], 1);
+    let holed = laid(&rt, &[(0, 0), (0, 1), (1, 1)], &[(2, 0)], 1);
+    let mut table = square_table(&rt);
+    let first = led(&rt, &mut table, &wide, [0, 2, 0, 0, 0, 0, 0, 0]);
+    expect_numbers(&rt, &first.1, &[8, 9]);
+    let second = led(&rt, &mut table, &holed, [6, 0, 0, 1, 0, 0, 0, 0]);
+    let third = led(&rt, &mut table, &wide, [0, 6, 1, 0, 0, 0, 0, 0]);
+    expect_numbers(&rt, &third.1, &second.0);
+    let view = table.view().expect(&rt, "memory");
+    expect_counts(&rt, &view, 10, 7, 0);
     assert!(rt; view.placement(9).is_some());
     assert!(rt; view.placement(10).is_none());
-    Ok(())
+}
+
+// Asserts that a list has this name alone.
+fn expect_name(rt: &impl Abort, names: &[Name], want: Name) {
+    assert_eq!(rt; names, [want].as_slice());
 }
 
 #[test]
-fn copies_up_and_down(rt: HostRuntime) -> Result<(), Fail> {
-    let alloc = rt.alloc();
-    let a = Name::new(b"A")?;
-    let mut table = Table::of(alloc, &design(alloc, &SQUARE, &[], 1)?)?;
-    let plan = table.plan_to(&design(alloc, &SQUARE, &[], 3)?)?;
-    assert_eq!(rt; plan.delta.widened.as_slice(), [a].as_slice());
-    assert_eq!(rt; plan.delta.narrowed.len(), 0);
-    table.make(plan);
-    let plan = table.plan_to(&design(alloc, &SQUARE, &[], 2)?)?;
-    assert_eq!(rt; plan.delta.narrowed.as_slice(), [a].as_slice());
-    assert_eq!(rt; plan.delta.widened.len(), 0);
-    Ok(())
+fn copies_up_and_down(rt: HostRuntime) {
+    let a = Name::new(b"A").expect(&rt, "a name");
+    let mut table = square_table(&rt);
+    let three = laid(&rt, &SQUARE, &[], 3);
+    let two = laid(&rt, &SQUARE, &[], 2);
+    let up = table.plan_to(&three).expect(&rt, "a plan");
+    expect_lengths(&rt, &up.delta, [0, 0, 0, 0, 0, 1, 0, 0]);
+    expect_name(&rt, &up.delta.widened, a);
+    table.make(up);
+    let down = table.plan_to(&two).expect(&rt, "a plan");
+    expect_lengths(&rt, &down.delta, [0, 0, 0, 0, 1, 0, 0, 0]);
+    expect_name(&rt, &down.delta.narrowed, a);
 }
 
-#[test]
-fn numbers_are_given_once(rt: HostRuntime) -> Result<(), Fail> {
-    let alloc = rt.alloc();
+// A placement of a piece on one cell.
+fn single(x: u64) -> Result<Placement, Refusal> {
     let name = Name::new(b"A")?;
-    let here = Placement {
-        name,
-        cells: Cells::one(cell(0, 0)?),
-    };
-    let there = Placement {
-        name,
-        cells: Cells::one(cell(1, 0)?),
-    };
+    let cells = Cells::one(cell(x, 0)?);
+    Ok(Placement { name, cells })
+}
+
+#[test]
+fn numbers_are_given_once(rt: HostRuntime) {
+    let alloc = rt.alloc();
+    let here = single(0).expect(&rt, "a placement");
+    let there = single(1).expect(&rt, "a placement");
     let mut names = Interner::new(alloc);
     assert!(rt; names.is_empty());
     assert_eq!(rt; names.number(&there), None);
-    assert_eq!(rt; names.give(&there)?, 0);
-    assert_eq!(rt;
-        names.give_all(alloc, &[here, there])?.as_slice(),
-        [1, 0].as_slice()
-    );
+    assert_eq!(rt; names.give(&there).expect(&rt, "a number"), 0);
+    let both = names.give_all(alloc, &[here, there]).expect(&rt, "numbers");
+    expect_numbers(&rt, &both, &[1, 0]);
     assert_eq!(rt; names.number(&here), Some(1));
     assert_eq!(rt; names.placement(1), Some(here));
     assert_eq!(rt; names.placement(2), None);
-    assert_eq!(rt;
-        names.placements(alloc)?.as_slice(),
-        [there, here].as_slice()
-    );
+    let all = names.placements(alloc).expect(&rt, "memory");
+    assert_eq!(rt; all.as_slice(), [there, here].as_slice());
     assert_eq!(rt; names.len(), 2);
-    Ok(())
+}
+
+// A pin of B on the two cells of the upper row.
+fn top_pin() -> Result<Edit, Refusal> {
+    let name = Name::new(b"B")?;
+    let cells = Cells::new(&[cell(0, 0)?, cell(1, 0)?])?;
+    Ok(Edit::Pin { name, cells })
 }
 
 #[test]
-fn a_plan_of_an_edit(rt: HostRuntime) -> Result<(), Fail> {
-    let alloc = rt.alloc();
-    let design = design(alloc, &SQUARE, &[], 1)?;
-    let mut table = Table::of(alloc, &design)?;
-    let top = Cells::new(&[cell(0, 0)?, cell(1, 0)?])?;
-    let change = design.check(&Edit::Pin {
-        name: Name::new(b"B")?,
-        cells: top,
-    })?;
-    let plan = table.plan(&design, &change)?;
-    assert_eq!(rt; plan.delta.pinned.as_slice(), [4].as_slice());
-    assert_eq!(rt; plan.delta.unpinned.len(), 0);
-    assert_eq!(rt; plan.delta.gone.len() + plan.delta.fresh.len(), 0);
-    assert_eq!(rt; plan.view.pins(), [4].as_slice());
-    Ok(())
+fn a_plan_of_an_edit(rt: HostRuntime) {
+    let design = laid(&rt, &SQUARE, &[], 1);
+    let mut table = Table::of(rt.alloc(), &design).expect(&rt, "a table");
+    let edit = top_pin().expect(&rt, "an edit");
+    let change = design.check(&edit).expect(&rt, "a change");
+    let plan = table.plan(&design, &change).expect(&rt, "a plan");
+    expect_lengths(&rt, &plan.delta, [0, 0, 0, 0, 0, 0, 1, 0]);
+    expect_numbers(&rt, &plan.delta.pinned, &[4]);
+    expect_numbers(&rt, plan.view.pins(), &[4]);
 }
 
-#[test]
-fn sorted_by_placement(rt: HostRuntime) -> Result<(), Fail> {
-    let alloc = rt.alloc();
-    let mut table = Table::of(alloc, &design(alloc, &SQUARE, &[], 1)?)?;
-    let plan = table.plan_to(&design(alloc, &SQUARE, &[(2, 0)], 1)?)?;
-    let view = &plan.view;
-    assert_eq!(rt; view.live(), [0, 1, 8, 2, 3, 4, 5, 9, 6, 7].as_slice());
+// Four tilings by two dominoes of two by two cells with one more beside them that may be covered, out of order.
+fn tilings(alloc: Global) -> Result<Vec<Tiling>, Refusal> {
     let mut tilings = Vec::new(alloc);
     tilings.push(Tiling::new(vec![in alloc; 2, 5]?))?;
     tilings.push(Tiling::new(vec![in alloc; 3, 4]?))?;
     tilings.push(Tiling::new(vec![in alloc; 5, 8]?))?;
     tilings.push(Tiling::new(vec![in alloc; 1, 9]?))?;
-    sort_tilings(alloc, view, &mut tilings)?;
-    assert_eq!(rt; tilings.len(), 4);
-    assert_eq!(rt; tilings[0].numbers(), [1, 9].as_slice());
-    assert_eq!(rt; tilings[1].numbers(), [5, 8].as_slice());
-    assert_eq!(rt; tilings[2].numbers(), [2, 5].as_slice());
-    assert_eq!(rt; tilings[3].numbers(), [3, 4].as_slice());
-    Ok(())
+    Ok(tilings)
+}
+
+#[test]
+fn sorted_by_placement(rt: HostRuntime) {
+    let mut table = square_table(&rt);
+    let wide = laid(&rt, &SQUARE, &[(2, 0)], 1);
+    let plan = table.plan_to(&wide).expect(&rt, "a plan");
+    expect_numbers(&rt, plan.view.live(), &[0, 1, 8, 2, 3, 4, 5, 9, 6, 7]);
+    let mut list = tilings(rt.alloc()).expect(&rt, "memory");
+    sort_tilings(rt.alloc(), &plan.view, &mut list).expect(&rt, "memory");
+    assert_eq!(rt; list.len(), 4);
+    expect_numbers(&rt, list[0].numbers(), &[1, 9]);
+    expect_numbers(&rt, list[1].numbers(), &[5, 8]);
+    expect_numbers(&rt, list[2].numbers(), &[2, 5]);
+    expect_numbers(&rt, list[3].numbers(), &[3, 4]);
 }

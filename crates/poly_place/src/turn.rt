@@ -39,7 +39,7 @@ pub(crate) struct Turn {
     pub(crate) found: Vec<u32>,
 }
 
-/// The design after the change. The marks tell which of its placements before it the change touches. New numbers go to
+/// The design after the change. The marks tell which numbers of the design before it the change touches. New numbers go to
 /// placements first, then to pins.
 ///
 /// Refused with `Spent` where there are more placements than numbers, and else only with `Memory`.
