@@ -23,7 +23,7 @@ never_below : (i : Item) → is_lt (item_cmp i i) ≡ false
 never_below (Cell c) = ap is_lt (tied_itself spot_total c)
 never_below (Piece n) = ap is_lt (tied_itself nat_list_cmp_total n)
 
-bound_in_list : (bs : List Bound) (b : ℕ) → b < length bs → In (get_or bs b no_bound) bs
+pub bound_in_list : (bs : List Bound) (b : ℕ) → b < length bs → In (get_or bs b no_bound) bs
 bound_in_list [] b h = absurd (omega arith)
 bound_in_list (x ∷ bs) zero h = inl refl
 bound_in_list (x ∷ bs) (suc b) h = inr (bound_in_list bs b (omega arith))

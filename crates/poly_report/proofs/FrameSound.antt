@@ -1,14 +1,17 @@
 -- Steps that leave the base sound, and what a sound base is that is not short.
-use Rattle.std.proofs.Common.{◌≡◌, ℕ, zero, suc, ◌+◌, ◌-◌, ◌<◌, ◌≤◌, Bool, true, false, cond, max, not, ◌&&◌, ◌||◌, eqb, ltb, leb, List, [], ◌∷◌, ◌++◌, inl, inr, refl, sym, ap, subst, ◌∙◌, arith, length, slice_get, take, length-append, length-take}
-use Rattle.std.specs.List.{list_any}
-use Rattle.std.proofs.lemmas.Bool.{and_from, and_parts, both_ways, cases_Bool, cases_lt, eq-eqb, eqb-true, false_from_ne_true, le-leb, leb-true, lt-ltb, ne_eqb, not_from_false, not-true, or_from, or_parts}
+use Rattle.std.proofs.Common.{◌≡◌, ℕ, zero, suc, ◌+◌, ◌-◌, ◌<◌, ◌≤◌, Bool, true, false, cond, max, not, ◌&&◌, ◌||◌, eqb, get_or, ltb, leb, List, [], ◌∷◌, ◌++◌, inl, inr, refl, sym, ap, subst, ◌∙◌, arith, length, slice_get, take, length-append, length-take}
+use Rattle.std.specs.List.{list_all, list_any}
+use Rattle.std.proofs.lemmas.Bool.{and_from, and_parts, both_ways, cases_Bool, cases_lt, eq-eqb, eqb-true, false_from_ne_true, le-leb, leb-true, lt-ltb, ne_eqb, not_from_false, not-true, or_cases, or_from, or_parts}
 use Rattle.std.proofs.lemmas.List.{take-append-le, take_all}
 use Rattle.poly_tiling.specs.declared.item.Item.{Item}
-use Rattle.poly_tiling.specs.Lists.{distinct, mem, one}
-use Rattle.poly_tiling.specs.Puzzle.{View, clash, count, has_item, is_tiling, items, least, same_item, share_cell}
+use Rattle.poly_tiling.specs.declared.item.Item.TheVariants.{Cell}
+use Rattle.poly_tiling.specs.Lists.{distinct, mem, one, tally}
+use Rattle.poly_tiling.specs.Names.{WellNamed}
+use Rattle.poly_tiling.specs.Puzzle.{View, clash, count, has_item, is_piece, is_tiling, items, least, same_item, share_cell}
 use Rattle.poly_tiling.proofs.Lists.{In, all_from, all_in, any_from, any_in, in_mem, mem_in, tally_none}
 use Rattle.poly_tiling.proofs.Ascending.{distinct_rest, not_head, put_in}
 use Rattle.poly_tiling.proofs.Counts.{ascending_distinct, tally_fewer}
+use Rattle.poly_tiling.proofs.Named.{listed_item}
 use Rattle.poly_tiling.proofs.Tilings.{same_item_self, whole}
 use Rattle.poly_atom.specs.declared.atom.Atom.{Atom}
 use Rattle.poly_atom.specs.declared.atom.Atom.TheVariants.{AtLeast, AtMost, Has, Lacks}
@@ -16,11 +19,13 @@ use Rattle.poly_atom.specs.Atoms.{in_family, meets, meets_all}
 use Rattle.poly_atom.specs.Hopeless.{base, lacks}
 use Rattle.poly_atom.proofs.Bases.{base_up, in_base_has, in_base_pin}
 use Rattle.poly_report.specs.Holds.{asks, open_in, others, ruled_out, upper}
-use Rattle.poly_report.specs.FrameSound.{SoundShows, is_sound}
+use Rattle.poly_report.specs.FrameItems.{item_of}
+use Rattle.poly_report.specs.FrameSound.{AllFit, SoundShows, is_sound}
+use Rattle.poly_report.specs.FrameTable.{HaveShows, UppersShow}
 use Rattle.poly_report.proofs.Steps.{any_put, base_pick, lacks_leave, lacks_pick, others_put, tally_put, upper_leave, upper_pick}
 use Rattle.poly_report.proofs.Later.{upper_le_atom, upper_le_most}
 use Rattle.poly_report.proofs.FrameMembers.{base_stays}
-use Rattle.poly_report.proofs.FramePicks.{has_in, in_has, open_base, others_all, shared, sharing}
+use Rattle.poly_report.proofs.FramePicks.{has_in, in_has, open_base, others_all, place_of, shared, sharing}
 
 -- one that is not ruled out
 record Free (v : View) (A : List Atom) (q : ℕ) : Type 0 where
@@ -218,6 +223,59 @@ module _ (v : View) (A : List Atom) (s : is_sound v A ≡ true) where
           pinned = λ p j. in_base_pin v A p j;
         }))
         (all_from (λ a. meets v (base v A) a) A met)
+
+-- two members that have the item
+two_have : (f : ℕ → Bool) (xs : List ℕ) (p q : ℕ) → In p xs → In q xs → f p ≡ true → f q ≡ true → eqb q p ≡ false → 2 ≤ tally f xs
+two_have f xs p q i j h k n = omega (arith, tally_fewer f xs p i h, some_have (λ x. f x && not (eqb x p)) xs q j (and_from (f q) _ k (not_from_false _ n)))
+  where
+    some_have : (g : ℕ → Bool) (ys : List ℕ) (y : ℕ) → In y ys → g y ≡ true → 1 ≤ tally g ys
+    some_have g [] y i h = absurd i
+    some_have g (x ∷ ys) y (inl e) h = omega (arith, ap one (ap g e ∙ h))
+    some_have g (x ∷ ys) y (inr i) h = omega (arith, some_have g ys y i h)
+
+-- a base whose items all fit, and whose members are placements that no atom lacks
+module _ (v : View) (A : List Atom) (us hs : List ℕ) (well : WellNamed v) (uppers : UppersShow v A us) (have : HaveShows v (base v A) hs) (fit : AllFit v.bounds us hs) where
+  fit_item : (q : ℕ) → In q v.live → (i : Item) → In i (items v q) → (count v (base v A) i ≤ upper v A i) × (is_piece i ≡ false → count v (base v A) i ≤ 1)
+  fit_item q l i k =
+      let w = place_of v.bounds i (listed_item v well q l i (in_has v q i k)) in
+      let two = and_parts (leb (get_or hs w.0 0) (get_or us w.0 0)) _ (fit w.0 w.1) in
+      let counted : get_or hs w.0 0 ≡ count v (base v A) i = have w.0 w.1 ∙ ap (λ j. count v (base v A) j) w.2 in
+      let most : get_or us w.0 0 ≡ upper v A i = uppers w.0 w.1 ∙ ap (λ j. upper v A j) w.2 in (
+        omega (arith, leb-true _ _ two.0, counted, most),
+        λ n. elim (or_cases (is_piece (item_of v w.0)) (leb (get_or hs w.0 0) 1) two.1) [
+          | inl p ↦ absurd (both_ways _ n (ap is_piece (sym w.2) ∙ p))
+          | inr o ↦ omega (arith, leb-true _ _ o, counted)
+        ],
+      )
+
+  fit_free : (q : ℕ) → In q (base v A) → In q v.live → list_any (λ a. lacks a q) A ≡ false → Free v A q
+  fit_free q j l n = record {
+    named = n;
+    apart = false_from_ne_true _ (λ t.
+        let r = any_in (λ r. clash v q r) (base v A) t in
+        let two = and_parts (not (eqb q r.0)) (share_cell (slice_get v.placements q) (slice_get v.placements r.0)) r.2 in
+        let s = shared (slice_get v.placements q) (slice_get v.placements r.0) two.1 in
+        let apart : eqb r.0 q ≡ false = ne_eqb r.0 q (λ e. both_ways (eqb q r.0) (not-true _ two.0) (eq-eqb q r.0 (sym e))) in
+        absurd (omega (arith, two_have (λ p. has_item v p (Cell s.0)) (base v A) q r.0 j r.1 (in_has v q (Cell s.0) s.1) (in_has v r.0 (Cell s.0) s.2) apart, (fit_item q l (Cell s.0) s.1).1 refl)));
+    below = λ i k. omega (arith, tally_fewer (λ p. has_item v p i) (base v A) q j (in_has v q i k), (fit_item q l i k).0);
+  }
+
+  pub sound_fits : list_all (λ p. mem v.live p && not (list_any (λ a. lacks a p) A)) (base v A) ≡ true → is_sound v A ≡ true
+  sound_fits kept = sound_by v A (λ q j.
+      let two = and_parts (mem v.live q) (not (list_any (λ a. lacks a q) A)) (all_in (λ p. mem v.live p && not (list_any (λ a. lacks a p) A)) (base v A) kept q j) in
+      (two.0, fit_free q j (mem_in v.live q two.0) (not-true _ two.1)))
+
+pub sound_one : (v : View) (A : List Atom) → is_sound v A ≡ true → SoundShows v A (length A) 1
+sound_one v A s = record {
+  few = omega arith;
+  levels = λ k h. ap (λ (B : List Atom). is_sound v B) (take_all (length A + k) A (omega arith)) ∙ s;
+}
+
+pub sound_none : (v : View) (A : List Atom) → SoundShows v A (length A) 0
+sound_none v A = record {
+  few = omega arith;
+  levels = λ k h. absurd (omega arith);
+}
 
 -- steps that keep the base sound are counted
 pub sound_more : (v : View) (A : List Atom) (first sound : ℕ) (a : Atom) → SoundShows v A first sound → length A - first < sound → first ≤ length A → (is_sound v A ≡ true → is_sound v (A ++ a ∷ []) ≡ true) → SoundShows v (A ++ a ∷ []) first (sound + 1)

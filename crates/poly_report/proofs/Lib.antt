@@ -17,6 +17,7 @@ pub mod FrameTable
 pub mod FramePicks
 pub mod FrameSteps
 pub mod FrameOpen
+pub mod FrameFlags
 pub mod FrameLooks
 pub mod FrameMembers
 pub mod FrameArms

@@ -1,7 +1,9 @@
 -- What the words of a frame's table stand for.
-use Rattle.std.specs.Prelude.{Bool, List, false, length, nat_le, nat_lt, not, slice_index, true, ℕ, ◌&&◌, ◌*◌, ◌+◌, ◌<◌, ◌^◌, ◌||◌, ◌≡◌, ◌≤◌, cond}
+use Rattle.std.specs.Prelude.{Bool, List, false, length, nat_le, nat_lt, not, slice_index, slice_index_or, true, ℕ, ◌&&◌, ◌*◌, ◌+◌, ◌<◌, ◌^◌, ◌||◌, ◌≡◌, ◌≤◌, cond}
 use Rattle.std.specs.List.{list_all, list_any}
+use Rattle.poly_grid.specs.Spot.{Spot}
 use Rattle.poly_tiling.specs.declared.item.Item.{Item}
+use Rattle.poly_tiling.specs.declared.item.Item.TheVariants.{Cell}
 use Rattle.poly_tiling.specs.Lists.{distinct, mem}
 use Rattle.poly_tiling.specs.Puzzle.{Bound, View, count, has_item, is_piece, same_item}
 use Rattle.poly_tiling.specs.Names.{WellNamed}
@@ -38,6 +40,19 @@ shut_at i most have = nat_le most have || (not (is_piece i) && nat_lt 0 have)
 pub record ShutShows (bounds : List Bound) (uppers have : List ℕ) (s : Item → Bool) : Type 0 where
   pub at : (b : ℕ) → b < length bounds → s (item_at bounds b) ≡ shut_at (item_at bounds b) (slice_index uppers b) (slice_index have b)
   pub none : (i : Item) → ((b : ℕ) → b < length bounds → same_item (item_at bounds b) i ≡ false) → s i ≡ true
+
+-- flags for the cells, by place, that say the same as a test of items
+abbrev pub CellsSay : List Bool → (Item → Bool) → Type 0
+CellsSay flags s = (c : Spot) → c.x < 64 → slice_index_or flags (64 * c.y + c.x) true ≡ s (Cell c)
+
+-- flags that say what the counts say
+abbrev pub FlagsShow : List Bound → List ℕ → List ℕ → List Bool → Type 0
+FlagsShow bounds uppers have flags = (s : Item → Bool) → ShutShows bounds uppers have s → CellsSay flags s
+
+-- the same of the first k items
+pub record FirstShut (bounds : List Bound) (uppers have : List ℕ) (flags : List Bool) (k : ℕ) : Type 0 where
+  pub at : (b : ℕ) (c : Spot) → b < k → c.x < 64 → item_at bounds b ≡ Cell c → slice_index_or flags (64 * c.y + c.x) true ≡ shut_at (Cell c) (slice_index uppers b) (slice_index have b)
+  pub none : (c : Spot) → c.x < 64 → ((b : ℕ) → b < k → same_item (item_at bounds b) (Cell c) ≡ false) → slice_index_or flags (64 * c.y + c.x) true ≡ true
 
 -- how often the base may have an item and, with one more member that has it, leave others open: none for a cell
 abbrev pub limit_at : Item → ℕ → ℕ

@@ -25,7 +25,7 @@ mod walks;
 
 use crate::frame::items::guess_cells;
 use crate::frame::steps::{Steps, start};
-use crate::frame::table::{Table, counts_of, table_of};
+use crate::frame::table::{Table, counts_of, table_of, uppers_of};
 use crate::plain;
 use crate::tree::Arm;
 use poly_atom::Atom;
@@ -82,12 +82,22 @@ impl<'a> Frame<'a> {
         let mut members = Vec::with_capacity(alloc, pins + given + STEPS)?;
         plain::make_base(view, atoms, &mut members);
         let sizes = Vec::with_capacity(alloc, STEPS)?;
-        let sound = sound::begin(view, atoms, &members);
         let options = Vec::with_capacity(alloc, live)?;
         let cells = guess_cells(alloc, view.items())?;
         let mut raised = Vec::with_capacity(alloc, STEPS * 17)?;
         let have = counts_of(alloc, view, &members, &cells, &mut raised)?;
-        let table = table_of(alloc, view, atoms, &members, cells, &have, &mut raised)?;
+        let uppers = uppers_of(alloc, view, atoms, &cells)?;
+        let sound = sound::begin(alloc, view, atoms, &members, &uppers, &have)?;
+        let table = table_of(
+            alloc,
+            view,
+            atoms,
+            &members,
+            cells,
+            &uppers,
+            &have,
+            &mut raised,
+        )?;
         let steps = start(alloc, view, atoms, &table, have, raised)?;
         Ok(Frame {
             view,

@@ -87,7 +87,8 @@ fn names(atom: &Atom, number: u32) -> bool
     }
 }
 
-fn any_lacks(atoms: &[Atom], number: u32) -> bool
+/// Whether an atom lacks the number.
+pub(crate) fn any_lacks(atoms: &[Atom], number: u32) -> bool
     ensures { result ≡ list_any (λ a. lacks a number) atoms.now }
 {
     atoms.iter().any(|a| names(a, number))

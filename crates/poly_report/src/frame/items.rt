@@ -1,6 +1,6 @@
 //! Items by their places among the items of a view. Where an item stands is guessed first and then tested, so a wrong
 //! guess costs time alone.
-ghost use Rattle.std.specs.Prelude.{IfErr, List, MatchOption, false, length, map, nat_lt, slice_index, slice_index_or, true, vec_capacity, vec_len, ℕ, [], ◌++◌, ◌+◌, ◌<◌, ◌==◌, ◌^◌, ◌∷◌, ◌≡◌, ◌≤◌};
+ghost use Rattle.std.specs.Prelude.{IfErr, List, MatchOption, false, length, map, nat_lt, slice_index, slice_index_or, true, vec_capacity, vec_len, ℕ, [], ◌++◌, ◌+◌, ◌<◌, ◌*◌, ◌==◌, ◌^◌, ◌∷◌, ◌≡◌, ◌≤◌};
 ghost use Rattle.std.specs.List.{list_all};
 ghost use Rattle.poly_shape.specs.Order.{IsAscending, spot_cmp};
 ghost use Rattle.poly_tiling.specs.Names.{items_ascend};
@@ -12,11 +12,14 @@ use poly_grid::{Cell, Refusal};
 use poly_tiling::{Item, View};
 use std::alloc::Global;
 
-const CELLS: usize = 4096;
+/// How many cells a board can have.
+pub(crate) const CELLS: usize = 4096;
 
-// Where a cell's guess is kept.
-fn guess_place(cell: Cell) -> usize
-    ensures { result < 4096 }
+/// Where a cell stands in a list with one entry for each cell that a board can have.
+pub(crate) fn cell_place(cell: Cell) -> usize
+    ensures value { result ≡ 64 * cell.y + cell.x }
+    ensures column { cell.x < 64 }
+    ensures small { result < 4096 }
 {
     usize::from(cell.y()) * 64 + usize::from(cell.x())
 }
@@ -28,7 +31,7 @@ pub(crate) fn guess_cells(alloc: Global, bounds: &[(Item, u8, u8)]) -> Result<Ve
     let mut guesses = vec![in alloc; 0usize; CELLS]?;
     for b in 0..bounds.len() {
         if let Item::Cell(cell) = bounds[b].0 {
-            let k = guess_place(cell);
+            let k = cell_place(cell);
             if k < guesses.len() {
                 guesses[k] = b;
             }
@@ -39,7 +42,7 @@ pub(crate) fn guess_cells(alloc: Global, bounds: &[(Item, u8, u8)]) -> Result<Ve
 
 /// A guess for a cell, 0 where there is none.
 pub(crate) fn guess_of(guesses: &[usize], cell: Cell) -> usize {
-    let k = guess_place(cell);
+    let k = cell_place(cell);
     if k < guesses.len() { guesses[k] } else { 0 }
 }
 
@@ -56,6 +59,38 @@ pub(crate) fn index_of(bounds: &[(Item, u8, u8)], guess: usize, item: Item) -> O
         }
     }
     None
+}
+
+fn is_cell(item: &Item, cell: Cell) -> bool
+    ensures { result ≡ same_item item.now (CellItem cell) }
+{
+    match item {
+        Item::Cell(other) => *other == cell,
+        Item::Piece(_) => false,
+    }
+}
+
+// Where a cell stands.
+fn cell_at(bounds: &[(Item, u8, u8)], guess: usize, cell: Cell) -> Option<usize>
+    ensures { MatchOption result ((b : ℕ) → b < length bounds.now → same_item (item_at bounds.now b) (CellItem cell) ≡ false) (λ b. (b < length bounds.now) × (same_item (item_at bounds.now b) (CellItem cell) ≡ true)) }
+{
+    if guess < bounds.len() && is_cell(&bounds[guess].0, cell) {
+        return Some(guess);
+    }
+    index_of(bounds, guess, Item::Cell(cell))
+}
+
+// Notes where a cell stands, if it does.
+fn note_cell(bounds: &[(Item, u8, u8)], guess: usize, cell: Cell, noted: &mut Vec<usize>)
+    requires room { vec_len noted.old < vec_capacity noted.old }
+    requires order { items_ascend bounds.now ≡ true }
+    ensures capacity { vec_capacity noted.new ≡ vec_capacity noted.old }
+    ensures len { vec_len noted.new ≤ vec_len noted.old + 1 }
+    ensures places { (places : List ℕ) × (noted.new.items ≡ noted.old.items ++ places) × Noted bounds.now (CellItem cell ∷ []) places }
+{
+    if let Some(b) = cell_at(bounds, guess, cell) {
+        noted.push_reserved(b);
+    }
 }
 
 // Notes where an item stands, if it does.
@@ -80,7 +115,7 @@ fn note_cells(bounds: &[(Item, u8, u8)], guesses: &[usize], cells: &[Cell], note
     ensures places { (places : List ℕ) × (noted.new.items ≡ noted.old.items ++ places) × Noted bounds.now (map (λ c. CellItem c) cells.now) places }
 {
     for cell in cells {
-        note_item(bounds, guess_of(guesses, *cell), Item::Cell(*cell), noted);
+        note_cell(bounds, guess_of(guesses, *cell), *cell, noted);
     }
 }
 

@@ -1,5 +1,5 @@
 //! What stays the same while a frame moves: the placements that were open at the start, and which items they have.
-ghost use Rattle.std.specs.Prelude.{Bool, true, IfErr, IfOk, length, map, nat_le, nat_lt, not, slice_index, vec_capacity, vec_len, ℕ, ◌∷◌, ◌&&◌, ◌*◌, ◌+◌, ◌<◌, ◌==◌, ◌^◌, ◌||◌, ◌≡◌, ◌≤◌};
+ghost use Rattle.std.specs.Prelude.{Bool, true, IfErr, IfOk, length, map, nat_le, nat_lt, not, slice_index, slice_index_or, false, vec_capacity, vec_len, ℕ, ◌∷◌, ◌&&◌, ◌*◌, ◌+◌, ◌<◌, ◌==◌, ◌^◌, ◌||◌, ◌≡◌, ◌≤◌};
 ghost use Rattle.std.specs.List.{filter, list_all, list_any};
 ghost use Rattle.poly_tiling.specs.declared.item.Item.{Item};
 ghost use Rattle.poly_tiling.specs.declared.item.Item.TheVariants.{Cell as CellItem};
@@ -14,10 +14,10 @@ ghost use Rattle.poly_report.specs.FrameItems.{item_at, item_of};
 
 use crate::bits;
 use crate::frame::busy::{Busy, busy_rows};
-use crate::frame::items::{guess_cells, guess_of, index_of, note_items, raise};
+use crate::frame::items::{CELLS, cell_place, guess_of, index_of, note_items, raise};
 use poly_atom::Atom;
 use poly_grid::{Cell, Refusal};
-use poly_tiling::{Item, View, has_number};
+use poly_tiling::{Item, View};
 use std::alloc::Global;
 
 /// A row of bits for each item of the view, one bit for each number that was open at the start.
@@ -35,7 +35,7 @@ pub(crate) struct Table {
     pub(crate) listed: bool,
 }
 
-ghost use Rattle.poly_report.specs.FrameTable.{AskedShow, HaveShows, RowsShow, ShutShows, StandsShow, TableShows, UppersShow, limit_at, place, shut_at};
+ghost use Rattle.poly_report.specs.FrameTable.{AskedShow, CellsSay, FlagsShow, HaveShows, RowsShow, ShutShows, StandsShow, TableShows, UppersShow, limit_at, place, shut_at};
 
 fn guess_item(cells: &[usize], item: &Item) -> usize {
     match item {
@@ -94,7 +94,8 @@ fn leasts_of(alloc: Global, bounds: &[(Item, u8, u8)]) -> Result<Vec<u8>, Refusa
     Ok(leasts)
 }
 
-fn uppers_of(
+/// What each item may have at most.
+pub(crate) fn uppers_of(
     alloc: Global,
     view: &View,
     atoms: &[Atom],
@@ -153,17 +154,6 @@ pub(crate) fn counts_of(
     Ok(have)
 }
 
-fn is_shut(bounds: &[(Item, u8, u8)], guess: usize, uppers: &[u8], have: &[u64], item: Item) -> bool
-    requires uppers { length uppers.now ≡ length bounds.now }
-    requires have { length have.now ≡ length bounds.now }
-    ensures { (s : Item → Bool) → ShutShows bounds.now uppers.now have.now s → result ≡ s item }
-{
-    match index_of(bounds, guess, item) {
-        None => true,
-        Some(b) => is_shut_at(&bounds[b].0, uppers[b], have[b]),
-    }
-}
-
 fn is_shut_at(item: &Item, most: u8, have: u64) -> bool
     ensures { result ≡ shut_at item.now most have }
 {
@@ -179,35 +169,45 @@ fn is_had_cell(item: &Item, have: u64) -> bool
     }
 }
 
-fn is_cell_shut(
+// Whether each cell is shut, by its place: at first each is.
+fn shut_cells(
+    alloc: Global,
     bounds: &[(Item, u8, u8)],
-    guesses: &[usize],
     uppers: &[u8],
     have: &[u64],
-    cells: &[Cell],
-) -> bool
+) -> Result<Vec<bool>, Refusal>
+    requires order { items_ascend bounds.now ≡ true }
     requires uppers { length uppers.now ≡ length bounds.now }
     requires have { length have.now ≡ length bounds.now }
-    ensures { (s : Item → Bool) → ShutShows bounds.now uppers.now have.now s → result ≡ list_any (λ c. s (CellItem c)) cells.now }
+    ensures len { IfOk result (λ f. length f.items ≡ 4096) }
+    ensures value { IfOk result (λ f. FlagsShow bounds.now uppers.now have.now f.items) }
+    ensures why { IfErr result (λ e. e ≡ Refusal.Memory) }
 {
-    for cell in cells {
-        if is_shut(
-            bounds,
-            guess_of(guesses, *cell),
-            uppers,
-            have,
-            Item::Cell(*cell),
-        ) {
-            return true;
+    let mut shut = vec![in alloc; true; CELLS]?;
+    for b in 0..bounds.len() {
+        if let Item::Cell(cell) = bounds[b].0 {
+            shut[cell_place(cell)] = is_shut_at(&bounds[b].0, uppers[b], have[b]);
         }
     }
-    false
+    Ok(shut)
+}
+
+// Whether one of these cells is shut.
+fn is_cell_shut(shut: &[bool], cells: &[Cell]) -> bool
+    requires { length shut.now ≡ 4096 }
+    ensures { (s : Item → Bool) → CellsSay shut.now s → result ≡ list_any (λ c. s (CellItem c)) cells.now }
+{
+    let mut any = false;
+    for cell in cells {
+        any |= shut[cell_place(*cell)];
+    }
+    any
 }
 
 // Whether none of these items is shut. `piece` goes on as a guess for where the piece stands.
 fn are_free(
     bounds: &[(Item, u8, u8)],
-    guesses: &[usize],
+    shut: &[bool],
     piece: &mut usize,
     uppers: &[u8],
     have: &[u64],
@@ -216,9 +216,11 @@ fn are_free(
 ) -> bool
     requires uppers { length uppers.now ≡ length bounds.now }
     requires have { length have.now ≡ length bounds.now }
+    requires len { length shut.now ≡ 4096 }
+    requires shut { FlagsShow bounds.now uppers.now have.now shut.now }
     ensures { (s : Item → Bool) → ShutShows bounds.now uppers.now have.now s → result ≡ not (list_any s (item.now ∷ map (λ c. CellItem c) cells.now)) }
 {
-    if is_cell_shut(bounds, guesses, uppers, have, cells) {
+    if is_cell_shut(shut, cells) {
         return false;
     }
     match index_of(bounds, *piece, *item) {
@@ -233,7 +235,7 @@ fn are_free(
 // Whether no item of the number's placement is shut.
 fn is_free(
     view: &View,
-    guesses: &[usize],
+    shut: &[bool],
     piece: &mut usize,
     uppers: &[u8],
     have: &[u64],
@@ -241,13 +243,15 @@ fn is_free(
 ) -> bool
     requires uppers { length uppers.now ≡ length view.now.bounds }
     requires have { length have.now ≡ length view.now.bounds }
+    requires len { length shut.now ≡ 4096 }
+    requires shut { FlagsShow view.now.bounds uppers.now have.now shut.now }
     ensures { (s : Item → Bool) → ShutShows view.now.bounds uppers.now have.now s → result ≡ not (list_any s (items view.now number)) }
 {
     match view.placement(number) {
         None => true,
         Some(p) => are_free(
             view.items(),
-            guesses,
+            shut,
             piece,
             uppers,
             have,
@@ -257,47 +261,67 @@ fn is_free(
     }
 }
 
-fn is_named(atom: &Atom, number: u32) -> bool
-    ensures { result ≡ lacks atom.now number }
+// The members and the numbers that the atoms lack.
+fn closed_numbers(alloc: Global, atoms: &[Atom], members: &[u32]) -> Result<Vec<u32>, Refusal>
+    ensures value { IfOk result (λ c. (p : ℕ) → mem c.items p ≡ (mem members.now p || list_any (λ a. lacks a p) atoms.now)) }
+    ensures why { IfErr result (λ e. e ≡ Refusal.Memory) }
 {
-    match atom {
-        Atom::Lacks(q) => *q == number,
-        _ => false,
+    let mut closed = Vec::with_capacity(alloc, members.len())?;
+    closed.extend_from_slice(members)?;
+    for a in atoms {
+        if let Atom::Lacks(p) = a {
+            closed.push(*p)?;
+        }
     }
+    Ok(closed)
 }
 
-fn is_lacked(atoms: &[Atom], number: u32) -> bool
-    ensures { result ≡ list_any (λ a. lacks a number) atoms.now }
+/// Flags by number: those of the list have one.
+pub(crate) fn flags_of(alloc: Global, numbers: &[u32]) -> Result<Vec<bool>, Refusal>
+    ensures value { IfOk result (λ f. (p : ℕ) → slice_index_or f.items p false ≡ mem numbers.now p) }
+    ensures why { IfErr result (λ e. e ≡ Refusal.Memory) }
 {
-    atoms.iter().any(|a| is_named(a, number))
+    let size = size_for(numbers);
+    let mut flags = vec![in alloc; false; size]?;
+    for p in numbers {
+        flags[*p as usize] = true;
+    }
+    Ok(flags)
 }
 
-// Whether the number is no member and no atom lacks it.
-fn is_clear(atoms: &[Atom], members: &[u32], number: u32) -> bool
-    ensures { result ≡ (not (mem members.now number) && not (list_any (λ a. lacks a number) atoms.now)) }
+/// Whether the number has a flag.
+pub(crate) fn has_flag(flags: &[bool], number: u32) -> bool
+    ensures { result ≡ slice_index_or flags.now number false }
 {
-    !has_number(members, number) && !is_lacked(atoms, number)
+    let p = number as usize;
+    p < flags.len() && flags[p]
 }
 
 // Whether the number's placement is open.
 fn is_open(
     view: &View,
     atoms: &[Atom],
-    members: &[u32],
-    guesses: &[usize],
+    closed: &[bool],
+    shut: &[bool],
     piece: &mut usize,
     uppers: &[u8],
     have: &[u64],
     number: u32,
 ) -> bool
-    requires base { members.now ≡ base view.now atoms.now }
+    requires closed { (p : ℕ) → slice_index_or closed.now p false ≡ (mem (base view.now atoms.now) p || list_any (λ a. lacks a p) atoms.now) }
     requires uppers_len { length uppers.now ≡ length view.now.bounds }
     requires have_len { length have.now ≡ length view.now.bounds }
     requires uppers { UppersShow view.now atoms.now uppers.now }
-    requires have { HaveShows view.now members.now have.now }
+    requires have { HaveShows view.now (base view.now atoms.now) have.now }
+    requires len { length shut.now ≡ 4096 }
+    requires shut { FlagsShow view.now.bounds uppers.now have.now shut.now }
     ensures { result ≡ open_in view.now atoms.now number }
 {
-    is_free(view, guesses, piece, uppers, have, number) && is_clear(atoms, members, number)
+    let _ = atoms;
+    if has_flag(closed, number) {
+        return false;
+    }
+    is_free(view, shut, piece, uppers, have, number)
 }
 
 // The numbers that are open, with a guess for the piece of each.
@@ -306,7 +330,6 @@ fn open_numbers(
     view: &View,
     atoms: &[Atom],
     members: &[u32],
-    guesses: &[usize],
     uppers: &[u8],
     have: &[u64],
     pieces: &mut Vec<usize>,
@@ -319,10 +342,13 @@ fn open_numbers(
     ensures value { IfOk result (λ v. v.items ≡ filter (λ p. open_in view.now atoms.now p) view.now.live) }
     ensures why { IfErr result (λ e. e ≡ Refusal.Memory) }
 {
+    let shut = shut_cells(alloc, view.items(), uppers, have)?;
+    let listed = closed_numbers(alloc, atoms, members)?;
+    let closed = flags_of(alloc, &listed)?;
     let mut piece = 0;
     let mut numbers = Vec::new(alloc);
     for p in view.live() {
-        if is_open(view, atoms, members, guesses, &mut piece, uppers, have, *p) {
+        if is_open(view, atoms, &closed, &shut, &mut piece, uppers, have, *p) {
             numbers.push(*p)?;
             pieces.push(piece)?;
         }
@@ -454,6 +480,7 @@ pub(crate) fn table_of(
     atoms: &[Atom],
     members: &[u32],
     cells: Vec<usize>,
+    uppers: &[u8],
     have: &[u64],
     noted: &mut Vec<usize>,
 ) -> Result<Table, Refusal>
@@ -461,28 +488,20 @@ pub(crate) fn table_of(
     requires few { length members.now < 2 ^ 63 }
     requires have_len { length have.now ≡ length view.now.bounds }
     requires have { HaveShows view.now members.now have.now }
+    requires uppers_len { length uppers.now ≡ length view.now.bounds }
+    requires uppers { UppersShow view.now atoms.now uppers.now }
     requires room { 17 ≤ vec_capacity noted.old }
     ensures value { IfOk result (λ t. TableShows view.now atoms.now t) }
     ensures why { IfErr result (λ e. e ≡ Refusal.Memory) }
     ensures capacity { vec_capacity noted.new ≡ vec_capacity noted.old }
 {
     let bounds = view.items();
-    let uppers = uppers_of(alloc, view, atoms, &cells)?;
     let mut pieces = Vec::new(alloc);
-    let numbers = open_numbers(
-        alloc,
-        view,
-        atoms,
-        members,
-        &cells,
-        &uppers,
-        have,
-        &mut pieces,
-    )?;
+    let numbers = open_numbers(alloc, view, atoms, members, uppers, have, &mut pieces)?;
     let width = numbers.len() / 64 + 1;
     let rows = rows_of(alloc, view, &numbers, &pieces, &cells, width, noted)?;
     let stands = stands_of(alloc, &numbers)?;
-    let limits = limits_of(alloc, bounds, &uppers)?;
+    let limits = limits_of(alloc, bounds, uppers)?;
     let asked = asked_of(alloc, view, atoms, &cells)?;
     let listed = all_listed(bounds, atoms);
     let busy = busy_rows(alloc, &rows, width, bounds.len())?;

@@ -1,15 +1,15 @@
-use Rattle.poly_report.proofs.FrameOpen.{is_open_no, is_open_yes, shut_shows}
+use Rattle.std.proofs.Common.{refl, ◌∙◌}
+use Rattle.poly_report.proofs.FrameOpen.{shut_shows}
+use Rattle.poly_report.proofs.FrameFlags.{open_free, open_not_closed}
 use Rattle.poly_report.proofs.FramePicks.{is_shut}
 use Rattle.poly_report.proofs.frame.table.is_open.Goals as goal
 
-pub returns-then-is_free : goal.returns-then-is_free
-returns-then-is_free c =
-    let v = c.args.view.now in
-    let A = c.args.atoms.now in
-    is_open_yes v A c.args.number c.args.members.now c.is_free.result c.is_clear.result c.requires.base (c.is_free.ensures (is_shut v A) (shut_shows v A c.args.members.now c.args.uppers.now c.args.have.now c.requires.base c.requires.uppers c.requires.have)) c.if-is_free.true c.is_clear.ensures
+pub returns-then-has_flag : goal.returns-then-has_flag
+returns-then-has_flag c = open_not_closed c.args.view.now c.args.atoms.now c.args.number c.has_flag.result (c.has_flag.ensures ∙ c.requires.closed c.args.number) c.if-has_flag.true
 
-pub returns-else-is_free : goal.returns-else-is_free
-returns-else-is_free c =
+pub returns : goal.returns
+returns c =
     let v = c.args.view.now in
     let A = c.args.atoms.now in
-    is_open_no v A c.args.number c.is_free.result (c.is_free.ensures (is_shut v A) (shut_shows v A c.args.members.now c.args.uppers.now c.args.have.now c.requires.base c.requires.uppers c.requires.have)) c.if-is_free.false
+    open_free v A c.args.number c.has_flag.result c.is_free.result (c.has_flag.ensures ∙ c.requires.closed c.args.number) c.if-has_flag.false
+    (c.is_free.ensures (is_shut v A) (shut_shows v A _ c.args.uppers.now c.args.have.now refl c.requires.uppers c.requires.have))

@@ -13,7 +13,7 @@ use Rattle.poly_report.proofs.Walks.{distinct_filter, mem_filter}
 use Rattle.poly_report.proofs.frame.table.table_of.Goals as goal
 
 pub stands_of-requires : goal.stands_of-requires
-stands_of-requires c = ap distinct (c.deref-7.ensures.value ∙ c.in_ok-numbers.ensures.value) ∙ distinct_filter (λ p. open_in c.args.view.now c.args.atoms.now p) c.args.view.now.live (live_once c.args.view.now c.items-bounds.ensures.well)
+stands_of-requires c = ap distinct (c.deref-4.ensures.value ∙ c.in_ok-numbers.ensures.value) ∙ distinct_filter (λ p. open_in c.args.view.now c.args.atoms.now p) c.args.view.now.live (live_once c.args.view.now c.items-bounds.ensures.well)
 
 pub returns-clause-value : goal.returns-clause-value
 returns-clause-value c =
@@ -28,13 +28,13 @@ returns-clause-value c =
       fewer = omega (arith, ap length e, filter_len f v.live);
       begun = λ q m. and_parts (mem v.live q) (f q) (sym (mem_filter f v.live q) ∙ ap (λ xs. mem xs q) (sym e) ∙ m);
       all = λ q m o. ap (λ xs. mem xs q) e ∙ mem_filter f v.live q ∙ and_from _ _ m o;
-      stands = subst (λ (ns : List ℕ). StandsShow ns c.in_ok-stands.stands.items) c.deref-7.ensures.value c.in_ok-stands.ensures.value;
+      stands = subst (λ (ns : List ℕ). StandsShow ns c.in_ok-stands.stands.items) c.deref-4.ensures.value c.in_ok-stands.ensures.value;
       wide = omega (arith, c.len.ensures, c.in_ok-numbers.numbers.ok.0);
       narrow = omega (arith, c.len.ensures, c.in_ok-numbers.numbers.ok.1, c.in_ok-numbers.numbers.small);
-      rows = subst (λ (ns : List ℕ). RowsShow v ns (c.len.result / 64 + 1) c.in_ok-rows.rows.items) c.deref-4.ensures.value c.in_ok-rows.ensures.value;
+      rows = subst (λ (ns : List ℕ). RowsShow v ns (c.len.result / 64 + 1) c.in_ok-rows.rows.items) c.deref.ensures.value c.in_ok-rows.ensures.value;
       rows_len = c.in_ok-rows.ensures.len;
-      limits = λ b h. c.in_ok-limits.ensures.value b (omega (arith, ap length c.items-bounds.ensures.value)) ∙ ap (λ (bs : List Bound). limit_at (item_at bs b) (get_or c.deref-8.result.now b 0)) c.items-bounds.ensures.value
-          ∙ ap (λ n. limit_at (item_of v b) n) (ap (λ xs. get_or xs b 0) c.deref-8.ensures.value ∙ c.in_ok-uppers.ensures.value b h);
+      limits = λ b h. c.in_ok-limits.ensures.value b (omega (arith, ap length c.items-bounds.ensures.value)) ∙ ap (λ (bs : List Bound). limit_at (item_at bs b) (get_or c.args.uppers.now b 0)) c.items-bounds.ensures.value
+          ∙ ap (λ n. limit_at (item_of v b) n) (c.requires.uppers b h);
       limits_len = c.in_ok-limits.ensures.len ∙ ap length c.items-bounds.ensures.value;
       asked = c.in_ok-asked.ensures.value;
       asked_len = c.in_ok-asked.ensures.len;
