@@ -46,14 +46,16 @@ pub(crate) fn guess_of(guesses: &[usize], cell: Cell) -> usize {
     if k < guesses.len() { guesses[k] } else { 0 }
 }
 
-/// Where an item stands.
+/// Where an item stands. Without a guess it is mostly a piece, and these stand last.
 pub(crate) fn index_of(bounds: &[(Item, u8, u8)], guess: usize, item: Item) -> Option<usize>
     ensures { MatchOption result ((b : ℕ) → b < length bounds.now → same_item (item_at bounds.now b) item ≡ false) (λ b. (b < length bounds.now) × (same_item (item_at bounds.now b) item ≡ true)) }
 {
     if guess < bounds.len() && bounds[guess].0.is(&item) {
         return Some(guess);
     }
-    for b in 0..bounds.len() {
+    let mut b = bounds.len();
+    while b > 0 {
+        b -= 1;
         if bounds[b].0.is(&item) {
             return Some(b);
         }

@@ -346,7 +346,7 @@ fn open_numbers(
     let listed = closed_numbers(alloc, atoms, members)?;
     let closed = flags_of(alloc, &listed)?;
     let mut piece = 0;
-    let mut numbers = Vec::new(alloc);
+    let mut numbers = Vec::with_capacity(alloc, view.live().len())?;
     for p in view.live() {
         if is_open(view, atoms, &closed, &shut, &mut piece, uppers, have, *p) {
             numbers.push(*p)?;
@@ -496,7 +496,7 @@ pub(crate) fn table_of(
     ensures capacity { vec_capacity noted.new ≡ vec_capacity noted.old }
 {
     let bounds = view.items();
-    let mut pieces = Vec::new(alloc);
+    let mut pieces = Vec::with_capacity(alloc, view.live().len())?;
     let numbers = open_numbers(alloc, view, atoms, members, uppers, have, &mut pieces)?;
     let width = numbers.len() / 64 + 1;
     let rows = rows_of(alloc, view, &numbers, &pieces, &cells, width, noted)?;
