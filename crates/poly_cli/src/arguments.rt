@@ -37,16 +37,24 @@ mod tests {
         }
     }
 
+    const FAULTS: [(&[&str], Option<(ErrorKind, i32)>); 5] = [
+        (&["polybench"], None),
+        (&["polybench", "--help"], Some((ErrorKind::DisplayHelp, 0))),
+        (
+            &["polybench", "--workers"],
+            Some((ErrorKind::UnknownArgument, 2)),
+        ),
+        (&["polybench", "-x"], Some((ErrorKind::UnknownArgument, 2))),
+        (
+            &["polybench", "puzzle.json"],
+            Some((ErrorKind::UnknownArgument, 2)),
+        ),
+    ];
+
     #[test]
     fn help_is_the_one_option(rt: HostRuntime) {
-        let alloc = rt.alloc();
-        assert!(rt; fault(alloc, &["polybench"]).is_none());
-        assert!(rt; fault(alloc, &["polybench", "--help"]) == Some((ErrorKind::DisplayHelp, 0)));
-        for word in ["--workers", "-x", "puzzle.json"] {
-            assert!(rt;
-                fault(alloc, &["polybench", word]) == Some((ErrorKind::UnknownArgument, 2)),
-                "{word}"
-            );
+        for &(words, want) in &FAULTS {
+            assert!(rt; fault(rt.alloc(), words) == want, "{words:?}");
         }
     }
 }

@@ -2,10 +2,10 @@
 
 use crate::{End, Fault, Plain, session};
 use poly_grid::Refusal;
-use std::alloc::Global;
+use std::alloc::{AllocGlobal, Global};
 use std::io;
 use std::io::{ErrorKind, Read, Write};
-use std::test::Fail;
+use std::process::Abort;
 
 // Gives its bytes, some at a time, and then fails, or ends.
 #[derive(Drop)]
@@ -54,29 +54,31 @@ impl Write for Small {
     }
 }
 
-#[derive(Drop)]
-pub struct Outcome {
-    pub end: Result<End, Fault>,
-    pub taken: Vec<u8>,
-    pub flushes: u64,
+// A session's input, how many bytes are read at a time, how many are taken in all, and how the reader fails after its bytes.
+#[derive(Clone, Copy)]
+pub struct Devices<'a> {
+    pub input: &'a [u8],
+    pub piece: usize,
+    pub room: usize,
+    pub fault: Option<ErrorKind>,
 }
 
-// A session on the input, given in pieces, that fails after them if a fault is given.
-pub fn run(
-    alloc: Global,
-    input: &[u8],
-    piece: usize,
-    room: usize,
-    fault: Option<ErrorKind>,
-) -> Result<Outcome, Refusal> {
+#[derive(Drop)]
+struct Outcome {
+    end: Result<End, Fault>,
+    taken: Vec<u8>,
+    flushes: u64,
+}
+
+fn run(alloc: Global, devices: Devices<'_>) -> Result<Outcome, Refusal> {
     let mut reader = Pieces {
-        left: input,
-        most: piece,
-        fault,
+        left: devices.input,
+        most: devices.piece,
+        fault: devices.fault,
     };
     let mut writer = Small {
         taken: Vec::new(alloc),
-        room,
+        room: devices.room,
         flushes: 0,
     };
     let mut engine = Plain::new(alloc)?;
@@ -88,14 +90,63 @@ pub fn run(
     })
 }
 
-// What a session writes that ends well, on a puzzle line and lines after it.
-pub fn answers(alloc: Global, puzzle: &[u8], lines: &[u8]) -> Result<Vec<u8>, Fail> {
-    let mut input = Vec::from_slice(alloc, puzzle)?;
-    input.push(b'\n')?;
-    input.extend_from_slice(lines)?;
-    let run = run(alloc, &input, 100, 10_000, None)?;
-    match run.end {
-        Ok(End::Done) => Ok(run.taken),
-        _ => Err(Fail::from("another end")),
+// Asserts what a text is.
+pub fn expect_text(rt: &impl Abort, text: &[u8], want: &[u8]) {
+    assert_eq!(rt; text, want);
+}
+
+// Asserts how a session ends and what it writes. It answers how often the writer was flushed.
+pub fn expect_end(
+    rt: &(impl AllocGlobal + Abort),
+    devices: Devices<'_>,
+    end: Result<End, Fault>,
+    want: &[u8],
+) -> u64 {
+    let run = run(rt.alloc(), devices).expect(rt, "memory");
+    assert!(rt; run.end == end);
+    expect_text(rt, &run.taken, want);
+    run.flushes
+}
+
+// What a session writes on a puzzle line and lines after it, which has to end so.
+pub fn written(rt: &(impl AllocGlobal + Abort), puzzle: &[u8], lines: &[u8], end: End) -> Vec<u8> {
+    let input = joined(rt.alloc(), &[puzzle, b"\n", lines]).expect(rt, "memory");
+    let devices = Devices {
+        input: &input,
+        piece: 100,
+        room: 10_000,
+        fault: None,
+    };
+    let run = run(rt.alloc(), devices).expect(rt, "memory");
+    assert!(rt; run.end == Ok(end));
+    run.taken
+}
+
+// Asserts that a session on a puzzle line and lines after it ends well and writes just what is wanted.
+pub fn expect(rt: &(impl AllocGlobal + Abort), puzzle: &[u8], lines: &[u8], want: &[u8]) {
+    expect_text(rt, &written(rt, puzzle, lines, End::Done), want);
+}
+
+// One text after the other.
+pub fn joined(alloc: Global, parts: &[&[u8]]) -> Result<Vec<u8>, Refusal> {
+    let mut whole = Vec::new(alloc);
+    for part in parts {
+        whole.extend_from_slice(part)?;
     }
+    Ok(whole)
+}
+
+// A text so many times.
+pub fn repeated(alloc: Global, text: &[u8], count: u64) -> Result<Vec<u8>, Refusal> {
+    let mut whole = Vec::new(alloc);
+    for _ in 0..count {
+        whole.extend_from_slice(text)?;
+    }
+    Ok(whole)
+}
+
+// A text, then a line of 65,536 bytes and one of 65,537, which is one too many, and another text.
+pub fn with_long_lines(alloc: Global, before: &[u8], after: &[u8]) -> Result<Vec<u8>, Refusal> {
+    let line = repeated(alloc, b"x", 65_536)?;
+    joined(alloc, &[before, &line, b"\n", &line, b"x\n", after])
 }

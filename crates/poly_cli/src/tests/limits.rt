@@ -3,11 +3,11 @@
 use crate::answering::Answerer;
 use crate::lines::Lines;
 use crate::serving::serve;
-use crate::tests::devices::{Pieces, Small};
+use crate::tests::devices::{Pieces, Small, expect_text};
 use crate::{Fault, LINE_LIMIT, Plain};
 use poly_grid::Refusal;
-use std::alloc::Global;
-use std::test::Fail;
+use std::alloc::{AllocGlobal, Global};
+use std::process::Abort;
 
 #[derive(Drop)]
 struct Outcome {
@@ -46,28 +46,31 @@ fn served(alloc: Global, input: &[u8], most: u64, bytes: u64) -> Result<Outcome,
 
 const ANSWER: &[u8] = b"no 19 BadCommand\nno 19 BadCommand\n";
 
-#[test]
-fn lines_are_limited(rt: HostRuntime) -> Result<(), Fail> {
-    for input in [b"a\nb\n".as_slice(), b"a\nb".as_slice()] {
-        let run = served(rt.alloc(), input, 2, 100)?;
-        assert!(rt; run.end.is_ok());
-        assert_eq!(rt; run.taken.as_slice(), ANSWER);
-    }
-    for input in [b"a\nb\n\n".as_slice(), b"a\nb\nc".as_slice()] {
-        let run = served(rt.alloc(), input, 2, 100)?;
-        assert!(rt; run.end == Err(Fault::Read));
-        assert_eq!(rt; run.taken.as_slice(), ANSWER);
-    }
-    Ok(())
+// Asserts how they end, and what they are.
+fn expect_served(
+    rt: &(impl AllocGlobal + Abort),
+    input: &[u8],
+    limits: (u64, u64),
+    end: Result<(), Fault>,
+    want: &[u8],
+) {
+    let (most, bytes) = limits;
+    let run = served(rt.alloc(), input, most, bytes).expect(rt, "memory");
+    assert!(rt; run.end == end);
+    expect_text(rt, &run.taken, want);
 }
 
 #[test]
-fn bytes_are_limited(rt: HostRuntime) -> Result<(), Fail> {
-    let run = served(rt.alloc(), b"a\nb", 9, 3)?;
-    assert!(rt; run.end.is_ok());
-    assert_eq!(rt; run.taken.as_slice(), ANSWER);
-    let run = served(rt.alloc(), b"a\nbc", 9, 3)?;
-    assert!(rt; run.end == Err(Fault::Read));
-    assert_eq!(rt; run.taken.as_slice(), b"no 19 BadCommand\n".as_slice());
-    Ok(())
+fn lines_are_limited(rt: HostRuntime) {
+    expect_served(&rt, b"a\nb\n", (2, 100), Ok(()), ANSWER);
+    expect_served(&rt, b"a\nb", (2, 100), Ok(()), ANSWER);
+    expect_served(&rt, b"a\nb\n\n", (2, 100), Err(Fault::Read), ANSWER);
+    expect_served(&rt, b"a\nb\nc", (2, 100), Err(Fault::Read), ANSWER);
+}
+
+#[test]
+fn bytes_are_limited(rt: HostRuntime) {
+    expect_served(&rt, b"a\nb", (9, 3), Ok(()), ANSWER);
+    let first = b"no 19 BadCommand\n";
+    expect_served(&rt, b"a\nbc", (9, 3), Err(Fault::Read), first);
 }

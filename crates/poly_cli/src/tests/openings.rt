@@ -1,42 +1,62 @@
 //! Puzzle lines that are refused, after which nothing more is answered.
 
 use crate::End;
-use crate::tests::devices::run;
+use crate::tests::devices::{Devices, expect_end, expect_text, repeated, written};
 use crate::tests::puzzles::puzzle_line;
 use crate::tests::wide_line;
-use poly_grid::Refusal;
-use std::alloc::Global;
-use std::test::Fail;
+use std::alloc::AllocGlobal;
+use std::process::Abort;
+
+// Inputs whose first line is refused, and what is written.
+const OPENINGS: [(&[u8], &[u8]); 4] = [
+    (b"", b"no 1 BadJson\n"),
+    (b"\nlist", b"no 1 BadJson\n"),
+    (b"{}\ncount\n", b"no 2 BadField\n"),
+    (b"{}", b"no 2 BadField\n"),
+];
 
 #[test]
-fn refused_openings(rt: HostRuntime) -> Result<(), Fail> {
-    for (input, want) in [
-        (b"".as_slice(), b"no 1 BadJson\n".as_slice()),
-        (b"\nlist".as_slice(), b"no 1 BadJson\n".as_slice()),
-        (b"{}\ncount\n".as_slice(), b"no 2 BadField\n".as_slice()),
-        (b"{}".as_slice(), b"no 2 BadField\n".as_slice()),
-    ] {
-        let run = run(rt.alloc(), input, 2, 100, None)?;
-        assert!(rt; run.end == Ok(End::Refused));
-        assert_eq!(rt; run.taken.as_slice(), want);
-        assert_eq!(rt; run.flushes, 1);
+fn refused_openings(rt: HostRuntime) {
+    for &(input, want) in &OPENINGS {
+        let devices = Devices {
+            input,
+            piece: 2,
+            room: 100,
+            fault: None,
+        };
+        let flushes = expect_end(&rt, devices, Ok(End::Refused), want);
+        assert!(rt; flushes == 1);
     }
-    let long: Vec<u8> = Vec::from_elem(rt.alloc(), b'x', 65_537)?;
-    let run = run(rt.alloc(), &long, 1_000, 100, None)?;
-    assert!(rt; run.end == Ok(End::Refused));
-    assert_eq!(rt; run.taken.as_slice(), b"no 20 LineTooLong\n".as_slice());
-    Ok(())
 }
 
-// What is written of a puzzle line that has to be refused, where a command comes after it.
-fn refusal(alloc: Global, line: &[u8]) -> Result<Vec<u8>, Fail> {
-    let mut input = Vec::from_slice(alloc, line)?;
-    input.extend_from_slice(b"\ncount\n")?;
-    let run = run(alloc, &input, 100, 100, None)?;
-    match run.end {
-        Ok(End::Refused) => Ok(run.taken),
-        _ => Err(Fail::from("another end")),
-    }
+#[test]
+fn a_puzzle_line_that_is_too_long(rt: HostRuntime) {
+    let long = repeated(rt.alloc(), b"x", 65_537).expect(&rt, "memory");
+    let devices = Devices {
+        input: &long,
+        piece: 1_000,
+        room: 100,
+        fault: None,
+    };
+    expect_end(&rt, devices, Ok(End::Refused), b"no 20 LineTooLong\n");
+}
+
+// Asserts what is written of a puzzle line that has to be refused, where a command comes after it.
+fn expect_refusal(rt: &(impl AllocGlobal + Abort), line: &[u8], want: &[u8]) {
+    expect_text(rt, &written(rt, line, b"count\n", End::Refused), want);
+}
+
+// The same of a puzzle line of these parts.
+fn expect_refused_parts(
+    rt: &(impl AllocGlobal + Abort),
+    format: &[u8],
+    grid: &[u8],
+    board: &[u8],
+    pieces: &[u8],
+    want: &[u8],
+) {
+    let line = puzzle_line(rt.alloc(), format, grid, board, pieces).expect(rt, "memory");
+    expect_refusal(rt, &line, want);
 }
 
 const SQUARE: &[u8] = b"\"square\"";
@@ -46,107 +66,70 @@ const ROWS: &[u8] = b"[\"##\",\"##\"]";
 const PIECES: &[u8] =
     b"[{\"name\":\"A\",\"cells\":[[0,0],[1,0]]},{\"name\":\"B\",\"cells\":[[0,0],[1,0]]}]";
 
+// Five rows of 52 cells.
+const WIDE: &[u8] =
+    b"[\"++++++++++++++++++++++++++++++++++++++++++++++++++++\",\"++++++++++++++++++++++++++++++++++++++++++++++++++++\",\"++++++++++++++++++++++++++++++++++++++++++++++++++++\",\"++++++++++++++++++++++++++++++++++++++++++++++++++++\",\"++++++++++++++++++++++++++++++++++++++++++++++++++++\"]";
+
 #[test]
-fn refused_parts(rt: HostRuntime) -> Result<(), Fail> {
-    let wide =
-        b"[\"++++++++++++++++++++++++++++++++++++++++++++++++++++\",\"++++++++++++++++++++++++++++++++++++++++++++++++++++\",\"++++++++++++++++++++++++++++++++++++++++++++++++++++\",\"++++++++++++++++++++++++++++++++++++++++++++++++++++\",\"++++++++++++++++++++++++++++++++++++++++++++++++++++\"]";
-    for (format, grid, board, want) in [
-        (
-            b"3".as_slice(),
-            SQUARE,
-            ROWS,
-            b"no 3 BadFormat\n".as_slice(),
-        ),
-        (
-            b"1".as_slice(),
-            b"\"tri\"".as_slice(),
-            ROWS,
-            b"no 4 BadGrid\n".as_slice(),
-        ),
-        (
-            b"1".as_slice(),
-            SQUARE,
-            b"[\"#x\"]".as_slice(),
-            b"no 5 BadBoard\n".as_slice(),
-        ),
-        (
-            b"1".as_slice(),
-            SQUARE,
-            wide.as_slice(),
-            b"no 11 TooManyCells\n".as_slice(),
-        ),
-    ] {
-        let line = puzzle_line(rt.alloc(), format, grid, board, PIECES)?;
-        assert_eq!(rt; refusal(rt.alloc(), &line)?.as_slice(), want);
+fn refused_parts(rt: HostRuntime) {
+    expect_refused_parts(&rt, b"3", SQUARE, ROWS, PIECES, b"no 3 BadFormat\n");
+    expect_refused_parts(&rt, b"1", b"\"tri\"", ROWS, PIECES, b"no 4 BadGrid\n");
+    expect_refused_parts(&rt, b"1", SQUARE, b"[\"#x\"]", PIECES, b"no 5 BadBoard\n");
+    expect_refused_parts(&rt, b"1", SQUARE, WIDE, PIECES, b"no 11 TooManyCells\n");
+}
+
+// Lists of pieces that are refused, and what is written.
+const REFUSED_PIECES: [(&[u8], &[u8]); 4] = [
+    (
+        b"[{\"name\":\"A-\",\"cells\":[[0,0],[1,0]]}]",
+        b"no 6 BadName\n",
+    ),
+    (
+        b"[{\"name\":\"A\",\"cells\":[[0,0],[2,0]]}]",
+        b"no 7 BadShape\n",
+    ),
+    (
+        b"[{\"name\":\"A\",\"cells\":[[0,0]]},{\"name\":\"A\",\"cells\":[[0,0]]}]",
+        b"no 8 NameTaken\n",
+    ),
+    (b"[{\"name\":\"A\",\"cells\":[[0,-1]]}]", b"no 10 BadCell\n"),
+];
+
+#[test]
+fn refused_pieces(rt: HostRuntime) {
+    for &(pieces, want) in &REFUSED_PIECES {
+        expect_refused_parts(&rt, b"1", SQUARE, ROWS, pieces, want);
     }
-    Ok(())
+}
+
+// A key that no puzzle line has.
+const NOTED: &[u8] =
+    b"{\"format\":1,\"grid\":\"square\",\"board\":[\"##\",\"##\"],\"pieces\":[{\"name\":\"A\",\"cells\":[[0,0],[1,0]]},{\"name\":\"B\",\"cells\":[[0,0],[1,0]]}],\"note\":1}";
+
+// Pieces with the key of another format, and with a key too few.
+const NEEDED: &[u8] = b"[{\"name\":\"A\",\"cells\":[[0,0]],\"need\":\"required\"}]";
+
+const NO_MOST: &[u8] = b"[{\"name\":\"A\",\"cells\":[[0,0]],\"least\":1}]";
+
+#[test]
+fn refused_keys(rt: HostRuntime) {
+    let want = b"no 2 BadField\n";
+    expect_refusal(&rt, NOTED, want);
+    expect_refused_parts(&rt, b"2", SQUARE, ROWS, NEEDED, want);
+    expect_refused_parts(&rt, b"2", SQUARE, ROWS, NO_MOST, want);
 }
 
 #[test]
-fn refused_pieces(rt: HostRuntime) -> Result<(), Fail> {
-    for (pieces, want) in [
-        (
-            b"[{\"name\":\"A-\",\"cells\":[[0,0],[1,0]]}]".as_slice(),
-            b"no 6 BadName\n".as_slice(),
-        ),
-        (
-            b"[{\"name\":\"A\",\"cells\":[[0,0],[2,0]]}]".as_slice(),
-            b"no 7 BadShape\n".as_slice(),
-        ),
-        (
-            b"[{\"name\":\"A\",\"cells\":[[0,0]]},{\"name\":\"A\",\"cells\":[[0,0]]}]".as_slice(),
-            b"no 8 NameTaken\n".as_slice(),
-        ),
-        (
-            b"[{\"name\":\"A\",\"cells\":[[0,-1]]}]".as_slice(),
-            b"no 10 BadCell\n".as_slice(),
-        ),
-    ] {
-        let line = puzzle_line(rt.alloc(), b"1", SQUARE, ROWS, pieces)?;
-        assert_eq!(rt; refusal(rt.alloc(), &line)?.as_slice(), want);
-    }
-    Ok(())
+fn refused_bytes(rt: HostRuntime) {
+    expect_refusal(&rt, b"{", b"no 1 BadJson\n");
+    expect_refusal(&rt, b"\xff{}", b"no 1 BadJson\n");
 }
 
 #[test]
-fn refused_keys(rt: HostRuntime) -> Result<(), Fail> {
-    let alloc = rt.alloc();
-    let want = b"no 2 BadField\n".as_slice();
-    let mut line = puzzle_line(alloc, b"1", SQUARE, ROWS, PIECES)?;
-    let _ = line.pop();
-    line.extend_from_slice(b",\"note\":1}")?;
-    assert_eq!(rt; refusal(alloc, &line)?.as_slice(), want);
-    for pieces in [
-        b"[{\"name\":\"A\",\"cells\":[[0,0]],\"need\":\"required\"}]".as_slice(),
-        b"[{\"name\":\"A\",\"cells\":[[0,0]],\"least\":1}]".as_slice(),
-    ] {
-        let line = puzzle_line(alloc, b"2", SQUARE, ROWS, pieces)?;
-        assert_eq!(rt; refusal(alloc, &line)?.as_slice(), want);
-    }
-    Ok(())
-}
-
-#[test]
-fn refused_bytes(rt: HostRuntime) -> Result<(), Fail> {
-    for line in [b"{".as_slice(), b"\xff{}".as_slice()] {
-        let taken = refusal(rt.alloc(), line)?;
-        assert_eq!(rt; taken.as_slice(), b"no 1 BadJson\n".as_slice());
-    }
-    Ok(())
-}
-
-#[test]
-fn too_many(rt: HostRuntime) -> Result<(), Fail> {
-    let alloc = rt.alloc();
-    let line = wide_line(alloc, 65, b"[[0,0]]")?;
-    assert_eq!(rt;
-        refusal(alloc, &line)?.as_slice(),
-        b"no 12 TooManyPieces\n".as_slice()
-    );
-    let line = wide_line(alloc, 13, b"[[1,0],[2,0],[0,1],[1,1],[1,2]]")?;
-    assert_eq!(rt;
-        refusal(alloc, &line)?.as_slice(),
-        b"no 13 TooManyPlacements\n".as_slice()
-    );
-    Ok(())
+fn too_many(rt: HostRuntime) {
+    let line = wide_line(rt.alloc(), 65, b"[[0,0]]").expect(&rt, "memory");
+    expect_refusal(&rt, &line, b"no 12 TooManyPieces\n");
+    let pentomino = b"[[1,0],[2,0],[0,1],[1,1],[1,2]]";
+    let line = wide_line(rt.alloc(), 13, pentomino).expect(&rt, "memory");
+    expect_refusal(&rt, &line, b"no 13 TooManyPlacements\n");
 }
