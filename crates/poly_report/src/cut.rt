@@ -244,22 +244,31 @@ fn no_leaves(alloc: Global) -> Leaves
 #[cfg(test)]
 mod tests {
     use super::*;
-    use std::test::Fail;
+    use std::process::Abort;
+
+    // A design without cells and pieces.
+    fn empty(alloc: Global) -> View {
+        View::with(
+            Vec::new(alloc),
+            Vec::new(alloc),
+            Vec::new(alloc),
+            Vec::new(alloc),
+        )
+    }
+
+    // Asserts how many tilings and rests there are.
+    fn expect_sizes(rt: &impl Abort, leaves: &Leaves, want: (usize, usize)) {
+        assert!(rt; (leaves.tilings.len(), leaves.rests.len()) == want);
+    }
 
     #[test]
-    fn the_empty_design_has_one_tiling(rt: HostRuntime) -> Result<(), Fail> {
-        let alloc = rt.alloc();
-        let view = View::with(
-            Vec::new(alloc),
-            Vec::new(alloc),
-            Vec::new(alloc),
-            Vec::new(alloc),
-        );
-        assert!(rt; holds(alloc, &view, &[], &Tree::Found)?);
-        let found = cut_up(alloc, &view, &[], &Tree::Found)?.ok_or("it holds")?;
-        assert_eq!(rt; (found.tilings.len(), found.rests.len()), (1, 0));
-        let left = leaves(alloc, &view, &[Atom::Lacks(0)], &Tree::Rest)?;
-        assert_eq!(rt; (left.tilings.len(), left.rests.len()), (0, 1));
-        Ok(())
+    fn the_empty_design_has_one_tiling(rt: HostRuntime) {
+        let view = empty(rt.alloc());
+        assert!(rt; holds(rt.alloc(), &view, &[], &Tree::Found).expect(&rt, "memory"));
+        let found = cut_up(rt.alloc(), &view, &[], &Tree::Found).expect(&rt, "memory");
+        expect_sizes(&rt, &found.expect(&rt, "it holds"), (1, 0));
+        let lacks = [Atom::Lacks(0)];
+        let left = leaves(rt.alloc(), &view, &lacks, &Tree::Rest).expect(&rt, "memory");
+        expect_sizes(&rt, &left, (0, 1));
     }
 }

@@ -345,7 +345,7 @@ impl<'a> Frame<'a> {
 mod tests {
     use super::*;
     use poly_grid::Cell;
-    use std::test::Fail;
+    use std::process::Abort;
 
     // A design without cells and pieces: its one tiling has no member.
     fn empty(alloc: Global) -> View {
@@ -357,37 +357,39 @@ mod tests {
         )
     }
 
-    #[test]
-    fn nothing_is_open_in_an_empty_design(rt: HostRuntime) -> Result<(), Fail> {
-        let alloc = rt.alloc();
-        let view = empty(alloc);
-        let item = Item::Cell(Cell::ORIGIN);
-        let mut frame = Frame::new(alloc, &view, &[Atom::Lacks(2)])?;
-        assert_eq!(rt; frame.options(item).len(), 0);
+    // Asserts that nothing is open and each item has what it needs.
+    fn expect_closed(rt: &impl Abort, frame: &Frame<'_>) {
         assert!(rt; frame.none_open());
         assert!(rt; frame.first_open().is_none());
         assert!(rt; frame.next_due().is_none());
         assert!(rt; frame.dead(0));
         assert!(rt; frame.found().is_some());
-        Ok(())
     }
 
     #[test]
-    fn steps_are_taken_back(rt: HostRuntime) -> Result<(), Fail> {
-        let alloc = rt.alloc();
-        let view = empty(alloc);
-        let mut frame = Frame::new(alloc, &view, &[Atom::Lacks(2)])?;
+    fn nothing_is_open_in_an_empty_design(rt: HostRuntime) {
+        let view = empty(rt.alloc());
+        let mut frame = Frame::new(rt.alloc(), &view, &[Atom::Lacks(2)]).expect(&rt, "memory");
+        assert!(rt; frame.options(Item::Cell(Cell::ORIGIN)).is_empty());
+        expect_closed(&rt, &frame);
+    }
+
+    // Asserts what the frame's atoms are.
+    fn expect_atoms(rt: &impl Abort, frame: &Frame<'_>, want: &[Atom]) {
+        assert!(rt; frame.atoms() == want);
+    }
+
+    #[test]
+    fn steps_are_taken_back(rt: HostRuntime) {
+        let view = empty(rt.alloc());
+        let mut frame = Frame::new(rt.alloc(), &view, &[Atom::Lacks(2)]).expect(&rt, "memory");
         frame.pick(5);
         let mark = frame.mark();
         frame.leave(3);
         frame.leave(4);
         frame.back();
-        assert_eq!(rt;
-            frame.atoms(),
-            [Atom::Lacks(2), Atom::Has(5), Atom::Lacks(3)].as_slice()
-        );
+        expect_atoms(&rt, &frame, &[Atom::Lacks(2), Atom::Has(5), Atom::Lacks(3)]);
         frame.back_to(mark);
-        assert_eq!(rt; frame.atoms(), [Atom::Lacks(2), Atom::Has(5)].as_slice());
-        Ok(())
+        expect_atoms(&rt, &frame, &[Atom::Lacks(2), Atom::Has(5)]);
     }
 }

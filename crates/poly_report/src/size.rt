@@ -50,8 +50,8 @@ mod tests {
     use crate::tree::Arm;
     use poly_grid::{Cell, Refusal};
     use poly_tiling::Item;
-    use std::alloc::Global;
-    use std::test::Fail;
+    use std::alloc::{AllocGlobal, Global};
+    use std::process::Abort;
 
     // A Branch of so many arms with a Rest.
     fn wide(alloc: Global, count: u32) -> Result<Tree, Refusal> {
@@ -79,13 +79,19 @@ mod tests {
         Ok(tree)
     }
 
+    fn wide_fits(rt: &(impl AllocGlobal + Abort), count: u32) -> bool {
+        fits(&wide(rt.alloc(), count).expect(rt, "memory"))
+    }
+
+    fn tall_fits(rt: &(impl AllocGlobal + Abort), count: u32) -> bool {
+        fits(&tall(rt.alloc(), count).expect(rt, "memory"))
+    }
+
     #[test]
-    fn the_limits_are_exact(rt: HostRuntime) -> Result<(), Fail> {
-        let alloc = rt.alloc();
-        assert!(rt; fits(&wide(alloc, 4095)?));
-        assert!(rt; !fits(&wide(alloc, 4096)?));
-        assert!(rt; fits(&tall(alloc, 511)?));
-        assert!(rt; !fits(&tall(alloc, 512)?));
-        Ok(())
+    fn the_limits_are_exact(rt: HostRuntime) {
+        assert!(rt; wide_fits(&rt, 4095));
+        assert!(rt; !wide_fits(&rt, 4096));
+        assert!(rt; tall_fits(&rt, 511));
+        assert!(rt; !tall_fits(&rt, 512));
     }
 }

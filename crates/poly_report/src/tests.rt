@@ -9,9 +9,9 @@ use poly_design::{CellsSet, Copies, Design, Mode, Name, Placement, Spec};
 use poly_grid::{Cell, Grid, Refusal};
 use poly_shape::{Cells, Shape};
 use poly_tiling::{Item, View};
-use std::alloc::Global;
+use std::alloc::{AllocGlobal, Global};
 use std::collections::BTreeMap;
-use std::test::Fail;
+use std::process::Abort;
 
 // The numbers of A on the upper row, on the left column and on the right one, and of B there and on the lower row.
 const A_UP: u32 = 0;
@@ -150,19 +150,27 @@ fn named(alloc: Global, name: &[u8], points: &[(u64, u64)]) -> Result<Placement,
     })
 }
 
+// Asserts what the placement of this number is.
+fn expect_named(
+    rt: &(impl AllocGlobal + Abort),
+    view: &View,
+    number: u32,
+    name: &[u8],
+    points: &[(u64, u64)],
+) {
+    let want = named(rt.alloc(), name, points).expect(rt, "a placement");
+    assert!(rt; view.placement(number) == Some(want));
+}
+
 #[test]
-fn numbers_of_the_square(rt: HostRuntime) -> Result<(), Fail> {
-    let alloc = rt.alloc();
-    let view = square(alloc)?;
-    let up = [(0, 0), (1, 0)];
-    let left = [(0, 0), (0, 1)];
-    assert!(rt; view.placement(A_UP) == Some(named(alloc, b"A", &up)?));
-    assert!(rt; view.placement(A_LEFT) == Some(named(alloc, b"A", &left)?));
-    assert!(rt; view.placement(A_RIGHT) == Some(named(alloc, b"A", &[(1, 0), (1, 1)])?));
-    assert!(rt; view.placement(B_UP) == Some(named(alloc, b"B", &up)?));
-    assert!(rt; view.placement(B_LEFT) == Some(named(alloc, b"B", &left)?));
-    assert!(rt; view.placement(B_DOWN) == Some(named(alloc, b"B", &[(0, 1), (1, 1)])?));
-    Ok(())
+fn numbers_of_the_square(rt: HostRuntime) {
+    let view = square(rt.alloc()).expect(&rt, "a view");
+    expect_named(&rt, &view, A_UP, b"A", &[(0, 0), (1, 0)]);
+    expect_named(&rt, &view, A_LEFT, b"A", &[(0, 0), (0, 1)]);
+    expect_named(&rt, &view, A_RIGHT, b"A", &[(1, 0), (1, 1)]);
+    expect_named(&rt, &view, B_UP, b"B", &[(0, 0), (1, 0)]);
+    expect_named(&rt, &view, B_LEFT, b"B", &[(0, 0), (0, 1)]);
+    expect_named(&rt, &view, B_DOWN, b"B", &[(0, 1), (1, 1)]);
 }
 
 // A Branch on a cell whose arms are all left to others.
@@ -196,63 +204,69 @@ fn sizes(
     }
 }
 
-#[test]
-fn a_branch_with_all_its_arms_holds(rt: HostRuntime) -> Result<(), Fail> {
-    let alloc = rt.alloc();
-    let view = square(alloc)?;
-    let tree = branch(alloc, 0, 0, &[A_UP, A_LEFT, B_UP, B_LEFT])?;
-    assert_eq!(rt; sizes(alloc, &view, &[], &tree)?, Some((0, 4)));
-    Ok(())
+// Asserts how many tilings and rests the tree leaves of the square.
+fn expect_sizes(
+    rt: &(impl AllocGlobal + Abort),
+    atoms: &[Atom],
+    tree: &Tree,
+    want: Option<(usize, usize)>,
+) {
+    let view = square(rt.alloc()).expect(rt, "a view");
+    let found = sizes(rt.alloc(), &view, atoms, tree).expect(rt, "memory");
+    assert!(rt; found == want);
+}
+
+// The same of a Branch on a cell.
+fn expect_branch(
+    rt: &(impl AllocGlobal + Abort),
+    point: (u64, u64),
+    placements: &[u32],
+    want: Option<(usize, usize)>,
+) {
+    let tree = branch(rt.alloc(), point.0, point.1, placements).expect(rt, "a tree");
+    expect_sizes(rt, &[], &tree, want);
 }
 
 #[test]
-fn a_branch_without_an_arm_does_not_hold(rt: HostRuntime) -> Result<(), Fail> {
-    let alloc = rt.alloc();
-    let view = square(alloc)?;
-    let tree = branch(alloc, 0, 0, &[A_UP, A_LEFT, B_UP])?;
-    assert_eq!(rt; sizes(alloc, &view, &[], &tree)?, None);
-    Ok(())
+fn a_branch_with_all_its_arms_holds(rt: HostRuntime) {
+    expect_branch(&rt, (0, 0), &[A_UP, A_LEFT, B_UP, B_LEFT], Some((0, 4)));
 }
 
 #[test]
-fn a_branch_with_an_arm_twice_does_not_hold(rt: HostRuntime) -> Result<(), Fail> {
-    let alloc = rt.alloc();
-    let view = square(alloc)?;
-    let tree = branch(alloc, 0, 0, &[A_UP, A_LEFT, B_UP, B_LEFT, A_UP])?;
-    assert_eq!(rt; sizes(alloc, &view, &[], &tree)?, None);
-    Ok(())
+fn a_branch_without_an_arm_does_not_hold(rt: HostRuntime) {
+    expect_branch(&rt, (0, 0), &[A_UP, A_LEFT, B_UP], None);
 }
 
 #[test]
-fn a_branch_on_a_cell_that_is_not_there_does_not_hold(rt: HostRuntime) -> Result<(), Fail> {
-    let alloc = rt.alloc();
-    let view = square(alloc)?;
-    let tree = branch(alloc, 5, 5, &[])?;
-    assert_eq!(rt; sizes(alloc, &view, &[], &tree)?, None);
-    Ok(())
+fn a_branch_with_an_arm_twice_does_not_hold(rt: HostRuntime) {
+    expect_branch(&rt, (0, 0), &[A_UP, A_LEFT, B_UP, B_LEFT, A_UP], None);
 }
 
 #[test]
-fn found_wants_each_placement_closed(rt: HostRuntime) -> Result<(), Fail> {
-    let alloc = rt.alloc();
-    let view = square(alloc)?;
-    assert_eq!(rt; sizes(alloc, &view, &[], &Tree::Found)?, None);
+fn a_branch_on_a_cell_that_is_not_there_does_not_hold(rt: HostRuntime) {
+    expect_branch(&rt, (5, 5), &[], None);
+}
+
+#[test]
+fn found_wants_each_placement_closed(rt: HostRuntime) {
+    expect_sizes(&rt, &[], &Tree::Found, None);
     let both = [Atom::Has(A_UP), Atom::Has(B_DOWN)];
-    assert_eq!(rt; sizes(alloc, &view, &both, &Tree::Found)?, Some((1, 0)));
-    Ok(())
+    expect_sizes(&rt, &both, &Tree::Found, Some((1, 0)));
 }
 
-#[test]
-fn a_split_leaves_two_rests(rt: HostRuntime) -> Result<(), Fail> {
-    let alloc = rt.alloc();
-    let view = square(alloc)?;
-    let tree = Tree::Split {
-        placement: B_LEFT,
+// A Split whose two sides are left to others.
+fn split(alloc: Global, placement: u32) -> Result<Tree, Refusal> {
+    Ok(Tree::Split {
+        placement,
         taken: Box::new(alloc, Tree::Rest)?,
         left: Box::new(alloc, Tree::Rest)?,
-    };
-    assert_eq!(rt; sizes(alloc, &view, &[], &tree)?, Some((0, 2)));
-    Ok(())
+    })
+}
+
+#[test]
+fn a_split_leaves_two_rests(rt: HostRuntime) {
+    let tree = split(rt.alloc(), B_LEFT).expect(&rt, "a tree");
+    expect_sizes(&rt, &[], &tree, Some((0, 2)));
 }
 
 // How many options each item of the view has, in the order of the items: the cells and then the pieces.
@@ -266,49 +280,54 @@ fn counts(alloc: Global, view: &View, frame: &mut Frame<'_>) -> Result<Vec<usize
     Ok(counts)
 }
 
-#[test]
-fn a_step_leaves_one_open(rt: HostRuntime) -> Result<(), Fail> {
-    let alloc = rt.alloc();
-    let view = square(alloc)?;
-    let all = [4usize, 4, 4, 4, 4, 4];
-    let one = [0usize, 0, 1, 1, 0, 1];
-    let mut frame = Frame::new(alloc, &view, &[])?;
-    assert_eq!(rt;
-        counts(alloc, &view, &mut frame)?.as_slice(),
-        all.as_slice()
-    );
-    frame.pick(A_UP);
-    assert_eq!(rt;
-        counts(alloc, &view, &mut frame)?.as_slice(),
-        one.as_slice()
-    );
-    assert_eq!(rt;
-        frame.options(Item::Piece(Name::new(b"B")?)),
-        [B_DOWN].as_slice()
-    );
-    assert_eq!(rt; frame.first_open(), Some(B_DOWN));
-    frame.back();
-    assert_eq!(rt;
-        counts(alloc, &view, &mut frame)?.as_slice(),
-        all.as_slice()
-    );
-    Ok(())
+// Asserts these counts.
+fn expect_counts(
+    rt: &(impl AllocGlobal + Abort),
+    view: &View,
+    frame: &mut Frame<'_>,
+    want: &[usize],
+)
+    ensures { frame.new ≡ frame.old }
+{
+    let found = counts(rt.alloc(), view, frame).expect(rt, "memory");
+    assert!(rt; found.as_slice() == want);
+}
+
+// Asserts which placement is the first that is open.
+fn expect_first(rt: &impl Abort, frame: &Frame<'_>, want: Option<u32>) {
+    assert!(rt; frame.first_open() == want);
 }
 
 #[test]
-fn a_frame_finds_what_fills_the_square(rt: HostRuntime) -> Result<(), Fail> {
-    let alloc = rt.alloc();
-    let view = square(alloc)?;
-    let mut frame = Frame::new(alloc, &view, &[])?;
-    assert!(rt; frame.found().is_none());
-    assert!(rt; frame.next_due().is_some());
+fn a_step_leaves_one_open(rt: HostRuntime) {
+    let view = square(rt.alloc()).expect(&rt, "a view");
+    let b = Item::Piece(Name::new(b"B").expect(&rt, "a name"));
+    let mut frame = Frame::new(rt.alloc(), &view, &[]).expect(&rt, "memory");
+    expect_counts(&rt, &view, &mut frame, &[4, 4, 4, 4, 4, 4]);
+    frame.pick(A_UP);
+    expect_counts(&rt, &view, &mut frame, &[0, 0, 1, 1, 0, 1]);
+    assert!(rt; frame.options(b) == [B_DOWN].as_slice());
+    expect_first(&rt, &frame, Some(B_DOWN));
+    frame.back();
+    expect_counts(&rt, &view, &mut frame, &[4, 4, 4, 4, 4, 4]);
+}
+
+// Asserts what the frame has found, and whether some item still needs a placement.
+fn expect_found(rt: &impl Abort, frame: &Frame<'_>, want: Option<&[u32]>, due: bool) {
+    assert!(rt; frame.found() == want);
+    assert!(rt; frame.next_due().is_some() == due);
+}
+
+#[test]
+fn a_frame_finds_what_fills_the_square(rt: HostRuntime) {
+    let view = square(rt.alloc()).expect(&rt, "a view");
+    let mut frame = Frame::new(rt.alloc(), &view, &[]).expect(&rt, "memory");
+    expect_found(&rt, &frame, None, true);
     frame.pick(B_DOWN);
     frame.pick(A_UP);
-    assert!(rt; frame.next_due().is_none());
-    assert!(rt; frame.found() == Some([A_UP, B_DOWN].as_slice()));
+    expect_found(&rt, &frame, Some(&[A_UP, B_DOWN]), false);
     frame.leave(A_UP);
     assert!(rt; frame.found().is_none());
     assert!(rt; frame.dead(A_UP));
     assert!(rt; !frame.dead(B_UP));
-    Ok(())
 }

@@ -1,6 +1,6 @@
 //! Whole searches and walks of a frame, each of its answers compared with what the view says when it is asked placement by
 //! placement.
-ghost use Rattle.std.specs.Prelude.{IfOk, length, ◌≡◌, ◌≤◌};
+ghost use Rattle.std.specs.Prelude.{length, ◌≡◌, ◌≤◌};
 ghost use Rattle.poly_atom.specs.Hopeless.{base};
 
 use super::{Frame, STEPS};
@@ -9,46 +9,48 @@ use crate::tests::{domino, one_cell, square, view_of};
 use crate::tree::{Arm, Tree};
 use poly_atom::Atom;
 use poly_design::{Mode, Name};
-use poly_grid::{Cell, Refusal};
+use poly_grid::Cell;
 use poly_tiling::{Item, View, has_number, list_tilings};
-use std::alloc::Global;
-use std::test::Fail;
+use std::alloc::AllocGlobal;
+use std::process::Abort;
 
-fn base_of(alloc: Global, view: &View, atoms: &[Atom]) -> Result<Vec<u32>, Refusal>
-    ensures { IfOk result (λ members. members.items ≡ base view.now atoms.now) }
+fn base_of(rt: &(impl AllocGlobal + Abort), view: &View, atoms: &[Atom]) -> Vec<u32>
+    ensures { result.items ≡ base view.now atoms.now }
 {
-    let mut members = Vec::with_capacity(alloc, view.pins().len() + atoms.len())?;
+    let mut members = Vec::with_capacity(rt.alloc(), view.pins().len() + atoms.len()).expect(
+        rt, "memory",
+    );
     plain::make_base(view, atoms, &mut members);
-    Ok(members)
+    members
 }
 
 // The open placements that have the item.
 fn options_of(
-    alloc: Global,
+    rt: &(impl AllocGlobal + Abort),
     view: &View,
     atoms: &[Atom],
     item: &Item,
-) -> Result<Vec<u32>, Refusal> {
-    let members = base_of(alloc, view, atoms)?;
-    let mut ready = Vec::with_capacity(alloc, view.live().len())?;
+) -> Vec<u32> {
+    let members = base_of(rt, view, atoms);
+    let mut ready = Vec::with_capacity(rt.alloc(), view.live().len()).expect(rt, "memory");
     plain::list_ready(view, atoms, &members, item, &mut ready);
-    Ok(ready)
+    ready
 }
 
 fn is_same_set(some: &[u32], others: &[u32]) -> bool {
     some.len() == others.len() && others.iter().all(|p| has_number(some, *p))
 }
 
-fn options_agree(alloc: Global, view: &View, frame: &mut Frame<'_>) -> Result<bool, Refusal>
+fn options_agree(rt: &(impl AllocGlobal + Abort), view: &View, frame: &mut Frame<'_>) -> bool
     ensures { frame.new ≡ frame.old }
 {
     for bound in view.items() {
-        let ready = options_of(alloc, view, frame.atoms(), &bound.0)?;
+        let ready = options_of(rt, view, frame.atoms(), &bound.0);
         if !is_same_set(frame.options(bound.0), &ready) {
-            return Ok(false);
+            return false;
         }
     }
-    Ok(true)
+    true
 }
 
 fn dead_agree(view: &View, frame: &Frame<'_>) -> bool {
@@ -60,133 +62,130 @@ fn dead_agree(view: &View, frame: &Frame<'_>) -> bool {
     true
 }
 
-fn base_agrees(alloc: Global, view: &View, frame: &Frame<'_>) -> Result<bool, Refusal> {
-    let members = base_of(alloc, view, frame.atoms())?;
+fn base_agrees(rt: &(impl AllocGlobal + Abort), view: &View, frame: &Frame<'_>) -> bool {
+    let members = base_of(rt, view, frame.atoms());
     let is_member = plain::is_member(view, frame.atoms(), &members);
-    Ok(frame.members == members && frame.found().is_some() == is_member)
+    frame.members == members && frame.found().is_some() == is_member
 }
 
-fn open_agrees(alloc: Global, view: &View, frame: &Frame<'_>) -> Result<bool, Refusal> {
-    let members = base_of(alloc, view, frame.atoms())?;
+fn open_agrees(rt: &(impl AllocGlobal + Abort), view: &View, frame: &Frame<'_>) -> bool {
+    let members = base_of(rt, view, frame.atoms());
     let none = plain::none_open(view, frame.atoms(), &members);
-    Ok(frame.none_open() == none && frame.first_open().is_none() == none)
+    frame.none_open() == none && frame.first_open().is_none() == none
 }
 
 // How many options an item that is due has beyond what it still needs, plus one: 0 where they are too few.
 fn spare(
-    alloc: Global,
+    rt: &(impl AllocGlobal + Abort),
     view: &View,
     atoms: &[Atom],
     item: &Item,
-) -> Result<Option<usize>, Refusal> {
-    let members = base_of(alloc, view, atoms)?;
+) -> Option<usize> {
+    let members = base_of(rt, view, atoms);
     let least = plain::least_of(view, atoms, item) as usize;
     let have = view.count(&members, item);
     if least <= have {
-        return Ok(None);
+        return None;
     }
-    let options = options_of(alloc, view, atoms, item)?.len();
-    Ok(Some(options.saturating_add(1).saturating_sub(least - have)))
+    let options = options_of(rt, view, atoms, item).len();
+    Some(options.saturating_add(1).saturating_sub(least - have))
 }
 
 // The fewest of these over the items of the view.
-fn fewest(alloc: Global, view: &View, atoms: &[Atom]) -> Result<Option<usize>, Refusal> {
+fn fewest(rt: &(impl AllocGlobal + Abort), view: &View, atoms: &[Atom]) -> Option<usize> {
     let mut best = None;
     for bound in view.items() {
-        best = match (best, spare(alloc, view, atoms, &bound.0)?) {
+        best = match (best, spare(rt, view, atoms, &bound.0)) {
             (None, n) => n,
             (Some(m), None) => Some(m),
             (Some(m), Some(n)) => Some(m.min(n)),
         };
     }
-    Ok(best)
+    best
 }
 
-fn next_agrees(alloc: Global, view: &View, frame: &Frame<'_>) -> Result<bool, Refusal> {
-    let members = base_of(alloc, view, frame.atoms())?;
+fn next_agrees(rt: &(impl AllocGlobal + Abort), view: &View, frame: &Frame<'_>) -> bool {
+    let members = base_of(rt, view, frame.atoms());
     let due = plain::next_due(view, frame.atoms(), &members);
     let Some(item) = frame.next_due() else {
-        return Ok(due.is_none());
+        return due.is_none();
     };
-    match fewest(alloc, view, frame.atoms())? {
-        None => Ok(due.is_some()),
-        Some(n) => Ok(spare(alloc, view, frame.atoms(), &item)? == Some(n)),
+    match fewest(rt, view, frame.atoms()) {
+        None => due.is_some(),
+        Some(n) => spare(rt, view, frame.atoms(), &item) == Some(n),
     }
 }
 
-fn arms_of(alloc: Global, numbers: &[u32]) -> Result<Vec<Arm>, Refusal> {
-    let mut arms = Vec::new(alloc);
+fn arms_of(rt: &(impl AllocGlobal + Abort), numbers: &[u32]) -> Vec<Arm> {
+    let mut arms = Vec::new(rt.alloc());
     for number in numbers {
         arms.push(Arm {
             placement: *number,
             tree: Tree::Rest,
-        })?;
+        })
+        .expect(rt, "memory");
     }
-    Ok(arms)
+    arms
 }
 
 fn arms_agree(
-    alloc: Global,
+    rt: &(impl AllocGlobal + Abort),
     view: &View,
     frame: &Frame<'_>,
     item: Item,
     arms: &[Arm],
-) -> Result<bool, Refusal> {
-    let members = base_of(alloc, view, frame.atoms())?;
+) -> bool {
+    let members = base_of(rt, view, frame.atoms());
     let right = plain::arms_are_right(view, frame.atoms(), &members, &item, arms);
-    Ok(frame.arms_fit(item, arms) == right)
+    frame.arms_fit(item, arms) == right
 }
 
 // The placements of the design that have the item, whether they are open or not.
-fn with_item(alloc: Global, view: &View, item: &Item) -> Result<Vec<u32>, Refusal> {
-    let mut numbers = Vec::with_capacity(alloc, view.live().len())?;
+fn with_item(rt: &(impl AllocGlobal + Abort), view: &View, item: &Item) -> Vec<u32> {
+    let mut numbers = Vec::with_capacity(rt.alloc(), view.live().len()).expect(rt, "memory");
     for number in view.live() {
         if view.covers(*number, *item) {
-            numbers.push(*number)?;
+            numbers.push(*number).expect(rt, "memory");
         }
     }
-    Ok(numbers)
+    numbers
 }
 
 // Whether it is told alike of a Branch on the item with all its options, with half of them, and with a placement each
 // that has the item.
 fn branch_agrees(
-    alloc: Global,
+    rt: &(impl AllocGlobal + Abort),
     view: &View,
     frame: &Frame<'_>,
     item: Item,
-) -> Result<bool, Refusal> {
-    let options = arms_of(alloc, &options_of(alloc, view, frame.atoms(), &item)?)?;
-    let all = arms_of(alloc, &with_item(alloc, view, &item)?)?;
+) -> bool {
+    let options = arms_of(rt, &options_of(rt, view, frame.atoms(), &item));
+    let all = arms_of(rt, &with_item(rt, view, &item));
     let half = options.len() / 2;
-    Ok(
-        arms_agree(alloc, view, frame, item, &options)?
-            && arms_agree(alloc, view, frame, item, &options[half..])?
-            && arms_agree(alloc, view, frame, item, &all)?,
-    )
+    arms_agree(rt, view, frame, item, &options)
+        && arms_agree(rt, view, frame, item, &options[half..])
+        && arms_agree(rt, view, frame, item, &all)
 }
 
-fn branches_agree(alloc: Global, view: &View, frame: &Frame<'_>) -> Result<bool, Refusal> {
+fn branches_agree(rt: &(impl AllocGlobal + Abort), view: &View, frame: &Frame<'_>) -> bool {
     for bound in view.items() {
-        if !branch_agrees(alloc, view, frame, bound.0)? {
-            return Ok(false);
+        if !branch_agrees(rt, view, frame, bound.0) {
+            return false;
         }
     }
-    Ok(true)
+    true
 }
 
-fn agrees(alloc: Global, view: &View, frame: &mut Frame<'_>) -> Result<bool, Refusal>
+fn agrees(rt: &(impl AllocGlobal + Abort), view: &View, frame: &mut Frame<'_>) -> bool
     ensures { frame.new ≡ frame.old }
 {
-    if !options_agree(alloc, view, frame)? || !dead_agree(view, frame) {
-        return Ok(false);
+    if !options_agree(rt, view, frame) || !dead_agree(view, frame) {
+        return false;
     }
-    Ok(
-        base_agrees(alloc, view, frame)?
-            && open_agrees(alloc, view, frame)?
-            && next_agrees(alloc, view, frame)?
-            && branches_agree(alloc, view, frame)?,
-    )
+    base_agrees(rt, view, frame)
+        && open_agrees(rt, view, frame)
+        && next_agrees(rt, view, frame)
+        && branches_agree(rt, view, frame)
 }
 
 // What a search takes next: an option of an item that is due, or where none is due any placement that is open.
@@ -240,21 +239,21 @@ fn go_on(frame: &mut Frame<'_>, given: usize) -> bool
 }
 
 // Searches for all tilings, and tells how many there are; None where some answer on the way is not the view's.
-fn search(alloc: Global, view: &View) -> Result<Option<usize>, Refusal> {
-    let mut frame = Frame::new(alloc, view, &[])?;
+fn search(rt: &(impl AllocGlobal + Abort), view: &View) -> Option<usize> {
+    let mut frame = Frame::new(rt.alloc(), view, &[]).expect(rt, "memory");
     let mut found = 0usize;
     for _ in 0..1000u32 {
-        if !agrees(alloc, view, &mut frame)? {
-            return Ok(None);
+        if !agrees(rt, view, &mut frame) {
+            return None;
         }
         if next_of(&mut frame).is_none() && frame.found().is_some() {
             found = found.saturating_add(1);
         }
         if !go_on(&mut frame, 0) {
-            return Ok(Some(found));
+            return Some(found);
         }
     }
-    Ok(None)
+    None
 }
 
 // Takes, leaves or takes back, whatever is open.
@@ -275,77 +274,93 @@ fn stray(frame: &mut Frame<'_>, given: usize, turn: u32)
 }
 
 // Strays from the atoms; whether each answer on the way is the view's.
-fn strays(alloc: Global, view: &View, atoms: &[Atom]) -> Result<bool, Refusal> {
-    let mut frame = Frame::new(alloc, view, atoms)?;
+fn strays(rt: &(impl AllocGlobal + Abort), view: &View, atoms: &[Atom]) -> bool {
+    let mut frame = Frame::new(rt.alloc(), view, atoms).expect(rt, "memory");
     let given = frame.mark();
     for turn in 0..60u32 {
-        if !agrees(alloc, view, &mut frame)? {
-            return Ok(false);
+        if !agrees(rt, view, &mut frame) {
+            return false;
         }
         stray(&mut frame, given, turn);
     }
-    Ok(true)
+    true
+}
+
+// Asserts how many tilings a search finds, on whose way each answer is the view's.
+fn expect_search(rt: &(impl AllocGlobal + Abort), view: &View, tilings: usize) {
+    let found = search(rt, view);
+    assert!(rt; found == Some(tilings));
+}
+
+// Asserts how many tilings the plain lister finds.
+fn expect_listed(rt: &(impl AllocGlobal + Abort), view: &View, tilings: usize) {
+    let listed = list_tilings(rt.alloc(), view).expect(rt, "memory");
+    assert!(rt; listed.len() == tilings);
+}
+
+// Asserts that whoever strays from the atoms gets the view's answers.
+fn expect_strays(rt: &(impl AllocGlobal + Abort), view: &View, atoms: &[Atom]) {
+    let agree = strays(rt, view, atoms);
+    assert!(rt; agree);
+}
+
+// The item of the piece with this name.
+fn piece(rt: &impl Abort, name: &[u8]) -> Item {
+    Item::Piece(Name::new(name).expect(rt, "a name"))
 }
 
 #[test]
-fn a_search_of_two_dominoes(rt: HostRuntime) -> Result<(), Fail> {
-    let alloc = rt.alloc();
-    let view = square(alloc)?;
-    assert_eq!(rt; search(alloc, &view)?, Some(4));
-    Ok(())
+fn a_search_of_two_dominoes(rt: HostRuntime) {
+    let view = square(rt.alloc()).expect(&rt, "a view");
+    expect_search(&rt, &view, 4);
 }
 
 #[test]
-fn a_search_of_optional_dominoes(rt: HostRuntime) -> Result<(), Fail> {
-    let alloc = rt.alloc();
+fn a_search_of_optional_dominoes(rt: HostRuntime) {
     let given = [domino(b"A", 0, 1), domino(b"B", 0, 1)];
-    let view = view_of(alloc, 2, 2, Mode::Optional, &given)?;
-    assert_eq!(rt; search(alloc, &view)?, Some(13));
-    Ok(())
+    let view = view_of(rt.alloc(), 2, 2, Mode::Optional, &given).expect(&rt, "a view");
+    expect_search(&rt, &view, 13);
 }
 
 #[test]
-fn a_search_of_copies(rt: HostRuntime) -> Result<(), Fail> {
-    let alloc = rt.alloc();
+fn a_search_of_copies(rt: HostRuntime) {
     let given = [domino(b"D", 1, 2), one_cell(b"M", 2, 4)];
-    let view = view_of(alloc, 3, 2, Mode::Required, &given)?;
-    assert_eq!(rt; search(alloc, &view)?, Some(18));
-    assert_eq!(rt; list_tilings(alloc, &view)?.len(), 18);
-    Ok(())
+    let view = view_of(rt.alloc(), 3, 2, Mode::Required, &given).expect(&rt, "a view");
+    expect_search(&rt, &view, 18);
+    expect_listed(&rt, &view, 18);
 }
 
 #[test]
-fn a_search_of_copies_that_leave_cells(rt: HostRuntime) -> Result<(), Fail> {
-    let alloc = rt.alloc();
+fn a_search_of_copies_that_leave_cells(rt: HostRuntime) {
     let given = [domino(b"D", 2, 2), one_cell(b"M", 0, 1)];
-    let view = view_of(alloc, 3, 2, Mode::Optional, &given)?;
-    assert_eq!(rt; search(alloc, &view)?, Some(33));
-    assert_eq!(rt; list_tilings(alloc, &view)?.len(), 33);
-    Ok(())
+    let view = view_of(rt.alloc(), 3, 2, Mode::Optional, &given).expect(&rt, "a view");
+    expect_search(&rt, &view, 33);
+    expect_listed(&rt, &view, 33);
 }
 
 #[test]
-fn strays_over_two_dominoes(rt: HostRuntime) -> Result<(), Fail> {
-    let alloc = rt.alloc();
-    let view = square(alloc)?;
-    let corner = Item::Cell(Cell::ORIGIN);
-    let other = Item::Piece(Name::new(b"C")?);
-    assert!(rt; strays(alloc, &view, &[])?);
-    assert!(rt; strays(alloc, &view, &[Atom::Lacks(5), Atom::Has(99)])?);
-    assert!(rt; strays(alloc, &view, &[Atom::Has(0), Atom::Has(1)])?);
-    assert!(rt; strays(alloc, &view, &[Atom::AtMost(corner, 0)])?);
-    assert!(rt; strays(alloc, &view, &[Atom::AtLeast(other, 1)])?);
-    Ok(())
+fn strays_over_two_dominoes(rt: HostRuntime) {
+    let view = square(rt.alloc()).expect(&rt, "a view");
+    expect_strays(&rt, &view, &[]);
+    expect_strays(&rt, &view, &[Atom::Lacks(5), Atom::Has(99)]);
+    expect_strays(&rt, &view, &[Atom::Has(0), Atom::Has(1)]);
+    expect_strays(&rt, &view, &[Atom::AtMost(Item::Cell(Cell::ORIGIN), 0)]);
+    expect_strays(&rt, &view, &[Atom::AtLeast(piece(&rt, b"C"), 1)]);
 }
 
 #[test]
-fn strays_over_copies(rt: HostRuntime) -> Result<(), Fail> {
-    let alloc = rt.alloc();
+fn strays_over_copies(rt: HostRuntime) {
     let given = [domino(b"D", 2, 3)];
-    let view = view_of(alloc, 3, 2, Mode::Optional, &given)?;
-    let piece = Item::Piece(Name::new(b"D")?);
-    assert!(rt; strays(alloc, &view, &[])?);
-    assert!(rt; strays(alloc, &view, &[Atom::AtLeast(piece, 3), Atom::Has(1)])?);
-    assert!(rt; strays(alloc, &view, &[Atom::AtMost(piece, 1), Atom::Lacks(0)])?);
-    Ok(())
+    let view = view_of(rt.alloc(), 3, 2, Mode::Optional, &given).expect(&rt, "a view");
+    expect_strays(&rt, &view, &[]);
+    expect_strays(
+        &rt,
+        &view,
+        &[Atom::AtLeast(piece(&rt, b"D"), 3), Atom::Has(1)],
+    );
+    expect_strays(
+        &rt,
+        &view,
+        &[Atom::AtMost(piece(&rt, b"D"), 1), Atom::Lacks(0)],
+    );
 }
