@@ -271,12 +271,6 @@ sound_one v A s = record {
   levels = λ k h. ap (λ (B : List Atom). is_sound v B) (take_all (length A + k) A (omega arith)) ∙ s;
 }
 
-pub sound_none : (v : View) (A : List Atom) → SoundShows v A (length A) 0
-sound_none v A = record {
-  few = omega arith;
-  levels = λ k h. absurd (omega arith);
-}
-
 -- steps that keep the base sound are counted
 pub sound_more : (v : View) (A : List Atom) (first sound : ℕ) (a : Atom) → SoundShows v A first sound → length A - first < sound → first ≤ length A → (is_sound v A ≡ true → is_sound v (A ++ a ∷ []) ≡ true) → SoundShows v (A ++ a ∷ []) first (sound + 1)
 sound_more v A first sound a S top low keep =
