@@ -6,6 +6,8 @@ room=$(mktemp -d)
 trap 'rm -rf "$room"' EXIT
 passed=0
 failed=0
+# Where the program isn't built yet, this builds it, so that no test takes the builder's words for the program's.
+./polybench </dev/null >"$room/building" 2>&1
 
 # Prints the counts; the status is 0 only where nothing failed.
 close() {
