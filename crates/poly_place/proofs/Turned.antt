@@ -35,6 +35,7 @@ use Rattle.poly_tiling.proofs.Shown.{live_given, some_same}
 use Rattle.poly_place.specs.Delta.{GivesInOrder}
 use Rattle.poly_place.specs.Interned.{AreNumbersOf, GoesOnWith}
 use Rattle.poly_place.specs.Touched.{AreInOrder, AreMarked, comes_before, touches, touches_named}
+use Rattle.poly_place.proofs.Merging.{pairs_append}
 use Rattle.poly_place.proofs.Numbers.{first_named, rest_named}
 use Rattle.poly_place.proofs.Righted.{in_number, number_in}
 use Rattle.poly_place.proofs.Untouched.{untouched_stays, untouched_was}
@@ -46,13 +47,7 @@ apart_list [] h = pairs_none (λ x y. x ≢ y)
 apart_list (x ∷ xs) h = pairs_cons (λ x y. x ≢ y) x xs (λ y i e. not_head x xs h (subst (λ z. In z xs) (sym e) i)) (apart_list xs (distinct_rest x xs h))
 
 pub apart_both : (xs ys : List ℕ) → AllPairs (λ x y. x ≢ y) xs → AllPairs (λ x y. x ≢ y) ys → ((n : ℕ) → In n xs → In n ys → ⊥) → AllPairs (λ x y. x ≢ y) (xs ++ ys)
-apart_both [] ys a b far = b
-apart_both (x ∷ xs) ys a b far = pairs_cons (λ x y. x ≢ y) x (xs ++ ys)
-    (λ y i e. elim (in_append_cases y xs ys i) [
-      | inl j ↦ pairs_head (λ x y. x ≢ y) x xs a y j e
-      | inr j ↦ far x (inl refl) (subst (λ z. In z ys) (sym e) j)
-    ])
-    (apart_both xs ys (pairs_rest (λ x y. x ≢ y) x xs a) b (λ n i j. far n (inr i) j))
+apart_both xs ys a b far = pairs_append (λ x y. x ≢ y) xs ys a b (λ x y i j e. far x i (subst (λ z. In z ys) (sym e) j))
 
 flips : (x y : ℕ) → eqb x y ≡ eqb y x
 flips x y = same_truth (eqb x y) (eqb y x) (λ h. eq-eqb y x (sym (eqb-true x y h))) (λ h. eq-eqb x y (sym (eqb-true y x h)))

@@ -58,6 +58,7 @@ fn is_kept(view: &View, atoms: &[Atom], flags: &[bool], number: u32) -> bool
     requires { (p : ℕ) → slice_index_or flags.now p false ≡ mem view.now.live p }
     ensures { result ≡ (mem view.now.live number && not (list_any (λ a. lacks a number) atoms.now)) }
 {
+    // The clauses alone speak of the view.
     let _ = view;
     has_flag(flags, number) && !plain::any_lacks(atoms, number)
 }

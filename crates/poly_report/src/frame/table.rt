@@ -192,7 +192,7 @@ fn shut_cells(
     Ok(shut)
 }
 
-// Whether one of these cells is shut.
+// Whether one of these cells is shut. All are asked: to stop at the first costs more, since no branch is foreseen well.
 fn is_cell_shut(shut: &[bool], cells: &[Cell]) -> bool
     requires { length shut.now ≡ 4096 }
     ensures { (s : Item → Bool) → CellsSay shut.now s → result ≡ list_any (λ c. s (CellItem c)) cells.now }
@@ -317,6 +317,7 @@ fn is_open(
     requires shut { FlagsShow view.now.bounds uppers.now have.now shut.now }
     ensures { result ≡ open_in view.now atoms.now number }
 {
+    // The clauses alone speak of the atoms.
     let _ = atoms;
     if has_flag(closed, number) {
         return false;
