@@ -1,6 +1,7 @@
 -- What flooding reaches, and that it reaches all of the cells exactly where they are connected.
-use Rattle.std.proofs.Common.{◌≡◌, zero, suc, Bool, true, false, not, List, [], ◌∷◌, ◌⊎◌, refl, sym, subst, inl, inr, ◌∙◌, arith}
+use Rattle.std.proofs.Common.{◌≡◌, Bool, true, false, not, List, ◌⊎◌, refl, sym, subst, inl, inr, ◌∙◌}
 use mathlib.Core.Bool.{true≢false}
+use Rattle.std.specs.Bool.{Decides}
 use Rattle.std.specs.List.{Contains, list_any}
 use Rattle.std.specs.declared.cmp.Ordering.{Ordering}
 use Rattle.std.specs.declared.cmp.Ordering.TheVariants.{Less, Equal, Greater}
@@ -22,19 +23,6 @@ pub record IsFlood (g : Grid) (cells reached : List Spot) : Type 0 where
   pub part : (c : Spot) → Contains reached c → Contains cells c
   pub ascending : IsAscending spot_cmp reached
   pub forced : (p : Spot → Bool) → IsClosed g cells p → p first ≡ true → (c : Spot) → Contains reached c → p c ≡ true
-
-pub flood_start : (g : Grid) (cells : List Spot) (first : Spot) → Contains cells first → IsFlood g cells (first ∷ [])
-flood_start g cells first here = record {
-  first = first;
-  start = (zero, omega arith, refl);
-  part = λ c there. subst (Contains cells) (only c there) here;
-  ascending = λ i j d lt le. absurd (omega arith);
-  forced = λ p closed at c there. subst (λ v. p v ≡ true) (only c there) at;
-}
-  where
-    only : (c : Spot) → Contains (first ∷ []) c → first ≡ c
-    only c (zero, lt, e) = e
-    only c (suc k, lt, e) = absurd (omega arith)
 
 pub flood_more : (g : Grid) (cells reached reached' : List Spot) (c : Spot) → IsFlood g cells reached → Contains cells c → Touches g reached c
     → Adds reached c reached' → IsAscending spot_cmp reached' → IsFlood g cells reached'
@@ -60,6 +48,10 @@ spot_eq_same a b e = same_spot a b (equal_from_test _ (sym (spot_ties a b) ∙ e
 
 pub same_from_pointwise : (a b : List Spot) → pointwise spot_eq a b ≡ true → a ≡ b
 same_from_pointwise a b e = same_cells a b (equal_from_test _ (sym (cells_ties a b) ∙ e))
+
+-- `==` on sets of cells says exactly whether they are equal
+pub cells_decide : (a b : List Spot) → Decides (pointwise spot_eq a b) (a ≡ b)
+cells_decide a b = (same_from_pointwise a b, λ e. subst (λ v. pointwise spot_eq a v ≡ true) e ((lists_equiv spot_equiv).refl a))
 
 not_true : (b : Bool) → not b ≡ true → b ≡ true → ⊥
 not_true true e f = true≢false (sym e)

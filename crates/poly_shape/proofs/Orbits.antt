@@ -14,16 +14,17 @@ use Rattle.poly_shape.specs.Laws.{OrientationsAreShared}
 use Rattle.poly_shape.proofs.Turns.{IsAdditive, additive, of_turn}
 use Rattle.poly_shape.proofs.Orientations.{one_list}
 
-abbrev shifted : Point → Point → Point
+abbrev pub shifted : Point → Point → Point
 shifted p s = record { x = p.x +ℤ s.x; y = p.y +ℤ s.y }
 
 -- a turn takes a moved point to the turned point, moved by the turned shift
-turned_shifted : (g : Grid) (t : ℕ) (p s : Point) → turned_of g t (shifted p s) ≡ shifted (turned_of g t p) (turned_of g t s)
+pub turned_shifted : (g : Grid) (t : ℕ) (p s : Point) → turned_of g t (shifted p s) ≡ shifted (turned_of g t p) (turned_of g t s)
 turned_shifted g t p s =
     let add = of_turn IsAdditive additive g t in
     same_point _ _ (add.0 p.x p.y s.x s.y) (add.1 p.x p.y s.x s.y)
 
-lies_after : (g : Grid) (t u both : ℕ) → IsComposite g t u both → (s r : Point) (a b c : Spot) → LiesAt g t s a b → LiesAt g u r b c
+-- where a cell lies after one turn and then another
+pub lies_after : (g : Grid) (t u both : ℕ) → IsComposite g t u both → (s r : Point) (a b c : Spot) → LiesAt g t s a b → LiesAt g u r b c
     → LiesAt g both (shifted r (turned_of g u s)) a c
 lies_after g t u both composite s r a b c lb lc =
     let e = sym (composite (point_of a)) ∙ ap (turned_of g u) lb ∙ turned_shifted g u (point_of b) s in
@@ -43,7 +44,8 @@ image_after g t u both composite cells image last p q = record {
   all = λ a here. let b = p.all a here in let c = q.all b.0 b.1 in (c.0, c.1, lies_after g t u both composite p.shift q.shift a b.0 c.0 b.2 c.2);
 }
 
-lies_back : (g : Grid) (t u : ℕ) → IsComposite g t u 0 → (s : Point) (a b : Spot) → LiesAt g t s a b
+-- where a cell lies under the turn that undoes a turn
+pub lies_back : (g : Grid) (t u : ℕ) → IsComposite g t u 0 → (s : Point) (a b : Spot) → LiesAt g t s a b
     → LiesAt g u (record { x = neg_ℤ (turned_of g u s).x; y = neg_ℤ (turned_of g u s).y }) b a
 lies_back g t u composite s a b lies =
     let e = sym (first_turn_stays g (point_of a)) ∙ sym (composite (point_of a)) ∙ ap (turned_of g u) lies ∙ turned_shifted g u (point_of b) s in

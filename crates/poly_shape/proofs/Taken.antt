@@ -1,5 +1,5 @@
 -- A set that has taken the first elements of a list, of which none came twice.
-use Rattle.std.proofs.Common.{◌≡◌, ◌≢◌, ℕ, zero, suc, ◌+◌, ◌<◌, ◌≤◌, List, [], ◌∷◌, length, get_or, refl, ap, sym, subst, inl, inr, ◌∙◌, arith}
+use Rattle.std.proofs.Common.{◌≡◌, ◌≢◌, ℕ, ◌+◌, ◌<◌, List, length, get_or, refl, ap, sym, subst, inl, inr, ◌∙◌, arith}
 use Rattle.std.proofs.lemmas.Bool.{cases_eq}
 use Rattle.std.specs.List.{Contains}
 use Rattle.poly_shape.specs.Order.{Adds, AreFewDistinct, HasSame}
@@ -11,19 +11,6 @@ pub record IsTaken {X : Type 0} (xs : List X) (n : ℕ) (set : List X) : Type 0 
   pub all : (k : ℕ) (d : X) → k < n → Contains set (get_or xs k d)
   pub below : (x : X) → Contains set x → (k : ℕ) × (k < n) × (get_or xs k x ≡ x)
   pub distinct : (j k : ℕ) (d : X) → j < k → k < n → get_or xs j d ≢ get_or xs k d
-
-pub taken_first : {X : Type 0} (xs : List X) (a : X) → 1 ≤ length xs → ((d : X) → get_or xs 0 d ≡ a) → IsTaken xs 1 (a ∷ [])
-taken_first {X} xs a some at = record {
-  len = refl;
-  only = λ x here. (0, omega arith, at x ∙ only x here);
-  all = λ k d lt. let e : k ≡ 0 = omega arith in rw (e, at d) (zero, omega arith, refl);
-  below = λ x here. (0, omega arith, at x ∙ only x here);
-  distinct = λ j k d lt le. absurd (omega arith);
-}
-  where
-    only : (x : X) → Contains (a ∷ []) x → a ≡ x
-    only x (zero, lt, e) = e
-    only x (suc k, lt, e) = absurd (omega arith)
 
 pub taken_more : {X : Type 0} (xs : List X) (n : ℕ) (set set' : List X) (a : X) → IsTaken xs n set → n < length xs → ((d : X) → get_or xs n d ≡ a)
     → (Contains set a → ⊥) → Adds set a set' → length set' ≡ length set + 1 → IsTaken xs (n + 1) set'
@@ -43,9 +30,6 @@ taken_more xs n set set' a taken lt at fresh adds len = record {
 
 pub taken_all : {X : Type 0} (xs : List X) (set : List X) → IsTaken xs (length xs) set → HasSame set xs
 taken_all xs set taken x = (taken.only x, λ h. subst (Contains set) h.2 (taken.all h.0 x h.1))
-
-pub distinct_all : {X : Type 0} (xs : List X) (set : List X) → IsTaken xs (length xs) set → 1 ≤ length xs → length xs ≤ 16 → AreFewDistinct xs
-distinct_all xs set taken some few = record { some = some; few = few; distinct = λ j k d lt le. taken.distinct j k d lt le }
 
 -- an element that the set has comes twice
 pub repeated : {X : Type 0} (xs : List X) (n : ℕ) (set : List X) (a : X) → IsTaken xs n set → n < length xs → ((d : X) → get_or xs n d ≡ a) → Contains set a → AreFewDistinct xs → ⊥

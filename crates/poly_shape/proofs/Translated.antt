@@ -1,7 +1,6 @@
 -- Cells moved one after another.
-use Rattle.std.proofs.Common.{◌≡◌, ℕ, ◌+◌, ◌<◌, ◌≤◌, List, length, get_or, set, take, sym, subst, inl, inr, ◌∙◌, arith}
-use Rattle.std.proofs.lemmas.List.{same_lists, get_or-set_same, get_or-set_other, get_or-take, get_or-map, length-take-le, length-map, length-set}
-use Rattle.std.proofs.lemmas.Bool.{cases_eq}
+use Rattle.std.proofs.Common.{◌≡◌, ℕ, ◌+◌, ◌<◌, ◌≤◌, List, length, get_or, take, sym, subst, ◌∙◌, arith}
+use Rattle.std.proofs.lemmas.List.{same_lists, get_or-take, get_or-map, length-take-le, length-map}
 use Rattle.std.proofs.lemmas.Bool.Decides.{nat_tests}
 use Rattle.std.specs.Ordering.{nat_cmp, ordering_then}
 use Rattle.poly_grid.specs.Spot.{Spot}
@@ -12,17 +11,6 @@ pub record IsMovedTo (right down : ℕ) (cells : List Spot) (n : ℕ) (moved : L
   pub whole : length moved ≡ 16
   pub each : (k : ℕ) (d : Spot) → k < n → get_or moved k d ≡ spot_moved right down (get_or cells k d)
   pub stays : (k : ℕ) (d : Spot) → k < n → ((get_or cells k d).x + right < 64) × ((get_or cells k d).y + down < 64)
-
-pub moved_more : (right down : ℕ) (cells : List Spot) (n : ℕ) (moved : List Spot) (a b : Spot) → IsMovedTo right down cells n moved → n < 16 → ((d : Spot) → get_or cells n d ≡ a)
-    → b ≡ spot_moved right down a → (a.x + right < 64) × (a.y + down < 64) → IsMovedTo right down cells (n + 1) (set moved n b)
-moved_more right down cells n moved a b old lt at is stays = record {
-  whole = length-set moved n b ∙ old.whole;
-  each = λ k d less. elim (cases_eq k n) [
-    | inl same ↦ let len : n < length moved = omega (arith, old.whole) in rw (same, get_or-set_same moved n b d len, at d) is
-    | inr other ↦ get_or-set_other moved n k b d other ∙ old.each k d (omega arith)
-  ];
-  stays = λ k d less. elim (cases_eq k n) [ inl same ↦ rw (same, at d) stays | inr other ↦ old.stays k d (omega arith) ];
-}
 
 pub moved_all : (right down : ℕ) (cells : List Spot) (moved : List Spot) → IsMovedTo right down cells (length cells) moved → length cells ≤ 16 → take (length cells) moved ≡ moved_by right down cells
 moved_all right down cells moved is few =

@@ -8,12 +8,11 @@ use Rattle.poly_grid.specs.declared.grid.Grid.{Grid}
 use Rattle.poly_grid.specs.declared.grid.Grid.TheVariants.{Square, Hex}
 use Rattle.poly_grid.specs.declared.grid.Point.{Point}
 use Rattle.poly_grid.specs.Spot.{Spot}
-use Rattle.poly_shape.specs.Order.{IsAscending, spot_cmp, spot_total}
+use Rattle.poly_shape.specs.Order.{IsAscending, spot_cmp}
 use Rattle.poly_shape.specs.Shape.{LiesAt, IsImage, IsNormal}
 use Rattle.poly_shape.specs.Moves.{spot_moved, moved_by}
 use Rattle.poly_shape.specs.Laws.{TranslatesTellTheNormalPlace}
-use Rattle.poly_shape.proofs.Ascending.{same_ascending, same_places}
-use Rattle.poly_shape.proofs.Translated.{moved_ascending}
+use Rattle.poly_shape.proofs.Ascending.{same_places}
 use Rattle.poly_grid.proofs.Points.{same_point}
 
 pub contains_moved : (right down : ℕ) (cells : List Spot) (c : Spot) → Contains cells c → Contains (moved_by right down cells) (spot_moved right down c)
@@ -54,55 +53,9 @@ same_translates a b right down right' down' na nb e =
     let downs : down ≡ down' = omega (arith, le, ge) in
     (unmoved right' down' a b (subst (λ n. moved_by n down' a ≡ moved_by right' down' b) rights (subst (λ n. moved_by right n a ≡ moved_by right' down' b) downs e)), rights, downs)
 
--- the turn 0 leaves a point where it is
-lies_x : (g : Grid) (s : Point) (a b : Spot) → LiesAt g 0 s a b → pos a.x ≡ pos b.x +ℤ s.x
-lies_x Square s a b e = ap (λ (p : Point). p.x) e
-lies_x Hex s a b e = ap (λ (p : Point). p.x) e
-
-lies_y : (g : Grid) (s : Point) (a b : Spot) → LiesAt g 0 s a b → pos a.y ≡ pos b.y +ℤ s.y
-lies_y Square s a b e = ap (λ (p : Point). p.y) e
-lies_y Hex s a b e = ap (λ (p : Point). p.y) e
-
 lies_at : (g : Grid) (s : Point) (a b : Spot) → pos a.x ≡ pos b.x +ℤ s.x → pos a.y ≡ pos b.y +ℤ s.y → LiesAt g 0 s a b
 lies_at Square s a b ex ey = same_point _ _ ex ey
 lies_at Hex s a b ex ey = same_point _ _ ex ey
-
--- cells at their normal place are the normal form of each of their translates
-pub image_of_moved : (g : Grid) (right down : ℕ) (cells : List Spot) → IsAscending spot_cmp cells → IsNormal cells → IsImage g 0 (moved_by right down cells) cells
-image_of_moved g right down cells up normal = record {
-  shift = shift;
-  ascending = up;
-  normal = normal;
-  only = λ b here. (spot_moved right down b, contains_moved right down cells b here, lies_at g shift (spot_moved right down b) b (omega (arith, ints)) (omega (arith, ints)));
-  all = λ a here.
-      let from = source_of_moved right down cells a here in
-      let ex = ap (λ (s : Spot). s.x) from.2 in
-      let ey = ap (λ (s : Spot). s.y) from.2 in
-      (from.0, from.1, lies_at g shift a from.0 (omega (arith, ints, ex)) (omega (arith, ints, ey)));
-}
-  where
-    shift : Point
-    shift = record { x = pos right; y = pos down }
-
--- and cells are a translate of their normal form
-pub moved_from_image : (g : Grid) (cells image : List Spot) → IsAscending spot_cmp cells → IsImage g 0 cells image → (right : ℕ) × (down : ℕ) × (cells ≡ moved_by right down image)
-moved_from_image g cells image up is =
-    let left = is.only is.normal.left.0 is.normal.left.1 in
-    let top = is.only is.normal.top.0 is.normal.top.1 in
-    let right = left.0.x in
-    let down = top.0.y in
-    let sx : is.shift.x ≡ pos right = omega (arith, ints, lies_x g is.shift left.0 is.normal.left.0 left.2, is.normal.left.2) in
-    let sy : is.shift.y ≡ pos down = omega (arith, ints, lies_y g is.shift top.0 is.normal.top.0 top.2, is.normal.top.2) in
-    let place : (a b : Spot) → LiesAt g 0 is.shift a b → spot_moved right down b ≡ a = λ a b lies.
-    same_places _ _ (omega (arith, ints, sx, lies_x g is.shift a b lies)) (omega (arith, ints, sy, lies_y g is.shift a b lies)) in
-    let to : (a : Spot) → Contains cells a → Contains (moved_by right down image) a = λ a here.
-    let b = is.all a here in
-    subst (Contains (moved_by right down image)) (place a b.0 b.2) (contains_moved right down image b.0 b.1) in
-    let from : (a : Spot) → Contains (moved_by right down image) a → Contains cells a = λ a here.
-    let b = source_of_moved right down image a here in
-    let source = is.only b.0 b.1 in
-    subst (Contains cells) (sym (place source.0 b.0 source.2) ∙ b.2) source.1 in
-    (right, down, same_ascending spot_total cells (moved_by right down image) up (moved_ascending right down image is.ascending) to from)
 
 -- cells at their normal place are their own normal form
 pub image_of_itself : (g : Grid) (cells : List Spot) → IsAscending spot_cmp cells → IsNormal cells → IsImage g 0 cells cells

@@ -12,3 +12,6 @@ mod shape;
 
 pub use cells::Cells;
 pub use shape::Shape;
+
+#[cfg(test)]
+mod tests;

@@ -96,6 +96,3 @@ fn add(list: &mut Vec<Cells>, cells: Cells) -> Result<(), Refusal>
         Err(at) => Ok(list.insert(at, cells)?),
     }
 }
-
-#[cfg(test)]
-mod tests;
