@@ -1,9 +1,10 @@
 -- Ascending lists: with one number more, and two with the same members are one.
-use Rattle.std.proofs.Common.{Bool, List, [], ap, arith, cond, eqb, false, inl, inr, ltb, refl, subst, sym, true, ℕ, ◌<◌, ◌∙◌, ◌∷◌, ◌≡◌, ◌⊎◌}
+use Rattle.std.proofs.Common.{Bool, List, [], ap, arith, cond, drop, eqb, false, get_or, inl, inr, length, ltb, refl, subst, suc, sym, true, zero, ℕ, ◌+◌, ◌-◌, ◌<◌, ◌∙◌, ◌∷◌, ◌≡◌, ◌≤◌, ◌⊎◌}
+use Rattle.std.proofs.lemmas.List.{at_drop_more}
 use Rattle.std.proofs.lemmas.Bool.{and_from, and_parts, eq-eqb, eqb-false, eqb-true, false_from_ne_true, lt-ltb, ltb-false, ltb-true, true≢false}
 use Rattle.std.specs.List.{list_all}
 use Rattle.poly_tiling.specs.Lists.{ascending, distinct, one, put, put_all, same_list, tally}
-use Rattle.poly_tiling.proofs.Lists.{In, all_from, all_in, tally_none}
+use Rattle.poly_tiling.proofs.Lists.{In, all_from, all_in, same_truth, tally_none}
 
 put_in_at : (p q : ℕ) (qs : List ℕ) (x : ℕ) → (In x (put p qs) → (p ≡ x) ⊎ In x qs) → (b c : Bool) →
     In x (cond b (q ∷ qs) (cond c (p ∷ (q ∷ qs)) (q ∷ put p qs))) → (p ≡ x) ⊎ In x (q ∷ qs)
@@ -134,3 +135,40 @@ tally_one f (x ∷ ps) p d (inr i) h only =
     let here = ap one (false_from_ne_true (f x) (λ t. not_head x ps d (subst (λ z. In z ps) (sym (only x (inl refl) t)) i))) in
     let rest = tally_one f ps p (distinct_rest x ps d) i h (λ q j t. only q (inr j) t) in
     omega arith
+
+ascending_next : (x y : ℕ) (ys : List ℕ) → x < y → ascending (x ∷ (y ∷ ys)) ≡ ascending (y ∷ ys)
+ascending_next x y ys l = same_truth _ _ (λ h. ascending_rest x (y ∷ ys) h) (λ h. ascending_from x (y ∷ ys) (λ z i. above z i h) h)
+  where
+    above : (z : ℕ) → In z (y ∷ ys) → ascending (y ∷ ys) ≡ true → x < z
+    above z (inl e) h = subst (λ k. x < k) e l
+    above z (inr i) h = let b = below_all y ys h z i in omega arith
+
+ascending_broken : (x y : ℕ) (ys : List ℕ) → y ≤ x → ascending (x ∷ (y ∷ ys)) ≡ false
+ascending_broken x y ys l = false_from_ne_true _ (λ h. let b = below_all x (y ∷ ys) h y (inl refl) in absurd (omega arith))
+
+-- the two numbers before and at a place of a list
+two_at : (xs : List ℕ) (i : ℕ) → 1 ≤ i → i < length xs → ascending (drop (i - 1) xs) ≡ ascending (get_or xs (i - 1) 0 ∷ (get_or xs i 0 ∷ drop (i + 1) xs))
+two_at xs i low high =
+    let back : (i - 1) + 1 ≡ i = omega arith in
+    at_drop_more ascending xs (i - 1) 0 (omega arith)
+    ∙ ap (λ n. ascending (get_or xs (i - 1) 0 ∷ drop n xs)) back
+    ∙ at_drop_more (λ t. ascending (get_or xs (i - 1) 0 ∷ t)) xs i 0 high
+
+pub ascends_more : (xs : List ℕ) (i : ℕ) → 1 ≤ i → i < length xs → get_or xs (i - 1) 0 < get_or xs i 0 → ascending (drop (i - 1) xs) ≡ ascending (drop ((i + 1) - 1) xs)
+ascends_more xs i low high l =
+    let back : i ≡ (i + 1) - 1 = omega arith in
+    two_at xs i low high
+    ∙ ascending_next (get_or xs (i - 1) 0) (get_or xs i 0) (drop (i + 1) xs) l
+    ∙ sym (at_drop_more ascending xs i 0 high)
+    ∙ ap (λ n. ascending (drop n xs)) back
+
+pub ascends_no_more : (xs : List ℕ) (i : ℕ) → 1 ≤ i → i < length xs → get_or xs i 0 ≤ get_or xs (i - 1) 0 → ascending (drop (i - 1) xs) ≡ false
+ascends_no_more xs i low high l = two_at xs i low high ∙ ascending_broken (get_or xs (i - 1) 0) (get_or xs i 0) (drop (i + 1) xs) l
+
+-- one number and none ascend
+pub ascends_last : (xs : List ℕ) (n : ℕ) → length xs ≤ n + 1 → ascending (drop n xs) ≡ true
+ascends_last [] zero h = refl
+ascends_last [] (suc n) h = refl
+ascends_last (x ∷ []) zero h = refl
+ascends_last (x ∷ (y ∷ xs)) zero h = absurd (omega (arith, h))
+ascends_last (x ∷ xs) (suc n) h = ascends_last xs n (omega (arith, h))

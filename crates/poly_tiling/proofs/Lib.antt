@@ -16,5 +16,7 @@ pub mod Families
 pub mod Sorting
 pub mod Plain
 pub mod Ranks
+pub mod Below
+pub mod Designs
 pub mod Places
 pub mod Listings

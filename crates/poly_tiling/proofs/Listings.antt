@@ -88,7 +88,7 @@ names_ascend_at v n ns up keep ih true (Some x) e = rw e (pairs_cons (λ a b. pl
     let b = all_in (λ q. below v n q) ns up r.0 (filter_in keep ns r.0 r.1).0 in
     lt_less (placement_cmp x y) (sym (ap (λ o. placed_below o (slice_get v.placements r.0)) e ∙ ap (λ o. placed_below (Some x) o) r.2) ∙ b)) ih)
 
-names_ascend : (v : View) (ns : List ℕ) → in_order v ns ≡ true → (keep : ℕ → Bool) → IsAscending placement_cmp (names v (filter keep ns))
+pub names_ascend : (v : View) (ns : List ℕ) → in_order v ns ≡ true → (keep : ℕ → Bool) → IsAscending placement_cmp (names v (filter keep ns))
 names_ascend v [] up keep = pairs_none (λ a b. placement_cmp a b ≡ Less)
 names_ascend v (n ∷ ns) up keep =
     let hs = and_parts (list_all (λ q. below v n q) ns) (in_order v ns) up in
@@ -160,15 +160,15 @@ placed_once v T U wn g h e =
 
 -- ---- lists of tilings
 
-one_true : (b : Bool) → 0 < one b → b ≡ true
+pub one_true : (b : Bool) → 0 < one b → b ≡ true
 one_true true l = refl
 one_true false l = absurd (omega arith)
 
-one_most : (b : Bool) → one b ≤ 1
+pub one_most : (b : Bool) → one b ≤ 1
 one_most true = omega arith
 one_most false = omega arith
 
-tally_some : (T : List ℕ) (lists : List (List ℕ)) → In T lists → 0 < tally (same_list T) lists
+pub tally_some : (T : List ℕ) (lists : List (List ℕ)) → In T lists → 0 < tally (same_list T) lists
 tally_some T [] i = absurd i
 tally_some T (U ∷ lists) (inl e) = let y = ap one (ap (same_list T) e ∙ same_list_self T) in omega (arith, y)
 tally_some T (U ∷ lists) (inr i) = let l = tally_some T lists i in omega (arith, l)
@@ -177,7 +177,7 @@ tally_has_at : (T U : List ℕ) (lists : List (List ℕ)) → (0 < tally (same_l
 tally_has_at T U lists ih true e l = inl (sym (same_list_is T U e))
 tally_has_at T U lists ih false e l = inr (ih (omega (arith, l)))
 
-tally_has : (T : List ℕ) (lists : List (List ℕ)) → 0 < tally (same_list T) lists → In T lists
+pub tally_has : (T : List ℕ) (lists : List (List ℕ)) → 0 < tally (same_list T) lists → In T lists
 tally_has T [] l = absurd (omega arith)
 tally_has T (U ∷ lists) l = tally_has_at T U lists (tally_has T lists) (same_list T U) refl l
 

@@ -1,14 +1,15 @@
 -- A binary search over items that ascend finds an item's bound.
-use Rattle.std.proofs.Common.{List, Ordering, [], add-one, ap, arith, cond, false, get_or, inl, inr, length, refl, subst, suc, sym, true, zero, ℕ, ◌+◌, ◌<◌, ◌∙◌, ◌∷◌, ◌≡◌}
+use Rattle.std.proofs.Common.{Bool, List, Ordering, [], add-one, ap, arith, cond, false, get_or, inl, inr, length, refl, subst, suc, sym, true, zero, ℕ, ◌+◌, ◌<◌, ◌∙◌, ◌∷◌, ◌≡◌, ◌||◌}
 use Rattle.std.proofs.lemmas.Bool.{and_parts, cases_lt, cond-false}
 use Rattle.std.proofs.lemmas.List.Sorted.{searchable_from_sorted}
-use Rattle.std.specs.List.{HoldsAt, list_all}
+use Rattle.std.specs.List.{HoldsAt, list_all, list_any}
 use Rattle.std.specs.List.Sorted.{IsNonDecreasingBy, IsPartitionPoint}
 use Rattle.std.specs.Ordering.{is_eq, is_lt, ordering_index, ordering_reverse}
 use Rattle.std.specs.declared.cmp.Ordering.TheVariants.{Equal, Greater, Less}
 use Rattle.std.specs.Cmp.{IsTotalOrder}
 use Rattle.std.specs.Cmp.Lexicographic.{nat_list_cmp_total, texts_ties}
 use Rattle.poly_shape.specs.Order.{spot_ties, spot_total}
+use Rattle.poly_tiling.specs.Lists.{one}
 use Rattle.poly_tiling.specs.declared.item.Item.{Item}
 use Rattle.poly_tiling.specs.declared.item.Item.TheVariants.{Cell, Piece}
 use Rattle.poly_tiling.specs.Puzzle.{Bound, bound_in, same_item}
@@ -110,3 +111,26 @@ bound_missing bs i ord is up at point f =
     let k = in_contains bs b j in
     let same : ord (get_or bs k.0 b) ≡ Equal = is (get_or bs k.0 b) ∙ ap (λ z. item_cmp z.0 i) k.2 ∙ e in
     elim (cases_lt k.0 at) [ inl l ↦ let o = sides.0 k.0 b (omega arith) l in cc | inr g ↦ let o = sides.1 k.0 b g k.1 in cc ])
+
+-- whether an item stands in the list, by what is found of it
+found_or_not : (a b : Bool) (n : ℕ) → n ≡ one b → cond a 1 n ≡ one (a || b)
+found_or_not true b n e = refl
+found_or_not false b n e = e
+
+counted : (bs : List Bound) (i : Item) → bound_in bs i (λ b. 1) ≡ one (list_any (λ b. same_item b.0 i) bs)
+counted [] i = refl
+counted (b ∷ bs) i = found_or_not (same_item b.0 i) (list_any (λ b. same_item b.0 i) bs) (bound_in bs i (λ b. 1)) (counted bs i)
+
+yes_from : (b : Bool) → 1 ≡ one b → b ≡ true
+yes_from true e = refl
+yes_from false e = absurd (omega (arith, e))
+
+no_from : (b : Bool) → 0 ≡ one b → b ≡ false
+no_from true e = absurd (omega (arith, e))
+no_from false e = refl
+
+pub is_there : (bs : List Bound) (i : Item) → bound_in bs i (λ b. 1) ≡ 1 → list_any (λ b. same_item b.0 i) bs ≡ true
+is_there bs i e = yes_from _ (sym e ∙ counted bs i)
+
+pub is_nowhere : (bs : List Bound) (i : Item) → bound_in bs i (λ b. 1) ≡ 0 → list_any (λ b. same_item b.0 i) bs ≡ false
+is_nowhere bs i e = no_from _ (sym e ∙ counted bs i)

@@ -5,7 +5,7 @@ use Rattle.poly_design.specs.Layout.{Layout}
 use Rattle.poly_design.specs.declared.placement.Placement.{Placement}
 use Rattle.poly_tiling.specs.Lists.{ascending}
 use Rattle.poly_tiling.specs.Puzzle.{View, is_tiling}
-use Rattle.poly_tiling.specs.Names.{Grown, WellNamed}
+use Rattle.poly_tiling.specs.Names.{Grown, Names, WellNamed}
 use Rattle.poly_tiling.specs.Tilings.{IsTiling}
 use Rattle.poly_tiling.specs.Shows.{Shows, given, names}
 
@@ -30,3 +30,7 @@ pub record IsNumbered (v : View) (S : List Placement) (T : List ℕ) : Type 0 wh
 abbrev pub NumbersReach : Type 0
 NumbersReach = (v : View) (d : Layout) (S : List Placement) → WellNamed v → Shows v d → IsTiling d S →
     (T : List ℕ) × (is_tiling v T ≡ true) × IsNumbered v S T
+
+-- Two views of one design, of which the later one names what the earlier one names, are one view under numbers that go on.
+abbrev pub SameDesignGrows : Type 0
+SameDesignGrows = (v w : View) (d : Layout) → WellNamed v → WellNamed w → Shows v d → Shows w d → Names v w → Grown v w

@@ -1,5 +1,5 @@
 //! Laws of the definitions, each the contract of a function that does nothing.
-ghost use Rattle.poly_tiling.specs.Laws.{NumbersMayGrow, NumbersReach, NumbersShow};
+ghost use Rattle.poly_tiling.specs.Laws.{NumbersMayGrow, NumbersReach, NumbersShow, SameDesignGrows};
 ghost use Rattle.poly_tiling.specs.Listings.{ListingsShow, OverShow};
 ghost use Rattle.poly_tiling.specs.TilingOrder.{RanksCompare};
 
@@ -33,4 +33,9 @@ pub fn listings_show()
 /// Where a view shows a design and has over so many tilings, so has the design.
 pub fn over_shows()
     ensures { OverShow }
+{}
+
+/// Two views of one design, of which the later one names what the earlier one names, are one view under numbers that go on.
+pub fn same_design_grows()
+    ensures { SameDesignGrows }
 {}

@@ -15,13 +15,14 @@ pub use conflicts::conflict;
 pub use item::Item;
 pub use laws::{
     listings_show, numbers_may_grow, numbers_reach, numbers_show, over_shows, ranks_compare,
+    same_design_grows,
 };
-pub use lister::list_tilings;
+pub use lister::{MAX_TILINGS, list_tilings};
 pub use numbering::item_list;
 pub use numbers::{ascends, has_all, has_number};
 pub use order::sort_tilings;
 pub use tiling::Tiling;
-pub use view::View;
+pub use view::{View, find_bound};
 
 #[cfg(test)]
 mod tests;

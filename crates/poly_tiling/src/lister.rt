@@ -17,7 +17,8 @@ use crate::view::View;
 use poly_grid::Refusal;
 use std::alloc::Global;
 
-const MAX_TILINGS: usize = 1_000_000;
+/// The most tilings that are listed.
+pub const MAX_TILINGS: usize = 1_000_000;
 
 /// All tilings of the view, each once, in no order that is promised.
 ///

@@ -1,5 +1,5 @@
 //! Lists of placement numbers.
-ghost use Rattle.std.specs.Prelude.{◌≡◌, nat_lt};
+ghost use Rattle.std.specs.Prelude.{◌≡◌};
 ghost use Rattle.std.specs.List.{list_all};
 ghost use Rattle.poly_tiling.specs.Lists.{ascending, mem};
 
@@ -14,16 +14,12 @@ pub fn has_number(numbers: &[u32], number: u32) -> bool
 pub fn ascends(numbers: &[u32]) -> bool
     ensures { result ≡ ascending numbers.now }
 {
-    match numbers {
-        [] => true,
-        [first, rest @ ..] => all_above(*first, rest) && ascends(rest),
+    for i in 1..numbers.len() {
+        if numbers[i] <= numbers[i - 1] {
+            return false;
+        }
     }
-}
-
-fn all_above(first: u32, rest: &[u32]) -> bool
-    ensures { result ≡ list_all (λ y. nat_lt first y) rest.now }
-{
-    rest.iter().all(|n| first < *n)
+    true
 }
 
 /// Whether all members stand in the list.

@@ -84,7 +84,7 @@ fn with_rank(
     ranks.dedup();
     Ok(Ranked {
         ranks,
-        tiling: tiling.copy(alloc)?,
+        tiling: tiling.copy()?,
     })
 }
 

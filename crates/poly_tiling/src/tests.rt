@@ -217,7 +217,7 @@ fn conflicts(rt: HostRuntime) -> Result<(), Fail> {
 fn copied_tilings(rt: HostRuntime) -> Result<(), Fail> {
     let alloc = rt.alloc();
     let tiling = Tiling::new(vec![in alloc; 1, 6]?);
-    assert_eq!(rt; tiling.copy(alloc)?.numbers(), [1, 6].as_slice());
+    assert_eq!(rt; tiling.copy()?.numbers(), [1, 6].as_slice());
     Ok(())
 }
 

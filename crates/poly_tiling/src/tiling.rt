@@ -3,7 +3,6 @@ ghost use Rattle.std.specs.Prelude.{true, IfOk, IfErr, ◌≡◌};
 ghost use Rattle.poly_tiling.specs.Lists.{ascending};
 
 use poly_grid::Refusal;
-use std::alloc::Global;
 use std::marker::Model;
 
 /// The numbers of a tiling's placements, ascending and each once.
@@ -32,6 +31,7 @@ impl Tiling {
         Tiling { numbers }
     }
 
+    /// The numbers, ascending and each once.
     pub fn numbers(&self) -> &[u32]
         ensures value { result.now ≡ self.now }
         ensures ascends { ascending self.now ≡ true }
@@ -39,13 +39,21 @@ impl Tiling {
         &self.numbers
     }
 
-    /// An equal tiling. The only refusal is `Memory`.
-    pub fn copy(&self, alloc: Global) -> Result<Tiling, Refusal>
+    /// The list of the numbers itself, without memory.
+    pub fn into_numbers(self) -> Vec<u32>
+        ensures value { result.items ≡ self }
+        ensures ascends { ascending result.items ≡ true }
+    {
+        self.numbers
+    }
+
+    /// An equal tiling. Fails only when out of memory.
+    pub fn copy(&self) -> Result<Tiling, Refusal>
         ensures ok { IfOk result (λ tiling. tiling ≡ self.now) }
         ensures why { IfErr result (λ e. e ≡ Refusal.Memory) }
     {
         Ok(Tiling {
-            numbers: Vec::from_slice(alloc, self.numbers())?,
+            numbers: Vec::from_slice(*self.numbers.allocator(), self.numbers())?,
         })
     }
 }

@@ -1,6 +1,7 @@
 //! Views: a design as its placement numbers show it.
-ghost use Rattle.std.specs.Prelude.{List, true, length, map, nat_le, nat_lt, ◌&&◌, not, slice_get, ℕ, ◌∷◌, ◌≡◌, ◌≤◌, Some};
+ghost use Rattle.std.specs.Prelude.{List, true, length, map, nat_le, ◌&&◌, not, slice_get, ℕ, ◌∷◌, ◌≡◌, ◌≤◌, Some};
 ghost use Rattle.std.specs.List.{list_all, list_any};
+ghost use Rattle.std.specs.Option.{is_some};
 ghost use Rattle.poly_tiling.specs.Puzzle.{Bound, bound_in, clash, count, found_or, has_item, is_piece, is_tiling, items, items_of, least, most, same_item};
 ghost use Rattle.poly_tiling.specs.Names.{WellNamed, items_ascend};
 ghost use Rattle.poly_tiling.specs.declared.item.Item.TheVariants.{Cell as CellItem, Piece as PieceItem};
@@ -84,8 +85,8 @@ impl View {
         self.placements.get(number as usize).copied()
     }
 
-    // How many numbers were given out.
-    pub(crate) fn number_count(&self) -> usize
+    /// How many numbers were given out: each number below it names a placement, and no other does.
+    pub fn number_count(&self) -> usize
         ensures { result ≡ length self.now.placements }
     {
         self.placements.len()
@@ -129,23 +130,6 @@ impl View {
             }
         }
         n
-    }
-
-    /// Whether the number's piece is in more of the numbers than its most.
-    pub fn is_over(&self, p: u32, numbers: &[u32]) -> bool
-        ensures { result ≡ list_any (λ i. is_piece i && nat_lt (most self.now i) (count self.now numbers.now i)) (items self.now p) }
-    {
-        match self.placements.get(p as usize) {
-            None => false,
-            Some(placement) => self.piece_over(placement.name, placement.cells.as_slice(), numbers),
-        }
-    }
-
-    fn piece_over(&self, name: Name, cells: &[Cell], numbers: &[u32]) -> bool
-        ensures { result ≡ list_any (λ i. is_piece i && nat_lt (most self.now i) (count self.now numbers.now i)) (PieceItem name ∷ map (λ c. CellItem c) cells.now) }
-    {
-        let piece = Item::Piece(name);
-        (self.bounds(piece).1 as usize) < self.count(numbers, &piece)
     }
 
     /// Whether the number's piece is in as many of the numbers as its most, or in more.
@@ -271,10 +255,11 @@ fn has_cell_item(cells: &[Cell], item: &Item) -> bool
     cells.iter().any(|c| Item::Cell(*c).is(item))
 }
 
-// The bound of the item.
-fn find_bound(bounds: &[(Item, u8, u8)], item: &Item) -> Option<(Item, u8, u8)>
+/// The item with its least and its most, found by halving; none if the list lacks it. The items have to ascend.
+pub fn find_bound(bounds: &[(Item, u8, u8)], item: &Item) -> Option<(Item, u8, u8)>
     requires { items_ascend bounds.now ≡ true }
-    ensures { (f : Bound → ℕ) → bound_in bounds.now item.now f ≡ found_or f result }
+    ensures bounds { (f : Bound → ℕ) → bound_in bounds.now item.now f ≡ found_or f result }
+    ensures there { is_some result ≡ list_any (λ b. same_item b.0 item.now) bounds.now }
 {
     match bounds.binary_search_by_key(item, |b| b.0) {
         Ok(at) => Some(bounds[at]),
