@@ -8,7 +8,8 @@ use Rattle.poly_atom.specs.declared.atom.Atom.TheVariants.{Has, Lacks}
 use Rattle.poly_atom.specs.Atoms.{meets, meets_all, in_family}
 use Rattle.poly_atom.specs.Hopeless.{base}
 use Rattle.poly_report.specs.Trees.{Plan, Rests, Finds, Branches, Splits, Arms, NoArms, OneArm}
-use Rattle.poly_report.specs.Holds.{dead, arm_atoms}
+use Rattle.poly_frame.specs.Open.{dead}
+use Rattle.poly_report.specs.Holds.{arm_atoms}
 use Rattle.poly_report.specs.Leaves.{tilings, arms_tilings}
 use Rattle.poly_report.specs.Laws.{TreeTilingsBelong}
 use Rattle.poly_tiling.proofs.Lists.{all_in, all_from, all_append}

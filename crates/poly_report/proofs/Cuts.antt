@@ -13,12 +13,13 @@ use Rattle.poly_atom.specs.declared.atom.Atom.TheVariants.{Has, Lacks}
 use Rattle.poly_atom.specs.Hopeless.{lacks}
 use Rattle.poly_report.specs.declared.tree.Arm.{Arm}
 use Rattle.poly_report.specs.Shapes.{arms_list, plan_of}
-use Rattle.poly_report.specs.Walk.{Walk, with_step}
+use Rattle.poly_frame.specs.Walk.{Walk, with_step}
 use Rattle.poly_report.specs.Trees.{Arms, Branches, OneArm, Plan, heads}
-use Rattle.poly_report.specs.Holds.{arm_atoms, arms_fit, arms_hold, dead, holds}
+use Rattle.poly_frame.specs.Open.{arms_fit, dead}
+use Rattle.poly_report.specs.Holds.{arm_atoms, arms_hold, holds}
 use Rattle.poly_report.specs.Leaves.{arms_rests, arms_tilings, rests, tilings}
 use Rattle.poly_report.specs.Gather.{taken_holds, taken_rests, taken_tilings}
-use Rattle.poly_report.proofs.Walks.{or_false}
+use Rattle.poly_frame.proofs.Walks.{or_false}
 
 pub fit_once : (v : View) (A : List Atom) (i : Item) (ps : List ℕ) → arms_fit v A i ps ≡ true → distinct ps ≡ true
 fit_once v A i ps h = (and_parts (distinct ps) _ (and_parts (distinct ps && _) _ h).0).0

@@ -1,206 +1,37 @@
 -- A tree that held keeps holding.
-use Rattle.std.proofs.Common.{◌≡◌, ℕ, Bool, true, false, not, ◌&&◌, ◌||◌, eqb, List, [], ◌∷◌, ◌++◌, ◌⊎◌, inl, inr, refl, sym, ap, subst, ◌∙◌, Option, Some, None, slice_get, ◌≤◌, leb, ltb, min, max, nat_lt, arith}
-use Rattle.std.specs.List.{list_any, list_all}
-use Rattle.std.proofs.lemmas.Bool.{eq-eqb, and_parts, and_from, or_cases, or_left, or_right, both_ways, not-true, not-false, not_from_false, false_from_ne_true, cases_Bool, and_cases, cond_both, leb-true, le-leb, ltb-true, ltb-false, lt-ltb}
-use Rattle.poly_tiling.specs.Lists.{mem, tally}
-use Rattle.poly_tiling.specs.Lists.{distinct}
-use Rattle.poly_tiling.specs.declared.item.Item.{Item}
+use Rattle.std.proofs.Common.{◌≡◌, ℕ, Bool, true, false, not, ◌||◌, eqb, List, [], ◌∷◌, ◌++◌, ◌⊎◌, inl, inr, refl, ap, subst, ◌∙◌, Option, Some, None, slice_get, ◌≤◌, ltb, arith}
+use Rattle.std.specs.List.{list_any}
+use Rattle.std.proofs.lemmas.Bool.{and_parts, and_from, or_cases, or_left, or_right, both_ways, not-true, not-false, not_from_false, false_from_ne_true, cases_Bool, and_cases, ltb-false}
+use Rattle.poly_tiling.specs.Lists.{mem}
 use Rattle.poly_design.specs.declared.placement.Placement.{Placement}
-use Rattle.poly_tiling.specs.Puzzle.{View, items, items_of, same_item, clash, share_cell, has_item, least, most}
+use Rattle.poly_tiling.specs.Puzzle.{View, items_of, same_item, clash, share_cell, least, most}
 use Rattle.poly_atom.specs.declared.atom.Atom.{Atom}
 use Rattle.poly_atom.specs.declared.atom.Atom.TheVariants.{Has, Lacks, AtLeast, AtMost}
 use Rattle.poly_atom.specs.Guards.{guards}
-use Rattle.poly_atom.specs.Hopeless.{base, lacks}
+use Rattle.poly_atom.specs.Hopeless.{base}
+use Rattle.poly_frame.proofs.Later.{Later, lacks_rules, later_arms, later_base, later_dead, later_push, later_ruled}
 use Rattle.poly_report.specs.Trees.{Plan, Rests, Finds, Branches, Splits, Arms, NoArms, OneArm, heads}
-use Rattle.poly_report.specs.Holds.{upper, asks, lower, others, ruled_out, open_in, dead, arms_fit, arm_atoms, holds, arms_hold}
+use Rattle.poly_frame.specs.Open.{ruled_out, open_in, dead, arms_fit}
+use Rattle.poly_report.specs.Holds.{arm_atoms, holds, arms_hold}
 use Rattle.poly_report.specs.Laws.{TreesKeepHolding}
 use Rattle.poly_tiling.specs.Names.{Names, WellNamed}
 use Rattle.poly_tiling.proofs.Orders.{live_once}
-use Rattle.poly_tiling.proofs.Lists.{In, all_in, all_from, any_in, any_from, mem_in, in_mem, in_append_left, in_append_right, in_append_cases, slice_get_more}
-use Rattle.poly_tiling.proofs.Counts.{tally_within, ascending_distinct}
-use Rattle.poly_atom.proofs.Bases.{base_in, base_up, in_base_has, in_base_pin}
-use Rattle.poly_tiling.proofs.Tilings.{same_item_is, same_item_self, bound_none}
+use Rattle.poly_tiling.proofs.Lists.{In, all_in, all_from, any_in, mem_in, in_mem, in_append_left, in_append_right, slice_get_more}
+use Rattle.poly_tiling.proofs.Tilings.{same_item_is, bound_none}
 use Rattle.poly_atom.proofs.GuardKinds.{guard_lacks, guard_least, guard_most, guard_has}
 use Rattle.poly_tiling.proofs.Named.{items_same, listed_item}
 
--- w is a later design than v, and the atoms B are those of A and what was laid on them since
-pub record Later (v : View) (A : List Atom) (w : View) (B : List Atom) : Type 0 where
-  pub atoms : (a : Atom) → In a A → In a B
-  pub placed : (p : ℕ) → In p w.live → In p v.live ⊎ In (Lacks p) B
-  pub enough : (i : Item) → (least v i ≤ least w i) ⊎ In (AtLeast i (least v i)) B
-  pub few : (p : ℕ) (i : Item) → In p v.live → has_item v p i ≡ true → (most w i ≤ most v i) ⊎ In (AtMost i (most v i)) B
-  pub pinned : (p : ℕ) → In p v.pins → In p w.pins ⊎ In (Has p) B
-  pub carried : (p : ℕ) (i : Item) → has_item v p i ≡ true → has_item w p i ≡ true
-  pub same_items : (p : ℕ) → In p v.live → items w p ≡ items v p
-  pub clashed : (p q : ℕ) → clash v p q ≡ true → clash w p q ≡ true
-  pub once : distinct w.live ≡ true
-
--- with more atoms on both
-later_push : (v w : View) (A B X : List Atom) → Later v A w B → Later v (A ++ X) w (B ++ X)
-later_push v w A B X l = record {
-  atoms = λ b i. elim (in_append_cases b A X i) [ inl j ↦ in_append_left b B X (l.atoms b j) | inr j ↦ in_append_right b B X j ];
-  placed = λ p i. elim (l.placed p i) [ inl j ↦ inl j | inr j ↦ inr (in_append_left (Lacks p) B X j) ];
-  enough = λ i. elim (l.enough i) [ inl j ↦ inl j | inr j ↦ inr (in_append_left _ B X j) ];
-  few = λ p i k h. elim (l.few p i k h) [ inl j ↦ inl j | inr j ↦ inr (in_append_left _ B X j) ];
-  pinned = λ p i. elim (l.pinned p i) [ inl j ↦ inl j | inr j ↦ inr (in_append_left (Has p) B X j) ];
-  carried = l.carried;
-  same_items = l.same_items;
-  clashed = l.clashed;
-  once = l.once;
-}
-
-pub upper_le_most : (v : View) (i : Item) (A : List Atom) → upper v A i ≤ most v i
-upper_le_most v i [] = omega arith
-upper_le_most v i (Has p ∷ A) = upper_le_most v i A
-upper_le_most v i (Lacks p ∷ A) = upper_le_most v i A
-upper_le_most v i (AtLeast j n ∷ A) = upper_le_most v i A
-upper_le_most v i (AtMost j n ∷ A) = let r = upper_le_most v i A in cond_both (same_item j i) (min n (upper v A i)) (upper v A i) (λ k. k ≤ most v i) (λ e. omega arith) (λ e. r)
-
-pub upper_le_atom : (v : View) (i : Item) (n : ℕ) (A : List Atom) → In (AtMost i n) A → upper v A i ≤ n
-upper_le_atom v i n [] k = absurd k
-upper_le_atom v i n (Has p ∷ A) (inl e) = cc
-upper_le_atom v i n (Has p ∷ A) (inr k) = upper_le_atom v i n A k
-upper_le_atom v i n (Lacks p ∷ A) (inl e) = cc
-upper_le_atom v i n (Lacks p ∷ A) (inr k) = upper_le_atom v i n A k
-upper_le_atom v i n (AtLeast j m ∷ A) (inl e) = cc
-upper_le_atom v i n (AtLeast j m ∷ A) (inr k) = upper_le_atom v i n A k
-upper_le_atom v i n (AtMost j m ∷ A) (inl e) =
-    let a : j ≡ i = cc in let b : m ≡ n = cc in
-    cond_both (same_item j i) (min m (upper v A i)) (upper v A i) (λ k. k ≤ n) (λ y. omega arith) (λ y. absurd (both_ways (same_item j i) y (ap (λ k. same_item k i) a ∙ same_item_self i)))
-upper_le_atom v i n (AtMost j m ∷ A) (inr k) = let r = upper_le_atom v i n A k in cond_both (same_item j i) (min m (upper v A i)) (upper v A i) (λ k. k ≤ n) (λ e. omega arith) (λ e. r)
-
-upper_from : (v : View) (i : Item) (k : ℕ) → k ≤ most v i → (A : List Atom) → ((n : ℕ) → In (AtMost i n) A → k ≤ n) → k ≤ upper v A i
-upper_from v i k h [] f = h
-upper_from v i k h (Has p ∷ A) f = upper_from v i k h A (λ n x. f n (inr x))
-upper_from v i k h (Lacks p ∷ A) f = upper_from v i k h A (λ n x. f n (inr x))
-upper_from v i k h (AtLeast j m ∷ A) f = upper_from v i k h A (λ n x. f n (inr x))
-upper_from v i k h (AtMost j m ∷ A) f =
-    let r = upper_from v i k h A (λ n x. f n (inr x)) in
-    cond_both (same_item j i) (min m (upper v A i)) (upper v A i) (λ u. k ≤ u) (λ e. let a = f m (inl (ap (λ x. AtMost x m) (same_item_is j i e))) in omega arith) (λ e. r)
-
-least_le_asks : (v : View) (i : Item) (A : List Atom) → least v i ≤ asks v A i
-least_le_asks v i [] = omega arith
-least_le_asks v i (Has p ∷ A) = least_le_asks v i A
-least_le_asks v i (Lacks p ∷ A) = least_le_asks v i A
-least_le_asks v i (AtMost j n ∷ A) = least_le_asks v i A
-least_le_asks v i (AtLeast j n ∷ A) = let r = least_le_asks v i A in cond_both (same_item j i) (max n (asks v A i)) (asks v A i) (λ k. least v i ≤ k) (λ e. omega arith) (λ e. r)
-
-atom_le_asks : (v : View) (i : Item) (n : ℕ) (A : List Atom) → In (AtLeast i n) A → n ≤ asks v A i
-atom_le_asks v i n [] k = absurd k
-atom_le_asks v i n (Has p ∷ A) (inl e) = cc
-atom_le_asks v i n (Has p ∷ A) (inr k) = atom_le_asks v i n A k
-atom_le_asks v i n (Lacks p ∷ A) (inl e) = cc
-atom_le_asks v i n (Lacks p ∷ A) (inr k) = atom_le_asks v i n A k
-atom_le_asks v i n (AtMost j m ∷ A) (inl e) = cc
-atom_le_asks v i n (AtMost j m ∷ A) (inr k) = atom_le_asks v i n A k
-atom_le_asks v i n (AtLeast j m ∷ A) (inl e) =
-    let a : j ≡ i = cc in let b : m ≡ n = cc in
-    cond_both (same_item j i) (max m (asks v A i)) (asks v A i) (λ k. n ≤ k) (λ y. omega arith) (λ y. absurd (both_ways (same_item j i) y (ap (λ k. same_item k i) a ∙ same_item_self i)))
-atom_le_asks v i n (AtLeast j m ∷ A) (inr k) = let r = atom_le_asks v i n A k in cond_both (same_item j i) (max m (asks v A i)) (asks v A i) (λ k. n ≤ k) (λ e. omega arith) (λ e. r)
-
-asks_from : (v : View) (i : Item) (k : ℕ) → least v i ≤ k → (A : List Atom) → ((n : ℕ) → In (AtLeast i n) A → n ≤ k) → asks v A i ≤ k
-asks_from v i k h [] f = h
-asks_from v i k h (Has p ∷ A) f = asks_from v i k h A (λ n x. f n (inr x))
-asks_from v i k h (Lacks p ∷ A) f = asks_from v i k h A (λ n x. f n (inr x))
-asks_from v i k h (AtMost j m ∷ A) f = asks_from v i k h A (λ n x. f n (inr x))
-asks_from v i k h (AtLeast j m ∷ A) f =
-    let r = asks_from v i k h A (λ n x. f n (inr x)) in
-    cond_both (same_item j i) (max m (asks v A i)) (asks v A i) (λ u. u ≤ k) (λ e. let a = f m (inl (ap (λ x. AtLeast x m) (same_item_is j i e))) in omega arith) (λ e. r)
-
-module _ (v w : View) (A B : List Atom) (l : Later v A w B) where
-  pub later_base : (p : ℕ) → In p (base v A) → In p (base w B)
-  later_base p i = elim (base_in v A p i) [
-    | inl j ↦ in_base_has w B p (l.atoms (Has p) j)
-    | inr j ↦ elim (l.pinned p j) [ inl k ↦ in_base_pin w B p k | inr k ↦ in_base_has w B p k ]
-  ]
-
-  later_tally : (f g : ℕ → Bool) → ((p : ℕ) → f p ≡ true → g p ≡ true) → tally f (base v A) ≤ tally g (base w B)
-  later_tally f g h = tally_within f g (base v A) (base w B) (ascending_distinct (base v A) (base_up v A)) (λ p i e. (later_base p i, h p e))
-
-  later_others : (p : ℕ) (i : Item) → others v (base v A) p i ≤ others w (base w B) p i
-  later_others p i = later_tally (λ q. has_item v q i && not (eqb q p)) (λ q. has_item w q i && not (eqb q p))
-      (λ q e. let es = and_parts (has_item v q i) (not (eqb q p)) e in and_from _ _ (l.carried q i es.0) es.1)
-
-  later_upper : (p : ℕ) (i : Item) → In p v.live → has_item v p i ≡ true → upper w B i ≤ upper v A i
-  later_upper p i k h = upper_from v i (upper w B i)
-      (elim (l.few p i k h) [ inl e ↦ let a = upper_le_most w i B in omega arith | inr e ↦ upper_le_atom w i (most v i) B e ])
-      A (λ n x. upper_le_atom w i n B (l.atoms (AtMost i n) x))
-
-  later_asks : (i : Item) → asks v A i ≤ asks w B i
-  later_asks i = asks_from v i (asks w B i)
-      (elim (l.enough i) [ inl e ↦ let a = least_le_asks w i B in omega arith | inr e ↦ atom_le_asks w i (least v i) B e ])
-      A (λ n x. atom_le_asks w i n B (l.atoms (AtLeast i n) x))
-
-  later_lower : (i : Item) → lower v A i ≤ lower w B i
-  later_lower i = let a = later_asks i in let b = later_tally (λ p. has_item v p i) (λ p. has_item w p i) (λ p e. l.carried p i e) in omega arith
-
-  pub later_ruled : (p : ℕ) → In p v.live → ruled_out v A p ≡ true → ruled_out w B p ≡ true
-  later_ruled p k h = elim (or_cases (list_any (λ a. lacks a p) A || list_any (λ q. clash v p q) (base v A)) (list_any (λ i. leb (upper v A i) (others v (base v A) p i)) (items v p)) h) [
-    | inl e ↦ or_left _ _ (elim (or_cases (list_any (λ a. lacks a p) A) (list_any (λ q. clash v p q) (base v A)) e) [
-      | inl f ↦ let x = any_in (λ a. lacks a p) A f in or_left _ _ (any_from (λ a. lacks a p) B x.0 (l.atoms x.0 x.1) x.2)
-      | inr c ↦ let x = any_in (λ q. clash v p q) (base v A) c in
-          or_right (list_any (λ a. lacks a p) B) _ (any_from (λ q. clash w p q) (base w B) x.0 (later_base x.0 x.1) (l.clashed p x.0 x.2))
-    ])
-    | inr u ↦
-        let x = any_in (λ i. leb (upper v A i) (others v (base v A) p i)) (items v p) u in
-        let i = x.0 in
-        let has = any_from (λ j. same_item j i) (items v p) i x.1 (same_item_self i) in
-        let a = leb-true _ _ x.2 in
-        let b = later_upper p i k has in
-        let c = later_others p i in
-        or_right (list_any (λ a. lacks a p) B || list_any (λ q. clash w p q) (base w B)) _
-        (any_from (λ i. leb (upper w B i) (others w (base w B) p i)) (items w p) i (subst (λ js. In i js) (sym (l.same_items p k)) x.1) (le-leb _ _ (omega arith)))
-  ]
-
-  pub lacks_rules : (p : ℕ) → In (Lacks p) B → ruled_out w B p ≡ true
-  lacks_rules p i = or_left _ _ (or_left _ _ (any_from (λ a. lacks a p) B (Lacks p) i (eq-eqb p p refl)))
-
-  later_dead : (p : ℕ) → dead v A p ≡ true → dead w B p ≡ true
-  later_dead p h = elim (or_cases (not (mem v.live p)) (list_any (λ a. lacks a p) A) h) [
-    | inl n ↦ elim (cases_Bool (mem w.live p)) [
-      | inl y ↦ elim (l.placed p (mem_in w.live p y)) [
-        | inl j ↦ absurd (both_ways (mem v.live p) (not-true _ n) (in_mem v.live p j))
-        | inr j ↦ or_right (not (mem w.live p)) _ (any_from (λ a. lacks a p) B (Lacks p) j (eq-eqb p p refl))
-      ]
-      | inr m ↦ or_left _ _ (not_from_false _ m)
-    ]
-    | inr k ↦ let x = any_in (λ a. lacks a p) A k in or_right (not (mem w.live p)) _ (any_from (λ a. lacks a p) B x.0 (l.atoms x.0 x.1) x.2)
-  ]
-
-  later_found : holds v A Finds ≡ true → holds w B Finds ≡ true
-  later_found h = all_from (λ p. not (open_in w B p)) w.live (λ p i. not_from_false _ (false_from_ne_true (open_in w B p) (λ o.
-      let os = and_parts (not (mem (base w B) p)) (not (ruled_out w B p)) o in
-      elim (l.placed p i) [
-        | inl j ↦ let closed = not-true _ (all_in (λ p. not (open_in v A p)) v.live h p j) in
-            elim (and_cases (not (mem (base v A) p)) (not (ruled_out v A p)) closed) [
-              | inl b ↦ both_ways (mem (base w B) p) (not-true _ os.0) (in_mem (base w B) p (later_base p (mem_in (base v A) p (not-false _ b))))
-              | inr r ↦ both_ways (ruled_out w B p) (not-true _ os.1) (later_ruled p j (not-false _ r))
-            ]
-        | inr j ↦ both_ways (ruled_out w B p) (not-true _ os.1) (lacks_rules p j)
-      ])))
-
-  later_arms : (i : Item) (ps : List ℕ) → arms_fit v A i ps ≡ true → arms_fit w B i ps ≡ true
-  later_arms i ps f =
-      let loose = λ (p : ℕ). has_item v p i && not (ruled_out v A p) && not (mem ps p) in
-      let loose' = λ (p : ℕ). has_item w p i && not (ruled_out w B p) && not (mem ps p) in
-      let f2 = and_parts (distinct ps && list_all (λ p. has_item v p i) ps) (nat_lt (tally loose v.live) (lower v A i)) f in
-      let f1 = and_parts (distinct ps) (list_all (λ p. has_item v p i) ps) f2.0 in
-      let fewer = tally_within loose' loose w.live v.live l.once (λ p k e.
-      let e2 = and_parts (has_item w p i && not (ruled_out w B p)) (not (mem ps p)) e in
-      let e1 = and_parts (has_item w p i) (not (ruled_out w B p)) e2.0 in
-      elim (l.placed p k) [
-        | inl j ↦ (
-          j,
-          and_from _ _ (and_from _ _ (sym (ap (λ js. list_any (λ x. same_item x i) js) (l.same_items p j)) ∙ e1.0)
-              (not_from_false _ (false_from_ne_true (ruled_out v A p) (λ r. both_ways (ruled_out w B p) (not-true _ e1.1) (later_ruled p j r))))) e2.1,
-        )
-        | inr j ↦ absurd (both_ways (ruled_out w B p) (not-true _ e1.1) (lacks_rules p j))
-      ]) in
-      let a = ltb-true _ _ f2.1 in
-      let b = later_lower i in
-      and_from _ _
-      (and_from _ _ f1.0 (all_from (λ p. has_item w p i) ps (λ p j. l.carried p i (all_in (λ p. has_item v p i) ps f1.1 p j))))
-      (lt-ltb _ _ (omega arith))
+later_found : (v w : View) (A B : List Atom) → Later v A w B → holds v A Finds ≡ true → holds w B Finds ≡ true
+later_found v w A B l h = all_from (λ p. not (open_in w B p)) w.live (λ p i. not_from_false _ (false_from_ne_true (open_in w B p) (λ o.
+    let os = and_parts (not (mem (base w B) p)) (not (ruled_out w B p)) o in
+    elim (l.placed p i) [
+      | inl j ↦ let closed = not-true _ (all_in (λ p. not (open_in v A p)) v.live h p j) in
+          elim (and_cases (not (mem (base v A) p)) (not (ruled_out v A p)) closed) [
+            | inl b ↦ both_ways (mem (base w B) p) (not-true _ os.0) (in_mem (base w B) p (later_base v w A B l p (mem_in (base v A) p (not-false _ b))))
+            | inr r ↦ both_ways (ruled_out w B p) (not-true _ os.1) (later_ruled v w A B l p j (not-false _ r))
+          ]
+      | inr j ↦ both_ways (ruled_out w B p) (not-true _ os.1) (lacks_rules v w A B l p j)
+    ])))
 
 -- what hangs under a placement that may have died
 later_child : (d e h k : Bool) → (d ≡ true → e ≡ true) → (h ≡ true → k ≡ true) → (d || h) ≡ true → (e || k) ≡ true

@@ -12,7 +12,8 @@ use Rattle.poly_atom.specs.declared.atom.Atom.TheVariants.{Has, Lacks}
 use Rattle.poly_atom.specs.Atoms.{meets, meets_all, in_family}
 use Rattle.poly_atom.specs.Hopeless.{base}
 use Rattle.poly_report.specs.Trees.{Plan, Rests, Finds, Branches, Splits, Arms, NoArms, OneArm, heads}
-use Rattle.poly_report.specs.Holds.{ruled_out, open_in, dead, lower, arms_fit, arm_atoms, holds, arms_hold}
+use Rattle.poly_frame.specs.Open.{ruled_out, open_in, dead, lower, arms_fit}
+use Rattle.poly_report.specs.Holds.{arm_atoms, holds, arms_hold}
 use Rattle.poly_report.specs.Leaves.{tilings, arms_tilings, rests, arms_rests}
 use Rattle.poly_report.specs.Laws.{TreesShareOut}
 use Rattle.poly_tiling.proofs.Lists.{all_in, any_from, mem_in, in_mem, tally_append, all_append}
@@ -21,7 +22,7 @@ use Rattle.poly_tiling.proofs.Counts.{tally_within, ascending_distinct}
 use Rattle.poly_atom.proofs.Stairs.{meets_push, one_split, and_true}
 use Rattle.poly_tiling.proofs.Tilings.{IsTiling, parts}
 use Rattle.poly_atom.proofs.Bases.{base_up, base_within, base_fewer}
-use Rattle.poly_report.proofs.Ruled.{not_ruled_out, dead_is_out, asks_is}
+use Rattle.poly_frame.proofs.Ruled.{not_ruled_out, dead_is_out, asks_is}
 
 -- a member that is open nowhere is in the base
 found_same : (v : View) (T : List ℕ) (A : List Atom) → IsTiling v T → meets_all v T A ≡ true → holds v A Finds ≡ true → base v A ≡ T

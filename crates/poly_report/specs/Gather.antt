@@ -5,7 +5,8 @@ use Rattle.poly_tiling.specs.Puzzle.{View}
 use Rattle.poly_atom.specs.declared.atom.Atom.{Atom}
 use Rattle.poly_atom.specs.declared.atom.Atom.TheVariants.{Has}
 use Rattle.poly_report.specs.Trees.{Plan}
-use Rattle.poly_report.specs.Holds.{dead, holds}
+use Rattle.poly_frame.specs.Open.{dead}
+use Rattle.poly_report.specs.Holds.{holds}
 use Rattle.poly_report.specs.Leaves.{rests, tilings}
 
 -- vectors as lists

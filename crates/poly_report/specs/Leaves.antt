@@ -6,7 +6,8 @@ use Rattle.poly_atom.specs.declared.atom.Atom.TheVariants.{Has, Lacks}
 use Rattle.poly_atom.specs.Hopeless.{base}
 use Rattle.poly_atom.specs.Atoms.{in_family}
 use Rattle.poly_report.specs.Trees.{Plan, Rests, Finds, Branches, Splits, Arms, NoArms, OneArm}
-use Rattle.poly_report.specs.Holds.{dead, arm_atoms}
+use Rattle.poly_frame.specs.Open.{dead}
+use Rattle.poly_report.specs.Holds.{arm_atoms}
 
 abbrev mutual
   pub tilings : View → List Atom → Plan → List (List ℕ)

@@ -3,15 +3,5 @@ pub mod Shapes
 pub mod Sizes
 pub mod Holds
 pub mod Leaves
-pub mod Walk
-pub mod Plain
-pub mod Frames
-pub mod Lending
 pub mod Gather
 pub mod Laws
-pub mod Bits
-pub mod FrameItems
-pub mod FrameTable
-pub mod FrameMembers
-pub mod FrameSound
-pub mod FrameSteps

@@ -6,7 +6,7 @@ use Rattle.poly_tiling.specs.Puzzle.{View}
 use Rattle.poly_report.specs.Trees.{Plan, Rests, Finds, Branches, Splits, Arms, NoArms, OneArm}
 use Rattle.poly_report.specs.Holds.{holds, arms_hold}
 use Rattle.poly_report.specs.Leaves.{rests, arms_rests}
-use Rattle.poly_report.specs.Walk.{open_count}
+use Rattle.poly_frame.specs.Walk.{open_count}
 
 abbrev mutual
   pub total : Plan → ℕ

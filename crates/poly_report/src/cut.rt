@@ -9,10 +9,11 @@ ghost use Rattle.poly_report.specs.Holds.{arms_hold, holds};
 ghost use Rattle.poly_report.specs.Leaves.{arms_rests, arms_tilings, rests, tilings};
 ghost use Rattle.poly_report.specs.Gather.{IsCutUp, lists, taken_holds, taken_rests, taken_tilings};
 
-use crate::frame::Frame;
+use crate::arms::arms_fit;
 use crate::leaf::Leaves;
 use crate::tree::{Arm, Tree};
 use poly_atom::Atom;
+use poly_frame::Frame;
 use poly_grid::Refusal;
 use poly_tiling::{Tiling, View};
 use std::alloc::Global;
@@ -90,7 +91,7 @@ fn walk(
             Ok(true)
         }
         Tree::Branch { item, arms } => {
-            if !frame.arms_fit(*item, arms) {
+            if !arms_fit(frame, item, arms) {
                 return Ok(false);
             }
             let yes = walk_arms(alloc, frame, arms, keep, out)?;

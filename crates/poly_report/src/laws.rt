@@ -1,5 +1,6 @@
 //! Laws of the definitions, each the contract of a function that does nothing.
-ghost use Rattle.poly_report.specs.Laws.{StepsComeBack, TreeTilingsBelong, TreesKeepHolding, TreesShareOut};
+ghost use Rattle.poly_frame.specs.Laws.{StepsComeBack};
+ghost use Rattle.poly_report.specs.Laws.{TreeTilingsBelong, TreesKeepHolding, TreesShareOut};
 
 /// Each tiling of the family is one of the tree's tilings, once, or in exactly one rest's family; no other is in any.
 pub fn trees_share_out()
@@ -14,9 +15,4 @@ pub fn tree_tilings_belong()
 /// A tree that held holds in the later design for its atoms and the guards of the change.
 pub fn trees_keep_holding()
     ensures { TreesKeepHolding }
-{}
-
-/// After a step and its taking back the base, the options of each item and their number are those before.
-pub fn steps_come_back()
-    ensures { StepsComeBack }
 {}

@@ -3,7 +3,7 @@ ghost use Rattle.std.specs.Prelude.{IfOk, OnOk, ◌≡◌, ◌≢◌};
 ghost use Rattle.poly_design.specs.Limits.{AreOfGrid, NoneBlocked};
 
 use crate::tree::{Arm, Tree};
-use crate::{Frame, cut_up, fits};
+use crate::{cut_up, fits};
 use poly_atom::Atom;
 use poly_design::{CellsSet, Copies, Design, Mode, Name, Placement, Spec};
 use poly_grid::{Cell, Grid, Refusal};

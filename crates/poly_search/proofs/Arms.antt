@@ -8,10 +8,10 @@ use Rattle.poly_atom.specs.declared.atom.Atom.TheVariants.{Has, Lacks}
 use Rattle.poly_tiling.specs.declared.item.Item.{Item}
 use Rattle.poly_tiling.specs.Lists.{mem, distinct}
 use Rattle.poly_report.specs.Trees.{Finds}
-use Rattle.poly_report.specs.Holds.{open_in}
+use Rattle.poly_frame.specs.Open.{open_in}
 use Rattle.poly_report.specs.Leaves.{tilings}
-use Rattle.poly_report.specs.Walk.{Walk, with_step, step_back, is_due, is_open, is_option}
-use Rattle.poly_report.proofs.Back.{step_undone}
+use Rattle.poly_frame.specs.Walk.{Walk, with_step, step_back, is_due, is_open, is_option}
+use Rattle.poly_frame.proofs.Back.{step_undone}
 use Rattle.poly_search.specs.Sweeps.{Swept, IsLighter, Partly}
 use Rattle.poly_search.proofs.Swept.{partly_swept, partly_lighter, found_swept, item_swept, option_behind, behind_more, behind}
 

@@ -11,10 +11,11 @@ use Rattle.poly_tiling.proofs.Lists.{In, in_append_right, in_map}
 use Rattle.poly_report.specs.declared.tree.Arm.{Arm}
 use Rattle.poly_report.specs.Trees.{Plan, Rests, Splits, Arms, NoArms, OneArm, heads}
 use Rattle.poly_report.specs.Shapes.{plan_of, arms_list}
-use Rattle.poly_report.specs.Holds.{dead, holds, open_in, arm_atoms}
+use Rattle.poly_frame.specs.Open.{dead, open_in}
+use Rattle.poly_report.specs.Holds.{holds, arm_atoms}
 use Rattle.poly_report.specs.Leaves.{rests}
 use Rattle.poly_report.specs.Sizes.{total, arms_total, inner, arms_inner, deep, is_rest, all_fewer, Grown}
-use Rattle.poly_report.specs.Walk.{Walk, with_step, is_option, open_count}
+use Rattle.poly_frame.specs.Walk.{Walk, with_step, is_option, open_count}
 use Rattle.poly_tiling.specs.declared.item.Item.{Item}
 use Rattle.poly_search.specs.Chains.{chain, Serves, Ends, Chains}
 use Rattle.poly_search.proofs.Nodes.{snoc, list_snoc, heads_snoc, both, cut, child_at, option_at}

@@ -9,9 +9,10 @@ use Rattle.poly_atom.specs.declared.atom.Atom.TheVariants.{Has, Lacks}
 use Rattle.poly_tiling.specs.Lists.{mem, distinct}
 use Rattle.poly_tiling.specs.Puzzle.{View, has_item}
 use Rattle.poly_report.specs.Trees.{Plan, Rests, Finds, Branches, Splits, Arms, NoArms, OneArm, heads}
-use Rattle.poly_report.specs.Holds.{open_in, dead, arms_fit, arm_atoms, holds, arms_hold}
+use Rattle.poly_frame.specs.Open.{open_in, dead, arms_fit}
+use Rattle.poly_report.specs.Holds.{arm_atoms, holds, arms_hold}
 use Rattle.poly_report.specs.Leaves.{rests, arms_rests}
-use Rattle.poly_report.specs.Walk.{Walk, with_step, back_to, is_open, is_option, is_due, open_count}
+use Rattle.poly_frame.specs.Walk.{Walk, with_step, back_to, is_open, is_option, is_due, open_count}
 use Rattle.poly_tiling.proofs.Lists.{In, all_in, all_from, all_append, in_append_right, in_mem}
 use Rattle.poly_report.specs.declared.tree.Arm.{Arm}
 use Rattle.poly_report.specs.Shapes.{plan_of, arms_list}

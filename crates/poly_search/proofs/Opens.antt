@@ -7,12 +7,12 @@ use Rattle.poly_atom.specs.declared.atom.Atom.TheVariants.{Has, Lacks}
 use Rattle.poly_tiling.specs.Lists.{mem, tally, distinct}
 use Rattle.poly_tiling.specs.Puzzle.{View, has_item, count}
 use Rattle.poly_atom.specs.Hopeless.{base}
-use Rattle.poly_report.specs.Holds.{asks, lower, ruled_out, open_in, arms_fit}
-use Rattle.poly_report.specs.Walk.{open_count}
+use Rattle.poly_frame.specs.Open.{asks, lower, ruled_out, open_in, arms_fit}
+use Rattle.poly_frame.specs.Walk.{open_count}
 use Rattle.poly_tiling.proofs.Lists.{In, all_from, mem_in, in_mem, in_append_left}
 use Rattle.poly_tiling.proofs.Counts.{tally_within, tally_fewer}
 use Rattle.poly_atom.proofs.Bases.{in_base_has}
-use Rattle.poly_report.proofs.Later.{Later, later_base, later_ruled, lacks_rules}
+use Rattle.poly_frame.proofs.Later.{Later, later_base, later_ruled, lacks_rules}
 
 -- the same design with more atoms
 same_later : (v : View) (A B : List Atom) → distinct v.live ≡ true → Later v A v (A ++ B)

@@ -12,15 +12,15 @@ use Rattle.poly_tiling.specs.Puzzle.{View, is_tiling, has_item, same_item, count
 use Rattle.poly_atom.specs.Atoms.{meets_all, in_family}
 use Rattle.poly_atom.specs.Hopeless.{base}
 use Rattle.poly_report.specs.Trees.{Finds, Branches, NoArms}
-use Rattle.poly_report.specs.Holds.{asks, open_in}
+use Rattle.poly_frame.specs.Open.{asks, open_in}
 use Rattle.poly_report.specs.Leaves.{tilings}
-use Rattle.poly_report.specs.Walk.{open_count, is_due}
+use Rattle.poly_frame.specs.Walk.{open_count, is_due}
 use Rattle.poly_tiling.proofs.Lists.{all_in, all_append, tally_append, in_mem, in_append_right}
 use Rattle.poly_tiling.proofs.Tilings.{parts}
 use Rattle.poly_atom.proofs.Stairs.{meets_push, one_split}
 use Rattle.poly_report.proofs.Trees.{trees_share_out_lem}
 use Rattle.poly_report.proofs.Belong.{tree_tilings_belong_lem}
-use Rattle.poly_report.proofs.Steps.{base_leave, open_leave}
+use Rattle.poly_frame.proofs.Steps.{base_leave, open_leave}
 use Rattle.poly_search.proofs.Opens.{fewer_has, fewer_lacks, options_fit}
 use Rattle.poly_search.proofs.Nodes.{in_at}
 use Rattle.poly_search.specs.Sweeps.{weights, times, all_tilings, Swept, IsLighter, Partly}

@@ -5,7 +5,7 @@ use Rattle.poly_atom.specs.declared.atom.Atom.{Atom}
 use Rattle.poly_tiling.specs.Lists.{one, tally, same_list}
 use Rattle.poly_tiling.specs.Puzzle.{View, is_tiling}
 use Rattle.poly_atom.specs.Atoms.{meets_all}
-use Rattle.poly_report.specs.Walk.{open_count}
+use Rattle.poly_frame.specs.Walk.{open_count}
 
 -- How much there is to do. A family that is cut up in two, each with fewer open placements, weighs more than both.
 abbrev pub weights : View → List (List Atom) → ℕ

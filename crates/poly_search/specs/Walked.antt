@@ -4,7 +4,7 @@ use Rattle.poly_report.specs.declared.tree.Arm.{Arm}
 use Rattle.poly_report.specs.Trees.{heads}
 use Rattle.poly_report.specs.Shapes.{arms_list}
 use Rattle.poly_report.specs.Sizes.{ArmsGrown}
-use Rattle.poly_report.specs.Walk.{Walk}
+use Rattle.poly_frame.specs.Walk.{Walk}
 use Rattle.poly_search.specs.Chains.{Chains}
 
 -- where the walk stopped early: a chain over the arms can be paid for

@@ -9,7 +9,7 @@ ghost use Rattle.poly_tiling.specs.Lists.{distinct, mem};
 ghost use Rattle.poly_report.specs.Trees.{Rests};
 ghost use Rattle.poly_report.specs.Shapes.{plan_of, arms_list};
 ghost use Rattle.poly_report.specs.Sizes.{total, arms_total, inner, arms_inner, is_rest, Grown};
-ghost use Rattle.poly_report.specs.Walk.{is_due, is_open, is_option};
+ghost use Rattle.poly_frame.specs.Walk.{is_due, is_open, is_option};
 ghost use Rattle.poly_search.specs.Chains.{chain};
 ghost use Rattle.poly_search.specs.Walked.{Walked};
 

@@ -9,7 +9,7 @@ ghost use Rattle.poly_tiling.specs.Lists.{distinct, mem};
 ghost use Rattle.poly_report.specs.Trees.{Finds};
 ghost use Rattle.poly_report.specs.Leaves.{tilings};
 ghost use Rattle.poly_report.specs.Gather.{lists};
-ghost use Rattle.poly_report.specs.Walk.{is_due, is_open, is_option, with_step};
+ghost use Rattle.poly_frame.specs.Walk.{is_due, is_open, is_option, with_step};
 ghost use Rattle.poly_search.specs.Sweeps.{IsLighter, Partly, Swept};
 
 use poly_atom::Atom;

@@ -4,10 +4,11 @@ use Rattle.poly_report.specs.declared.tree.Tree.{the_lemmas}
 use Rattle.poly_report.specs.Trees.{Branches, heads}
 use Rattle.poly_report.specs.Shapes.{arms_list, plan_of}
 use Rattle.poly_report.specs.Sizes.{arms_total, total}
-use Rattle.poly_report.specs.Holds.{arms_fit, arms_hold}
+use Rattle.poly_frame.specs.Open.{arms_fit}
+use Rattle.poly_report.specs.Holds.{arms_hold}
 use Rattle.poly_report.specs.Leaves.{rests, tilings}
 use Rattle.poly_report.specs.Gather.{lists}
-use Rattle.poly_report.specs.Walk.{Walk}
+use Rattle.poly_frame.specs.Walk.{Walk}
 use Rattle.poly_report.proofs.Rows.{plan_of-Branch}
 use Rattle.poly_report.proofs.Measures.{total_some}
 use Rattle.poly_report.proofs.Cuts.{branch_says, fit_once, leave_at, length_at, rests_at, says_at, tilings_at, unwalked_at}

@@ -4,7 +4,7 @@ use Rattle.poly_report.specs.declared.tree.Arm.{Arm}
 use Rattle.poly_report.specs.Shapes.{plan_of}
 use Rattle.std.proofs.lemmas.Bool.{true≢false}
 use Rattle.poly_report.specs.Sizes.{Grown}
-use Rattle.poly_report.specs.Walk.{Walk}
+use Rattle.poly_frame.specs.Walk.{Walk}
 use Rattle.poly_search.specs.declared.growth.Budget.{Budget}
 use Rattle.poly_search.proofs.Nodes.{back_is, split_of, past_next, names_next, total_next, inner_next, grown_next, total_some}
 use Rattle.poly_search.proofs.Links.{linked_next, grown_deeper}

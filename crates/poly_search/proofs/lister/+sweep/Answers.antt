@@ -1,7 +1,7 @@
 use Rattle.std.proofs.Common.{◌≡◌, ℕ, ◌+◌, ◌<◌, ◌≤◌, length, ◌++◌, [], ◌∷◌, List, true, arith, rules, sym, ap, subst, ◌∙◌}
 use Rattle.poly_tiling.specs.Lists.{distinct}
 use Rattle.poly_report.specs.Gather.{lists}
-use Rattle.poly_report.specs.Walk.{Walk}
+use Rattle.poly_frame.specs.Walk.{Walk}
 use Rattle.poly_search.specs.Sweeps.{Swept, IsLighter, Partly}
 use Rattle.poly_search.proofs.Swept.{swept_rest, arm_partly, arm_swept, partly_more}
 use Rattle.poly_search.proofs.Arms.{left_is, option_opens, passed_more, passed_begun, options_end, open_end}

@@ -1,6 +1,6 @@
 use Rattle.std.proofs.Common.{◌≡◌, ◌<◌, [], length, rules, subst}
 use Rattle.poly_report.specs.Gather.{lists}
-use Rattle.poly_report.specs.Walk.{Walk}
+use Rattle.poly_frame.specs.Walk.{Walk}
 use Rattle.poly_search.specs.Sweeps.{IsLighter, Swept}
 use Rattle.poly_search.specs.Whole.{SharedOut}
 use Rattle.poly_search.proofs.Families.{at_most, last_rest, none_left, shared_next, weighs_less, whole_family}

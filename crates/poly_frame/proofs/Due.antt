@@ -1,0 +1,43 @@
+-- Where nothing is due.
+use Rattle.std.proofs.Common.{Bool, List, [], arith, false, inl, inr, max, nat_lt, not, subst, true, ℕ, ◌∙◌, ◌∷◌, ◌≡◌}
+use Rattle.std.proofs.lemmas.Bool.{cases_Bool, cond-false, false_from_ne_true, ltb-true, not-true, or_parts}
+use Rattle.std.specs.List.{list_all, list_any}
+use Rattle.poly_tiling.specs.declared.item.Item.{Item}
+use Rattle.poly_tiling.specs.Puzzle.{View, count, same_item}
+use Rattle.poly_tiling.proofs.Lists.{all_in, any_in}
+use Rattle.poly_tiling.proofs.Tilings.{bound_none, same_item_is}
+use Rattle.poly_atom.specs.declared.atom.Atom.{Atom}
+use Rattle.poly_atom.specs.declared.atom.Atom.TheVariants.{AtLeast, AtMost, Has, Lacks}
+use Rattle.poly_frame.specs.Open.{asks}
+use Rattle.poly_frame.specs.Plain.{asks_for, of_asked}
+
+-- an item that neither the design nor an atom speaks of is asked for by none
+asks_none : (v : View) (A : List Atom) (i : Item) → list_any (λ b. same_item b.0 i) v.bounds ≡ false → list_any (asks_for i) A ≡ false → asks v A i ≡ 0
+asks_none v [] i n m = bound_none v.bounds i (λ b. b.1) n
+asks_none v (Has p ∷ A) i n m = asks_none v A i n m
+asks_none v (Lacks p ∷ A) i n m = asks_none v A i n m
+asks_none v (AtLeast j k ∷ A) i n m =
+    let ms = or_parts (same_item j i) (list_any (asks_for i) A) m in
+    cond-false (same_item j i) (max k (asks v A i)) (asks v A i) ms.0 ∙ asks_none v A i n ms.1
+asks_none v (AtMost j k ∷ A) i n m = asks_none v A i n m
+
+asked_one : (f : Item → Bool) (i : Item) (a : Atom) → asks_for i a ≡ true → of_asked f a ≡ true → f i ≡ true
+asked_one f i (Has p) s h = absurd (cc)
+asked_one f i (Lacks p) s h = absurd (cc)
+asked_one f i (AtLeast j n) s h = subst (λ k. f k ≡ true) (same_item_is j i s) h
+asked_one f i (AtMost j n) s h = absurd (cc)
+
+-- where no item of the design and none that an atom asks for is due, none is
+pub none_due : (v : View) (A : List Atom) (T : List ℕ) →
+    list_all (λ b. not (nat_lt (count v T b.0) (asks v A b.0))) v.bounds ≡ true →
+    list_all (of_asked (λ i. not (nat_lt (count v T i) (asks v A i)))) A ≡ true →
+    (i : Item) → nat_lt (count v T i) (asks v A i) ≡ false
+none_due v A T bounds atoms i =
+    let free = λ (k : Item). not (nat_lt (count v T k) (asks v A k)) in
+    elim (cases_Bool (list_any (λ b. same_item b.0 i) v.bounds)) [
+      | inl y ↦ let x = any_in (λ b. same_item b.0 i) v.bounds y in not-true _ (subst (λ k. free k ≡ true) (same_item_is x.0.0 i x.2) (all_in (λ b. free b.0) v.bounds bounds x.0 x.1))
+      | inr n ↦ elim (cases_Bool (list_any (asks_for i) A)) [
+        | inl y ↦ let x = any_in (asks_for i) A y in not-true _ (asked_one free i x.0 x.2 (all_in (of_asked free) A atoms x.0 x.1))
+        | inr m ↦ let e = asks_none v A i n m in false_from_ne_true (nat_lt (count v T i) (asks v A i)) (λ h. let l = ltb-true _ _ h in omega arith)
+      ]
+    ]

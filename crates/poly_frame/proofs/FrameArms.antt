@@ -1,0 +1,150 @@
+-- What the rows say of the arms of a Branch, of dead placements and of a base that is short.
+use Rattle.std.proofs.Common.{◌≡◌, ℕ, zero, suc, ◌+◌, ◌-◌, ◌*◌, ◌<◌, ◌≤◌, Bool, true, false, max, not, ◌&&◌, ◌||◌, ltb, leb, List, [], ◌∷◌, ◌++◌, sym, ap, ◌∙◌, arith, length, get_or, take}
+use Rattle.std.specs.List.{list_any}
+use Rattle.std.proofs.lemmas.Bool.{and_from, and_parts, false_from_ne_true, lt-ltb, ltb-true, not-true, or_parts}
+use Rattle.std.proofs.lemmas.List.{take_more}
+use Rattle.poly_tiling.specs.declared.item.Item.{Item}
+use Rattle.poly_tiling.specs.Lists.{distinct, mem, one, tally}
+use Rattle.poly_tiling.specs.Puzzle.{View, clash, count, has_item, is_tiling, items, same_item}
+use Rattle.poly_tiling.proofs.Lists.{In, in_mem, mem_in, same_truth}
+use Rattle.poly_tiling.proofs.Counts.{ascending_distinct, tally_within}
+use Rattle.poly_tiling.proofs.Orders.{live_once}
+use Rattle.poly_tiling.proofs.Tilings.{parts, same_item_is}
+use Rattle.poly_atom.specs.declared.atom.Atom.{Atom}
+use Rattle.poly_atom.specs.Atoms.{in_family, meets_all}
+use Rattle.poly_atom.specs.Hopeless.{base, lacks}
+use Rattle.poly_atom.proofs.Bases.{base_up}
+use Rattle.poly_frame.specs.Open.{asks, dead, lower, open_in, others, ruled_out, upper}
+use Rattle.poly_frame.specs.Bits.{in_both}
+use Rattle.poly_frame.specs.FrameItems.{item_of}
+use Rattle.poly_frame.specs.FrameSteps.{Kept}
+use Rattle.poly_frame.specs.declared.frame.table.Table.{Table}
+use Rattle.poly_frame.proofs.Ruled.{asks_is}
+use Rattle.poly_frame.proofs.FrameSteps.{top_have, top_level}
+use Rattle.poly_frame.proofs.FrameLooks.{open_first, row_says}
+
+-- an open placement is not dead
+pub open_lives : (v : View) (A : List Atom) (p : ℕ) → mem v.live p ≡ true → open_in v A p ≡ true → dead v A p ≡ false
+open_lives v A p m o =
+    let free = not-true _ (and_parts (not (mem (base v A) p)) (not (ruled_out v A p)) o).1 in
+    let full = list_any (λ i. leb (upper v A i) (others v (base v A) p i)) (items v p) in
+    let apart = (or_parts (list_any (λ a. lacks a p) A || list_any (λ q. clash v p q) (base v A)) full free).0 in
+    let named = (or_parts (list_any (λ a. lacks a p) A) (list_any (λ q. clash v p q) (base v A)) apart).0 in
+    ap (λ b. not b || list_any (λ a. lacks a p) A) m ∙ named
+
+-- a base that is short is no tiling that meets the atoms
+pub short_none : (v : View) (A : List Atom) (T : List ℕ) (i : Item) → ltb (count v T i) (asks v A i) ≡ true → in_family v A T ≡ false
+short_none v A T i h = false_from_ne_true (in_family v A T) (λ f.
+    let fs = and_parts (is_tiling v T) (meets_all v T A) f in
+    let less = ltb-true (count v T i) (asks v A i) h in
+    absurd (omega (arith, less, asks_is v T i ((parts v T fs.0).enough i) A fs.1)))
+
+pub tally_more : (g : ℕ → Bool) (xs : List ℕ) (k : ℕ) → k < length xs → tally g (take (k + 1) xs) ≡ tally g (take k xs) + one (g (get_or xs k 0))
+tally_more g xs k h = ap (λ ys. tally g ys) (take_more xs k 0 h) ∙ tally_end (take k xs)
+  where
+    tally_end : (ys : List ℕ) → tally g (ys ++ get_or xs k 0 ∷ []) ≡ tally g ys + one (g (get_or xs k 0))
+    tally_end [] = omega arith
+    tally_end (y ∷ ys) = omega (arith, tally_end ys)
+
+gap : (g : ℕ → Bool) (xs : List ℕ) (low d : ℕ) → low + d ≤ length xs → ((x : ℕ) → low ≤ x → x < low + d → g (get_or xs x 0) ≡ false) → tally g (take (low + d) xs) ≡ tally g (take low xs)
+gap g xs low zero h out = ap (λ n. tally g (take n xs)) same
+  where
+    same : low + 0 ≡ low
+    same = omega arith
+gap g xs low (suc d) h out =
+    ap (λ n. tally g (take n xs)) next ∙ tally_more g xs (low + d) (omega arith)
+    ∙ omega (arith, gap g xs low d (omega arith) (λ x l m. out x l (omega arith)), ap one (out (low + d) (omega arith) (omega arith)))
+  where
+    next : low + suc d ≡ low + d + 1
+    next = omega arith
+
+pub tally_gap : (g : ℕ → Bool) (xs : List ℕ) (low j : ℕ) → low ≤ j → j ≤ length xs → ((x : ℕ) → low ≤ x → x < j → g (get_or xs x 0) ≡ false) → tally g (take j xs) ≡ tally g (take low xs)
+tally_gap g xs low j h l out = ap (λ n. tally g (take n xs)) split ∙ gap g xs low (j - low) (omega arith) (λ x a b. out x a (omega arith))
+  where
+    split : j ≡ low + (j - low)
+    split = omega arith
+
+parted : (a b : Bool) → one a ≡ one (a && not b) + one (a && b)
+parted true true = omega arith
+parted true false = omega arith
+parted false b = omega arith
+
+-- what passes a test, without those of a second kind and among them
+pub apart : (f g : ℕ → Bool) (xs : List ℕ) → tally f xs ≡ tally (λ p. f p && not (g p)) xs + tally (λ p. f p && g p) xs
+apart f g [] = omega arith
+apart f g (x ∷ xs) = omega (arith, parted (f x) (g x), apart f g xs)
+
+-- what is not ruled out is open, or it is a member of the base
+pub loose_parts : (v : View) (A : List Atom) (first : ℕ) (t : Table) (live have raised marks : List ℕ) → Kept v A first t live have raised marks → (i : Item) →
+    tally (λ p. open_in v A p && has_item v p i) t.numbers.items + tally (λ p. has_item v p i && (mem v.live p && not (ruled_out v A p))) (base v A)
+    ≡ tally (λ p. has_item v p i && not (ruled_out v A p)) v.live
+loose_parts v A first t live have raised marks K i =
+    omega (
+      arith,
+      apart f (λ p. mem T p) v.live,
+      tally_within g out t.numbers.items v.live K.table.once down,
+      tally_within out g v.live t.numbers.items once up,
+      tally_within h in' T v.live (ascending_distinct T (base_up v A)) here,
+      tally_within in' h v.live T once there,
+    )
+  where
+    T : List ℕ
+    T = base v A
+
+    once : distinct v.live ≡ true
+    once = live_once v K.table.well
+
+    f : ℕ → Bool
+    f p = has_item v p i && not (ruled_out v A p)
+
+    g : ℕ → Bool
+    g p = open_in v A p && has_item v p i
+
+    h : ℕ → Bool
+    h p = has_item v p i && (mem v.live p && not (ruled_out v A p))
+
+    out : ℕ → Bool
+    out p = f p && not (mem T p)
+
+    in' : ℕ → Bool
+    in' p = f p && mem T p
+
+    down : (x : ℕ) → In x t.numbers.items → g x ≡ true → In x v.live × (out x ≡ true)
+    down x k e =
+        let one' = and_parts (open_in v A x) (has_item v x i) e in
+        let free = and_parts (not (mem T x)) (not (ruled_out v A x)) one'.0 in
+        (mem_in v.live x (K.table.begun x (in_mem t.numbers.items x k)).0, and_from _ _ (and_from _ _ one'.1 free.1) free.0)
+
+    up : (x : ℕ) → In x v.live → out x ≡ true → In x t.numbers.items × (g x ≡ true)
+    up x k e =
+        let three = and_parts (f x) (not (mem T x)) e in
+        let one' = and_parts (has_item v x i) (not (ruled_out v A x)) three.0 in
+        let opened : open_in v A x ≡ true = and_from _ _ three.1 one'.1 in
+        (mem_in _ x (open_first v A first t live have raised marks K x (in_mem v.live x k) opened), and_from _ _ opened one'.0)
+
+    here : (x : ℕ) → In x T → h x ≡ true → In x v.live × (in' x ≡ true)
+    here x k e =
+        let one' = and_parts (has_item v x i) (mem v.live x && not (ruled_out v A x)) e in
+        let right = and_parts (mem v.live x) (not (ruled_out v A x)) one'.1 in
+        (mem_in v.live x right.0, and_from _ _ (and_from _ _ one'.0 right.1) (in_mem T x k))
+
+    there : (x : ℕ) → In x v.live → in' x ≡ true → In x T × (h x ≡ true)
+    there x k e =
+        let three = and_parts (f x) (mem T x) e in
+        let one' = and_parts (has_item v x i) (not (ruled_out v A x)) three.0 in
+        (mem_in T x three.1, and_from _ _ one'.0 (and_from _ _ (in_mem v.live x k) one'.1))
+
+-- a number that is in both rows
+pub loose_says : (v : View) (A : List Atom) (first : ℕ) (t : Table) (live have raised marks : List ℕ) → Kept v A first t live have raised marks → (i : Item) (at b : ℕ) → at ≡ length live - t.width → b < length v.bounds → same_item (item_of v b) i ≡ true →
+    (j : ℕ) → j < length t.numbers.items → (open_in v A (get_or t.numbers.items j 0) && has_item v (get_or t.numbers.items j 0) i) ≡ in_both live at t.rows.items (t.width * b) j
+loose_says v A first t live have raised marks K i at b e l s j h =
+    ap (λ k. open_in v A (get_or t.numbers.items j 0) && has_item v (get_or t.numbers.items j 0) k) (sym (same_item_is (item_of v b) i s))
+    ∙ row_says v A first t live have raised marks K at b e l j h
+
+-- what a Branch needs is the greater of what is asked for and what the base has
+pub lower_says : (v : View) (A : List Atom) (first : ℕ) (t : Table) (live have raised marks : List ℕ) → Kept v A first t live have raised marks → (i : Item) (b : ℕ) → b < length v.bounds → same_item (item_of v b) i ≡ true →
+    max (get_or t.asked.items b 0) (get_or have b 0) ≡ lower v A i
+lower_says v A first t live have raised marks K i b h s =
+    let held = top_have v A first t live have raised marks K b h in
+    let asked = K.table.asked b h ∙ sym ((top_level v A first t live have raised marks K).asked (item_of v b)) in
+    ap (λ n. max n (get_or have b 0)) asked ∙ ap (λ n. max (asks v A (item_of v b)) n) held ∙ ap (λ k. lower v A k) (same_item_is (item_of v b) i s)

@@ -1,0 +1,113 @@
+-- What was open at the start, and the rows of the table.
+use Rattle.std.proofs.Common.{◌≡◌, ℕ, zero, suc, ◌+◌, ◌*◌, ◌<◌, ◌≤◌, Bool, true, false, not, max, ◌&&◌, ◌||◌, eqb, ltb, List, [], ◌∷◌, inl, inr, refl, sym, ap, subst, ◌∙◌, arith, length, get_or, take, replicate}
+use Rattle.std.specs.List.{list_any, list_all}
+use Rattle.std.proofs.Math.ListN.{set}
+use Rattle.std.proofs.Math.Nat.{mul-le-mul_left}
+use Rattle.std.proofs.lemmas.Bool.{and_from, and_parts, both_ways, cases_eq, cases_lt, eq-eqb, eqb-true, false_from_ne_true, le-leb, lt-ltb, ltb-true, ne_eqb, or_cases, or_left, or_right, true≢false}
+use Rattle.std.proofs.lemmas.List.{get_or-set_other, get_or-set_same, take_more}
+use Rattle.poly_tiling.specs.Lists.{distinct, mem, one}
+use Rattle.poly_tiling.specs.Puzzle.{View, count, has_item, items, same_item}
+use Rattle.poly_tiling.proofs.Lists.{all_append, any_from, any_in, same_truth}
+use Rattle.poly_tiling.proofs.Tilings.{bound_none, same_item_self}
+use Rattle.poly_atom.specs.declared.atom.Atom.{Atom}
+use Rattle.poly_atom.specs.Hopeless.{base, lacks}
+use Rattle.poly_frame.specs.Open.{open_in, upper}
+use Rattle.poly_frame.specs.Bits.{has_bit}
+use Rattle.poly_frame.specs.FrameItems.{Noted, item_of, times}
+use Rattle.poly_frame.specs.FrameTable.{HaveShows, RowsShow, ShutShows, UppersShow, place, shut_at}
+use Rattle.poly_frame.proofs.Words.{no_bits}
+use Rattle.poly_frame.proofs.Later.{upper_le_most}
+use Rattle.poly_frame.proofs.FramePicks.{is_shut, one_true, open_is_free, place_of, some_times, times_some}
+use Rattle.poly_frame.proofs.FrameSteps.{distinct_at}
+
+pub shut_shows : (v : View) (A : List Atom) (T us hs : List ℕ) → T ≡ base v A → UppersShow v A us → HaveShows v T hs → ShutShows v.bounds us hs (is_shut v A)
+shut_shows v A T us hs e u h = record {
+  at = λ b l. ap (λ n. shut_at (item_of v b) n (count v (base v A) (item_of v b))) (sym (u b l)) ∙ ap (λ n. shut_at (item_of v b) (get_or us b 0) n) (sym (h b l ∙ ap (λ xs. count v xs (item_of v b)) e));
+  none = λ i n.
+      let away : list_any (λ b. same_item b.0 i) v.bounds ≡ false = false_from_ne_true _ (λ y. let w = place_of v.bounds i y in both_ways _ (n w.0 w.1) (ap (λ k. same_item k i) w.2 ∙ same_item_self i)) in
+      let zero_most = bound_none v.bounds i (λ b. b.2) away in
+      or_left _ _ (le-leb (upper v A i) (count v (base v A) i) (omega (arith, upper_le_most v i A, zero_most)));
+}
+
+pub is_open_yes : (v : View) (A : List Atom) (q : ℕ) (T : List ℕ) (r c : Bool) → T ≡ base v A → r ≡ not (list_any (is_shut v A) (items v q)) → r ≡ true → c ≡ (not (mem T q) && not (list_any (λ a. lacks a q) A)) → c ≡ open_in v A q
+is_open_yes v A q T r c e f y g = g ∙ ap (λ xs. not (mem xs q) && not (list_any (λ a. lacks a q) A)) e ∙ ap (λ b. b && (not (mem (base v A) q) && not (list_any (λ a. lacks a q) A))) (sym y ∙ f) ∙ sym (open_is_free v A q)
+
+pub is_open_no : (v : View) (A : List Atom) (q : ℕ) (r : Bool) → r ≡ not (list_any (is_shut v A) (items v q)) → r ≡ false → r ≡ open_in v A q
+is_open_no v A q r f n = n ∙ ap (λ b. b && (not (mem (base v A) q) && not (list_any (λ a. lacks a q) A))) (sym n ∙ f) ∙ sym (open_is_free v A q)
+
+-- a place says which row and which number
+pub place_once : (w a b i j : ℕ) → i < 64 * w → j < 64 * w → place w a i ≡ place w b j → (a ≡ b) × (i ≡ j)
+place_once w a b i j h l e = elim (cases_eq a b) [
+  | inl s ↦ (s, let t = ap (λ n. w * n) s in omega arith)
+  | inr n ↦ elim (cases_lt a b) [
+    | inl x ↦ absurd (let t = mul-le-mul_left {m = a + 1} {n = b} w (omega arith) in omega arith)
+    | inr y ↦ absurd (let t = mul-le-mul_left {m = b + 1} {n = a} w (omega arith) in omega arith)
+  ]
+]
+
+module _ (v : View) (ns : List ℕ) (w k : ℕ) (rows new rs : List ℕ) (h : k < length ns) (wide : length ns ≤ 64 * w) (noted : Noted v.bounds (items v (get_or ns k 0)) rs)
+    (inv : (b i : ℕ) → b < length v.bounds → i < 64 * w → has_bit rows (place w b i) ≡ (ltb i k && has_item v (get_or ns i 0) (item_of v b)))
+    (bits : (x : ℕ) → has_bit new x ≡ (has_bit rows x || list_any (λ b. eqb (place w b k) x) rs)) where
+  put_says : (b i : ℕ) → b < length v.bounds → i < 64 * w → list_any (λ c. eqb (place w c k) (place w b i)) rs ≡ (eqb k i && has_item v (get_or ns k 0) (item_of v b))
+  put_says b i l g = same_truth _ _
+      (λ t.
+      let r = any_in (λ c. eqb (place w c k) (place w b i)) rs t in
+      let s = place_once w r.0 b k i (omega arith) g (eqb-true _ _ r.2) in
+      let c : 1 ≤ times rs b = subst (λ n. 1 ≤ times rs n) s.0 (times_some rs r.0 r.1) in
+      and_from _ _ (eq-eqb k i s.1) (one_true _ (omega (arith, c, noted.once b l))))
+      (λ t.
+      let ts = and_parts (eqb k i) _ t in
+      any_from (λ c. eqb (place w c k) (place w b i)) rs b (some_times rs b (omega (arith, noted.once b l, ap one ts.1))) (eq-eqb _ _ (ap (λ n. place w b n) (eqb-true k i ts.0))))
+
+  pub rows_step : (b i : ℕ) → b < length v.bounds → i < 64 * w → has_bit new (place w b i) ≡ (ltb i (k + 1) && has_item v (get_or ns i 0) (item_of v b))
+  rows_step b i l g = bits (place w b i) ∙ ap (λ x. x || list_any (λ c. eqb (place w c k) (place w b i)) rs) (inv b i l g) ∙ ap (λ x. (ltb i k && has_item v (get_or ns i 0) (item_of v b)) || x) (put_says b i l g)
+      ∙ (elim (cases_eq k i) [
+        | inl e ↦ at_here (ltb i k) (eqb k i) (ltb i (k + 1)) _ _ (false_from_ne_true _ (λ t. let u = ltb-true i k t in absurd (omega arith))) (eq-eqb k i e) (lt-ltb i (k + 1) (omega arith)) (ap (λ n. has_item v (get_or ns n 0) (item_of v b)) e)
+        | inr n ↦ at_other (ltb i k) (eqb k i) (ltb i (k + 1)) _ _ (ne_eqb k i n) (same_truth _ _ (λ t. let u = ltb-true i k t in lt-ltb i (k + 1) (omega arith)) (λ t. let u = ltb-true i (k + 1) t in lt-ltb i k (omega arith)))
+      ])
+    where
+      at_here : (a b c x y : Bool) → a ≡ false → b ≡ true → c ≡ true → y ≡ x → ((a && x) || (b && y)) ≡ (c && x)
+      at_here true b c x y e f g s = absurd (true≢false e)
+      at_here false b c x y e f g s = ap (λ z. z && y) f ∙ s ∙ ap (λ z. z && x) (sym g)
+
+      at_other : (a b c x y : Bool) → b ≡ false → a ≡ c → ((a && x) || (b && y)) ≡ (c && x)
+      at_other a true c x y e f = absurd (true≢false e)
+      at_other a false c x y e f = or_none (a && x) ∙ ap (λ z. z && x) f
+        where
+          or_none : (b : Bool) → (b || false) ≡ b
+          or_none true = refl
+          or_none false = refl
+
+pub rows_done : (v : View) (ns : List ℕ) (w n : ℕ) (rows : List ℕ) → n ≡ length ns → length ns ≤ 64 * w → ((b i : ℕ) → b < length v.bounds → i < 64 * w → has_bit rows (place w b i) ≡ (ltb i n && has_item v (get_or ns i 0) (item_of v b))) → RowsShow v ns w rows
+rows_done v ns w n rows e wide inv b j l h = inv b j l (omega arith) ∙ ap (λ x. x && has_item v (get_or ns j 0) (item_of v b)) (lt-ltb j n (omega arith))
+
+pub stands_step : (ns stands : List ℕ) (k : ℕ) → distinct ns ≡ true → k < length ns → get_or ns k 0 < length stands → ((i : ℕ) → i < k → get_or stands (get_or ns i 0) 0 ≡ i) → (i : ℕ) → i < k + 1 → get_or (set stands (get_or ns k 0) k) (get_or ns i 0) 0 ≡ i
+stands_step ns stands k d h low inv i l = elim (cases_eq i k) [
+  | inl e ↦ ap (λ n. get_or (set stands (get_or ns k 0) k) (get_or ns n 0) 0) e ∙ (rw get_or-set_same (sym e))
+  | inr n ↦
+      let apart : get_or ns i 0 ≡ get_or ns k 0 → ⊥ = λ e. n (distinct_at ns i k d (omega arith) h e) in
+      (rw get_or-set_other (inv i (omega arith)))
+]
+
+pub above_at : (ns : List ℕ) (s k : ℕ) → list_all (λ p. ltb p s) ns ≡ true → k < length ns → get_or ns k 0 < s
+above_at [] s k a h = absurd (omega arith)
+above_at (n ∷ ns) s zero a h = ltb-true n s (and_parts (ltb n s) _ a).0
+above_at (n ∷ ns) s (suc k) a h = above_at ns s k (and_parts (ltb n s) (list_all (λ p. ltb p s) ns) a).1 (omega arith)
+
+above_more : (ns : List ℕ) (s u : ℕ) → s ≤ u → list_all (λ p. ltb p s) ns ≡ true → list_all (λ p. ltb p u) ns ≡ true
+above_more [] s u h a = refl
+above_more (n ∷ ns) s u h a = let p = and_parts (ltb n s) (list_all (λ p. ltb p s) ns) a in and_from _ _ (lt-ltb n u (omega (arith, ltb-true n s p.0))) (above_more ns s u h p.1)
+
+pub size_step : (ns : List ℕ) (k s u : ℕ) → k < length ns → u ≡ max s (get_or ns k 0 + 1) → list_all (λ p. ltb p s) (take k ns) ≡ true → list_all (λ p. ltb p u) (take (k + 1) ns) ≡ true
+size_step ns k s u h e a = ap (λ xs. list_all (λ p. ltb p u) xs) (take_more ns k 0 h) ∙ all_append (λ p. ltb p u) (take k ns) (get_or ns k 0 ∷ []) ∙ and_from _ _ (above_more (take k ns) s u (omega arith) a) (and_from _ _ (lt-ltb (get_or ns k 0) u (omega arith)) refl)
+
+pub rows_start : (rows : List ℕ) (n x i : ℕ) (h : Bool) → rows ≡ replicate n 0 → has_bit rows x ≡ (ltb i 0 && h)
+rows_start rows n x i h e = ap (λ ws. has_bit ws x) e ∙ no_bits n x ∙ sym (ap (λ b. b && h) (false_from_ne_true (ltb i 0) (λ y. let l = ltb-true i 0 y in absurd (omega arith))))
+
+pub first_start : (row : List ℕ) (n i : ℕ) → row ≡ replicate n 0 → has_bit row i ≡ ltb i 0
+first_start row n i e = ap (λ ws. has_bit ws i) e ∙ no_bits n i ∙ sym (false_from_ne_true (ltb i 0) (λ y. let l = ltb-true i 0 y in absurd (omega arith)))
+
+pub first_step : (row new : List ℕ) (j i : ℕ) → ((i : ℕ) → has_bit row i ≡ ltb i j) → ((x : ℕ) → has_bit new x ≡ (has_bit row x || eqb (64 * 0 + j) x)) → has_bit new i ≡ ltb i (j + 1)
+first_step row new j i inv bits = bits i ∙ ap (λ b. b || eqb (64 * 0 + j) i) (inv i) ∙ ap (λ n. ltb i j || eqb n i) (omega arith) ∙ same_truth _ _
+    (λ t. elim (or_cases (ltb i j) (eqb j i) t) [ inl y ↦ let l = ltb-true i j y in lt-ltb i (j + 1) (omega arith) | inr e ↦ let l = eqb-true j i e in lt-ltb i (j + 1) (omega arith) ])
+    (λ t. let l = ltb-true i (j + 1) t in elim (cases_eq j i) [ inl e ↦ or_right (ltb i j) (eqb j i) (eq-eqb j i e) | inr n ↦ or_left (ltb i j) (eqb j i) (lt-ltb i j (omega arith)) ])

@@ -1,0 +1,219 @@
+-- Bits of words: one put in, one taken out, all of a row taken out.
+use Rattle.std.proofs.Common.{◌≡◌, ℕ, zero, suc, ◌+◌, ◌-◌, ◌*◌, ◌/◌, ◌%◌, ◌^◌, ◌<◌, ◌≤◌, min, Bool, true, false, not, ◌&&◌, ◌||◌, eqb, List, inl, inr, refl, sym, ap, ◌∙◌, arith, length, take, replicate, get_or, get_or-set_other, get_or-set_same, w64, bit_and, bit_or}
+use Rattle.std.proofs.Math.ListN.{set}
+use Rattle.std.proofs.lemmas.Bool.{cases_eq, cases_lt, eq-eqb, ne_eqb, or_right}
+use Rattle.std.proofs.lemmas.Nat.Bits.{bit_at_and, bit_at_not, bit_at-lt, bit_at_set_same, bit_at_set_other, bit_at_clear_same, bit_at_clear_other, bit_at-trailing_zeros, bit_at-zero, bit_at_above, shr_and_one}
+use Rattle.std.proofs.lemmas.Nat.{shr-shr}
+use Rattle.std.proofs.Math.Nat.{div-le_self}
+use Rattle.std.proofs.lemmas.List.{get_or-take}
+use Rattle.std.specs.Int.{bit_at, bit_not, trailing_zeros}
+use Rattle.poly_frame.specs.Bits.{FirstIn, NoneIn, has_bit, in_both}
+
+less_at : (x y : ℕ) → x < 2 → y < 2 → eqb (min x (1 - y)) 1 ≡ (eqb x 1 && not (eqb y 1))
+less_at zero zero h k = refl
+less_at zero (suc zero) h k = refl
+less_at zero (suc (suc y)) h k = absurd (omega arith)
+less_at (suc zero) zero h k = refl
+less_at (suc zero) (suc zero) h k = refl
+less_at (suc zero) (suc (suc y)) h k = absurd (omega arith)
+less_at (suc (suc x)) y h k = absurd (omega arith)
+
+pub bit_less : (w r t : ℕ) → r < 2 ^ 64 → t < 64 → eqb (bit_at (bit_and w (bit_not w64 r)) t) 1 ≡ (eqb (bit_at w t) 1 && not (eqb (bit_at r t) 1))
+bit_less w r t h l = ap (λ x. eqb x 1) (bit_at_and w (bit_not w64 r) t ∙ ap (λ x. min (bit_at w t) x) (bit_at_not w64 r t h l)) ∙ less_at (bit_at w t) (bit_at r t) (bit_at-lt w t) (bit_at-lt r t)
+
+or_no : (b c : Bool) → c ≡ false → b ≡ (b || c)
+or_no true c e = refl
+or_no false c e = sym e
+
+and_yes : (b c : Bool) → c ≡ false → b ≡ (b && not c)
+and_yes true c e = ap not (sym e)
+and_yes false c e = refl
+
+and_no : (b c : Bool) → c ≡ true → false ≡ (b && not c)
+and_no true c e = ap not (sym e)
+and_no false c e = refl
+
+other_at : (ws : List ℕ) (k x n : ℕ) → (n ≡ k → ⊥) → get_or (set ws k x) n 0 ≡ get_or ws n 0
+other_at ws k x n ne = rw get_or-set_other refl
+
+same_at : (ws : List ℕ) (k x n : ℕ) → k < length ws → n ≡ k → get_or (set ws k x) n 0 ≡ x
+same_at ws k x n h e = ap (λ m. get_or (set ws k x) m 0) e ∙ rw get_or-set_same refl
+
+apart : (i j : ℕ) → (j / 64 ≡ i / 64 → ⊥) → eqb i j ≡ false
+apart i j n = ne_eqb i j (λ e. n (ap (λ m. m / 64) (sym e)))
+
+apart_low : (i j : ℕ) → (j % 64 ≡ i % 64 → ⊥) → eqb i j ≡ false
+apart_low i j n = ne_eqb i j (λ e. n (ap (λ m. m % 64) (sym e)))
+
+put_one : (ws : List ℕ) (i j : ℕ) → i / 64 < length ws →
+    has_bit (set ws (i / 64) (bit_or (get_or ws (i / 64) 0) (1 * 2 ^ (i % 64) % 2 ^ 64))) j ≡ (has_bit ws j || eqb i j)
+unfolding has_bit
+put_one ws i j h =
+    let w = get_or ws (i / 64) 0 in
+    let x = bit_or w (1 * 2 ^ (i % 64) % 2 ^ 64) in
+    let low : i % 64 < 64 = omega arith in
+    elim (cases_eq (j / 64) (i / 64)) [
+      | inl e ↦
+          let r = ap (λ y. eqb (bit_at y (j % 64)) 1) (same_at ws (i / 64) x (j / 64) h e) in
+          elim (cases_eq (j % 64) (i % 64)) [
+            | inl f ↦
+                let same : i ≡ j = omega arith in
+                r ∙ ap (λ t. eqb (bit_at x t) 1) f ∙ eq-eqb _ _ (bit_at_set_same w64 w (i % 64) low) ∙ sym (or_right (eqb (bit_at (get_or ws (j / 64) 0) (j % 64)) 1) (eqb i j) (eq-eqb i j same))
+            | inr n ↦
+                r ∙ ap (λ y. eqb y 1) (bit_at_set_other w64 w (i % 64) low (j % 64) n) ∙ ap (λ m. eqb (bit_at (get_or ws m 0) (j % 64)) 1) (sym e) ∙ or_no _ _ (apart_low i j n)
+          ]
+      | inr n ↦ ap (λ y. eqb (bit_at y (j % 64)) 1) (other_at ws (i / 64) x (j / 64) n) ∙ or_no _ _ (apart i j n)
+    ]
+
+clear_one : (ws : List ℕ) (i j : ℕ) → i / 64 < length ws →
+    has_bit (set ws (i / 64) (bit_and (get_or ws (i / 64) 0) (bit_not w64 (1 * 2 ^ (i % 64) % 2 ^ 64)))) j ≡ (has_bit ws j && not (eqb i j))
+unfolding has_bit
+clear_one ws i j h =
+    let w = get_or ws (i / 64) 0 in
+    let x = bit_and w (bit_not w64 (1 * 2 ^ (i % 64) % 2 ^ 64)) in
+    let low : i % 64 < 64 = omega arith in
+    let lowj : j % 64 < 64 = omega arith in
+    elim (cases_eq (j / 64) (i / 64)) [
+      | inl e ↦
+          let r = ap (λ y. eqb (bit_at y (j % 64)) 1) (same_at ws (i / 64) x (j / 64) h e) in
+          elim (cases_eq (j % 64) (i % 64)) [
+            | inl f ↦
+                let same : i ≡ j = omega arith in
+                r ∙ ap (λ t. eqb (bit_at x t) 1) f ∙ ap (λ y. eqb y 1) (bit_at_clear_same w64 w (i % 64) low) ∙ and_no (eqb (bit_at (get_or ws (j / 64) 0) (j % 64)) 1) (eqb i j) (eq-eqb i j same)
+            | inr n ↦
+                r ∙ ap (λ y. eqb y 1) (bit_at_clear_other w64 w (i % 64) low (j % 64) lowj n) ∙ ap (λ m. eqb (bit_at (get_or ws m 0) (j % 64)) 1) (sym e) ∙ and_yes _ _ (apart_low i j n)
+          ]
+      | inr n ↦ ap (λ y. eqb (bit_at y (j % 64)) 1) (other_at ws (i / 64) x (j / 64) n) ∙ and_yes _ _ (apart i j n)
+    ]
+
+-- where a number of a row stands
+pub row_word : (at j : ℕ) → (64 * at + j) / 64 ≡ at + j / 64
+row_word at j = omega arith
+
+pub row_place : (at j : ℕ) → (64 * at + j) % 64 ≡ j % 64
+row_place at j = omega arith
+
+pub put_bit : (ws : List ℕ) (at j x : ℕ) → at + j / 64 < length ws →
+    has_bit (set ws (at + j / 64) (bit_or (get_or ws (at + j / 64) 0) (1 * 2 ^ (j % 64) % 2 ^ 64))) x ≡ (has_bit ws x || eqb (64 * at + j) x)
+put_bit ws at j x h =
+    ap (λ t. has_bit (set ws (at + j / 64) (bit_or (get_or ws (at + j / 64) 0) (1 * 2 ^ t % 2 ^ 64))) x) (sym (row_place at j))
+    ∙ ap (λ k. has_bit (set ws k (bit_or (get_or ws k 0) (1 * 2 ^ ((64 * at + j) % 64) % 2 ^ 64))) x) (sym (row_word at j))
+    ∙ put_one ws (64 * at + j) x (omega (arith, row_word at j))
+
+pub clear_bit : (ws : List ℕ) (at j x : ℕ) → at + j / 64 < length ws →
+    has_bit (set ws (at + j / 64) (bit_and (get_or ws (at + j / 64) 0) (bit_not w64 (1 * 2 ^ (j % 64) % 2 ^ 64)))) x ≡ (has_bit ws x && not (eqb (64 * at + j) x))
+clear_bit ws at j x h =
+    ap (λ t. has_bit (set ws (at + j / 64) (bit_and (get_or ws (at + j / 64) 0) (bit_not w64 (1 * 2 ^ t % 2 ^ 64)))) x) (sym (row_place at j))
+    ∙ ap (λ k. has_bit (set ws k (bit_and (get_or ws k 0) (bit_not w64 (1 * 2 ^ ((64 * at + j) % 64) % 2 ^ 64)))) x) (sym (row_word at j))
+    ∙ clear_one ws (64 * at + j) x (omega (arith, row_word at j))
+
+-- a bit by its word and its place in it
+pub in_word : (ws : List ℕ) (at j : ℕ) → has_bit ws (64 * at + j) ≡ eqb (bit_at (get_or ws (at + j / 64) 0) (j % 64)) 1
+unfolding has_bit
+in_word ws at j = ap (λ k. eqb (bit_at (get_or ws k 0) ((64 * at + j) % 64)) 1) (row_word at j) ∙ ap (λ t. eqb (bit_at (get_or ws (at + j / 64) 0) t) 1) (row_place at j)
+
+pub has_at : (ws : List ℕ) (at j : ℕ) → eqb (bit_and (get_or ws (at + j / 64) 0 / 2 ^ (j % 64)) 1) 1 ≡ has_bit ws (64 * at + j)
+has_at ws at j = ap (λ y. eqb y 1) (shr_and_one (get_or ws (at + j / 64) 0) (j % 64)) ∙ sym (in_word ws at j)
+
+pub same_word : (ws new : List ℕ) (x : ℕ) → get_or new (x / 64) 0 ≡ get_or ws (x / 64) 0 → has_bit new x ≡ has_bit ws x
+unfolding has_bit
+same_word ws new x e = ap (λ w. eqb (bit_at w (x % 64)) 1) e
+
+-- rows in the same words
+pub same_row : (ws new : List ℕ) (at to j : ℕ) → get_or new (to + j / 64) 0 ≡ get_or ws (at + j / 64) 0 → has_bit new (64 * to + j) ≡ has_bit ws (64 * at + j)
+same_row ws new at to j e = in_word new to j ∙ ap (λ w. eqb (bit_at w (j % 64)) 1) e ∙ sym (in_word ws at j)
+
+pub row_less : (ws rs new : List ℕ) (at from j : ℕ) → ((t : ℕ) → t < 64 → eqb (bit_at (get_or new (at + j / 64) 0) t) 1 ≡ (eqb (bit_at (get_or ws (at + j / 64) 0) t) 1 && not (eqb (bit_at (get_or rs (from + j / 64) 0) t) 1))) →
+    has_bit new (64 * at + j) ≡ (has_bit ws (64 * at + j) && not (has_bit rs (64 * from + j)))
+row_less ws rs new at from j h = in_word new at j ∙ h (j % 64) (omega arith) ∙ ap (λ b. b && not (eqb (bit_at (get_or rs (from + j / 64) 0) (j % 64)) 1)) (sym (in_word ws at j)) ∙ ap (λ b. has_bit ws (64 * at + j) && not b) (sym (in_word rs from j))
+
+-- a word of no bits
+pub past_none : (ws : List ℕ) (x : ℕ) → get_or ws (x / 64) 0 ≡ 0 → has_bit ws x ≡ false
+unfolding has_bit
+past_none ws x e = ap (λ w. eqb (bit_at w (x % 64)) 1) e ∙ ap (λ y. eqb y 1) (bit_at-zero (x % 64))
+
+pub take_bits : (ws : List ℕ) (n x : ℕ) → x < 64 * n → has_bit (take n ws) x ≡ has_bit ws x
+take_bits ws n x h = same_word ws (take n ws) x (get_or-take n ws (x / 64) 0 (omega arith))
+
+get_same : (n k z : ℕ) → get_or (replicate n z) k z ≡ z
+get_same zero k z = refl
+get_same (suc n) zero z = refl
+get_same (suc n) (suc k) z = get_same n k z
+
+pub no_bits : (n x : ℕ) → has_bit (replicate n 0) x ≡ false
+no_bits n x = past_none (replicate n 0) x (get_same n (x / 64) 0)
+
+-- the bits of a word from a place on
+shifted : (w low t : ℕ) → bit_at (w / 2 ^ low) t ≡ bit_at w (low + t)
+shifted w low t = ap (λ x. x % 2) (shr-shr w low t)
+
+bit_of : (w low t : ℕ) → low ≤ t → bit_at w t ≡ bit_at (w / 2 ^ low) (t - low)
+bit_of w low t h = sym (shifted w low (t - low) ∙ ap (λ x. bit_at w x) (omega arith))
+
+pub none_from : (w low : ℕ) → w / 2 ^ low ≡ 0 → NoneIn (λ t. eqb (bit_at w t) 1) low 64
+none_from w low e = λ t h l. ap (λ b. eqb b 1) (bit_of w low t h ∙ ap (λ x. bit_at x (t - low)) e ∙ bit_at-zero (t - low))
+
+pub first_from : (w low : ℕ) → w < 2 ^ 64 → (w / 2 ^ low ≡ 0 → ⊥) → FirstIn (λ t. eqb (bit_at w t) 1) low 64 (low + trailing_zeros w64 (w / 2 ^ low))
+first_from w low small some =
+    let rest = w / 2 ^ low in
+    let z = trailing_zeros w64 rest in
+    let less : rest ≤ w = div-le_self w (2 ^ low) in
+    let at = bit_at-trailing_zeros w64 rest (omega (arith, some)) (omega (arith, less, small)) in
+    let one : bit_at w (low + z) ≡ 1 = sym (shifted w low z) ∙ at.1 in
+    record {
+      least = omega arith;
+      most = below_word (low + z) one;
+      is = eq-eqb _ _ one;
+      before = λ t h l. ap (λ b. eqb b 1) (bit_of w low t h ∙ at.2 (t - low) (omega arith));
+    }
+  where
+    below_word : (t : ℕ) → bit_at w t ≡ 1 → t < 64
+    below_word t e = elim (cases_lt t 64) [
+      | inl h ↦ h
+      | inr n ↦ absurd (omega (arith, e, bit_at_above w 64 t small (omega (arith, n))))
+    ]
+
+and_both : (x y : ℕ) → x < 2 → y < 2 → eqb (min x y) 1 ≡ (eqb x 1 && eqb y 1)
+and_both zero zero h k = refl
+and_both zero (suc zero) h k = refl
+and_both zero (suc (suc y)) h k = absurd (omega arith)
+and_both (suc zero) zero h k = refl
+and_both (suc zero) (suc zero) h k = refl
+and_both (suc zero) (suc (suc y)) h k = absurd (omega arith)
+and_both (suc (suc x)) y h k = absurd (omega arith)
+
+pub bit_both : (w r t : ℕ) → eqb (bit_at (bit_and w r) t) 1 ≡ (eqb (bit_at w t) 1 && eqb (bit_at r t) 1)
+bit_both w r t = ap (λ x. eqb x 1) (bit_at_and w r t) ∙ and_both (bit_at w t) (bit_at r t) (bit_at-lt w t) (bit_at-lt r t)
+
+-- the numbers of two rows by the words that have both
+pub both_word : (ws : List ℕ) (at : ℕ) (rs : List ℕ) (from k w t : ℕ) →
+    ((u : ℕ) → eqb (bit_at w u) 1 ≡ (eqb (bit_at (get_or ws (at + k) 0) u) 1 && eqb (bit_at (get_or rs (from + k) 0) u) 1)) → t < 64 →
+    in_both ws at rs from (64 * k + t) ≡ eqb (bit_at w t) 1
+both_word ws at rs from k w t h l =
+    ap (λ b. b && has_bit rs (64 * from + (64 * k + t))) (bit_in ws at) ∙ ap (λ b. eqb (bit_at (get_or ws (at + k) 0) t) 1 && b) (bit_in rs from) ∙ sym (h t)
+  where
+    bit_in : (xs : List ℕ) (o : ℕ) → has_bit xs (64 * o + (64 * k + t)) ≡ eqb (bit_at (get_or xs (o + k) 0) t) 1
+    bit_in xs o =
+        in_word xs o (64 * k + t) ∙ ap (λ n. eqb (bit_at (get_or xs (o + n) 0) ((64 * k + t) % 64)) 1) (omega arith)
+        ∙ ap (λ n. eqb (bit_at (get_or xs (o + k) 0) n) 1) (omega arith)
+
+-- one word of two rows, when the numbers before bit `past` of it are known
+module _ (ws : List ℕ) (at : ℕ) (rs : List ℕ) (from low k past w : ℕ)
+    (same : (u : ℕ) → eqb (bit_at w u) 1 ≡ (eqb (bit_at (get_or ws (at + k) 0) u) 1 && eqb (bit_at (get_or rs (from + k) 0) u) 1))
+    (passed : NoneIn (in_both ws at rs from) low (64 * k + past)) where
+  pub none_both : (n : ℕ) → n ≤ 64 → NoneIn (λ t. eqb (bit_at w t) 1) past n → NoneIn (in_both ws at rs from) low (64 * k + n)
+  none_both n h none = λ x l m. elim (cases_lt x (64 * k + past)) [
+    | inl b ↦ passed x l b
+    | inr b ↦
+        ap (λ y. in_both ws at rs from y) (omega arith) ∙ both_word ws at rs from k w (x - 64 * k) same (omega arith)
+        ∙ none (x - 64 * k) (omega arith) (omega arith)
+  ]
+
+  pub first_both : (width t : ℕ) → k < width → low ≤ 64 * k + past → FirstIn (λ t. eqb (bit_at w t) 1) past 64 t → FirstIn (in_both ws at rs from) low (64 * width) (64 * k + t)
+  first_both width t h l f =
+      record {
+        least = omega (arith, f.least);
+        most = omega (arith, f.most);
+        is = both_word ws at rs from k w t same f.most ∙ f.is;
+        before = none_both t (omega (arith, f.most)) f.before;
+      }

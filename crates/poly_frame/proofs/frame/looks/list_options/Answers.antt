@@ -1,0 +1,12 @@
+use Rattle.std.proofs.Common.{List, false, length, subst, ℕ, ◌<◌, ◌∙◌, ◌≡◌}
+use Rattle.poly_tiling.specs.Puzzle.{Bound, same_item}
+use Rattle.poly_frame.specs.FrameItems.{item_at}
+use Rattle.poly_frame.proofs.FrameLooks.{none_has}
+use Rattle.poly_frame.proofs.frame.looks.list_options.Goals as goal
+
+pub returns-in-None-clause-items : goal.returns-in-None-clause-items
+returns-in-None-clause-items c =
+    let s = c.args.steps.now in
+    let v = c.args.view.now in
+    c.clear.ensures.items ∙ none_has v c.args.path.now c.args.first c.args.table.now s.live.items s.have.items s.raised.items s.marks.items c.requires.kept c.args.item
+    (subst (λ (bs : List Bound). (b : ℕ) → b < length bs → same_item (item_at bs b) c.args.item ≡ false) c.items.ensures.value (λ b h. c.in-None.ensures b h))

@@ -1,0 +1,18 @@
+use Rattle.std.proofs.Common.{ap, sym, ◌&&◌, ◌*◌, ◌+◌, ◌-◌, ◌∙◌}
+use Rattle.poly_tiling.specs.Puzzle.{has_item}
+use Rattle.poly_frame.specs.Bits.{has_bit}
+use Rattle.poly_frame.specs.FrameItems.{item_of}
+use Rattle.poly_frame.specs.Open.{open_in}
+use Rattle.poly_frame.proofs.FrameLooks.{row_says}
+use Rattle.poly_frame.proofs.frame.looks.list_row.Goals as goal
+
+pub returns-clause-items : goal.returns-clause-items
+returns-clause-items c =
+    let s = c.args.steps.now in
+    let t = c.args.table.now in
+    let v = c.args.view.now in
+    let A = c.args.path.now in
+    let at = ap (λ n. n - t.width) (c.len.ensures ∙ s.live.ok.0) in
+    c.list_both.ensures.items (λ p. open_in v A p && has_item v p (item_of v c.args.b)) (λ j h.
+    row_says v A c.args.first t s.live.items s.have.items s.raised.items s.marks.items c.requires.kept (c.len.result - t.width) c.args.b at c.requires.row j h
+    ∙ ap (λ ws. has_bit ws (64 * (c.len.result - t.width) + j) && has_bit t.rows.items (64 * (t.width * c.args.b) + j)) (sym c.deref.ensures.value))

@@ -1,0 +1,18 @@
+use Rattle.std.proofs.Common.{ap, subst, sym, true, ℕ, ◌*◌, ◌+◌, ◌-◌, ◌∙◌, ◌≡◌}
+use Rattle.poly_tiling.specs.Lists.{mem}
+use Rattle.poly_frame.specs.Bits.{has_bit}
+use Rattle.poly_frame.specs.Open.{open_in}
+use Rattle.poly_frame.proofs.FrameLooks.{open_one, top_row}
+use Rattle.poly_frame.proofs.frame.looks.stands_open.Goals as goal
+
+pub returns-in-Some : goal.returns-in-Some
+returns-in-Some c = λ y.
+    let s = c.args.steps.now in
+    let t = c.args.table.now in
+    let v = c.args.view.now in
+    let A = c.args.path.now in
+    let K = c.requires.kept in
+    let j = c.in-Some.j in
+    let at = ap (λ n. n - t.width) (c.len.ensures ∙ s.live.ok.0) in
+    let opened = sym (top_row v A c.args.first t s.live.items s.have.items s.raised.items s.marks.items K (c.len.result - t.width) j at c.in-Some.ensures.0) ∙ ap (λ ws. has_bit ws (64 * (c.len.result - t.width) + j)) (sym c.deref.ensures.value) ∙ sym c.has.ensures ∙ y in
+    subst (λ (p : ℕ). (mem v.live p ≡ true) × (open_in v A p ≡ true)) c.in-Some.ensures.1 (open_one v A c.args.first t s.live.items s.have.items s.raised.items s.marks.items K j c.in-Some.ensures.0 opened)

@@ -1,0 +1,20 @@
+use Rattle.std.proofs.Common.{ap, arith, get_or, length, take, ◌+◌, ◌<◌, ◌∙◌, ◌++◌, ◌≡◌}
+use Rattle.poly_frame.specs.FrameItems.{item_of, times}
+use Rattle.poly_frame.proofs.FrameTable.{count_le, counted_more, length_take_le}
+use Rattle.poly_frame.proofs.frame.table.counts_of.Goals as goal
+
+pub raise-requires-clause-small : goal.raise-requires-clause-small
+raise-requires-clause-small c = λ b h.
+    let l : b < length c.args.view.now.bounds = omega (arith, c.loop-p.invariant.len) in
+    omega (arith, c.loop-p.invariant.shown b l, count_le c.args.view.now (take c.loop-p.p-index c.args.members.now) (item_of c.args.view.now b), length_take_le c.loop-p.p-index c.args.members.now, c.deref.ensures.len, c.note_items.new.noted.ok, c.note_items.new.noted.small, c.requires.few)
+
+pub loop-p-preserved : goal.loop-p-preserved
+loop-p-preserved c =
+    let places = c.note_items.ensures.places in
+    let noted : c.deref.result.now ≡ places.0 = c.deref.ensures.value ∙ places.1 ∙ ap (λ xs. xs ++ places.0) c.clear.ensures.items in
+    record {
+      len = c.raise.ensures.len ∙ c.loop-p.invariant.len;
+      capacity = c.note_items.ensures.capacity ∙ c.clear.ensures.capacity ∙ c.loop-p.invariant.capacity;
+      shown = counted_more c.args.view.now c.args.members.now c.loop-p.p-index c.loop-p.have.items c.raise.new.have.items places.0 c.loop-p-test.true c.loop-p.invariant.shown places.2
+          (λ b h. c.raise.ensures.more b (omega (arith, c.loop-p.invariant.len)) ∙ ap (λ xs. get_or c.loop-p.have.items b 0 + times xs b) noted);
+    }

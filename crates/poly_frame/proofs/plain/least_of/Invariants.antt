@@ -1,0 +1,12 @@
+use Rattle.std.proofs.Common.{drop, length, ◌≡◌, ◌≤◌}
+use Rattle.poly_frame.specs.Open.{asks}
+use Rattle.poly_frame.proofs.plain.least_of.Given as goal
+
+abbrev pub decreases-loop-k : goal.decreases-loop-k
+decreases-loop-k l = l.k
+
+abbrev pub invariant-loop-k : goal.invariant-loop-k
+invariant-loop-k l = record {
+  within : l.k ≤ length l.atoms;
+  rest : l.least ≡ asks l.view (drop l.k l.atoms) l.item;
+}

@@ -1,0 +1,15 @@
+use Rattle.std.proofs.Common.{drop, length, vec_len, ◌+◌, ◌≡◌, ◌≤◌}
+use Rattle.std.specs.Vec.{vec_capacity}
+use Rattle.poly_tiling.specs.Lists.{put_all}
+use Rattle.poly_frame.proofs.plain.put_each.Given as goal
+
+abbrev pub decreases-loop-k : goal.decreases-loop-k
+decreases-loop-k l = l.k
+
+abbrev pub invariant-loop-k : goal.invariant-loop-k
+invariant-loop-k l = record {
+  within : l.k ≤ length l.numbers;
+  items : l.onto.items ≡ put_all (drop l.k l.numbers) l.fn.onto.items;
+  few : vec_len l.onto + l.k ≤ vec_len l.fn.onto + length l.numbers;
+  room : vec_capacity l.fn.onto ≤ vec_capacity l.onto;
+}

@@ -1,0 +1,26 @@
+-- When the base of a frame's atoms wants nothing but more members.
+use Rattle.std.specs.Prelude.{Bool, List, length, nat_le, not, slice_index, take, true, ℕ, ◌&&◌, ◌+◌, ◌<◌, ◌||◌, ◌≡◌, ◌≤◌}
+use Rattle.std.specs.List.{list_all}
+use Rattle.poly_tiling.specs.Lists.{mem}
+use Rattle.poly_tiling.specs.declared.item.Item.{Item}
+use Rattle.poly_tiling.specs.Puzzle.{Bound, View, is_piece}
+use Rattle.poly_atom.specs.declared.atom.Atom.{Atom}
+use Rattle.poly_atom.specs.Hopeless.{base}
+use Rattle.poly_frame.specs.FrameItems.{item_at}
+use Rattle.poly_frame.specs.Open.{ruled_out}
+
+-- each member is a placement of the design and is not ruled out
+abbrev pub is_sound : View → List Atom → Bool
+is_sound v A = list_all (λ p. mem v.live p && not (ruled_out v A p)) (base v A)
+
+-- the base was sound after each of the first steps, as many as are counted, the given atoms being the first
+pub record SoundShows (v : View) (A : List Atom) (first sound : ℕ) : Type 0 where
+  pub few : sound + first ≤ length A + 1
+  pub levels : (k : ℕ) → k < sound → is_sound v (take (first + k) A) ≡ true
+
+-- an item has at most as many members as it may, and a cell at most one
+abbrev pub fits_at : Item → ℕ → ℕ → Bool
+fits_at i most have = nat_le have most && (is_piece i || nat_le have 1)
+
+abbrev pub AllFit : List Bound → List ℕ → List ℕ → Type 0
+AllFit bounds uppers have = (b : ℕ) → b < length bounds → fits_at (item_at bounds b) (slice_index uppers b) (slice_index have b) ≡ true

@@ -1,0 +1,59 @@
+-- What a frame keeps while it moves.
+use Rattle.std.specs.Prelude.{List, false, length, nat_lt, slice_index, slice_index_or, take, drop, true, ℕ, ◌*◌, ◌+◌, ◌<◌, ◌≡◌, ◌≤◌}
+use Rattle.std.specs.List.{list_all}
+use Rattle.std.specs.Vec.{vec_capacity}
+use Rattle.poly_tiling.specs.declared.item.Item.{Item}
+use Rattle.poly_tiling.specs.Puzzle.{View, count}
+use Rattle.poly_atom.specs.declared.atom.Atom.{Atom}
+use Rattle.poly_atom.specs.Hopeless.{base}
+use Rattle.poly_frame.specs.Open.{asks, open_in, upper}
+use Rattle.poly_frame.specs.Bits.{has_bit}
+use Rattle.poly_frame.specs.FrameItems.{item_of, times}
+use Rattle.poly_frame.specs.FrameTable.{TableShows, place}
+use Rattle.poly_frame.specs.declared.frame.table.Table.{Table}
+use Rattle.poly_frame.specs.declared.frame.steps.Steps.{Steps}
+
+-- how many places were raised before the step after level k
+abbrev pub mark_of : List ℕ → List ℕ → ℕ → ℕ
+mark_of marks raised k = slice_index_or marks k (length raised)
+
+-- row k is what is open at the atoms
+abbrev pub RowShows : View → List Atom → List ℕ → ℕ → List ℕ → ℕ → Type 0
+RowShows v A ns w live k = record {
+  opened : (j : ℕ) → j < length ns → has_bit live (place w k j) ≡ open_in v A (slice_index ns j);
+  past : (j : ℕ) → length ns ≤ j → j < 64 * w → has_bit live (place w k j) ≡ false;
+}
+
+-- the counts, less what was raised since, are those of the atoms
+abbrev pub HaveAt : View → List Atom → List ℕ → List ℕ → ℕ → Type 0
+HaveAt v A have raised mark = (b : ℕ) → b < length v.bounds → slice_index have b ≡ count v (base v A) (item_of v b) + times (drop mark raised) b
+
+-- one level
+pub record LevelShows (v : View) (A0 A : List Atom) (t : Table) (live have raised marks : List ℕ) (k : ℕ) : Type 0 where
+  pub row : RowShows v A t.numbers.items t.width live k
+  pub counted : HaveAt v A have raised (mark_of marks raised k)
+  pub uppers : (i : Item) → upper v A i ≡ upper v A0 i
+  pub asked : (i : Item) → asks v A i ≡ asks v A0 i
+  pub few : mark_of marks raised k ≤ 17 * k
+  pub begun : mark_of marks raised k ≤ length raised
+
+-- a level for the given atoms, and one for each step
+pub record Kept (v : View) (A : List Atom) (first : ℕ) (t : Table) (live have raised marks : List ℕ) : Type 0 where
+  pub low : first ≤ length A
+  pub table : TableShows v (take first A) t
+  pub steps : length marks + first ≡ length A
+  pub have_len : length have ≡ length v.bounds
+  pub live_len : length live ≡ t.width * (length marks + 1)
+  pub places : list_all (λ b. nat_lt b (length v.bounds)) raised ≡ true
+  pub up : (k l : ℕ) → k ≤ l → l ≤ length marks → mark_of marks raised k ≤ mark_of marks raised l
+  pub levels : (k : ℕ) → k ≤ length marks → LevelShows v (take first A) (take (first + k) A) t live have raised marks k
+
+-- the parts of a frame that move
+abbrev pub StepsKeep : View → List Atom → ℕ → Table → Steps → Type 0
+StepsKeep v A first t s = Kept v A first t s.live.items s.have.items s.raised.items s.marks.items
+
+-- room for 4,096 steps
+pub record HasRoom (t : Table) (s : Steps) : Type 0 where
+  pub live : t.width * 4097 ≤ vec_capacity s.live
+  pub raised : 69632 ≤ vec_capacity s.raised
+  pub marks : 4096 ≤ vec_capacity s.marks

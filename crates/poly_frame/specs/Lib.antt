@@ -1,0 +1,12 @@
+pub mod Open
+pub mod Walk
+pub mod Plain
+pub mod Frames
+pub mod Lending
+pub mod Laws
+pub mod Bits
+pub mod FrameItems
+pub mod FrameTable
+pub mod FrameMembers
+pub mod FrameSound
+pub mod FrameSteps

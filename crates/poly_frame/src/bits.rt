@@ -1,0 +1,118 @@
+//! Rows of bits: sets of small numbers, kept one after another in a list of words.
+//! The set that begins at word `at` has the number `j` where bit `64 * at + j` of the list is set.
+ghost use Rattle.std.specs.Prelude.{MatchOption, length, not, vec_capacity, vec_len, ℕ, ◌&&◌, ◌^◌, ◌*◌, ◌+◌, ◌-◌, ◌/◌, ◌<◌, ◌==◌, ◌||◌, ◌≡◌, ◌≤◌};
+ghost use Rattle.std.specs.Int.{bit_at};
+ghost use Rattle.poly_frame.specs.Bits.{FirstIn, NoneIn, has_bit, in_both};
+
+/// Whether the row that begins at word `at` has the number.
+#[tactic(auto, using(crate::proofs::Words::has_at))]
+pub(crate) fn has(words: &[u64], at: usize, j: usize) -> bool
+    requires { at + j / 64 < length words.now }
+    ensures { result ≡ has_bit words.now (64 * at + j) }
+{
+    (words[at + j / 64] >> (j % 64)) & 1 == 1
+}
+
+/// Puts a number into the row that begins at word `at`.
+#[tactic(auto, using(crate::proofs::Words::put_bit))]
+pub(crate) fn put_in(words: &mut Vec<u64>, at: usize, j: usize)
+    requires { at + j / 64 < length words.old.items }
+    ensures len { length words.new.items ≡ length words.old.items }
+    ensures capacity { vec_capacity words.new ≡ vec_capacity words.old }
+    ensures bits { (x : ℕ) → has_bit words.new.items x ≡ (has_bit words.old.items x || (64 * at + j == x)) }
+{
+    let k = at + j / 64;
+    let word = words[k];
+    words[k] = word | (1 << (j % 64));
+}
+
+/// Takes a number out of the row that begins at word `at`.
+#[tactic(auto, using(crate::proofs::Words::clear_bit))]
+pub(crate) fn take_out(words: &mut Vec<u64>, at: usize, j: usize)
+    requires { at + j / 64 < length words.old.items }
+    ensures len { length words.new.items ≡ length words.old.items }
+    ensures capacity { vec_capacity words.new ≡ vec_capacity words.old }
+    ensures bits { (x : ℕ) → has_bit words.new.items x ≡ (has_bit words.old.items x && not (64 * at + j == x)) }
+{
+    let k = at + j / 64;
+    let word = words[k];
+    words[k] = word & !(1 << (j % 64));
+}
+
+fn less(word: u64, row: u64) -> u64
+    ensures { (t : ℕ) → t < 64 → (bit_at result t == 1) ≡ ((bit_at word t == 1) && not (bit_at row t == 1)) }
+{
+    word & !row
+}
+
+/// Takes all numbers of a row of `rows` out of the row that begins at word `at`.
+pub(crate) fn take_out_row(words: &mut Vec<u64>, at: usize, rows: &[u64], from: usize, width: usize)
+    requires words { at + width ≤ length words.old.items }
+    requires rows { from + width ≤ length rows.now }
+    ensures len { length words.new.items ≡ length words.old.items }
+    ensures capacity { vec_capacity words.new ≡ vec_capacity words.old }
+    ensures row { (j : ℕ) → j < 64 * width → has_bit words.new.items (64 * at + j) ≡ (has_bit words.old.items (64 * at + j) && not (has_bit rows.now (64 * from + j))) }
+    ensures before { (x : ℕ) → x < 64 * at → has_bit words.new.items x ≡ has_bit words.old.items x }
+{
+    for k in 0..width {
+        words[at + k] = less(words[at + k], rows[from + k]);
+    }
+}
+
+/// Appends the last `width` words once more.
+pub(crate) fn copy_last(words: &mut Vec<u64>, width: usize)
+    requires some { width ≤ vec_len words.old }
+    requires room { vec_len words.old + width ≤ vec_capacity words.old }
+    ensures len { vec_len words.new ≡ vec_len words.old + width }
+    ensures capacity { vec_capacity words.new ≡ vec_capacity words.old }
+    ensures before { (x : ℕ) → x < 64 * vec_len words.old → has_bit words.new.items x ≡ has_bit words.old.items x }
+    ensures row { (j : ℕ) → j < 64 * width → has_bit words.new.items (64 * vec_len words.old + j) ≡ has_bit words.old.items (64 * (vec_len words.old - width) + j) }
+{
+    let from = words.len() - width;
+    for k in 0..width {
+        let word = words[from + k];
+        words.push_reserved(word);
+    }
+}
+
+fn both(word: u64, row: u64) -> u64
+    ensures { (t : ℕ) → (bit_at result t == 1) ≡ ((bit_at word t == 1) && (bit_at row t == 1)) }
+{
+    word & row
+}
+
+// The first bit of a word from `low` on.
+fn next_bit(word: u64, low: usize) -> Option<usize>
+    requires { low < 64 }
+    ensures { MatchOption result (NoneIn (λ t. bit_at word t == 1) low 64) (λ t. FirstIn (λ t. bit_at word t == 1) low 64 t) }
+{
+    let rest = word >> low;
+    if rest == 0 {
+        return None;
+    }
+    Some(low + rest.trailing_zeros() as usize)
+}
+
+/// The first number from `low` on that is in the row of `words` at word `at` and in that of `rows` at word `from`.
+pub(crate) fn next_both(
+    words: &[u64],
+    at: usize,
+    rows: &[u64],
+    from: usize,
+    width: usize,
+    low: usize,
+) -> Option<usize>
+    requires words { at + width ≤ length words.now }
+    requires rows { from + width ≤ length rows.now }
+    requires narrow { width < 2 ^ 58 }
+    ensures { MatchOption result (NoneIn (in_both words.now at rows.now from) low (64 * width)) (λ j. FirstIn (in_both words.now at rows.now from) low (64 * width) j) }
+{
+    let mut past = low % 64;
+    for k in low / 64..width {
+        if let Some(t) = next_bit(both(words[at + k], rows[from + k]), past) {
+            return Some(64 * k + t);
+        }
+        past = 0;
+    }
+    None
+}

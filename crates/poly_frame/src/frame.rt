@@ -1,0 +1,423 @@
+//! A place in a search, kept as bits: rows of words for the placements that were open at the start. A step copies the
+//! last row and takes out what it closes, so nothing is searched and no memory is taken after the start. Bits in place of
+//! the linked lists of Knuth's dancing links (The Art of Computer Programming, volume 4B, section 7.2.2.1).
+ghost use Rattle.std.specs.Prelude.{IfErr, IfOk, MatchOption, false, length, not, true, ℕ, ◌&&◌, ◌+◌, ◌-◌, ◌<◌, ◌≡◌, ◌≤◌};
+ghost use Rattle.std.specs.List.{list_all};
+ghost use Rattle.poly_tiling.specs.Lists.{distinct, mem, tally};
+ghost use Rattle.poly_tiling.specs.Names.{WellNamed};
+ghost use Rattle.poly_tiling.specs.Puzzle.{has_item};
+ghost use Rattle.poly_atom.specs.Atoms.{in_family};
+ghost use Rattle.poly_atom.specs.Hopeless.{base};
+ghost use Rattle.poly_frame.specs.Open.{dead, lower, ruled_out};
+ghost use Rattle.poly_frame.specs.Walk.{back_to, is_due, is_open, is_option, step_back, with_step};
+
+mod allowed;
+mod busy;
+mod items;
+mod looks;
+mod members;
+mod sound;
+mod steps;
+mod table;
+
+use crate::frame::items::guess_cells;
+use crate::frame::steps::{Steps, start};
+use crate::frame::table::{Table, counts_of, table_of, uppers_of};
+use crate::plain;
+use poly_atom::Atom;
+use poly_grid::Refusal;
+use poly_tiling::{Item, View};
+use std::alloc::Global;
+use std::marker::Model;
+
+/// The greatest number of steps that stand on a frame at one time.
+pub const STEPS: usize = 4096;
+
+/// A place in a search. Steps are taken and taken back without memory.
+#[derive(Drop)]
+pub struct Frame<'a> {
+    view: &'a View,
+    path: Vec<Atom>,
+    given: usize,
+    members: Vec<u32>,
+    sizes: Vec<usize>,
+    sound: usize,
+    options: Vec<u32>,
+    table: Table,
+    steps: Steps,
+}
+
+impl<'a> Model for Frame<'a> {
+    ghost use Rattle.poly_frame.specs.Walk.{Walk};
+    ghost use Rattle.poly_frame.specs.Frames.{IsFrame};
+
+    ghost Value = { Walk };
+
+    ghost view = { λ f. record { scene = f.view.now; atoms = f.path.items; given = f.given } };
+
+    ghost invariant = { λ f. IsFrame f.view.now f.path f.given f.members f.sizes f.sound f.options f.table f.steps };
+}
+
+impl<'a> Frame<'a> {
+    ghost use Rattle.std.specs.Borrow.{sem};
+    ghost use Rattle.poly_frame.specs.Lending.{StaysSame};
+
+    /// A frame of the view with these atoms and no step.
+    #[tactic(auto, using(poly_tiling::proofs::Orders::live_once))]
+    pub fn new(alloc: Global, view: &'a View, atoms: &[Atom]) -> Result<Frame<'a>, Refusal>
+        ensures made { IfOk result (λ f. f ≡ record { scene = view.now; atoms = atoms.now; given = length atoms.now }) }
+        ensures why { IfErr result (λ e. e ≡ Refusal.Memory) }
+        ensures well { WellNamed view.now }
+        ensures once { distinct view.now.live ≡ true }
+    {
+        let pins = view.pins().len();
+        let live = view.live().len();
+        let given = atoms.len();
+        let mut path = Vec::with_capacity(alloc, given.saturating_add(STEPS))?;
+        path.extend_from_slice(atoms)?;
+        let mut members = Vec::with_capacity(alloc, pins + given + STEPS)?;
+        plain::make_base(view, atoms, &mut members);
+        let sizes = Vec::with_capacity(alloc, STEPS)?;
+        let options = Vec::with_capacity(alloc, live)?;
+        let cells = guess_cells(alloc, view.items())?;
+        let mut raised = Vec::with_capacity(alloc, STEPS * 17)?;
+        let have = counts_of(alloc, view, &members, &cells, &mut raised)?;
+        let uppers = uppers_of(alloc, view, atoms, &cells)?;
+        let sound = sound::begin(alloc, view, atoms, &members, &uppers, &have)?;
+        let table = table_of(
+            alloc,
+            view,
+            atoms,
+            &members,
+            cells,
+            &uppers,
+            &have,
+            &mut raised,
+        )?;
+        let steps = start(alloc, view, atoms, &table, have, raised)?;
+        Ok(Frame {
+            view,
+            path,
+            given,
+            members,
+            sizes,
+            sound,
+            options,
+            table,
+            steps,
+        })
+    }
+
+    /// How many atoms are on the path.
+    pub fn mark(&self) -> usize
+        ensures { result ≡ length self.now.atoms }
+    {
+        self.path.len()
+    }
+
+    /// The atoms on the path: the given ones and the steps that were not taken back.
+    pub fn atoms(&self) -> &[Atom]
+        ensures { result.now ≡ self.now.atoms }
+    {
+        self.path.as_slice()
+    }
+
+    /// Takes the placement: the atoms have one more, that it is in.
+    pub fn pick(&mut self, placement: u32)
+        requires { length self.old.atoms < self.old.given + 4096 }
+        ensures { self.new ≡ with_step self.old (Atom.Has placement) }
+    {
+        let opened = self.stands_open(placement);
+        steps::pick(
+            self.view,
+            &self.path,
+            self.given,
+            &self.table,
+            &self.members,
+            &mut self.steps,
+            placement,
+        );
+        members::pick(
+            self.view,
+            &self.path,
+            self.given,
+            &mut self.members,
+            &mut self.sizes,
+            placement,
+        );
+        self.sound = sound::pick(
+            self.view, &self.path, self.given, self.sound, placement, opened,
+        );
+        self.path.push_reserved(Atom::Has(placement));
+    }
+
+    /// Leaves the placement: the atoms have one more, that it is out.
+    pub fn leave(&mut self, placement: u32)
+        requires { length self.old.atoms < self.old.given + 4096 }
+        ensures { self.new ≡ with_step self.old (Atom.Lacks placement) }
+    {
+        let opened = self.stands_open(placement);
+        steps::leave(
+            self.view,
+            &self.path,
+            self.given,
+            &self.table,
+            &mut self.steps,
+            placement,
+        );
+        members::leave(
+            self.view,
+            &self.path,
+            self.given,
+            &self.members,
+            &mut self.sizes,
+            placement,
+        );
+        self.sound = sound::leave(
+            self.view, &self.path, self.given, self.sound, placement, opened,
+        );
+        self.path.push_reserved(Atom::Lacks(placement));
+    }
+
+    /// Takes the last step back.
+    pub fn back(&mut self)
+        requires { self.old.given < length self.old.atoms }
+        ensures { self.new ≡ step_back self.old }
+    {
+        let mark = self.path.len() - 1;
+        steps::back(
+            self.view,
+            &self.path,
+            self.given,
+            &self.table,
+            &mut self.steps,
+            mark - self.given,
+        );
+        members::back(
+            self.view,
+            &self.path,
+            self.given,
+            &mut self.members,
+            &mut self.sizes,
+        );
+        self.sound = sound::back(self.view, &self.path, self.given, self.sound);
+        self.path.truncate(mark);
+    }
+
+    /// Takes back the steps after a mark.
+    pub fn back_to(&mut self, mark: usize)
+        requires { self.old.given ≤ mark }
+        ensures { self.new ≡ back_to self.old mark }
+    {
+        while self.mark() > mark {
+            self.back();
+        }
+    }
+
+    /// The open placements that have the item, each once, in any order. They are read before the frame is used again;
+    /// the frame stays as it was.
+    pub fn options(&mut self, item: Item) -> &[u32]
+        ensures* same { sem 𝓛 (StaysSame self.entry) }
+        ensures once { distinct result.now ≡ true }
+        ensures members { (p : ℕ) → mem result.now p ≡ (mem self.old.scene.live p && is_option self.old item p) }
+    {
+        looks::list_options(
+            self.view,
+            &self.path,
+            self.given,
+            &self.table,
+            &self.steps,
+            item,
+            &mut self.options,
+        );
+        &self.options
+    }
+
+    /// Some open placement; none where no placement is open.
+    pub fn first_open(&self) -> Option<u32>
+        ensures { MatchOption result (list_all (λ p. not (is_open self.now p)) self.now.scene.live ≡ true) (λ p. (mem self.now.scene.live p ≡ true) × (is_open self.now p ≡ true)) }
+    {
+        looks::first_open(self.view, &self.path, self.given, &self.table, &self.steps)
+    }
+
+    /// Whether no placement is open.
+    pub fn none_open(&self) -> bool
+        ensures { result ≡ list_all (λ p. not (is_open self.now p)) self.now.scene.live }
+    {
+        match self.first_open() {
+            None => true,
+            Some(_) => false,
+        }
+    }
+
+    /// An item of which the base has fewer than the design and the atoms ask for, one with the fewest options beyond
+    /// what it still needs; none where no item is short.
+    pub fn next_due(&self) -> Option<Item>
+        ensures { MatchOption result ((i : Item) → is_due self.now i ≡ false) (λ i. is_due self.now i ≡ true) }
+    {
+        match looks::next_listed(self.view, &self.path, self.given, &self.table, &self.steps) {
+            Some(b) => Some(self.view.items()[b].0),
+            None => looks::next_other(
+                self.view,
+                &self.path,
+                self.given,
+                &self.table,
+                &self.steps,
+                &self.members,
+            ),
+        }
+    }
+
+    /// Whether the placement is dead: no placement of the design now, or out by an atom.
+    pub fn dead(&self, placement: u32) -> bool
+        ensures { result ≡ dead self.now.scene self.now.atoms placement }
+    {
+        if self.stands_open(placement) {
+            return false;
+        }
+        plain::is_dead(self.view, &self.path, placement)
+    }
+
+    /// Whether the placement has the item.
+    pub fn covers(&self, placement: u32, item: Item) -> bool
+        ensures { result ≡ has_item self.now.scene placement item }
+    {
+        self.view.covers(placement, item)
+    }
+
+    /// Whether the placement is one of the design and is not ruled out: it is open, or it is in the base and could be
+    /// taken if it were not.
+    pub fn allows(&self, placement: u32) -> bool
+        ensures { result ≡ (mem self.now.scene.live placement && not (ruled_out self.now.scene self.now.atoms placement)) }
+    {
+        sound::is_right(self.view, &self.path, &self.members, placement)
+    }
+
+    /// How many placements of the design have the item and are not ruled out.
+    #[tactic(auto, using(poly_tiling::proofs::Orders::live_once))]
+    pub fn count_allowed(&self, item: Item) -> usize
+        ensures once { distinct self.now.scene.live ≡ true }
+        ensures value { result ≡ tally (λ p. has_item self.now.scene p item && not (ruled_out self.now.scene self.now.atoms p)) self.now.scene.live }
+    {
+        allowed::count(
+            self.view,
+            &self.path,
+            self.given,
+            &self.table,
+            &self.steps,
+            &self.members,
+            &item,
+        )
+    }
+
+    /// How many members with the item each tiling that meets the atoms has at least: what the design and the atoms ask
+    /// for, or what the base has where that is more.
+    pub fn least(&self, item: Item) -> usize
+        ensures { result ≡ lower self.now.scene self.now.atoms item }
+    {
+        allowed::least(
+            self.view,
+            &self.path,
+            self.given,
+            &self.table,
+            &self.steps,
+            &self.members,
+            &item,
+        )
+    }
+
+    /// The base, ascending, where it is a tiling that meets the atoms: all that a Found stands for.
+    pub fn found(&self) -> Option<&[u32]>
+        ensures { MatchOption result (in_family self.now.scene self.now.atoms (base self.now.scene self.now.atoms) ≡ false) (λ t. (t.now ≡ base self.now.scene self.now.atoms) × (in_family self.now.scene self.now.atoms (base self.now.scene self.now.atoms) ≡ true)) }
+    {
+        match looks::judge(
+            self.view,
+            &self.path,
+            self.given,
+            &self.table,
+            &self.steps,
+            self.sound,
+        ) {
+            Some(true) => Some(&self.members),
+            Some(false) => None,
+            None => self.found_plainly(),
+        }
+    }
+
+    // The base, where it is a tiling that meets the atoms, by asking the view.
+    fn found_plainly(&self) -> Option<&[u32]>
+        ensures { MatchOption result (in_family self.now.scene self.now.atoms (base self.now.scene self.now.atoms) ≡ false) (λ t. (t.now ≡ base self.now.scene self.now.atoms) × (in_family self.now.scene self.now.atoms (base self.now.scene self.now.atoms) ≡ true)) }
+    {
+        if !plain::is_member(self.view, &self.path, &self.members) {
+            return None;
+        }
+        Some(&self.members)
+    }
+
+    // Whether the placement is known to be open.
+    fn stands_open(&self, placement: u32) -> bool
+        ensures { result ≡ true → (mem self.now.scene.live placement ≡ true) × (is_open self.now placement ≡ true) }
+    {
+        looks::stands_open(
+            self.view,
+            &self.path,
+            self.given,
+            &self.table,
+            &self.steps,
+            placement,
+        )
+    }
+}
+
+#[cfg(test)]
+mod tests {
+    use super::*;
+    use poly_grid::Cell;
+    use std::process::Abort;
+
+    // A design without cells and pieces: its one tiling has no member.
+    fn empty(alloc: Global) -> View {
+        View::with(
+            Vec::new(alloc),
+            Vec::new(alloc),
+            Vec::new(alloc),
+            Vec::new(alloc),
+        )
+    }
+
+    // Asserts that nothing is open and each item has what it needs.
+    fn expect_closed(rt: &impl Abort, frame: &Frame<'_>) {
+        assert!(rt; frame.none_open());
+        assert!(rt; frame.first_open().is_none());
+        assert!(rt; frame.next_due().is_none());
+        assert!(rt; frame.dead(0));
+        assert!(rt; frame.found().is_some());
+    }
+
+    #[test]
+    fn nothing_is_open_in_an_empty_design(rt: HostRuntime) {
+        let view = empty(rt.alloc());
+        let mut frame = Frame::new(rt.alloc(), &view, &[Atom::Lacks(2)]).expect(&rt, "memory");
+        assert!(rt; frame.options(Item::Cell(Cell::ORIGIN)).is_empty());
+        expect_closed(&rt, &frame);
+    }
+
+    // Asserts what the frame's atoms are.
+    fn expect_atoms(rt: &impl Abort, frame: &Frame<'_>, want: &[Atom]) {
+        assert!(rt; frame.atoms() == want);
+    }
+
+    #[test]
+    fn steps_are_taken_back(rt: HostRuntime) {
+        let view = empty(rt.alloc());
+        let mut frame = Frame::new(rt.alloc(), &view, &[Atom::Lacks(2)]).expect(&rt, "memory");
+        frame.pick(5);
+        let mark = frame.mark();
+        frame.leave(3);
+        frame.leave(4);
+        frame.back();
+        expect_atoms(&rt, &frame, &[Atom::Lacks(2), Atom::Has(5), Atom::Lacks(3)]);
+        frame.back_to(mark);
+        expect_atoms(&rt, &frame, &[Atom::Lacks(2), Atom::Has(5)]);
+    }
+}

@@ -1,0 +1,165 @@
+//! Items by their places among the items of a view. Where an item stands is guessed first and then tested, so a wrong
+//! guess costs time alone.
+ghost use Rattle.std.specs.Prelude.{IfErr, List, MatchOption, false, length, map, nat_lt, slice_index, slice_index_or, true, vec_capacity, vec_len, ℕ, [], ◌++◌, ◌+◌, ◌<◌, ◌*◌, ◌==◌, ◌^◌, ◌∷◌, ◌≡◌, ◌≤◌};
+ghost use Rattle.std.specs.List.{list_all};
+ghost use Rattle.poly_shape.specs.Order.{IsAscending, spot_cmp};
+ghost use Rattle.poly_tiling.specs.Names.{items_ascend};
+ghost use Rattle.poly_tiling.specs.Puzzle.{items, same_item};
+ghost use Rattle.poly_tiling.specs.declared.item.Item.TheVariants.{Cell as CellItem, Piece as PieceItem};
+ghost use Rattle.poly_frame.specs.FrameItems.{Noted, item_at, times};
+
+use poly_grid::{Cell, Refusal};
+use poly_tiling::{Item, View};
+use std::alloc::Global;
+
+/// How many cells a board can have.
+pub(crate) const CELLS: usize = 4096;
+
+/// Where a cell stands in a list with one entry for each cell that a board can have.
+pub(crate) fn cell_place(cell: Cell) -> usize
+    ensures value { result ≡ 64 * cell.y + cell.x }
+    ensures column { cell.x < 64 }
+    ensures small { result < 4096 }
+{
+    usize::from(cell.y()) * 64 + usize::from(cell.x())
+}
+
+/// Guesses where cells stand among the items.
+pub(crate) fn guess_cells(alloc: Global, bounds: &[(Item, u8, u8)]) -> Result<Vec<usize>, Refusal>
+    ensures { IfErr result (λ e. e ≡ Refusal.Memory) }
+{
+    let mut guesses = vec![in alloc; 0usize; CELLS]?;
+    for b in 0..bounds.len() {
+        if let Item::Cell(cell) = bounds[b].0 {
+            let k = cell_place(cell);
+            if k < guesses.len() {
+                guesses[k] = b;
+            }
+        }
+    }
+    Ok(guesses)
+}
+
+/// A guess for a cell, 0 where there is none.
+pub(crate) fn guess_of(guesses: &[usize], cell: Cell) -> usize {
+    let k = cell_place(cell);
+    if k < guesses.len() { guesses[k] } else { 0 }
+}
+
+/// Where an item stands. Without a guess it is mostly a piece, and these stand last.
+pub(crate) fn index_of(bounds: &[(Item, u8, u8)], guess: usize, item: Item) -> Option<usize>
+    ensures { MatchOption result ((b : ℕ) → b < length bounds.now → same_item (item_at bounds.now b) item ≡ false) (λ b. (b < length bounds.now) × (same_item (item_at bounds.now b) item ≡ true)) }
+{
+    if guess < bounds.len() && bounds[guess].0.is(&item) {
+        return Some(guess);
+    }
+    let mut b = bounds.len();
+    while b > 0 {
+        b -= 1;
+        if bounds[b].0.is(&item) {
+            return Some(b);
+        }
+    }
+    None
+}
+
+fn is_cell(item: &Item, cell: Cell) -> bool
+    ensures { result ≡ same_item item.now (CellItem cell) }
+{
+    match item {
+        Item::Cell(other) => *other == cell,
+        Item::Piece(_) => false,
+    }
+}
+
+// Where a cell stands.
+fn cell_at(bounds: &[(Item, u8, u8)], guess: usize, cell: Cell) -> Option<usize>
+    ensures { MatchOption result ((b : ℕ) → b < length bounds.now → same_item (item_at bounds.now b) (CellItem cell) ≡ false) (λ b. (b < length bounds.now) × (same_item (item_at bounds.now b) (CellItem cell) ≡ true)) }
+{
+    if guess < bounds.len() && is_cell(&bounds[guess].0, cell) {
+        return Some(guess);
+    }
+    index_of(bounds, guess, Item::Cell(cell))
+}
+
+// Notes where a cell stands, if it does.
+fn note_cell(bounds: &[(Item, u8, u8)], guess: usize, cell: Cell, noted: &mut Vec<usize>)
+    requires room { vec_len noted.old < vec_capacity noted.old }
+    requires order { items_ascend bounds.now ≡ true }
+    ensures capacity { vec_capacity noted.new ≡ vec_capacity noted.old }
+    ensures len { vec_len noted.new ≤ vec_len noted.old + 1 }
+    ensures places { (places : List ℕ) × (noted.new.items ≡ noted.old.items ++ places) × Noted bounds.now (CellItem cell ∷ []) places }
+{
+    if let Some(b) = cell_at(bounds, guess, cell) {
+        noted.push_reserved(b);
+    }
+}
+
+// Notes where an item stands, if it does.
+fn note_item(bounds: &[(Item, u8, u8)], guess: usize, item: Item, noted: &mut Vec<usize>)
+    requires room { vec_len noted.old < vec_capacity noted.old }
+    requires order { items_ascend bounds.now ≡ true }
+    ensures capacity { vec_capacity noted.new ≡ vec_capacity noted.old }
+    ensures len { vec_len noted.new ≤ vec_len noted.old + 1 }
+    ensures places { (places : List ℕ) × (noted.new.items ≡ noted.old.items ++ places) × Noted bounds.now (item ∷ []) places }
+{
+    if let Some(b) = index_of(bounds, guess, item) {
+        noted.push_reserved(b);
+    }
+}
+
+fn note_cells(bounds: &[(Item, u8, u8)], guesses: &[usize], cells: &[Cell], noted: &mut Vec<usize>)
+    requires room { vec_len noted.old + length cells.now ≤ vec_capacity noted.old }
+    requires order { items_ascend bounds.now ≡ true }
+    requires ascending { IsAscending spot_cmp cells.now }
+    ensures capacity { vec_capacity noted.new ≡ vec_capacity noted.old }
+    ensures len { vec_len noted.new ≤ vec_len noted.old + length cells.now }
+    ensures places { (places : List ℕ) × (noted.new.items ≡ noted.old.items ++ places) × Noted bounds.now (map (λ c. CellItem c) cells.now) places }
+{
+    for cell in cells {
+        note_cell(bounds, guess_of(guesses, *cell), *cell, noted);
+    }
+}
+
+/// Notes where the items of a number's placement stand among the view's, `piece` being the guess for its piece.
+pub(crate) fn note_items(
+    view: &View,
+    cells: &[usize],
+    piece: usize,
+    number: u32,
+    noted: &mut Vec<usize>,
+)
+    requires { vec_len noted.old + 17 ≤ vec_capacity noted.old }
+    ensures capacity { vec_capacity noted.new ≡ vec_capacity noted.old }
+    ensures len { vec_len noted.new ≤ vec_len noted.old + 17 }
+    ensures places { (places : List ℕ) × (noted.new.items ≡ noted.old.items ++ places) × Noted view.now.bounds (items view.now number) places }
+{
+    if let Some(placement) = view.placement(number) {
+        note_item(view.items(), piece, Item::Piece(placement.name), noted);
+        note_cells(view.items(), cells, placement.cells.as_slice(), noted);
+    }
+}
+
+/// Counts each place once more.
+pub(crate) fn raise(have: &mut Vec<u64>, places: &[usize])
+    requires low { list_all (λ b. nat_lt b (length have.old.items)) places.now ≡ true }
+    requires small { (b : ℕ) → b < length have.old.items → slice_index have.old.items b + length places.now < 2 ^ 64 }
+    ensures len { length have.new.items ≡ length have.old.items }
+    ensures more { (b : ℕ) → b < length have.old.items → slice_index have.new.items b ≡ slice_index have.old.items b + times places.now b }
+{
+    for b in places {
+        have[*b] += 1;
+    }
+}
+
+/// Counts each place once less.
+pub(crate) fn lower(have: &mut Vec<u64>, places: &[usize])
+    requires low { list_all (λ b. nat_lt b (length have.old.items)) places.now ≡ true }
+    requires enough { (b : ℕ) → b < length have.old.items → times places.now b ≤ slice_index have.old.items b }
+    ensures len { length have.new.items ≡ length have.old.items }
+    ensures less { (b : ℕ) → b < length have.old.items → slice_index have.new.items b + times places.now b ≡ slice_index have.old.items b }
+{
+    for b in places {
+        have[*b] -= 1;
+    }
+}

@@ -1,0 +1,289 @@
+//! What a frame is asked: which placements are open, and which item is due.
+ghost use Rattle.std.specs.Prelude.{Bool, IfSome, MatchOption, false, length, nat_lt, not, slice_index, true, vec_capacity, vec_len, ℕ, ◌&&◌, ◌*◌, ◌+◌, ◌<◌, ◌^◌, ◌≡◌, ◌≤◌};
+ghost use Rattle.std.specs.List.{filter, list_all};
+ghost use Rattle.poly_tiling.specs.declared.item.Item.{Item};
+ghost use Rattle.poly_tiling.specs.Lists.{mem};
+ghost use Rattle.poly_tiling.specs.Puzzle.{count, has_item};
+ghost use Rattle.poly_atom.specs.Atoms.{in_family};
+ghost use Rattle.poly_atom.specs.Hopeless.{base};
+ghost use Rattle.poly_frame.specs.Open.{asks, open_in};
+ghost use Rattle.poly_frame.specs.Bits.{in_both};
+ghost use Rattle.poly_frame.specs.FrameItems.{item_of};
+ghost use Rattle.poly_frame.specs.FrameSound.{SoundShows};
+ghost use Rattle.poly_frame.specs.FrameSteps.{StepsKeep};
+
+use crate::frame::busy::{Busy, busy_words, common};
+use crate::frame::items::{guess_of, index_of};
+use crate::frame::steps::{Steps, number_at};
+use crate::frame::table::Table;
+use crate::{bits, plain};
+use poly_atom::Atom;
+use poly_tiling::{Item, View};
+
+/// A guess for where an item stands.
+pub(crate) fn guess_item(cells: &[usize], item: &Item) -> usize {
+    match item {
+        Item::Cell(cell) => guess_of(cells, *cell),
+        Item::Piece(_) => 0,
+    }
+}
+
+// Lists the numbers that are in both rows.
+fn list_both(table: &Table, live: &[u64], at: usize, from: usize, into: &mut Vec<u32>)
+    requires wide { length table.now.numbers.items ≤ 64 * table.now.width }
+    requires narrow { table.now.width < 2 ^ 58 }
+    requires live { at + table.now.width ≤ length live.now }
+    requires rows { from + table.now.width ≤ length table.now.rows.items }
+    requires space { length table.now.numbers.items ≤ vec_capacity into.old }
+    ensures items { (f : ℕ → Bool) → ((j : ℕ) → j < length table.now.numbers.items → f (slice_index table.now.numbers.items j) ≡ in_both live.now at table.now.rows.items from j) → into.new.items ≡ filter f table.now.numbers.items }
+    ensures room { vec_capacity into.new ≡ vec_capacity into.old }
+{
+    into.clear();
+    let mut low = 0;
+    while let Some(j) = bits::next_both(live, at, &table.rows, from, table.width, low) {
+        if j >= table.numbers.len() {
+            return;
+        }
+        into.push_reserved(table.numbers[j]);
+        low = j + 1;
+    }
+}
+
+// Lists the open numbers of row `b`.
+fn list_row(
+    view: &View,
+    path: &[Atom],
+    first: usize,
+    table: &Table,
+    steps: &Steps,
+    b: usize,
+    into: &mut Vec<u32>,
+)
+    requires kept { StepsKeep view.now path.now first table.now steps.now }
+    requires row { b < length view.now.bounds }
+    requires space { length table.now.numbers.items ≤ vec_capacity into.old }
+    ensures items { into.new.items ≡ filter (λ p. open_in view.now path.now p && has_item view.now p (item_of view.now b)) table.now.numbers.items }
+    ensures room { vec_capacity into.new ≡ vec_capacity into.old }
+{
+    let _ = view;
+    let _ = path;
+    let at = steps.live.len() - table.width;
+    list_both(table, &steps.live, at, table.width * b, into);
+}
+
+/// Lists the open placements that have the item.
+pub(crate) fn list_options(
+    view: &View,
+    path: &[Atom],
+    first: usize,
+    table: &Table,
+    steps: &Steps,
+    item: Item,
+    into: &mut Vec<u32>,
+)
+    requires kept { StepsKeep view.now path.now first table.now steps.now }
+    requires space { length table.now.numbers.items ≤ vec_capacity into.old }
+    ensures items { into.new.items ≡ filter (λ p. open_in view.now path.now p && has_item view.now p item) table.now.numbers.items }
+    ensures room { vec_capacity into.new ≡ vec_capacity into.old }
+{
+    match index_of(view.items(), guess_item(&table.cells, &item), item) {
+        None => into.clear(),
+        Some(b) => list_row(view, path, first, table, steps, b, into),
+    }
+}
+
+/// Where some open number stands.
+pub(crate) fn first_open(
+    view: &View,
+    path: &[Atom],
+    first: usize,
+    table: &Table,
+    steps: &Steps,
+) -> Option<u32>
+    requires kept { StepsKeep view.now path.now first table.now steps.now }
+    ensures { MatchOption result (list_all (λ p. not (open_in view.now path.now p)) view.now.live ≡ true) (λ p. (mem view.now.live p ≡ true) × (open_in view.now path.now p ≡ true)) }
+{
+    let _ = view;
+    let _ = path;
+    let at = steps.live.len() - table.width;
+    let Some(j) = bits::next_both(&steps.live, at, &steps.live, at, table.width, 0) else {
+        return None;
+    };
+    if j < table.numbers.len() {
+        Some(table.numbers[j])
+    } else {
+        None
+    }
+}
+
+/// Whether the number's placement is known to be open.
+pub(crate) fn stands_open(
+    view: &View,
+    path: &[Atom],
+    first: usize,
+    table: &Table,
+    steps: &Steps,
+    number: u32,
+) -> bool
+    requires kept { StepsKeep view.now path.now first table.now steps.now }
+    ensures { result ≡ true → (mem view.now.live number ≡ true) × (open_in view.now path.now number ≡ true) }
+{
+    let _ = view;
+    let _ = path;
+    let at = steps.live.len() - table.width;
+    match number_at(table, number) {
+        None => false,
+        Some(j) => bits::has(&steps.live, at, j),
+    }
+}
+
+// Whether the base has too few of the item at a place.
+fn is_below(table: &Table, steps: &Steps, b: usize) -> bool
+    requires have { b < length steps.now.have.items }
+    requires asked { b < length table.now.asked.items }
+    ensures { result ≡ nat_lt (slice_index steps.now.have.items b) (slice_index table.now.asked.items b) }
+{
+    steps.have[b] < u64::from(table.asked[b])
+}
+
+/// Whether the base is known to have too few of some item of the view.
+pub(crate) fn is_short(
+    view: &View,
+    path: &[Atom],
+    first: usize,
+    table: &Table,
+    steps: &Steps,
+) -> bool
+    requires kept { StepsKeep view.now path.now first table.now steps.now }
+    ensures short { result ≡ true → in_family view.now path.now (base view.now path.now) ≡ false }
+    ensures enough { result ≡ false → (b : ℕ) → b < length view.now.bounds → nat_lt (count view.now (base view.now path.now) (item_of view.now b)) (asks view.now path.now (item_of view.now b)) ≡ false }
+{
+    let _ = view;
+    let _ = path;
+    for b in 0..steps.have.len() {
+        if is_below(table, steps, b) {
+            return true;
+        }
+    }
+    false
+}
+
+/// Whether the base is a tiling that meets the atoms, where the rows tell that.
+pub(crate) fn judge(
+    view: &View,
+    path: &[Atom],
+    first: usize,
+    table: &Table,
+    steps: &Steps,
+    sound: usize,
+) -> Option<bool>
+    requires kept { StepsKeep view.now path.now first table.now steps.now }
+    requires sound { SoundShows view.now path.now first sound }
+    ensures { IfSome result (λ b. in_family view.now path.now (base view.now path.now) ≡ b) }
+{
+    if is_short(view, path, first, table, steps) {
+        return Some(false);
+    }
+    if table.listed && sound > path.len() - first {
+        return Some(true);
+    }
+    None
+}
+
+// How many options the item at a place has beyond what it still needs, plus one: 0 where they are too few; some number
+// not below `fewest` where it is not less than that. None where the base has enough.
+fn spare(
+    table: &Table,
+    steps: &Steps,
+    at: usize,
+    busy: &Busy,
+    b: usize,
+    fewest: usize,
+) -> Option<usize>
+    requires have { b < length steps.now.have.items }
+    requires asked { b < length table.now.asked.items }
+    requires live { at + table.now.width ≤ length steps.now.live.items }
+    requires rows { table.now.width * b + table.now.width ≤ length table.now.rows.items }
+    ensures { MatchOption result (nat_lt (slice_index steps.now.have.items b) (slice_index table.now.asked.items b) ≡ false) (λ _. nat_lt (slice_index steps.now.have.items b) (slice_index table.now.asked.items b) ≡ true) }
+{
+    let have = steps.have[b];
+    let asked = u64::from(table.asked[b]);
+    if asked <= have {
+        return None;
+    }
+    let needed = (asked - have) as usize - 1;
+    let from = table.width * b;
+    let filled = filled_words(table, b);
+    let most = fewest.saturating_add(needed);
+    let n = common(
+        &steps.live,
+        at,
+        busy,
+        &table.rows,
+        from,
+        &filled,
+        table.width,
+        most,
+    );
+    Some(n.saturating_sub(needed))
+}
+
+fn filled_words(table: &Table, b: usize) -> Busy {
+    if b < table.busy.len() {
+        table.busy[b]
+    } else {
+        Busy::all()
+    }
+}
+
+/// An item of the view of which the base has too few, one with the fewest options beyond what it still needs.
+pub(crate) fn next_listed(
+    view: &View,
+    path: &[Atom],
+    first: usize,
+    table: &Table,
+    steps: &Steps,
+) -> Option<usize>
+    requires kept { StepsKeep view.now path.now first table.now steps.now }
+    ensures { MatchOption result ((b : ℕ) → b < length view.now.bounds → nat_lt (count view.now (base view.now path.now) (item_of view.now b)) (asks view.now path.now (item_of view.now b)) ≡ false) (λ b. (b < length view.now.bounds) × (nat_lt (count view.now (base view.now path.now) (item_of view.now b)) (asks view.now path.now (item_of view.now b)) ≡ true)) }
+{
+    let _ = view;
+    let _ = path;
+    let at = steps.live.len() - table.width;
+    let busy = busy_words(&steps.live, at, table.width);
+    let mut best = None;
+    let mut fewest = usize::MAX;
+    for b in 0..steps.have.len() {
+        if let Some(n) = spare(table, steps, at, &busy, b, fewest) {
+            if n == 0 {
+                return Some(b);
+            }
+            if best.is_none() || n < fewest {
+                fewest = n;
+                best = Some(b);
+            }
+        }
+    }
+    best
+}
+
+/// An item that is due, where no item of the view is.
+pub(crate) fn next_other(
+    view: &View,
+    path: &[Atom],
+    first: usize,
+    table: &Table,
+    steps: &Steps,
+    members: &[u32],
+) -> Option<Item>
+    requires kept { StepsKeep view.now path.now first table.now steps.now }
+    requires members { members.now ≡ base view.now path.now }
+    requires none { (b : ℕ) → b < length view.now.bounds → nat_lt (count view.now (base view.now path.now) (item_of view.now b)) (asks view.now path.now (item_of view.now b)) ≡ false }
+    ensures { MatchOption result ((i : Item) → nat_lt (count view.now (base view.now path.now) i) (asks view.now path.now i) ≡ false) (λ i. nat_lt (count view.now (base view.now path.now) i) (asks view.now path.now i) ≡ true) }
+{
+    let _ = steps;
+    if table.listed {
+        return None;
+    }
+    plain::next_due(view, path, members)
+}

@@ -1,0 +1,104 @@
+//! The base of a frame's atoms: an ascending list in which a step puts one number, and from which its taking back takes
+//! that number again.
+ghost use Rattle.std.specs.Prelude.{[], length, take, vec_capacity, vec_len, ℕ, ◌++◌, ◌+◌, ◌-◌, ◌<◌, ◌∷◌, ◌≡◌, ◌≢◌, ◌≤◌};
+ghost use Rattle.poly_atom.specs.Hopeless.{base};
+ghost use Rattle.poly_frame.specs.FrameMembers.{SizesShow, without};
+
+use crate::plain::put_number;
+use poly_atom::Atom;
+use poly_tiling::View;
+
+// Takes a number out of a list, where it first stands.
+fn take_number(numbers: &mut Vec<u32>, number: u32)
+    ensures items { numbers.new.items ≡ without number numbers.old.items }
+    ensures room { vec_capacity numbers.new ≡ vec_capacity numbers.old }
+{
+    for k in 0..numbers.len() {
+        if number == numbers[k] {
+            let _ = numbers.remove(k);
+            return;
+        }
+    }
+}
+
+// Takes the placement of a Has out again.
+fn take_last(numbers: &mut Vec<u32>, atom: &Atom)
+    ensures asked { (p : ℕ) → atom.now ≡ Atom.Has p → numbers.new.items ≡ without p numbers.old.items }
+    ensures other { ((p : ℕ) → atom.now ≢ Atom.Has p) → numbers.new.items ≡ numbers.old.items }
+    ensures room { vec_capacity numbers.new ≡ vec_capacity numbers.old }
+{
+    if let Atom::Has(number) = atom {
+        take_number(numbers, *number);
+    }
+}
+
+/// Takes a number into the base.
+pub(crate) fn pick(
+    view: &View,
+    path: &[Atom],
+    first: usize,
+    members: &mut Vec<u32>,
+    sizes: &mut Vec<usize>,
+    number: u32,
+)
+    requires base { members.old.items ≡ base view.now path.now }
+    requires sizes { SizesShow view.now path.now first sizes.old.items }
+    requires room { length view.now.pins + length path.now < vec_capacity members.old }
+    requires space { vec_len sizes.old < vec_capacity sizes.old }
+    ensures base { members.new.items ≡ base view.now (path.now ++ Atom.Has number ∷ []) }
+    ensures sizes { SizesShow view.now (path.now ++ Atom.Has number ∷ []) first sizes.new.items }
+    ensures room { vec_capacity members.old ≤ vec_capacity members.new }
+    ensures space { vec_capacity sizes.new ≡ vec_capacity sizes.old }
+{
+    let _ = view;
+    let _ = path;
+    sizes.push_reserved(members.len());
+    put_number(members, number);
+}
+
+/// Leaves a number: the base stays.
+pub(crate) fn leave(
+    view: &View,
+    path: &[Atom],
+    first: usize,
+    members: &[u32],
+    sizes: &mut Vec<usize>,
+    number: u32,
+)
+    requires base { members.now ≡ base view.now path.now }
+    requires sizes { SizesShow view.now path.now first sizes.old.items }
+    requires space { vec_len sizes.old < vec_capacity sizes.old }
+    ensures base { members.now ≡ base view.now (path.now ++ Atom.Lacks number ∷ []) }
+    ensures sizes { SizesShow view.now (path.now ++ Atom.Lacks number ∷ []) first sizes.new.items }
+    ensures space { vec_capacity sizes.new ≡ vec_capacity sizes.old }
+{
+    let _ = view;
+    let _ = path;
+    sizes.push_reserved(members.len());
+}
+
+/// Takes the last step back.
+pub(crate) fn back(
+    view: &View,
+    path: &[Atom],
+    first: usize,
+    members: &mut Vec<u32>,
+    sizes: &mut Vec<usize>,
+)
+    requires base { members.old.items ≡ base view.now path.now }
+    requires sizes { SizesShow view.now path.now first sizes.old.items }
+    requires some { first < length path.now }
+    ensures base { members.new.items ≡ base view.now (take (length path.now - 1) path.now) }
+    ensures sizes { SizesShow view.now (take (length path.now - 1) path.now) first sizes.new.items }
+    ensures room { vec_capacity members.new ≡ vec_capacity members.old }
+    ensures space { vec_capacity sizes.new ≡ vec_capacity sizes.old }
+{
+    let _ = view;
+    let last = sizes.len() - 1;
+    let size = sizes[last];
+    sizes.truncate(last);
+    if size == members.len() {
+        return;
+    }
+    take_last(members, &path[path.len() - 1]);
+}

@@ -1,0 +1,156 @@
+//! How many steps of a frame left its base sound: each member a placement of the design that is not ruled out. Where all
+//! did, the base is a tiling that meets the atoms as soon as no item is short.
+ghost use Rattle.std.specs.Prelude.{[], IfErr, IfOk, false, slice_index_or, ℕ, length, not, take, true, ◌&&◌, ◌++◌, ◌-◌, ◌<◌, ◌∷◌, ◌≡◌, ◌≤◌};
+ghost use Rattle.std.specs.List.{list_all, list_any};
+ghost use Rattle.poly_tiling.specs.Lists.{mem};
+ghost use Rattle.poly_atom.specs.Hopeless.{base, lacks};
+ghost use Rattle.poly_tiling.specs.Puzzle.{is_piece};
+ghost use Rattle.poly_frame.specs.Open.{open_in, ruled_out};
+ghost use Rattle.poly_frame.specs.FrameSound.{AllFit, SoundShows, fits_at, is_sound};
+ghost use Rattle.poly_frame.specs.FrameTable.{HaveShows, UppersShow};
+
+use crate::frame::table::{flags_of, has_flag};
+use crate::plain;
+use poly_atom::Atom;
+use poly_grid::Refusal;
+use poly_tiling::{Item, View, has_number};
+use std::alloc::Global;
+
+/// Whether the number is a placement of the design that is not ruled out.
+pub(crate) fn is_right(view: &View, atoms: &[Atom], members: &[u32], number: u32) -> bool
+    requires { members.now ≡ base view.now atoms.now }
+    ensures { result ≡ (mem view.now.live number && not (ruled_out view.now atoms.now number)) }
+{
+    has_number(view.live(), number) && !plain::is_ruled_out(view, atoms, members, number)
+}
+
+fn fits(item: &Item, most: u8, have: u64) -> bool
+    ensures { result ≡ fits_at item.now most have }
+{
+    have <= u64::from(most) && (is_piece(item) || have <= 1)
+}
+
+fn is_piece(item: &Item) -> bool
+    ensures { result ≡ is_piece item.now }
+{
+    match item {
+        Item::Cell(_) => false,
+        Item::Piece(_) => true,
+    }
+}
+
+// Whether no item has more members than it may, a cell at most one.
+fn all_fit(bounds: &[(Item, u8, u8)], uppers: &[u8], have: &[u64]) -> bool
+    requires uppers { length uppers.now ≡ length bounds.now }
+    requires have { length have.now ≡ length bounds.now }
+    ensures { result ≡ true → AllFit bounds.now uppers.now have.now }
+{
+    for b in 0..bounds.len() {
+        if !fits(&bounds[b].0, uppers[b], have[b]) {
+            return false;
+        }
+    }
+    true
+}
+
+// Whether the number is a placement of the design that no atom lacks.
+fn is_kept(view: &View, atoms: &[Atom], flags: &[bool], number: u32) -> bool
+    requires { (p : ℕ) → slice_index_or flags.now p false ≡ mem view.now.live p }
+    ensures { result ≡ (mem view.now.live number && not (list_any (λ a. lacks a number) atoms.now)) }
+{
+    // The clauses alone speak of the view.
+    let _ = view;
+    has_flag(flags, number) && !plain::any_lacks(atoms, number)
+}
+
+fn are_kept(view: &View, atoms: &[Atom], flags: &[bool], members: &[u32]) -> bool
+    requires { (p : ℕ) → slice_index_or flags.now p false ≡ mem view.now.live p }
+    ensures { result ≡ list_all (λ p. mem view.now.live p && not (list_any (λ a. lacks a p) atoms.now)) members.now }
+{
+    for p in members {
+        if !is_kept(view, atoms, flags, *p) {
+            return false;
+        }
+    }
+    true
+}
+
+/// For the given atoms alone: 1 where their base is known to be sound, and else 0. `uppers` and `have` are what each item
+/// may have at most, and how many members have it.
+pub(crate) fn begin(
+    alloc: Global,
+    view: &View,
+    atoms: &[Atom],
+    members: &[u32],
+    uppers: &[u8],
+    have: &[u64],
+) -> Result<usize, Refusal>
+    requires base { members.now ≡ base view.now atoms.now }
+    requires uppers_len { length uppers.now ≡ length view.now.bounds }
+    requires have_len { length have.now ≡ length view.now.bounds }
+    requires uppers { UppersShow view.now atoms.now uppers.now }
+    requires have { HaveShows view.now members.now have.now }
+    ensures value { IfOk result (λ n. SoundShows view.now atoms.now (length atoms.now) n) }
+    ensures why { IfErr result (λ e. e ≡ Refusal.Memory) }
+{
+    let flags = flags_of(alloc, view.live())?;
+    if all_fit(view.items(), uppers, have) && are_kept(view, atoms, &flags, members) {
+        Ok(1)
+    } else {
+        Ok(0)
+    }
+}
+
+/// After a placement is taken, which may be known to be open.
+pub(crate) fn pick(
+    view: &View,
+    path: &[Atom],
+    first: usize,
+    sound: usize,
+    number: u32,
+    opened: bool,
+) -> usize
+    requires shows { SoundShows view.now path.now first sound }
+    requires low { first ≤ length path.now }
+    requires opened { opened ≡ true → (mem view.now.live number ≡ true) × (open_in view.now path.now number ≡ true) }
+    ensures { SoundShows view.now (path.now ++ Atom.Has number ∷ []) first result }
+{
+    let _ = view;
+    if opened && sound > path.len() - first {
+        sound + 1
+    } else {
+        sound
+    }
+}
+
+/// After a placement is left, which may be known to be open.
+pub(crate) fn leave(
+    view: &View,
+    path: &[Atom],
+    first: usize,
+    sound: usize,
+    number: u32,
+    opened: bool,
+) -> usize
+    requires shows { SoundShows view.now path.now first sound }
+    requires low { first ≤ length path.now }
+    requires opened { opened ≡ true → (mem view.now.live number ≡ true) × (open_in view.now path.now number ≡ true) }
+    ensures { SoundShows view.now (path.now ++ Atom.Lacks number ∷ []) first result }
+{
+    let _ = view;
+    if opened && sound > path.len() - first {
+        sound + 1
+    } else {
+        sound
+    }
+}
+
+/// After the last step is taken back.
+pub(crate) fn back(view: &View, path: &[Atom], first: usize, sound: usize) -> usize
+    requires shows { SoundShows view.now path.now first sound }
+    requires some { first < length path.now }
+    ensures { SoundShows view.now (take (length path.now - 1) path.now) first result }
+{
+    let _ = view;
+    sound.min(path.len() - first)
+}

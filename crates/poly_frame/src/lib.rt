@@ -1,0 +1,10 @@
+//! A place in a search: a view, the atoms of a task and the steps since, and what is open, due and found there.
+#![tactic(auto)]
+
+mod bits;
+mod frame;
+mod laws;
+mod plain;
+
+pub use frame::{Frame, STEPS};
+pub use laws::steps_come_back;

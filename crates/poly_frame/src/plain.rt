@@ -1,0 +1,388 @@
+//! What is open, due and found after a list of atoms, asked of the view placement by placement. `members` is the base
+//! of the atoms throughout.
+ghost use Rattle.std.specs.Prelude.{IfNone, IfSome, MatchOption, None, false, if◌then◌else◌, length, map, nat_le, nat_lt, not, true, vec_len, ◌&&◌, ◌+◌, ◌==◌, ◌<◌, ◌≡◌, ◌≤◌, ◌∷◌};
+ghost use Rattle.std.specs.List.{filter, list_all, list_any};
+ghost use Rattle.std.specs.Vec.{vec_capacity};
+ghost use Rattle.poly_tiling.specs.Lists.{mem, put, put_all, tally};
+ghost use Rattle.poly_tiling.specs.Puzzle.{clash, count, has_item, items, items_of};
+ghost use Rattle.poly_tiling.specs.Names.{WellNamed};
+ghost use Rattle.poly_atom.specs.Atoms.{in_family, meets, meets_all};
+ghost use Rattle.poly_atom.specs.Hopeless.{asked, base, lacks};
+ghost use Rattle.poly_frame.specs.Open.{asks, dead, lower, open_in, others, ruled_out, upper};
+ghost use Rattle.poly_frame.specs.Plain.{allowed, needed, of_asked};
+ghost use Rattle.poly_tiling.specs.declared.item.Item.{Item};
+ghost use Rattle.poly_tiling.specs.declared.item.Item.TheVariants.{Cell as CellItem, Piece as PieceItem};
+
+use poly_atom::Atom;
+use poly_design::Name;
+use poly_grid::Cell;
+use poly_tiling::{Item, View, has_number};
+
+/// Puts a number into its place in an ascending list, if it is not there.
+pub(crate) fn put_number(numbers: &mut Vec<u32>, number: u32)
+    requires { vec_len numbers.old < vec_capacity numbers.old }
+    ensures items { numbers.new.items ≡ put number numbers.old.items }
+    ensures len { vec_len numbers.new ≤ vec_len numbers.old + 1 }
+    ensures room { vec_capacity numbers.old ≤ vec_capacity numbers.new }
+{
+    for k in 0..numbers.len() {
+        if number == numbers[k] {
+            return;
+        }
+        if number < numbers[k] {
+            let _ = numbers.insert(k, number);
+            return;
+        }
+    }
+    numbers.push_reserved(number);
+}
+
+fn put_each(numbers: &[u32], onto: &mut Vec<u32>)
+    requires { vec_len onto.old + length numbers.now ≤ vec_capacity onto.old }
+    ensures items { onto.new.items ≡ put_all numbers.now onto.old.items }
+    ensures len { vec_len onto.new ≤ vec_len onto.old + length numbers.now }
+    ensures room { vec_capacity onto.old ≤ vec_capacity onto.new }
+{
+    let mut k = numbers.len();
+    while k > 0 {
+        k -= 1;
+        put_number(onto, numbers[k]);
+    }
+}
+
+fn put_asked(atoms: &[Atom], onto: &mut Vec<u32>)
+    requires { vec_len onto.old + length atoms.now ≤ vec_capacity onto.old }
+    ensures items { onto.new.items ≡ put_all (asked atoms.now) onto.old.items }
+    ensures room { vec_capacity onto.old ≤ vec_capacity onto.new }
+{
+    let mut k = atoms.len();
+    while k > 0 {
+        k -= 1;
+        if let Atom::Has(p) = atoms[k] {
+            put_number(onto, p);
+        }
+    }
+}
+
+/// Makes a list the base of the atoms. It has room for the pins and a number for each atom.
+pub fn make_base(view: &View, atoms: &[Atom], members: &mut Vec<u32>)
+    requires { length view.now.pins + length atoms.now ≤ vec_capacity members.old }
+    ensures items { members.new.items ≡ base view.now atoms.now }
+    ensures room { vec_capacity members.old ≤ vec_capacity members.new }
+{
+    members.clear();
+    put_each(view.pins(), members);
+    put_asked(atoms, members);
+}
+
+fn names(atom: &Atom, number: u32) -> bool
+    ensures { result ≡ lacks atom.now number }
+{
+    match atom {
+        Atom::Lacks(q) => *q == number,
+        _ => false,
+    }
+}
+
+/// Whether an atom lacks the number.
+pub(crate) fn any_lacks(atoms: &[Atom], number: u32) -> bool
+    ensures { result ≡ list_any (λ a. lacks a number) atoms.now }
+{
+    atoms.iter().any(|a| names(a, number))
+}
+
+/// Whether the number's placement is dead.
+pub fn is_dead(view: &View, atoms: &[Atom], number: u32) -> bool
+    ensures { result ≡ dead view.now atoms.now number }
+{
+    !has_number(view.live(), number) || any_lacks(atoms, number)
+}
+
+// What one more atom lets an item have at most.
+fn under(atom: &Atom, item: &Item, most: u8) -> u8
+    ensures { result ≡ allowed atom.now item.now most }
+{
+    match atom {
+        Atom::AtMost(i, n) => { if i.is(item) { (*n).min(most) } else { most } }
+        _ => most,
+    }
+}
+
+fn most_of(view: &View, atoms: &[Atom], item: &Item) -> u8
+    ensures { result ≡ upper view.now atoms.now item.now }
+{
+    let mut most = view.bounds(*item).1;
+    let mut k = atoms.len();
+    while k > 0 {
+        k -= 1;
+        most = under(&atoms[k], item, most);
+    }
+    most
+}
+
+// What one more atom asks an item to have at least.
+fn over(atom: &Atom, item: &Item, least: u8) -> u8
+    ensures { result ≡ needed atom.now item.now least }
+{
+    match atom {
+        Atom::AtLeast(i, n) => { if i.is(item) { (*n).max(least) } else { least } }
+        _ => least,
+    }
+}
+
+pub(crate) fn least_of(view: &View, atoms: &[Atom], item: &Item) -> u8
+    ensures { result ≡ asks view.now atoms.now item.now }
+{
+    let mut least = view.bounds(*item).0;
+    let mut k = atoms.len();
+    while k > 0 {
+        k -= 1;
+        least = over(&atoms[k], item, least);
+    }
+    least
+}
+
+fn others_with(view: &View, members: &[u32], but: u32, item: &Item) -> usize
+    ensures { result ≡ others view.now members.now but item.now }
+{
+    let mut n = 0;
+    for q in members {
+        if view.covers(*q, *item) && *q != but {
+            n += 1;
+        }
+    }
+    n
+}
+
+fn is_full(view: &View, atoms: &[Atom], members: &[u32], number: u32, item: &Item) -> bool
+    ensures { result ≡ nat_le (upper view.now atoms.now item.now) (others view.now members.now number item.now) }
+{
+    most_of(view, atoms, item) as usize <= others_with(view, members, number, item)
+}
+
+fn is_full_cell(view: &View, atoms: &[Atom], members: &[u32], number: u32, cells: &[Cell]) -> bool
+    ensures { result ≡ list_any (λ c. nat_le (upper view.now atoms.now (CellItem c)) (others view.now members.now number (CellItem c))) cells.now }
+{
+    cells
+        .iter()
+        .any(|c| is_full(view, atoms, members, number, &Item::Cell(*c)))
+}
+
+fn is_full_with(
+    view: &View,
+    atoms: &[Atom],
+    members: &[u32],
+    number: u32,
+    name: Name,
+    cells: &[Cell],
+) -> bool
+    ensures { result ≡ list_any (λ i. nat_le (upper view.now atoms.now i) (others view.now members.now number i)) (PieceItem name ∷ map (λ c. CellItem c) cells.now) }
+{
+    if is_full(view, atoms, members, number, &Item::Piece(name)) {
+        return true;
+    }
+    is_full_cell(view, atoms, members, number, cells)
+}
+
+fn is_full_somewhere(view: &View, atoms: &[Atom], members: &[u32], number: u32) -> bool
+    ensures { result ≡ list_any (λ i. nat_le (upper view.now atoms.now i) (others view.now members.now number i)) (items view.now number) }
+{
+    match view.placement(number) {
+        None => false,
+        Some(p) => is_full_with(view, atoms, members, number, p.name, p.cells.as_slice()),
+    }
+}
+
+/// Whether the number's placement is ruled out.
+pub fn is_ruled_out(view: &View, atoms: &[Atom], members: &[u32], number: u32) -> bool
+    requires { members.now ≡ base view.now atoms.now }
+    ensures { result ≡ ruled_out view.now atoms.now number }
+{
+    any_lacks(atoms, number)
+        || view.any_clash(number, members)
+        || is_full_somewhere(view, atoms, members, number)
+}
+
+/// Whether the number's placement can still be taken or left.
+pub fn is_open(view: &View, atoms: &[Atom], members: &[u32], number: u32) -> bool
+    requires { members.now ≡ base view.now atoms.now }
+    ensures { result ≡ open_in view.now atoms.now number }
+{
+    !has_number(members, number) && !is_ruled_out(view, atoms, members, number)
+}
+
+// Whether the number's placement is open and has the item.
+fn is_ready(view: &View, atoms: &[Atom], members: &[u32], item: &Item, number: u32) -> bool
+    requires { members.now ≡ base view.now atoms.now }
+    ensures { result ≡ (open_in view.now atoms.now number && has_item view.now number item.now) }
+{
+    view.covers(number, *item) && is_open(view, atoms, members, number)
+}
+
+/// Lists the open placements that have the item. The list has room for each number that is a placement of the design.
+pub fn list_ready(view: &View, atoms: &[Atom], members: &[u32], item: &Item, into: &mut Vec<u32>)
+    requires base { members.now ≡ base view.now atoms.now }
+    requires space { length view.now.live ≤ vec_capacity into.old }
+    ensures items { into.new.items ≡ filter (λ p. open_in view.now atoms.now p && has_item view.now p item.now) view.now.live }
+    ensures room { vec_capacity into.old ≤ vec_capacity into.new }
+    ensures well { WellNamed view.now }
+{
+    into.clear();
+    for p in view.live() {
+        if is_ready(view, atoms, members, item, *p) {
+            into.push_reserved(*p);
+        }
+    }
+}
+
+/// Some open placement.
+pub fn first_open(view: &View, atoms: &[Atom], members: &[u32]) -> Option<u32>
+    requires { members.now ≡ base view.now atoms.now }
+    ensures { MatchOption result (list_all (λ p. not (open_in view.now atoms.now p)) view.now.live ≡ true) (λ p. (mem view.now.live p ≡ true) × (open_in view.now atoms.now p ≡ true)) }
+{
+    for p in view.live() {
+        if is_open(view, atoms, members, *p) {
+            return Some(*p);
+        }
+    }
+    None
+}
+
+/// Whether no placement is open.
+pub fn none_open(view: &View, atoms: &[Atom], members: &[u32]) -> bool
+    requires { members.now ≡ base view.now atoms.now }
+    ensures { result ≡ list_all (λ p. not (open_in view.now atoms.now p)) view.now.live }
+{
+    view.live()
+        .iter()
+        .all(|p| !is_open(view, atoms, members, *p))
+}
+
+// Whether the members have too few of the item.
+fn is_due(view: &View, atoms: &[Atom], members: &[u32], item: &Item) -> bool
+    ensures { result ≡ nat_lt (count view.now members.now item.now) (asks view.now atoms.now item.now) }
+{
+    view.count(members, item) < least_of(view, atoms, item) as usize
+}
+
+fn count_ready(view: &View, atoms: &[Atom], members: &[u32], item: &Item) -> usize
+    requires { members.now ≡ base view.now atoms.now }
+{
+    view.live()
+        .iter()
+        .filter(|p| is_ready(view, atoms, members, item, **p))
+        .count()
+}
+
+// Of two items that are due the one with fewer open placements; the second is a candidate only if it is due.
+fn better(
+    view: &View,
+    atoms: &[Atom],
+    members: &[u32],
+    best: Option<(Item, usize)>,
+    item: &Item,
+) -> Option<(Item, usize)>
+    requires base { members.now ≡ base view.now atoms.now }
+    requires due { IfSome best (λ b. nat_lt (count view.now members.now b.0) (asks view.now atoms.now b.0) ≡ true) }
+    ensures due { IfSome result (λ b. nat_lt (count view.now members.now b.0) (asks view.now atoms.now b.0) ≡ true) }
+    ensures none { IfNone result ((best ≡ None) × (nat_lt (count view.now members.now item.now) (asks view.now atoms.now item.now) ≡ false)) }
+{
+    if !is_due(view, atoms, members, item) {
+        return best;
+    }
+    let n = count_ready(view, atoms, members, item);
+    match best {
+        Some((other, m)) if m <= n => Some((other, m)),
+        _ => Some((*item, n)),
+    }
+}
+
+fn due_bound(view: &View, atoms: &[Atom], members: &[u32]) -> Option<(Item, usize)>
+    requires { members.now ≡ base view.now atoms.now }
+    ensures due { IfSome result (λ b. nat_lt (count view.now members.now b.0) (asks view.now atoms.now b.0) ≡ true) }
+    ensures none { IfNone result (list_all (λ b. not (nat_lt (count view.now members.now b.0) (asks view.now atoms.now b.0))) view.now.bounds ≡ true) }
+{
+    let mut best = None;
+    for b in view.items() {
+        best = better(view, atoms, members, best, &b.0);
+    }
+    best
+}
+
+fn due_asked(
+    view: &View,
+    atoms: &[Atom],
+    members: &[u32],
+    start: Option<(Item, usize)>,
+) -> Option<(Item, usize)>
+    requires base { members.now ≡ base view.now atoms.now }
+    requires due { IfSome start (λ b. nat_lt (count view.now members.now b.0) (asks view.now atoms.now b.0) ≡ true) }
+    ensures due { IfSome result (λ b. nat_lt (count view.now members.now b.0) (asks view.now atoms.now b.0) ≡ true) }
+    ensures none { IfNone result ((start ≡ None) × (list_all (of_asked (λ i. not (nat_lt (count view.now members.now i) (asks view.now atoms.now i)))) atoms.now ≡ true)) }
+{
+    let mut best = start;
+    for a in atoms {
+        if let Atom::AtLeast(item, _) = a {
+            best = better(view, atoms, members, best, item);
+        }
+    }
+    best
+}
+
+/// An item of which the members have too few; of these one with the fewest open placements that have it.
+pub fn next_due(view: &View, atoms: &[Atom], members: &[u32]) -> Option<Item>
+    requires { members.now ≡ base view.now atoms.now }
+    ensures { MatchOption result ((i : Item) → nat_lt (count view.now (base view.now atoms.now) i) (asks view.now atoms.now i) ≡ false) (λ i. nat_lt (count view.now (base view.now atoms.now) i) (asks view.now atoms.now i) ≡ true) }
+{
+    let first = due_bound(view, atoms, members);
+    match due_asked(view, atoms, members, first) {
+        None => None,
+        Some((item, _)) => Some(item),
+    }
+}
+
+/// How many placements have the item and are not ruled out.
+pub(crate) fn count_allowed(view: &View, atoms: &[Atom], members: &[u32], item: &Item) -> usize
+    requires { members.now ≡ base view.now atoms.now }
+    ensures { result ≡ tally (λ p. has_item view.now p item.now && not (ruled_out view.now atoms.now p)) view.now.live }
+{
+    let mut n = 0;
+    for p in view.live() {
+        if view.covers(*p, *item) && !is_ruled_out(view, atoms, members, *p) {
+            n += 1;
+        }
+    }
+    n
+}
+
+/// What a tiling of the family has at least of the item.
+pub(crate) fn lower_of(view: &View, atoms: &[Atom], members: &[u32], item: &Item) -> usize
+    requires { members.now ≡ base view.now atoms.now }
+    ensures { result ≡ lower view.now atoms.now item.now }
+{
+    (least_of(view, atoms, item) as usize).max(view.count(members, item))
+}
+
+fn is_met(view: &View, numbers: &[u32], atom: &Atom) -> bool
+    ensures { result ≡ meets view.now numbers.now atom.now }
+{
+    match atom {
+        Atom::Has(p) => has_number(numbers, *p),
+        Atom::Lacks(p) => !has_number(numbers, *p),
+        Atom::AtLeast(i, n) => *n as usize <= view.count(numbers, i),
+        Atom::AtMost(i, n) => view.count(numbers, i) <= *n as usize,
+    }
+}
+
+fn all_met(view: &View, numbers: &[u32], atoms: &[Atom]) -> bool
+    ensures { result ≡ meets_all view.now numbers.now atoms.now }
+{
+    atoms.iter().all(|a| is_met(view, numbers, a))
+}
+
+/// Whether the numbers are a tiling that meets the atoms.
+pub fn is_member(view: &View, atoms: &[Atom], numbers: &[u32]) -> bool
+    ensures { result ≡ in_family view.now atoms.now numbers.now }
+{
+    view.is_tiling(numbers) && all_met(view, numbers, atoms)
+}

@@ -1,5 +1,0 @@
-use Rattle.poly_report.proofs.Words.{bit_both}
-use Rattle.poly_report.proofs.bits.both.Goals as goal
-
-pub returns : goal.returns
-returns c = λ t. bit_both c.args.word c.args.row t

@@ -1,6 +1,0 @@
-use Rattle.std.proofs.Common.{arith}
-use Rattle.poly_report.proofs.Words.{bit_less}
-use Rattle.poly_report.proofs.bits.less.Goals as goal
-
-pub returns : goal.returns
-returns c = λ t h. bit_less c.args.word c.args.row t (omega arith) h

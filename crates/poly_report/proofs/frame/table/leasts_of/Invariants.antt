@@ -1,5 +1,0 @@
-use Rattle.std.proofs.Common.{map, take, ◌≡◌}
-use Rattle.poly_report.proofs.frame.table.leasts_of.Given as goal
-
-abbrev pub invariant-loop-b : goal.invariant-loop-b
-invariant-loop-b l = l.leasts.items ≡ map (λ b. b.1) (take l.b-index l.bounds)
