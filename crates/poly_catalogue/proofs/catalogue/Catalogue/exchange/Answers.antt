@@ -1,0 +1,34 @@
+use Rattle.std.proofs.Common.{List, ap, arith, filter, length, subst, sym, ◌++◌, ◌+◌, ◌∙◌, ◌≡◌, ℕ}
+use Rattle.std.proofs.lemmas.Bool.{leb-true}
+use Rattle.poly_tiling.specs.Puzzle.{is_tiling}
+use Rattle.poly_catalogue.specs.Listed.{AreOfEither, Keeps}
+use Rattle.poly_catalogue.proofs.Sums.{either_more, kept_once, room_after, same_more}
+use Rattle.poly_catalogue.proofs.catalogue.Catalogue.exchange.Goals as goal
+
+pub keep-requires : goal.keep-requires
+keep-requires c =
+    let is : c.add.new.listing ≡ c.args.self.now ++ c.args.tilings.items = c.in_ok-add-in-Ok-true.ensures.ok ∙ ap (λ (l : List (List ℕ)). l ++ c.args.tilings.items) c.self.view_is in
+    subst (λ (l : List (List ℕ)). AreOfEither c.args.view.now c.args.delta.now l) (sym is) (either_more c.args.view.now c.args.delta.now c.args.self.now c.args.tilings.items c.requires.from c.requires.tilings)
+
+pub invariant_of-self-in-Ok-true : goal.invariant_of-self-in-Ok-true
+invariant_of-self-in-Ok-true c =
+    let w = c.args.view.now in
+    let old : List (List ℕ) = c.args.self.now in
+    let more : List (List ℕ) = c.args.tilings.items in
+    let is : c.add.new.listing ≡ old ++ more = c.in_ok-add-in-Ok-true.ensures.ok ∙ ap (λ (l : List (List ℕ)). l ++ more) c.self.view_is in
+    let k = subst (λ (l : List (List ℕ)). Keeps (is_tiling w) l c.keep.new.listing) is c.keep.ensures in
+    let room = leb-true (length (filter (is_tiling w) c.self.inside.listing) + c.len.result) 1000000 (sym c.in-Ok-true.ensures.ok ∙ c.in-Ok-true.field-0-test) in
+    let same : length (filter (is_tiling w) c.self.inside.listing) ≡ length (filter (is_tiling w) old) = ap (λ (l : List (List ℕ)). length (filter (is_tiling w) l)) c.self.view_is in
+    record {
+      few = room_after (is_tiling w) old more c.keep.new.listing c.requires.tilings k (omega (arith, room, same, c.len.ensures, c.args.tilings.ok.0));
+      once = kept_once (is_tiling w) (old ++ more) c.keep.new.listing k c.requires.once;
+    }
+
+pub returns-in_ok-add-in-Ok-true-clause-ok : goal.returns-in_ok-add-in-Ok-true-clause-ok
+returns-in_ok-add-in-Ok-true-clause-ok c =
+    let w = c.args.view.now in
+    let old : List (List ℕ) = c.args.self.now in
+    let more : List (List ℕ) = c.args.tilings.items in
+    let is : c.add.new.listing ≡ old ++ more = c.in_ok-add-in-Ok-true.ensures.ok ∙ ap (λ (l : List (List ℕ)). l ++ more) c.self.view_is in
+    let k = subst (λ (l : List (List ℕ)). Keeps (is_tiling w) l c.keep.new.listing) is c.keep.ensures in
+    same_more (is_tiling w) old more c.keep.new.listing c.requires.tilings k

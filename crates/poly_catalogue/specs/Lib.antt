@@ -1,0 +1,7 @@
+pub mod Rows
+pub mod Index
+pub mod Leads
+pub mod Listed
+pub mod Catalogued
+pub mod Stays
+pub mod Laws

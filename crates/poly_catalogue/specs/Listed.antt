@@ -1,0 +1,35 @@
+-- What a list of tilings says of the tilings in it.
+use Rattle.std.specs.Prelude.{Bool, List, false, length, slice_index_or, true, ℕ, ◌&&◌, ◌||◌, ◌≡◌, ◌≤◌}
+use Rattle.std.specs.List.{list_all, list_any}
+use Rattle.poly_tiling.specs.Lists.{mem, same_list, tally}
+use Rattle.poly_tiling.specs.Puzzle.{View, is_tiling}
+use Rattle.poly_place.specs.declared.delta.Delta.{Delta}
+use Rattle.poly_catalogue.specs.Leads.{Leads}
+use Rattle.poly_catalogue.specs.Rows.{row}
+
+-- no tiling is listed twice
+abbrev pub AreOnce : List (List ℕ) → Type 0
+AreOnce list = (T : List ℕ) → tally (same_list T) list ≤ 1
+
+-- the two lists have the same tilings, each as often, in any order
+abbrev pub AreSame : List (List ℕ) → List (List ℕ) → Type 0
+AreSame a b = (f : List ℕ → Bool) → tally f a ≡ tally f b
+
+-- the new list has those of the old one that pass, each as often, in any order
+abbrev pub Keeps : (List ℕ → Bool) → List (List ℕ) → List (List ℕ) → Type 0
+Keeps p old new = (f : List ℕ → Bool) → tally f new ≡ tally (λ T. f T && p T) old
+
+-- each is a tiling of the later view, or of one view before, from which the differences lead to the later one
+pub record AreOfEither (w : View) (x : Delta) (list : List (List ℕ)) : Type 0 where
+  pub before : View
+  pub leads : Leads before w x
+  pub either : list_all (λ T. is_tiling before T || is_tiling w T) list ≡ true
+
+-- the indices in the list of the tilings that have the number, in any order
+pub record AreIndicesWith (list : List (List ℕ)) (number : ℕ) (indices : List ℕ) : Type 0 where
+  pub exact : (t : ℕ) → mem indices t ≡ mem (row list t) number
+
+-- which tilings of the list have one of the numbers
+pub record AreMarked (list : List (List ℕ)) (numbers : List ℕ) (marks : List Bool) : Type 0 where
+  pub long : length marks ≡ length list
+  pub exact : (t : ℕ) → slice_index_or marks t false ≡ list_any (λ p. mem (row list t) p) numbers

@@ -1,0 +1,34 @@
+//! Tilings added to the list, all or none.
+ghost use Rattle.std.specs.Prelude.{◌≡◌, ◌+◌, ◌++◌, ◌^◌, ◌<◌, ◌≤◌, IfErr, OnErr, OnOk, length, take};
+
+use crate::listing::Listing;
+use poly_grid::Refusal;
+use poly_tiling::Tiling;
+
+/// Adds the tilings at the end. Fails only with `Memory`, and then the list stays as it was.
+pub(crate) fn add(listing: &mut Listing, tilings: Vec<Tiling>) -> Result<(), Refusal>
+    requires { length listing.old + length tilings.items + 1 < 2 ^ 32 }
+    ensures ok { OnOk result (listing.new ≡ listing.old ++ tilings.items) }
+    ensures err { OnErr result (listing.new ≡ listing.old) }
+    ensures why { IfErr result (λ e. e ≡ Refusal.Memory) }
+{
+    let before = listing.len();
+    for tiling in tilings {
+        if let Err(refusal) = listing.push(tiling) {
+            take_back(listing, before);
+            return Err(refusal);
+        }
+    }
+    Ok(())
+}
+
+// Removes all but the first `count` tilings.
+fn take_back(listing: &mut Listing, count: usize)
+    requires { count ≤ length listing.old }
+    ensures { listing.new ≡ take count listing.old }
+{
+    while count < listing.len() {
+        let last = listing.len() - 1;
+        listing.remove(last);
+    }
+}

@@ -1,0 +1,165 @@
+//! The listed tilings of a design, and how an edit or a report changes them.
+ghost use Rattle.std.specs.Prelude.{◌≡◌, ◌+◌, ◌++◌, ◌⊎◌, ◌↔◌, ◌<◌, ◌≤◌, [], Err, IfErr, IfOk, MatchOption, OnErr, OnOk, Some, filter, length, nat_le, not, slice_get, true};
+ghost use Rattle.std.specs.List.{list_all};
+ghost use Rattle.poly_tiling.specs.Puzzle.{is_tiling};
+ghost use Rattle.poly_catalogue.specs.Listed.{AreOfEither, AreOnce, AreSame};
+
+use crate::add::add;
+use crate::keep::keep;
+use crate::leaving::leaving;
+use crate::listing::Listing;
+use poly_grid::Refusal;
+use poly_place::Delta;
+use poly_tiling::{Tiling, View};
+use std::alloc::Global;
+use std::marker::Model;
+
+/// The most tilings that a catalogue lists.
+pub const MAX_TILINGS: usize = 1_000_000;
+
+/// The listed tilings of a design, each once and at most 1,000,000, in no particular order.
+#[derive(Drop)]
+pub struct Catalogue {
+    alloc: Global,
+    listing: Listing,
+}
+
+impl Model for Catalogue {
+    ghost use Rattle.std.specs.Prelude.{List, length, ℕ, ◌≤◌};
+    ghost use Rattle.poly_catalogue.specs.Catalogued.{IsCatalogue};
+
+    ghost Value = { List (List ℕ) };
+
+    ghost view = { λ c. c.listing };
+
+    ghost invariant = { λ c. IsCatalogue c.listing };
+}
+
+impl Catalogue {
+    /// A catalogue that lists nothing.
+    pub fn new(alloc: Global) -> Catalogue
+        ensures { result ≡ [] }
+    {
+        Catalogue {
+            alloc,
+            listing: Listing::new(alloc),
+        }
+    }
+
+    /// How many tilings are listed.
+    pub fn len(&self) -> usize
+        ensures value { result ≡ length self.now }
+        ensures few { length self.now ≤ 1000000 }
+    {
+        self.listing.len()
+    }
+
+    /// Whether no tiling is listed.
+    pub fn is_empty(&self) -> bool
+        ensures { result ≡ nat_le (length self.now) 0 }
+    {
+        self.listing.len() == 0
+    }
+
+    /// The tiling at an index of the list, or `None` past the end.
+    pub fn get(&self, index: usize) -> Option<&Tiling>
+        ensures { MatchOption result (length self.now ≤ index) (λ t. slice_get self.now index ≡ Some t.now) }
+    {
+        self.listing.all().get(index)
+    }
+
+    /// All listed tilings.
+    pub fn all(&self) -> &[Tiling]
+        ensures value { result.now ≡ self.now }
+        ensures once { AreOnce self.now }
+    {
+        self.listing.all()
+    }
+
+    /// Lists these tilings of the view too. Each of them is given once and is not listed yet.
+    ///
+    /// Fails with `CatalogueFull` exactly if more than 1,000,000 would be listed, and otherwise only with `Memory`. If it
+    /// fails, the list stays as it was.
+    pub fn list_all(&mut self, _view: &View, tilings: Vec<Tiling>) -> Result<(), Refusal>
+        requires tilings { list_all (is_tiling _view.now) tilings.items ≡ true }
+        requires once { AreOnce (self.old ++ tilings.items) }
+        ensures ok { OnOk result (self.new ≡ self.old ++ tilings.items) }
+        ensures err { OnErr result (self.new ≡ self.old) }
+        ensures full { (result ≡ Err Refusal.CatalogueFull) ↔ (1000000 < length self.old + length tilings.items) }
+        ensures why { IfErr result (λ e. (e ≡ Refusal.CatalogueFull) ⊎ (e ≡ Refusal.Memory)) }
+    {
+        if tilings.len() > MAX_TILINGS - self.listing.len() {
+            return Err(Refusal::CatalogueFull);
+        }
+        add(&mut self.listing, tilings)?;
+        Ok(())
+    }
+
+    /// Keeps exactly the listed tilings that are tilings of the view, and takes no memory. Each listed tiling is one of
+    /// the view, or one of the view before it, from which the differences lead to it.
+    pub fn keep_only(&mut self, view: &View, delta: &Delta)
+        requires { AreOfEither view.now delta.now self.old }
+        ensures { AreSame self.new (filter (is_tiling view.now) self.old) }
+    {
+        keep(&mut self.listing, view, delta);
+    }
+
+    /// Copies of the tilings that `keep_only` would take away, in the order of the list. Fails only with `Memory`.
+    pub fn leaving(&self, view: &View, delta: &Delta) -> Result<Vec<Tiling>, Refusal>
+        requires { AreOfEither view.now delta.now self.now }
+        ensures ok { IfOk result (λ list. list.items ≡ filter (λ T. not (is_tiling view.now T)) self.now) }
+        ensures why { IfErr result (λ e. e ≡ Refusal.Memory) }
+    {
+        leaving(self.alloc, &self.listing, view, delta)
+    }
+
+    /// `keep_only` and then `list_all`, under the conditions of both, all or none.
+    ///
+    /// Fails with `CatalogueFull` only if more than 1,000,000 would be listed at the end, and with `Memory`. If it fails,
+    /// the list stays as it was.
+    pub fn exchange(
+        &mut self,
+        view: &View,
+        delta: &Delta,
+        tilings: Vec<Tiling>,
+    ) -> Result<(), Refusal>
+        requires from { AreOfEither view.now delta.now self.old }
+        requires tilings { list_all (is_tiling view.now) tilings.items ≡ true }
+        requires once { AreOnce (self.old ++ tilings.items) }
+        ensures ok { OnOk result (AreSame self.new (filter (is_tiling view.now) self.old ++ tilings.items)) }
+        ensures err { OnErr result (self.new ≡ self.old) }
+        ensures full { result ≡ Err Refusal.CatalogueFull → 1000000 < length (filter (is_tiling view.now) self.old) + length tilings.items }
+        ensures why { IfErr result (λ e. (e ≡ Refusal.CatalogueFull) ⊎ (e ≡ Refusal.Memory)) }
+    {
+        match has_room(self.alloc, &self.listing, view, delta, tilings.len()) {
+            Ok(true) => {
+                add(&mut self.listing, tilings)?;
+                keep(&mut self.listing, view, delta);
+                Ok(())
+            }
+            Ok(false) => Err(Refusal::CatalogueFull),
+            Err(refusal) => Err(refusal),
+        }
+    }
+}
+
+// Whether there is room for this many more once the tilings that leave are gone. Fails only with `Memory`.
+fn has_room(
+    alloc: Global,
+    listing: &Listing,
+    view: &View,
+    delta: &Delta,
+    more: usize,
+) -> Result<bool, Refusal>
+    requires from { AreOfEither view.now delta.now listing.now }
+    requires few { length listing.now ≤ 1000000 }
+    ensures ok { IfOk result (λ room. room ≡ nat_le (length (filter (is_tiling view.now) listing.now) + more) 1000000) }
+    ensures why { IfErr result (λ e. e ≡ Refusal.Memory) }
+{
+    let count = listing.len();
+    if more <= MAX_TILINGS - count {
+        return Ok(true);
+    }
+    let left = leaving(alloc, listing, view, delta)?;
+    Ok(more <= MAX_TILINGS - (count - left.len()))
+}
