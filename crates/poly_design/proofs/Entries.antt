@@ -1,5 +1,5 @@
 -- Entries in the order of their keys: what is found after one is put in or taken out, and the way back.
-use Rattle.std.proofs.Common.{◌≡◌, ◌∙◌, ℕ, zero, suc, cond, List, [], ◌∷◌, ◌++◌, append_assoc, Some, None, refl, sym, ap, subst, arith}
+use Rattle.std.proofs.Common.{◌≡◌, ◌∙◌, ◌+◌, ℕ, zero, suc, cond, length, List, [], ◌∷◌, ◌++◌, append_assoc, Some, None, refl, sym, ap, subst, arith}
 use Rattle.std.specs.declared.cmp.Ordering.{Ordering}
 use Rattle.std.specs.declared.cmp.Ordering.TheVariants.{Less, Equal, Greater}
 use Rattle.std.specs.Ordering.{is_eq, match_ordering, ordering_reverse}
@@ -210,3 +210,18 @@ module _ {K : Type 0} {R : K → K → Ordering} (o : IsTotalOrder R) where
     | Equal ↦ λ is. absurd (lacks (zero, omega arith, sym (exact x y is)))
     | Greater ↦ λ is. ap (λ l. y ∷ l) (remove_absent exact ys x (λ h. lacks (suc h.0, omega (arith, h.1), h.2)))
   ]) refl
+
+  -- a key that is there leaves a shorter list
+  pub removed_shorter : (list : List K) (x : K) → Contains list x → length list ≡ length (remove_key (is_at (R x)) list) + 1
+  removed_shorter [] x here = absurd (omega (arith, here.1))
+  removed_shorter (y ∷ ys) x (zero, lt, e) =
+      let is : R x y ≡ Equal = ap (R x) e ∙ tied_itself o x in
+      let len = ap (λ r. length (cond (is_eq r) ys (y ∷ remove_key (is_at (R x)) ys))) is in
+      omega (arith, len)
+  removed_shorter (y ∷ ys) x (suc k, lt, e) =
+      let rest = removed_shorter ys x (k, omega (arith, lt), e) in
+      elim (R x y) as (λ r. length (y ∷ ys) ≡ length (cond (is_eq r) ys (y ∷ remove_key (is_at (R x)) ys)) + 1) [
+        | Less ↦ omega (arith, rest)
+        | Equal ↦ omega arith
+        | Greater ↦ omega (arith, rest)
+      ]

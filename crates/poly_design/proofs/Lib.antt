@@ -10,4 +10,5 @@ pub mod Entries
 pub mod Restored
 pub mod Puts
 pub mod Accepted
+pub mod Early
 pub mod Outside

@@ -1,5 +1,5 @@
 -- What each edit makes of a design, and why it is refused.
-use Rattle.std.specs.Prelude.{◌≡◌, ◌≢◌, ◌⊎◌, ℕ, ◌<◌, Bool, List, [], ◌∷◌, Option, None, Some, length}
+use Rattle.std.specs.Prelude.{◌≡◌, ◌≢◌, ◌⊎◌, ℕ, ◌<◌, Bool, List, [], ◌∷◌, Option, None, Some, Result, Err, length}
 use Rattle.std.specs.BTreeMap.{is_at}
 use Rattle.std.specs.BTreeSet.{insert_key}
 use Rattle.std.specs.Set.{remove_key}
@@ -87,6 +87,17 @@ abbrev pub NoneHolds : List (Refusal × Type 0) → Type 0
 NoneHolds [] = Unit {0}
 NoneHolds (c ∷ cs) = (¬ c.1) × NoneHolds cs
 
+-- the refusals that are found without memory: all but those for which placements are listed
+abbrev pub IsEarly : Refusal → Type 0
+IsEarly TooManyPlacements = ⊥
+IsEarly NotAPlacement = ⊥
+IsEarly _ = Unit {0}
+
+-- no cause holds that is found without memory
+abbrev pub NoneEarly : List (Refusal × Type 0) → Type 0
+NoneEarly [] = Unit {0}
+NoneEarly (c ∷ cs) = (IsEarly c.0 → ¬ c.1) × NoneEarly cs
+
 -- the change is what the edit asks for, nothing stands against it, and what it makes is a design
 pub record IsAccepted (d : Layout) (e : Edit) (step : Change) : Type 0 where
   pub is : step ≡ change_of d e
@@ -96,3 +107,7 @@ pub record IsAccepted (d : Layout) (e : Edit) (step : Change) : Type 0 where
 -- why a check may refuse the edit
 abbrev pub IsRefused : Layout → Edit → Refusal → Type 0
 IsRefused d e refusal = IsFirst (causes d e) refusal
+
+-- a first cause that is found without memory is answered, so no other refusal stands in its place
+abbrev pub RefusesEarly : Layout → Edit → Result Change Refusal → Type 0
+RefusesEarly d e answer = (refusal : Refusal) → IsEarly refusal → IsRefused d e refusal → answer ≡ Err refusal

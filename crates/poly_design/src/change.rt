@@ -1,9 +1,10 @@
 //! One step of a design, and the way back.
-ghost use Rattle.std.specs.Prelude.{◌≡◌, IfOk, IfErr};
+ghost use Rattle.std.specs.Prelude.{◌≡◌, ◌↔◌, IsTrue, IfOk, IfErr};
 ghost use Rattle.poly_design.specs.Layout.{Layout};
 ghost use Rattle.poly_design.specs.Limits.{IsDesign};
 ghost use Rattle.poly_design.specs.Changes.{HasBefore, changed, inverse_of};
 
+use crate::equal::{same_cell, same_mode, same_name, same_piece};
 use crate::mode::Mode;
 use crate::name::Name;
 use crate::spec::{Spec, copy_of};
@@ -55,6 +56,24 @@ impl Change {
         }
     }
 
+    /// Whether the two changes are equal. Takes no memory.
+    pub fn is_same(&self, other: &Change) -> bool
+        ensures { IsTrue result ↔ (self.now ≡ other.now) }
+    {
+        match self {
+            Change::Cell {
+                cell,
+                before,
+                after,
+            } => is_cell_change(other, *cell, *before, *after),
+            Change::Piece {
+                name,
+                before,
+                after,
+            } => is_piece_change(other, *name, before, after),
+        }
+    }
+
     /// An equal change. The only refusal is `Memory`.
     pub fn copy(&self) -> Result<Change, Refusal>
         ensures ok { IfOk result (λ change. change ≡ self.now) }
@@ -80,5 +99,31 @@ impl Change {
                 after: copy_of(after)?,
             }),
         }
+    }
+}
+
+fn is_cell_change(change: &Change, at: Cell, old: Mode, new: Mode) -> bool
+    ensures { IsTrue result ↔ (change.now ≡ Change.Cell at old new) }
+{
+    match change {
+        Change::Cell {
+            cell,
+            before,
+            after,
+        } => same_cell(*cell, at) && same_mode(*before, old) && same_mode(*after, new),
+        Change::Piece { .. } => false,
+    }
+}
+
+fn is_piece_change(change: &Change, of: Name, old: &Option<Spec>, new: &Option<Spec>) -> bool
+    ensures { IsTrue result ↔ (change.now ≡ Change.Piece of old.now new.now) }
+{
+    match change {
+        Change::Cell { .. } => false,
+        Change::Piece {
+            name,
+            before,
+            after,
+        } => same_name(*name, of) && same_piece(before, old) && same_piece(after, new),
     }
 }

@@ -1,5 +1,5 @@
 //! The design: a board and named pieces, within limits that its type keeps.
-ghost use Rattle.std.specs.Prelude.{◌≡◌, ◌↔◌, ◌⊎◌, ◌≤◌, [], None, Err, IsOk, IfOk, IfErr, OnOk, OnErr, length};
+ghost use Rattle.std.specs.Prelude.{◌≡◌, ◌↔◌, ◌⊎◌, ◌≤◌, [], None, Err, IsOk, IsTrue, IfOk, IfErr, OnOk, OnErr, length};
 ghost use Rattle.std.specs.List.{Contains};
 ghost use Rattle.std.specs.Option.{option_copied};
 ghost use Rattle.std.specs.BTreeMap.{btree_map_len};
@@ -14,6 +14,7 @@ mod check;
 mod count;
 
 use crate::change::Change;
+use crate::equal::{same_grid, same_modes, same_pieces};
 use crate::listing::{all_placements, placements_of, placements_on};
 use crate::mode::Mode;
 use crate::name::Name;
@@ -190,6 +191,15 @@ impl Design {
         }
         self.placement_count = placement_count;
         Ok(())
+    }
+
+    /// Whether the two designs are equal. Takes no memory.
+    pub fn is_same(&self, other: &Design) -> bool
+        ensures { IsTrue result ↔ (self.now ≡ other.now) }
+    {
+        same_grid(self.grid(), other.grid())
+            && same_modes(self.cells(), other.cells())
+            && same_pieces(self.pieces(), other.pieces())
     }
 
     /// An equal design. The only refusal is `Memory`.

@@ -7,6 +7,7 @@ mod change;
 mod copies;
 mod design;
 mod edit;
+mod equal;
 mod listing;
 mod mode;
 mod name;

@@ -2,6 +2,8 @@
 #![tactic(auto)]
 
 #[cfg(test)]
+mod design;
+#[cfg(test)]
 mod designs;
 #[cfg(test)]
 mod solvers;

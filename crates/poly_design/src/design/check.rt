@@ -1,15 +1,16 @@
 //! Whether an edit is accepted, and the change that it asks for.
-ghost use Rattle.std.specs.Prelude.{◌≡◌, ◌≢◌, ◌≤◌, length, ◌⊎◌, ◌↔◌, None, Some, OnOk, IfOk, IfErr, IsTrue};
+ghost use Rattle.std.specs.Prelude.{◌≡◌, ◌≢◌, ◌≤◌, length, ◌⊎◌, ◌↔◌, None, Err, OnOk, IfOk, IfErr, IsTrue};
 ghost use Rattle.poly_design.specs.Limits.{IsDesign};
 ghost use Rattle.poly_design.specs.Changes.{changed, set_mode};
 ghost use Rattle.poly_design.specs.Placements.{FewPlacements, IsPlacement};
-ghost use Rattle.poly_design.specs.Edits.{IsAccepted, IsRefused};
+ghost use Rattle.poly_design.specs.Edits.{IsAccepted, IsRefused, NoneEarly, RefusesEarly, causes};
 
 use super::Design;
 use crate::cells_set::CellsSet;
 use crate::change::Change;
 use crate::copies::Copies;
 use crate::edit::Edit;
+use crate::equal::{same_copies, same_mode, same_pin};
 use crate::listing::MAX_PLACEMENTS;
 use crate::mode::Mode;
 use crate::name::Name;
@@ -26,12 +27,14 @@ const MAX_PIECES: usize = 64;
 impl Design {
     /// The change that the edit asks for; its before side is what the design holds.
     ///
-    /// Refused in this order with `NameTaken`, `BadShape`, `TooManyPieces`, `TooManyPlacements` for a new piece; with
-    /// `NoSuchPiece` for another edit of a piece; with `NoChange` where the edit would change nothing; and last with
-    /// `TooManyCells`, `TooManyPlacements` or `NotAPlacement`. `Memory` may come in place of any of them.
+    /// Fails with the first cause that holds: for a new piece `NameTaken`, `BadShape`, `TooManyPieces`, `TooManyPlacements`; for
+    /// any other edit `NoSuchPiece` if no piece has the name, `NoChange` if the edit would change nothing, and then
+    /// `TooManyCells`, `TooManyPlacements` or `NotAPlacement`. Only the last two of these need memory to be found, so `Memory`
+    /// is never answered in place of another one.
     pub fn check(&self, edit: &Edit) -> Result<Change, Refusal>
         ensures ok { IfOk result (λ change. IsAccepted self.now edit.now change) }
         ensures why { IfErr result (λ e. (e ≡ Refusal.Memory) ⊎ IsRefused self.now edit.now e) }
+        ensures early { RefusesEarly self.now edit.now result }
     {
         match *edit {
             Edit::Add {
@@ -55,6 +58,7 @@ impl Design {
     fn check_drop(&self, name: Name) -> Result<Change, Refusal>
         ensures ok { IfOk result (λ change. IsAccepted self.now (Edit.Drop name) change) }
         ensures why { IfErr result (λ e. (e ≡ Refusal.Memory) ⊎ IsRefused self.now (Edit.Drop name) e) }
+        ensures memory { result ≡ Err Refusal.Memory → NoneEarly (causes self.now (Edit.Drop name)) }
     {
         let Some(spec) = self.pieces.get(&name) else {
             return Err(Refusal::NoSuchPiece);
@@ -70,6 +74,7 @@ impl Design {
     fn check_need(&self, name: Name, need: Need) -> Result<Change, Refusal>
         ensures ok { IfOk result (λ change. IsAccepted self.now (Edit.Need name need) change) }
         ensures why { IfErr result (λ e. (e ≡ Refusal.Memory) ⊎ IsRefused self.now (Edit.Need name need) e) }
+        ensures memory { result ≡ Err Refusal.Memory → NoneEarly (causes self.now (Edit.Need name need)) }
     {
         self.check_copies(name, need.copies())
     }
@@ -77,11 +82,12 @@ impl Design {
     fn check_copies(&self, name: Name, copies: Copies) -> Result<Change, Refusal>
         ensures ok { IfOk result (λ change. IsAccepted self.now (Edit.Copies name copies) change) }
         ensures why { IfErr result (λ e. (e ≡ Refusal.Memory) ⊎ IsRefused self.now (Edit.Copies name copies) e) }
+        ensures memory { result ≡ Err Refusal.Memory → NoneEarly (causes self.now (Edit.Copies name copies)) }
     {
         let Some(spec) = self.pieces.get(&name) else {
             return Err(Refusal::NoSuchPiece);
         };
-        if is_same(spec.copies, copies) {
+        if same_copies(spec.copies, copies) {
             return Err(Refusal::NoChange);
         }
         let before = spec.copy()?;
@@ -97,11 +103,12 @@ impl Design {
     fn check_pin(&self, name: Name, cells: Cells) -> Result<Change, Refusal>
         ensures ok { IfOk result (λ change. IsAccepted self.now (Edit.Pin name cells) change) }
         ensures why { IfErr result (λ e. (e ≡ Refusal.Memory) ⊎ IsRefused self.now (Edit.Pin name cells) e) }
+        ensures memory { result ≡ Err Refusal.Memory → NoneEarly (causes self.now (Edit.Pin name cells)) }
     {
         let Some(spec) = self.pieces.get(&name) else {
             return Err(Refusal::NoSuchPiece);
         };
-        if has_pin(spec, &cells) {
+        if same_pin(spec.pin, Some(cells)) {
             return Err(Refusal::NoChange);
         }
         if !self.is_placement(name, &cells)? {
@@ -120,6 +127,7 @@ impl Design {
     fn check_unpin(&self, name: Name) -> Result<Change, Refusal>
         ensures ok { IfOk result (λ change. IsAccepted self.now (Edit.Unpin name) change) }
         ensures why { IfErr result (λ e. (e ≡ Refusal.Memory) ⊎ IsRefused self.now (Edit.Unpin name) e) }
+        ensures memory { result ≡ Err Refusal.Memory → NoneEarly (causes self.now (Edit.Unpin name)) }
     {
         let Some(spec) = self.pieces.get(&name) else {
             return Err(Refusal::NoSuchPiece);
@@ -140,6 +148,7 @@ impl Design {
     fn check_forbid(&self, name: Name, cells: Cells) -> Result<Change, Refusal>
         ensures ok { IfOk result (λ change. IsAccepted self.now (Edit.Forbid name cells) change) }
         ensures why { IfErr result (λ e. (e ≡ Refusal.Memory) ⊎ IsRefused self.now (Edit.Forbid name cells) e) }
+        ensures memory { result ≡ Err Refusal.Memory → NoneEarly (causes self.now (Edit.Forbid name cells)) }
     {
         let Some(spec) = self.pieces.get(&name) else {
             return Err(Refusal::NoSuchPiece);
@@ -164,6 +173,7 @@ impl Design {
     fn check_allow(&self, name: Name, cells: Cells) -> Result<Change, Refusal>
         ensures ok { IfOk result (λ change. IsAccepted self.now (Edit.Allow name cells) change) }
         ensures why { IfErr result (λ e. (e ≡ Refusal.Memory) ⊎ IsRefused self.now (Edit.Allow name cells) e) }
+        ensures memory { result ≡ Err Refusal.Memory → NoneEarly (causes self.now (Edit.Allow name cells)) }
     {
         let Some(spec) = self.pieces.get(&name) else {
             return Err(Refusal::NoSuchPiece);
@@ -189,6 +199,7 @@ impl Design {
     fn check_mirror(&self, name: Name, mirror: bool) -> Result<Change, Refusal>
         ensures ok { IfOk result (λ change. IsAccepted self.now (Edit.Mirror name mirror) change) }
         ensures why { IfErr result (λ e. (e ≡ Refusal.Memory) ⊎ IsRefused self.now (Edit.Mirror name mirror) e) }
+        ensures memory { result ≡ Err Refusal.Memory → NoneEarly (causes self.now (Edit.Mirror name mirror)) }
     {
         let Some(spec) = self.pieces.get(&name) else {
             return Err(Refusal::NoSuchPiece);
@@ -219,6 +230,7 @@ impl Design {
     ) -> Result<Change, Refusal>
         ensures ok { IfOk result (λ change. IsAccepted self.now (Edit.Add name shape need mirror) change) }
         ensures why { IfErr result (λ e. (e ≡ Refusal.Memory) ⊎ IsRefused self.now (Edit.Add name shape need mirror) e) }
+        ensures memory { result ≡ Err Refusal.Memory → NoneEarly (causes self.now (Edit.Add name shape need mirror)) }
     {
         if self.pieces.contains_key(&name) {
             return Err(Refusal::NameTaken);
@@ -250,9 +262,10 @@ impl Design {
     fn check_cell(&self, cell: Cell, mode: Mode) -> Result<Change, Refusal>
         ensures ok { IfOk result (λ change. IsAccepted self.now (Edit.Cell cell mode) change) }
         ensures why { IfErr result (λ e. (e ≡ Refusal.Memory) ⊎ IsRefused self.now (Edit.Cell cell mode) e) }
+        ensures memory { result ≡ Err Refusal.Memory → NoneEarly (causes self.now (Edit.Cell cell mode)) }
     {
         let before = self.mode(cell);
-        if is_mode(before, mode) {
+        if same_mode(before, mode) {
             return Err(Refusal::NoChange);
         }
         if !self.has_room(cell, mode) {
@@ -263,7 +276,7 @@ impl Design {
             before,
             after: mode,
         };
-        if is_mode(mode, Mode::Blocked) {
+        if same_mode(mode, Mode::Blocked) {
             return Ok(change);
         }
         match self.keeps_few(&change) {
@@ -283,7 +296,7 @@ impl Design {
         if self.cells.contains_key(&cell) {
             return true;
         }
-        is_mode(mode, Mode::Blocked)
+        same_mode(mode, Mode::Blocked)
     }
 
     // Whether there are few enough placements after the change.
@@ -309,21 +322,6 @@ impl Design {
     }
 }
 
-fn is_same(a: Copies, b: Copies) -> bool
-    ensures { IsTrue result ↔ (a ≡ b) }
-{
-    a.least() == b.least() && a.most() == b.most()
-}
-
-fn has_pin(spec: &Spec, cells: &Cells) -> bool
-    ensures { IsTrue result ↔ (spec.now.pin ≡ Some cells.now) }
-{
-    match spec.pin {
-        Some(pin) => pin == *cells,
-        None => false,
-    }
-}
-
 fn with_forbidden(spec: &Spec, forbidden: CellsSet) -> Spec
     ensures { result ≡ record spec.now { forbidden = forbidden } }
 {
@@ -340,12 +338,6 @@ fn is_of(shape: &Shape, grid: Grid) -> bool
     ensures { IsTrue result ↔ (shape.now.grid ≡ grid) }
 {
     shape.grid() == grid
-}
-
-fn is_mode(a: Mode, b: Mode) -> bool
-    ensures { IsTrue result ↔ (a ≡ b) }
-{
-    a == b
 }
 
 fn has_mirror(spec: &Spec, mirror: bool) -> bool

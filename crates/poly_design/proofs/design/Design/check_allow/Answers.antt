@@ -1,5 +1,4 @@
-use Rattle.std.proofs.Common.{◌≡◌, ◌∙◌, List, Some, inl, inr, refl, sym, ap, subst}
-use Rattle.std.specs.List.{Contains}
+use Rattle.std.proofs.Common.{◌≡◌, ◌∙◌, List, Some, inl, inr, refl, sym, ap}
 use Rattle.std.specs.BTreeMap.{is_at}
 use Rattle.std.specs.Set.{remove_key}
 use Rattle.poly_grid.specs.Spot.{Spot}
@@ -11,6 +10,7 @@ use Rattle.poly_design.specs.declared.edit.Edit.TheVariants as edit
 use Rattle.poly_design.specs.Layout.{Layout}
 use Rattle.poly_design.proofs.Entries.{remove_absent}
 use Rattle.poly_design.proofs.Accepted.{accept, few_here, is_idle, is_there, not_idle, refuse_many}
+use Rattle.poly_design.proofs.Early.{allows_more}
 use Rattle.poly_design.proofs.design.Design.check_allow.Goals as goal
 
 pub returns-then-not-contains-clause-why : goal.returns-then-not-contains-clause-why
@@ -32,9 +32,7 @@ returns-in-Ok-clause-ok c =
     let found = sym c.in-Some.ensures.value in
     let list : c.remove.new.self ≡ remove_key (is_at (cells_cmp c.args.cells)) s.forbidden = c.remove.ensures.list ∙ ap (λ (l : List (List Spot)). remove_key (is_at (cells_cmp c.args.cells)) l) c.in_ok-forbidden.ensures.ok in
     let same : c.with_forbidden-after.result ≡ f s = c.with_forbidden-after.ensures ∙ (λ i. record s { forbidden = list i }) in
-    let gone : s ≡ f s → ⊥ = λ e.
-    let there : Contains c.remove.new.self c.args.cells = subst (λ (l : List (List Spot)). Contains l c.args.cells) (ap (λ (v : Spec). v.forbidden) e ∙ sym list) (c.if-not-contains.ensures.found.0 refl) in
-    ((c.remove.ensures.takes c.args.cells).0 there).1 refl in
+    let gone : s ≡ f s → ⊥ = allows_more s c.args.cells (c.if-not-contains.ensures.found.0 refl) in
     let few = few_here d name (Some c.in_ok-before.before) f s _ found same (rw (← c.self.view_is) at c.in-Ok.ensures.ok) in
     rw (← c.self.view_is) (accept d (edit.Allow name c.args.cells) name f s c.in_ok-before.before _ c.self.invariant.design found refl c.in_ok-before.ensures.ok same
     (is_there d name s found, (not_idle d name f s found gone, (λ no. no few, tt))) refl few)
@@ -48,7 +46,35 @@ returns-in-Err-clause-why c =
     let found = sym c.in-Some.ensures.value in
     let list : c.remove.new.self ≡ remove_key (is_at (cells_cmp c.args.cells)) s.forbidden = c.remove.ensures.list ∙ ap (λ (l : List (List Spot)). remove_key (is_at (cells_cmp c.args.cells)) l) c.in_ok-forbidden.ensures.ok in
     let same : c.with_forbidden-after.result ≡ f s = c.with_forbidden-after.ensures ∙ (λ i. record s { forbidden = list i }) in
-    let gone : s ≡ f s → ⊥ = λ e.
-    let there : Contains c.remove.new.self c.args.cells = subst (λ (l : List (List Spot)). Contains l c.args.cells) (ap (λ (v : Spec). v.forbidden) e ∙ sym list) (c.if-not-contains.ensures.found.0 refl) in
-    ((c.remove.ensures.takes c.args.cells).0 there).1 refl in
+    let gone : s ≡ f s → ⊥ = allows_more s c.args.cells (c.if-not-contains.ensures.found.0 refl) in
     rw (← c.self.view_is) (refuse_many d name (Some c.in_ok-before.before) f s _ c.in-Err.refusal found gone same (rw (← c.self.view_is) at c.in-Err.ensures.why))
+
+pub returns-in_err-before-clause-memory : goal.returns-in_err-before-clause-memory
+returns-in_err-before-clause-memory c =
+    let d : Layout = record { grid = c.self.inside.grid; cells = c.self.inside.cells.entries; pieces = c.self.inside.pieces.entries } in
+    let s = c.in-Some.spec.now in
+    let name = c.args.name in
+    let f : Spec → Spec = λ v. record v { forbidden = remove_key (is_at (cells_cmp c.args.cells)) v.forbidden } in
+    let found = sym c.in-Some.ensures.value in
+    let other = not_idle d name f s found (allows_more s c.args.cells (c.if-not-contains.ensures.found.0 refl)) in
+    λ _. rw (← c.self.view_is) (λ _. is_there d name s found, (λ _. other, (λ late. absurd late, tt)))
+
+pub returns-in_err-forbidden-clause-memory : goal.returns-in_err-forbidden-clause-memory
+returns-in_err-forbidden-clause-memory c =
+    let d : Layout = record { grid = c.self.inside.grid; cells = c.self.inside.cells.entries; pieces = c.self.inside.pieces.entries } in
+    let s = c.in-Some.spec.now in
+    let name = c.args.name in
+    let f : Spec → Spec = λ v. record v { forbidden = remove_key (is_at (cells_cmp c.args.cells)) v.forbidden } in
+    let found = sym c.in-Some.ensures.value in
+    let other = not_idle d name f s found (allows_more s c.args.cells (c.if-not-contains.ensures.found.0 refl)) in
+    λ _. rw (← c.self.view_is) (λ _. is_there d name s found, (λ _. other, (λ late. absurd late, tt)))
+
+pub returns-in-Err-clause-memory : goal.returns-in-Err-clause-memory
+returns-in-Err-clause-memory c =
+    let d : Layout = record { grid = c.self.inside.grid; cells = c.self.inside.cells.entries; pieces = c.self.inside.pieces.entries } in
+    let s = c.in-Some.spec.now in
+    let name = c.args.name in
+    let f : Spec → Spec = λ v. record v { forbidden = remove_key (is_at (cells_cmp c.args.cells)) v.forbidden } in
+    let found = sym c.in-Some.ensures.value in
+    let other = not_idle d name f s found (allows_more s c.args.cells (c.if-not-contains.ensures.found.0 refl)) in
+    λ _. rw (← c.self.view_is) (λ _. is_there d name s found, (λ _. other, (λ late. absurd late, tt)))

@@ -28,3 +28,33 @@ returns-in-Err-clause-why c =
     let found = sym c.in-Some.ensures.value in
     let same = ap f c.in_ok-after.ensures.ok in
     rw (← c.self.view_is) (refuse_many d name (Some c.in_ok-before.before) f s _ c.in-Err.refusal found (λ e. true≢false (sym (c.if-has_mirror.ensures.1 (ap (λ (v : Spec). v.mirror) e)))) same (rw (← c.self.view_is) at c.in-Err.ensures.why))
+
+pub returns-in_err-before-clause-memory : goal.returns-in_err-before-clause-memory
+returns-in_err-before-clause-memory c =
+    let d : Layout = record { grid = c.self.inside.grid; cells = c.self.inside.cells.entries; pieces = c.self.inside.pieces.entries } in
+    let s = c.in-Some.spec.now in
+    let name = c.args.name in
+    let f : Spec → Spec = λ v. record v { mirror = c.args.mirror } in
+    let found = sym c.in-Some.ensures.value in
+    let other = not_idle d name f s found (λ e. true≢false (sym (c.if-has_mirror.ensures.1 (ap (λ (v : Spec). v.mirror) e)))) in
+    λ _. rw (← c.self.view_is) (λ _. is_there d name s found, (λ _. other, (λ late. absurd late, tt)))
+
+pub returns-in_err-after-clause-memory : goal.returns-in_err-after-clause-memory
+returns-in_err-after-clause-memory c =
+    let d : Layout = record { grid = c.self.inside.grid; cells = c.self.inside.cells.entries; pieces = c.self.inside.pieces.entries } in
+    let s = c.in-Some.spec.now in
+    let name = c.args.name in
+    let f : Spec → Spec = λ v. record v { mirror = c.args.mirror } in
+    let found = sym c.in-Some.ensures.value in
+    let other = not_idle d name f s found (λ e. true≢false (sym (c.if-has_mirror.ensures.1 (ap (λ (v : Spec). v.mirror) e)))) in
+    λ _. rw (← c.self.view_is) (λ _. is_there d name s found, (λ _. other, (λ late. absurd late, tt)))
+
+pub returns-in-Err-clause-memory : goal.returns-in-Err-clause-memory
+returns-in-Err-clause-memory c =
+    let d : Layout = record { grid = c.self.inside.grid; cells = c.self.inside.cells.entries; pieces = c.self.inside.pieces.entries } in
+    let s = c.in-Some.spec.now in
+    let name = c.args.name in
+    let f : Spec → Spec = λ v. record v { mirror = c.args.mirror } in
+    let found = sym c.in-Some.ensures.value in
+    let other = not_idle d name f s found (λ e. true≢false (sym (c.if-has_mirror.ensures.1 (ap (λ (v : Spec). v.mirror) e)))) in
+    λ _. rw (← c.self.view_is) (λ _. is_there d name s found, (λ _. other, (λ late. absurd late, tt)))

@@ -17,3 +17,23 @@ returns-clause-ok c =
     let other = not_idle d name f s found (λ e. c.if-not-is_pinned.ensures.0 refl (ap (λ (v : Spec). v.pin) e)) in
     rw (← c.self.view_is) (accept d (edit.Unpin name) name f s c.in_ok-before.before _ c.self.invariant.design found refl c.in_ok-before.ensures.ok (ap f c.in_ok-after.ensures.ok)
     (is_there d name s found, (other, tt)) refl few)
+
+pub returns-in_err-before-clause-memory : goal.returns-in_err-before-clause-memory
+returns-in_err-before-clause-memory c =
+    let d : Layout = record { grid = c.self.inside.grid; cells = c.self.inside.cells.entries; pieces = c.self.inside.pieces.entries } in
+    let s = c.in-Some.spec.now in
+    let name = c.args.name in
+    let f : Spec → Spec = λ v. record v { pin = None } in
+    let found = sym c.in-Some.ensures.value in
+    let other = not_idle d name f s found (λ e. c.if-not-is_pinned.ensures.0 refl (ap (λ (v : Spec). v.pin) e)) in
+    λ _. rw (← c.self.view_is) (λ _. is_there d name s found, (λ _. other, tt))
+
+pub returns-in_err-after-clause-memory : goal.returns-in_err-after-clause-memory
+returns-in_err-after-clause-memory c =
+    let d : Layout = record { grid = c.self.inside.grid; cells = c.self.inside.cells.entries; pieces = c.self.inside.pieces.entries } in
+    let s = c.in-Some.spec.now in
+    let name = c.args.name in
+    let f : Spec → Spec = λ v. record v { pin = None } in
+    let found = sym c.in-Some.ensures.value in
+    let other = not_idle d name f s found (λ e. c.if-not-is_pinned.ensures.0 refl (ap (λ (v : Spec). v.pin) e)) in
+    λ _. rw (← c.self.view_is) (λ _. is_there d name s found, (λ _. other, tt))

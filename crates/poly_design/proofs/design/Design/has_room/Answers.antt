@@ -19,4 +19,4 @@ pub returns-clause-room : goal.returns-clause-room
 returns-clause-room c =
     let d : Layout = record { grid = c.self.inside.grid; cells = c.self.inside.cells.entries; pieces = c.self.inside.pieces.entries } in
     let full : 256 ≤ length d.cells = omega (arith, c.if-len-lt-MAX_CELLS.false, c.len.ensures.len) in
-    rw (← c.self.view_is) (room_last d c.args.cell c.args.mode _ c.is_mode.ensures c.self.invariant.design (none_if _ c.if-contains_key.ensures) full)
+    rw (← c.self.view_is) (room_last d c.args.cell c.args.mode _ c.same_mode.ensures c.self.invariant.design (none_if _ c.if-contains_key.ensures) full)

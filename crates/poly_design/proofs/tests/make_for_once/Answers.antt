@@ -3,17 +3,17 @@ use Rattle.poly_design.specs.Layout.{Layout}
 use Rattle.poly_design.specs.Limits.{IsDesign}
 use Rattle.poly_design.specs.Changes.{changed}
 use Rattle.poly_design.proofs.Restored.{accepted_before}
-use Rattle.poly_design.proofs.tests.edits.made_for_once.Goals as goal
+use Rattle.poly_design.proofs.tests.make_for_once.Goals as goal
 
 pub make-requires-2 : goal.make-requires-2
 make-requires-2 c =
     let d = c.args.design.now in
     let has = accepted_before d c.args.edit.now c.in_ok-change.change c.in_ok-change.ensures.ok in
-    let back = c.inverse.ensures.restores d c.grid-grid.ensures.design has in
-    subst (λ (v : Layout). IsDesign (changed v c.inverse.result)) (sym c.in_ok-make.ensures.ok) (subst IsDesign (sym back) c.grid-grid.ensures.design)
+    let back = c.inverse-inverse.ensures.restores d c.grid-grid.ensures.design has in
+    subst (λ (v : Layout). IsDesign (changed v c.inverse-inverse.result)) (sym c.in_ok-make.ensures.ok) (subst IsDesign (sym back) c.grid-grid.ensures.design)
 
 pub returns : goal.returns
 returns c =
     let d = c.args.design.now in
     let has = accepted_before d c.args.edit.now c.in_ok-change.change c.in_ok-change.ensures.ok in
-    c.in_ok-make-2.ensures.ok ∙ ap (λ (v : Layout). changed v c.inverse.result) c.in_ok-make.ensures.ok ∙ c.inverse.ensures.restores d c.grid-grid.ensures.design has
+    c.in_ok-make-2.ensures.ok ∙ ap (λ (v : Layout). changed v c.inverse-inverse.result) c.in_ok-make.ensures.ok ∙ c.inverse-inverse.ensures.restores d c.grid-grid.ensures.design has
