@@ -1,10 +1,10 @@
 //! What an edit costs: its check, and the table's plan and make.
 ghost use Rattle.poly_place.specs.Right.{IsRight};
 
-use poly_cli::{Command, asked};
 use poly_design::{Design, Edit};
 use poly_grid::Refusal;
 use poly_place::Table;
+use poly_text::{Command, asked};
 use std::io;
 use std::time::Instant;
 

@@ -6,8 +6,8 @@ mod edits;
 mod reports;
 mod searches;
 
-use poly_cli::puzzle_of;
 use poly_design::Design;
+use poly_text::puzzle_of;
 use std::io;
 
 fn main(rt: HostRuntime) -> io::Result<()> {

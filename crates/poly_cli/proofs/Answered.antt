@@ -1,5 +1,5 @@
 -- The lines that a session has answered, and how it goes on and ends.
-use Rattle.std.proofs.Common.{◌≡◌, ◌+◌, ◌-◌, ◌<◌, ◌≤◌, ◌++◌, List, [], ◌∷◌, ℕ, refl, sym, ◌∙◌, ap, subst, append_assoc, append-nil, Option, Result, Ok, Err, take, length, length-append, arith}
+use Rattle.std.proofs.Common.{◌≡◌, ◌+◌, ◌-◌, ◌<◌, ◌≤◌, ◌++◌, List, [], ◌∷◌, ℕ, refl, sym, ◌∙◌, ap, subst, append_assoc, append-nil, Option, Result, Ok, Err, take, length, length-append, arith, inl, inr}
 use Rattle.std.proofs.lemmas.List.{take_all, take_at}
 use Rattle.std.specs.Io.KnownBytes.{Appends, Consumes}
 use Rattle.poly_cli.specs.declared.lines.Lines.{Lines}
@@ -11,7 +11,7 @@ use Rattle.poly_cli.specs.Cutting.{open_line, lines_before, lines_of, last_lines
 use Rattle.poly_cli.specs.Buffered.{ahead, room, kept, NextLine}
 use Rattle.poly_cli.specs.Runs.{Runs, Writes, Serves, limits_from, lines_heard}
 use Rattle.poly_cli.proofs.Known.{consumes_more, appends_more}
-use Rattle.poly_cli.proofs.Going.{before_more, open_more, lines_more, lines_none, none_text, some_text, take_front, take_heard, Goes, goes_line, goes_now, at_last}
+use Rattle.poly_cli.proofs.Going.{before_more, open_more, lines_none, none_text, some_text, take_front, take_heard, Goes, goes_line, goes_now, at_last}
 
 -- what holds after count lines: done is what was cut of the bytes that were taken, and out is a run's output on its lines
 pub record Answered {S : Type 0} (Says : S → Option (List ℕ) → List ℕ → S → Type 0) (old now : Lines) (start s : S) (first left held_first held : Option (List ℕ)) (count : ℕ) : Type 0 where
@@ -124,10 +124,9 @@ module _ {S : Type 0} (Says : S → Option (List ℕ) → List ℕ → S → Typ
     pub last_unserved : (held_last : Option (List ℕ)) (e : Fault) → Writes (Err e) held held_last out → Served most (Err e) held_last
     last_unserved held_last e w =
         let lines = lines_of old.limit (ahead old ++ (a.taken ++ n.taken)) in
-        let all : take most (lines_of old.limit (take (room old) (ahead old ++ (a.taken ++ n.taken)))) ≡ lines ++ []
-        = rw (take_all (room old) (ahead old ++ (a.taken ++ n.taken)) (short_all event.End n)) (take_all most lines last_few ∙ sym (append-nil lines)) in
+        let all : lines ++ [] ≡ take most lines = append-nil lines ∙ sym (take_all most lines last_few) in
         subst (λ f. Served most (Err f) held_last) (sym w.0)
-        (a.taken ++ n.taken, taken_more event.End n n.finds.3, (a.out ++ w.1, w.2, lines, [], appends_more held_first held held_last a.out w.1 a.wrote w.3, rw (append_assoc a.out w.1 w.2, w.4) last_run, all))
+        (a.taken ++ n.taken, taken_more event.End n n.finds.3, (a.out ++ w.1, w.2, lines, [], appends_more held_first held held_last a.out w.1 a.wrote w.3, rw (append_assoc a.out w.1 w.2, w.4) last_run, inr (n.finds.2, short_all event.End n, all)))
 
   -- a whole line whose answer wasn't written whole
   pub line_unserved : (n : NextLine event.Line now new left last) (most : ℕ) → count < most → new.limit ≡ now.limit → (said : Option (List ℕ)) → ((bytes : List ℕ) → new.line.items ≡ kept new.limit bytes → said ≡ ended new.limit bytes)
@@ -139,8 +138,9 @@ module _ {S : Type 0} (Says : S → Option (List ℕ) → List ℕ → S → Typ
       let whole : open_line [] (a.done ++ n.piece) ≡ [] = open_more a.done n.piece a.whole ∙ n.finds.0.after in
       let lines = lines_before old.limit (a.done ++ n.piece) in
       let number : length lines ≡ count + 1 = ap length (before_more old.limit a.done n.piece a.whole ∙ rw n.finds.0.whole refl) ∙ length-append (lines_before old.limit a.done) (ended old.limit n.finds.0.bytes ∷ []) ∙ rw a.lines refl in
-      let all : take most (lines_of old.limit (take (room old) (ahead old ++ (a.taken ++ n.taken)))) ≡ lines ++ take (most - length lines) (lines_of old.limit (ahead new))
-      = rw (take_all (room old) (ahead old ++ (a.taken ++ n.taken)) (short_all event.Line n), cut_more event.Line n, lines_more old.limit (a.done ++ n.piece) (ahead new) whole) (take_front most lines (lines_of old.limit (ahead new)) (omega (arith, number, few))) in
+      let more = take (most - length lines) (lines_before old.limit (ahead new)) in
+      let all : lines_heard (limits_from most old) (ahead old ++ (a.taken ++ n.taken)) ≡ lines ++ more
+      = rw (take_all (room old) (ahead old ++ (a.taken ++ n.taken)) (short_all event.Line n), cut_more event.Line n, before_more old.limit (a.done ++ n.piece) (ahead new) whole) (take_front most lines (lines_before old.limit (ahead new)) (omega (arith, number, few))) in
       subst (λ f. Served most (Err f) held_last) (sym w.0) (
         a.taken ++ n.taken,
         taken_more event.Line n n.finds.1,
@@ -148,9 +148,9 @@ module _ {S : Type 0} (Says : S → Option (List ℕ) → List ℕ → S → Typ
           a.out ++ w.1,
           w.2,
           lines,
-          take (most - length lines) (lines_of old.limit (ahead new)),
+          more,
           appends_more held_first held held_last a.out w.1 a.wrote w.3,
           rw (append_assoc a.out w.1 w.2, w.4) (goes_now Says old.limit start t (a.done ++ n.piece) (a.out ++ out) goes),
-          all,
+          inl (sym all),
         ),
       )

@@ -6,7 +6,7 @@ use Rattle.std.proofs.lemmas.List.Sums.{sum_by-append}
 use Rattle.poly_design.specs.declared.placement.Placement.{Placement}
 use Rattle.poly_tiling.specs.Puzzle.{View}
 use Rattle.poly_tiling.specs.Shows.{names}
-use Rattle.poly_cli.specs.Replies.{covered}
+use Rattle.poly_text.specs.Replies.{covered}
 
 pub covered_append : (ps qs : List Placement) → covered (ps ++ qs) ≡ covered ps + covered qs
 covered_append ps qs = sum_by-append (λ p. length p.cells) ps qs

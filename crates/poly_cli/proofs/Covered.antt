@@ -24,7 +24,7 @@ use Rattle.poly_tiling.specs.declared.item.Item.TheVariants.{Cell, Piece}
 use Rattle.poly_tiling.proofs.Contained.{contains_in, in_contains}
 use Rattle.poly_tiling.proofs.Lists.{In, any_from, in_map, in_filter}
 use Rattle.poly_tiling.proofs.Tilings.{same_item_self}
-use Rattle.poly_cli.specs.Replies.{covered}
+use Rattle.poly_text.specs.Replies.{covered}
 
 -- how often the cells of the board are covered
 abbrev coverings : List Placement → List Spot → ℕ

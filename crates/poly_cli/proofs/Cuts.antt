@@ -38,9 +38,6 @@ take_long (suc n) (y ∷ b) x h = ap (λ z. y ∷ z) (take_long n b x (omega (ar
 differs_is : (x : ℕ) → (x ≡ 10 → ⊥) → (x == 10) ≡ false
 differs_is x h = search (rules, h)
 
-pub none_yet : (limit : ℕ) (begun line : List ℕ) → line ≡ kept limit begun → EndsNone limit begun [] line
-none_yet limit begun line e = record { whole = refl; line = e }
-
 -- one byte more, which is no line feed
 pub goes_on : (limit i : ℕ) (begun bytes line new : List ℕ) → i < length bytes → (get_or bytes i 0 ≡ 10 → ⊥) → EndsNone limit begun (take i bytes) line
     → ((b : List ℕ) → line ≡ kept limit b → new ≡ kept limit (b ++ get_or bytes i 0 ∷ [])) → EndsNone limit begun (take (i + 1) bytes) new

@@ -2,8 +2,7 @@
 use Rattle.std.proofs.Common.{◌≡◌, ◌+◌, ◌-◌, ◌<◌, ◌≤◌, ◌++◌, List, [], ◌∷◌, ℕ, zero, suc, refl, sym, ◌∙◌, ap, subst, append_assoc, append-nil, Option, Some, Result, Ok, Err, take, length, length-append, arith, inl, inr}
 use Rattle.std.specs.Prelude.{◌⊎◌}
 use Rattle.std.proofs.lemmas.Bool.{le-ltb}
-use Rattle.std.proofs.lemmas.List.{take_all}
-use Rattle.std.proofs.Math.Seq.{take-append-add}
+use Rattle.std.proofs.Math.Seq.{take-append-add, take-nil}
 use Rattle.std.specs.Io.KnownBytes.{Appends, Consumes}
 use Rattle.poly_grid.specs.declared.refusal.Refusal.{Refusal}
 use Rattle.poly_grid.specs.declared.refusal.Refusal.TheVariants.{Memory}
@@ -11,12 +10,12 @@ use Rattle.poly_cli.specs.declared.lines.Lines.{Lines}
 use Rattle.poly_cli.specs.declared.lines.Event.TheVariants as event
 use Rattle.poly_cli.specs.declared.writing.Fault.{Fault}
 use Rattle.poly_cli.specs.declared.writing.Fault.TheVariants.{Read, Write}
-use Rattle.poly_cli.specs.declared.opening.End.{End}
-use Rattle.poly_cli.specs.declared.opening.End.TheVariants.{Done, Refused}
+use Rattle.poly_cli.specs.declared.sessions.End.{End}
+use Rattle.poly_cli.specs.declared.sessions.End.TheVariants.{Done, Refused}
 use Rattle.poly_cli.specs.Cutting.{open_line, whole_lines, lines_before, lines_of, last_lines, ended, unended}
 use Rattle.poly_cli.specs.Buffered.{ahead, room, kept, NextLine}
-use Rattle.poly_cli.specs.Replies.{ok_text, refusal_text}
-use Rattle.poly_cli.specs.Runs.{Limits, Writes, Serves, limits_from, lines_heard}
+use Rattle.poly_text.specs.Replies.{ok_text, refusal_text}
+use Rattle.poly_cli.specs.Runs.{AreReadWhole, Limits, Writes, Serves, limits_from, lines_heard}
 use Rattle.poly_cli.specs.Slow.{State, Slow}
 use Rattle.poly_cli.specs.Sessions.{or_empty, session_lines, Accepts, Refuses, Opens, opening_text, RunsOpened, RunsRefused, SessionSays, session_limits}
 use Rattle.poly_cli.proofs.Known.{consumes_more, appends_none, appends_more}
@@ -25,10 +24,6 @@ use Rattle.poly_cli.proofs.Going.{before_more, lines_more, take_heard}
 -- the first of a list and so many more
 take_first : {X : Type 0} (n : ℕ) (x : X) (xs : List X) → 0 < n → take n (x ∷ xs) ≡ x ∷ take (n - 1) xs
 take_first {X} n x xs some = let e : n ≡ suc (n - 1) = omega (arith, some) in subst (λ m. take m (x ∷ xs) ≡ x ∷ take (n - 1) xs) (sym e) refl
-
-take_none : {X : Type 0} (n : ℕ) → ◌≡◌ {A = List X} (take n []) []
-take_none {X} zero = refl
-take_none {X} (suc n) = refl
 
 -- an input that ends without a line feed, or is empty, has one line
 one_line : (limit : ℕ) (piece : List ℕ) (said : Option (List ℕ)) → whole_lines [] piece ≡ [] → said ≡ unended limit (open_line [] piece) → session_lines limit piece ≡ said ∷ []
@@ -66,15 +61,15 @@ module _ (old new : Lines) (first left held : Option (List ℕ)) (fresh : ahead 
     heard_after rest =
         rw (within_after rest, before_more old.limit n.piece (take (room new) rest) n.finds.0.after, is_first, same) (take_first most said (lines_before old.limit (take (room new) rest)) some)
 
-    some_of : (bytes rest : List ℕ) → bytes ≡ n.piece ++ rest → take most (session_lines old.limit (take (room old) bytes)) ≡ said ∷ take (most - 1) (lines_of old.limit (take (room new) rest))
-    some_of bytes rest e = rw (e, within_after rest, lines_after (take (room new) rest)) (take_first most said (lines_of old.limit (take (room new) rest)) some)
+    read_after : (bytes rest : List ℕ) → bytes ≡ n.piece ++ rest → said ∷ lines_heard (limits_from (most - 1) new) rest ≡ lines_heard (limits_from most old) bytes
+    read_after bytes rest e = rw e (sym (heard_after rest))
 
     pub line_refused : (e : Refusal) (held_last : Option (List ℕ)) → Refuses said e → Appends held held_last (refusal_text e) → Session (Ok Refused) left held_last
-    line_refused e held_last refuses wrote = (n.taken, consumed, (refusal_text e, wrote, rw (all_taken, lines_after (ahead new)) (e, refuses, refl)))
+    line_refused e held_last refuses wrote = (n.taken, consumed, (refusal_text e, said ∷ lines_heard (limits_from (most - 1) new) (ahead new), wrote, inl (read_after n.taken (ahead new) all_taken), (e, refuses, refl)))
 
     pub line_unanswered : (opened : Result (Unit {0}) Refusal) (t : State) (f : Fault) (held_last : Option (List ℕ)) → Opens said opened t → Writes (Err f) held held_last (opening_text opened) → Session (Err f) left held_last
     line_unanswered opened t f held_last opens w = subst (λ g. Session (Err g) left held_last) (sym w.0)
-        (n.taken, consumed, (w.1, w.2, said ∷ [], take (most - 1) (lines_of old.limit (take (room new) (ahead new))), w.3, go opened opens w.4, some_of n.taken (ahead new) all_taken))
+        (n.taken, consumed, (w.1, w.2, said ∷ [], lines_heard (limits_from (most - 1) new) (ahead new), w.3, go opened opens w.4, inl (read_after n.taken (ahead new) all_taken)))
       where
         go : (o : Result (Unit {0}) Refusal) → Opens said o t → w.1 ++ w.2 ≡ opening_text o → RunsOpened (said ∷ []) (w.1 ++ w.2) ⊎ RunsRefused (said ∷ []) (w.1 ++ w.2)
         go (Ok x) a e = inl (t, [], a, refl, e ∙ sym (append-nil (ok_text 0)))
@@ -92,14 +87,24 @@ module _ (old new : Lines) (first left held : Option (List ℕ)) (fresh : ahead 
         bytes : n.taken ++ s.0 ≡ n.piece ++ (ahead new ++ s.0)
         bytes = ap (λ z. z ++ s.0) all_taken ∙ append_assoc n.piece (ahead new) s.0
 
+        whole : session_lines old.limit (n.taken ++ s.0) ≡ said ∷ lines_of new.limit (ahead new ++ s.0)
+        whole = rw (bytes, lines_after (ahead new ++ s.0), same) refl
+
+        short : length (ahead new ++ s.0) ≤ room new → length (n.taken ++ s.0) ≤ room old
+        short few = omega (arith, ap length bytes, length-append n.piece (ahead new ++ s.0), room_left, few)
+
+        read : (lines : List (Option (List ℕ))) → AreReadWhole (limits_from (most - 1) new) (lines_of new.limit) (ahead new ++ s.0) last lines
+            → AreReadWhole (limits_from most old) (session_lines old.limit) (n.taken ++ s.0) last (said ∷ lines)
+        read lines (inl e) = inl (ap (λ z. said ∷ z) e ∙ read_after (n.taken ++ s.0) (ahead new ++ s.0) bytes)
+        read lines (inr (ended, few, e)) = inr (ended, short few, rw whole (ap (λ z. said ∷ z) e ∙ sym (take_first most said (lines_of new.limit (ahead new ++ s.0)) some)))
+
         go : (q : Result (Unit {0}) Fault) → Serves (limits_from (most - 1) new) Slow t (ahead new ++ s.0) q last mid held_last → SessionSays (limits_from most old) (n.taken ++ s.0) (after q) last held held_last
-        go (Ok x) v =
-            let lines : session_lines old.limit (n.taken ++ s.0) ≡ said ∷ lines_of new.limit (ahead new ++ s.0) = rw (bytes, lines_after (ahead new ++ s.0), same) refl in (
-              v.0,
-              omega (arith, ap length bytes, length-append n.piece (ahead new ++ s.0), room_left, v.1),
-              rw lines (omega (arith, v.2, some)),
-              (ok_text 0 ++ v.3.0, appends_more held mid held_last (ok_text 0) v.3.0 wrote v.3.1, rw lines (t, v.3.0, accepts, v.3.2, refl)),
-            )
+        go (Ok x) v = (
+          v.0,
+          short v.1,
+          rw whole (omega (arith, v.2, some)),
+          (ok_text 0 ++ v.3.0, appends_more held mid held_last (ok_text 0) v.3.0 wrote v.3.1, rw whole (t, v.3.0, accepts, v.3.2, refl)),
+        )
         go (Err Read) v = (ok_text 0 ++ v.0, appends_more held mid held_last (ok_text 0) v.0 wrote v.1, rw (bytes, heard_after (ahead new ++ s.0)) (t, v.0, accepts, v.2, refl))
         go (Err Write) v = (
           ok_text 0 ++ v.0,
@@ -108,7 +113,7 @@ module _ (old new : Lines) (first left held : Option (List ℕ)) (fresh : ahead 
           v.3,
           appends_more held mid held_last (ok_text 0) v.0 wrote v.4,
           inl (t, v.0 ++ v.1, accepts, v.5, append_assoc (ok_text 0) v.0 v.1),
-          some_of (n.taken ++ s.0) (ahead new ++ s.0) bytes ∙ ap (λ z. said ∷ z) (rw same at v.6),
+          read (v.2 ++ v.3) v.6,
         )
 
   -- the first line ended with the input
@@ -125,8 +130,11 @@ module _ (old new : Lines) (first left held : Option (List ℕ)) (fresh : ahead 
     short : length n.taken ≤ room old
     short = omega (arith, n.counted)
 
+    read_last : said ∷ take (most - 1) [] ≡ take most (session_lines old.limit n.taken)
+    read_last = rw only_line (sym (take_first most said [] some))
+
     pub end_refused : (e : Refusal) (held_last : Option (List ℕ)) → Refuses said e → Appends held held_last (refusal_text e) → Session (Ok Refused) left held_last
-    end_refused e held_last refuses wrote = (n.taken, consumed_end, (refusal_text e, wrote, rw only_line (e, refuses, refl)))
+    end_refused e held_last refuses wrote = (n.taken, consumed_end, (refusal_text e, said ∷ take (most - 1) [], wrote, inr (n.finds.2, short, read_last), (e, refuses, refl)))
 
     pub end_done : (t : State) (held_last : Option (List ℕ)) → Accepts said t → Appends held held_last (ok_text 0) → Session (Ok Done) left held_last
     end_done t held_last accepts wrote =
@@ -134,7 +142,7 @@ module _ (old new : Lines) (first left held : Option (List ℕ)) (fresh : ahead 
 
     pub end_unanswered : (opened : Result (Unit {0}) Refusal) (t : State) (f : Fault) (held_last : Option (List ℕ)) → Opens said opened t → Writes (Err f) held held_last (opening_text opened) → Session (Err f) left held_last
     end_unanswered opened t f held_last opens w = subst (λ g. Session (Err g) left held_last) (sym w.0)
-        (n.taken, consumed_end, (w.1, w.2, said ∷ [], take (most - 1) [], w.3, go opened opens w.4, rw (take_all (room old) n.taken short, only_line) (take_first most said [] some)))
+        (n.taken, consumed_end, (w.1, w.2, said ∷ [], take (most - 1) [], w.3, go opened opens w.4, inr (n.finds.2, short, read_last)))
       where
         go : (o : Result (Unit {0}) Refusal) → Opens said o t → w.1 ++ w.2 ≡ opening_text o → RunsOpened (said ∷ []) (w.1 ++ w.2) ⊎ RunsRefused (said ∷ []) (w.1 ++ w.2)
         go (Ok x) a e = inl (t, [], a, refl, e ∙ sym (append-nil (ok_text 0)))
@@ -145,7 +153,7 @@ module _ (old new : Lines) (first left held : Option (List ℕ)) (fresh : ahead 
   fault_opened n =
       let taken : n.taken ≡ n.piece = (rw fresh at n.parts) ∙ rw n.finds.1 (append-nil n.piece) in
       let within : take (room old) (n.taken ++ n.over) ≡ n.taken = take_heard (room old) new.left n.taken n.over (omega (arith, n.counted, ap length fresh)) n.finds.2 in
-      let none : lines_heard (limits_from most old) (n.taken ++ n.over) ≡ [] = rw (within, taken, n.finds.0.whole) (take_none most) in
+      let none : lines_heard (limits_from most old) (n.taken ++ n.over) ≡ [] = rw (within, taken, n.finds.0.whole) (take-nil most) in
       (n.taken ++ n.over, n.consumed, ([], appends_none held, rw none refl))
 
 abbrev limits_of : ℕ → ℕ → ℕ → Limits
@@ -158,18 +166,16 @@ limits_are l line left fresh =
     let bytes : room l ≡ 1073741824 = omega (arith, ap length fresh, left) in
     ap (λ (n : ℕ). limits_of n (room l) 1000000) line ∙ ap (λ (n : ℕ). limits_of 65536 n 1000000) bytes
 
-pub some_lines : 0 < session_limits.lines
-unfolding session_limits
-some_lines = omega arith
-
 module _ (m : Limits) (left held held_last : Option (List ℕ)) where
   -- no memory to begin with, so that nothing was read
-  pub unread_refused : Appends held held_last (refusal_text Memory) → SessionSays m [] (Ok Refused) left held held_last
-  unread_refused wrote = (refusal_text Memory, wrote, (Memory, inl refl, refl))
+  none_read : [] ≡ lines_heard m []
+  none_read = rw (take-nil m.bytes) (sym (take-nil m.lines))
 
-  pub unread_unanswered : (f : Fault) → 0 < m.lines → Writes (Err f) held held_last (refusal_text Memory) → SessionSays m [] (Err f) left held held_last
-  unread_unanswered f some w = subst (λ g. SessionSays m [] (Err g) left held held_last) (sym w.0)
-      (w.1, w.2, Some [] ∷ [], take (m.lines - 1) [], w.3, inr (Memory, inl refl, w.4), rw (take_none {X = ℕ} m.bytes) (take_first m.lines (Some []) [] some))
+  pub unread_refused : Appends held held_last (refusal_text Memory) → SessionSays m [] (Ok Refused) left held held_last
+  unread_refused wrote = (refusal_text Memory, [], wrote, inl none_read, refl)
+
+  pub unread_unanswered : (f : Fault) → Writes (Err f) held held_last (refusal_text Memory) → SessionSays m [] (Err f) left held held_last
+  unread_unanswered f w = subst (λ g. SessionSays m [] (Err g) left held held_last) (sym w.0) (w.1, w.2, [], [], w.3, inr w.4, inl none_read)
 
 pub with_limits : (m k : Limits) (r : Result End Fault) (first last held held_last : Option (List ℕ)) → m ≡ k → (taken : List ℕ) × Consumes first last taken × SessionSays m taken r last held held_last
     → (taken : List ℕ) × Consumes first last taken × SessionSays k taken r last held held_last

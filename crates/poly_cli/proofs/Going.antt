@@ -1,18 +1,14 @@
 -- A run that goes on, line by line.
 use Rattle.std.proofs.Common.{◌≡◌, ◌+◌, ◌-◌, ◌<◌, ◌≤◌, ◌++◌, List, [], ◌∷◌, ℕ, map, refl, sym, ◌∙◌, ap, subst, append_assoc, append-nil, Option, take, suc, zero, length, arith}
-use Rattle.std.proofs.lemmas.List.{length-take, take_all, take_at}
-use Rattle.std.proofs.Math.Seq.{take-append-add}
+use Rattle.std.proofs.lemmas.List.{length-take, map-append, take_all, take_at}
+use Rattle.std.proofs.Math.Seq.{take-append-add, take-nil}
 use Rattle.poly_cli.specs.Cutting.{open_line, whole_lines, lines_before, lines_of, last_lines, ended, unended}
 use Rattle.poly_cli.specs.Buffered.{kept, EndsNone}
 use Rattle.poly_cli.specs.Runs.{Runs}
 use Rattle.poly_cli.proofs.Cuts.{open_append, whole_append}
 
-pub map_append : {X Y : Type 0} (f : X → Y) (xs ys : List X) → map f (xs ++ ys) ≡ map f xs ++ map f ys
-map_append f [] ys = refl
-map_append f (x ∷ xs) ys = ap (λ z. f x ∷ z) (map_append f xs ys)
-
 pub before_more : (limit : ℕ) (done piece : List ℕ) → open_line [] done ≡ [] → lines_before limit (done ++ piece) ≡ lines_before limit done ++ lines_before limit piece
-before_more limit done piece e = ap (map (ended limit)) (whole_append [] done piece ∙ rw e refl) ∙ map_append (ended limit) (whole_lines [] done) (whole_lines [] piece)
+before_more limit done piece e = ap (map (ended limit)) (whole_append [] done piece ∙ rw e refl) ∙ map-append (ended limit) (whole_lines [] done) (whole_lines [] piece)
 
 pub open_more : (done piece : List ℕ) → open_line [] done ≡ [] → open_line [] (done ++ piece) ≡ open_line [] piece
 open_more done piece e = open_append [] done piece ∙ rw e refl
@@ -40,11 +36,7 @@ none_text limit piece text e none = go (open_line [] piece) (sym e.line ∙ none
         absurd (omega (arith, length-take (limit + 1) (x ∷ xs), k))
 
 pub some_text : (limit : ℕ) (piece text : List ℕ) → EndsNone limit [] piece text → (text ≡ [] → ⊥) → open_line [] piece ≡ [] → ⊥
-some_text limit piece text e some none = some (e.line ∙ ap (kept limit) none ∙ take_none (limit + 1))
-  where
-    take_none : (n : ℕ) → ◌≡◌ {A = List ℕ} (take n []) []
-    take_none zero = refl
-    take_none (suc n) = refl
+some_text limit piece text e some none = some (e.line ∙ ap (kept limit) none ∙ take-nil (limit + 1))
 
 -- the first so many of a list that is no longer, and more
 pub take_front : {X : Type 0} (n : ℕ) (xs ys : List X) → length xs ≤ n → take n (xs ++ ys) ≡ xs ++ take (n - length xs) ys

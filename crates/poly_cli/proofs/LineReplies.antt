@@ -4,16 +4,12 @@ use Rattle.std.specs.Prelude.{◌⊎◌, IfErr, IfOk, OnErr, OnOk}
 use Rattle.poly_grid.specs.declared.grid.Grid.{Grid}
 use Rattle.poly_grid.specs.declared.refusal.Refusal.{Refusal}
 use Rattle.poly_grid.specs.declared.refusal.Refusal.TheVariants.{Memory}
-use Rattle.poly_cli.specs.declared.command.Command.{Command}
-use Rattle.poly_cli.specs.Commands.{AskedBy, Asks, CommandSays}
-use Rattle.poly_cli.specs.Gives.{◌>>=◌}
-use Rattle.poly_cli.specs.Replies.{ok_text, refusal_text, step_text}
+use Rattle.poly_text.specs.declared.command.Command.{Command}
+use Rattle.poly_text.specs.Commands.{AskedBy, Asks, CommandSays}
+use Rattle.poly_text.specs.Gives.{◌>>=◌}
+use Rattle.poly_text.specs.Replies.{ok_text, refusal_text, step_text}
 use Rattle.poly_cli.specs.Slow.{State, Answers, IsRefusal, Replies, Steps, WordsSay}
-use Rattle.poly_cli.specs.Words.{words_of}
-
-some_command : (r : Result Command Refusal) → Ok None ≡ (r >>= λ c. Ok (Some c)) → ⊥
-some_command (Ok c) e = cc
-some_command (Err f) e = cc
+use Rattle.poly_text.specs.Words.{words_of}
 
 same_command : (r : Result Command Refusal) (c : Command) → Ok (Some c) ≡ (r >>= λ x. Ok (Some x)) → r ≡ Ok c
 same_command (Ok x) c e = cc
@@ -24,14 +20,6 @@ same_refusal (Ok c) e h = absurd cc
 same_refusal (Err f) e h = cc
 
 module _ (s : State) (g : Grid) (standing : g ≡ s.design.grid) where
-  -- nothing was asked
-  pub none_says : (line : List ℕ) → Asks g line (Ok None) → WordsSay (words_of line) s [] s
-  none_says line a = go (words_of line) a
-    where
-      go : (words : List (List ℕ)) → AskedBy g words (Ok None) → WordsSay words s [] s
-      go [] a = (refl, refl)
-      go (word ∷ words) a = absurd (some_command a.0 a.2)
-
   -- a command was asked, and answered
   pub command_says : (line : List ℕ) (c : Command) (out : List ℕ) (t : State) → Asks g line (Ok (Some c)) → Answers c s out t ⊎ IsRefusal Memory s out t → WordsSay (words_of line) s out t
   command_says line c out t a h = go (words_of line) a h

@@ -1,6 +1,6 @@
 -- What an undo and a redo make of the steps of a history.
 use Rattle.std.proofs.Common.{◌≡◌, ◌-◌, ℕ, suc, List, [], ◌∷◌, ◌++◌, refl, sym, ◌∙◌, ap, subst, arith, drop, length, length-append, Some, slice_get, reverse}
-use Rattle.std.proofs.lemmas.List.{drop-map, length-map}
+use Rattle.std.proofs.lemmas.List.{drop-map, length-map, map-append}
 use Rattle.poly_design.specs.Changes.{HasBefore, changed}
 use Rattle.poly_design.specs.Layout.{Layout}
 use Rattle.poly_design.specs.Limits.{IsDesign}
@@ -9,7 +9,6 @@ use Rattle.poly_undo.specs.Steps.{newest, next_of}
 use Rattle.poly_undo.specs.declared.step.Step.{Step}
 use Rattle.poly_cli.specs.Paths.{IsPath, IsOnWay}
 use Rattle.poly_cli.specs.Slow.{State, changes_of}
-use Rattle.poly_cli.proofs.Going.{map_append}
 use Rattle.poly_cli.proofs.Paths.{IsBeforeLast, first_on, path_end, path_pop, path_start, redone_way, same_way, undone_way}
 
 pub same_state : {d e : Layout} {m n : ℕ} {u v r q : List Change} → d ≡ e → m ≡ n → u ≡ v → r ≡ q
@@ -18,7 +17,7 @@ same_state p s t w = λ i. record { design = p i; edition = s i; undo = t i; red
 
 module _ {K : Type 0} where
   pub changes_push : (steps : List (Step Change K)) (s : Step Change K) → changes_of (steps ++ s ∷ []) ≡ changes_of steps ++ s.change ∷ []
-  changes_push steps s = map_append (λ s. s.change) steps (s ∷ [])
+  changes_push steps s = map-append (λ s. s.change) steps (s ∷ [])
 
   -- of the newest steps the changes are the newest
   pub changes_newest : (steps : List (Step Change K)) (s : Step Change K) → changes_of (newest (steps ++ s ∷ [])) ≡ newest (changes_of steps ++ s.change ∷ [])

@@ -2,16 +2,15 @@
 use Rattle.std.proofs.Common.{◌≡◌, ◌+◌, ◌<◌, ◌++◌, ◌∷◌, [], ℕ, List, map, sym, ◌∙◌, ap, subst, append_assoc, append-nil, take, drop, length, get_or, Result, Ok, Err, Option}
 use Rattle.std.specs.Io.KnownBytes.{Appends}
 use Rattle.std.specs.List.{flat_map}
-use Rattle.std.proofs.lemmas.List.{take_more, take-append-drop}
+use Rattle.std.proofs.lemmas.List.{map-append, take-append-drop, take_more}
 use Rattle.std.proofs.lemmas.List.Concat.{flat_map-append}
 use Rattle.poly_tiling.specs.Puzzle.{View}
 use Rattle.poly_tiling.specs.TilingOrder.{placed}
 use Rattle.poly_cli.specs.declared.writing.Fault.{Fault}
-use Rattle.poly_cli.specs.Replies.{tiling_text, tilings_text}
+use Rattle.poly_text.specs.Replies.{tiling_text, tilings_text}
 use Rattle.poly_cli.specs.Runs.{Writes}
 use Rattle.poly_cli.specs.Slow.{list_text}
 use Rattle.poly_cli.proofs.Known.{appends_more}
-use Rattle.poly_cli.proofs.Going.{map_append}
 
 module _ (old mid new : Option (List ℕ)) (before x : List ℕ) (a : Appends old mid before) where
   -- the last part
@@ -35,7 +34,7 @@ lines_to v all i = flat_map tiling_text (map (placed v) (take i all))
 
 pub lines_more : (v : View) (all : List (List ℕ)) (i : ℕ) (T : List ℕ) → i < length all → T ≡ get_or all i [] → lines_to v all (i + 1) ≡ lines_to v all i ++ tiling_text (placed v T)
 lines_more v all i T lt is =
-    ap (λ z. flat_map tiling_text (map (placed v) z)) (take_more all i [] lt ∙ ap (λ U. take i all ++ U ∷ []) (sym is)) ∙ ap (flat_map tiling_text) (map_append (placed v) (take i all) (T ∷ []))
+    ap (λ z. flat_map tiling_text (map (placed v) z)) (take_more all i [] lt ∙ ap (λ U. take i all ++ U ∷ []) (sym is)) ∙ ap (flat_map tiling_text) (map-append (placed v) (take i all) (T ∷ []))
     ∙ flat_map-append tiling_text (map (placed v) (take i all)) (placed v T ∷ []) ∙ ap (λ z. lines_to v all i ++ z) (append-nil (tiling_text (placed v T)))
 
 -- what is left of a listing after a tiling
@@ -45,6 +44,6 @@ lines_left v all i T lt is =
     let tail = flat_map tiling_text (map (placed v) (drop (i + 1) all)) in
     let end = tilings_text (length (map (placed v) all)) in
     let parts : flat_map tiling_text (map (placed v) all) ≡ (lines_to v all i ++ tiling_text (placed v T)) ++ tail
-    = ap (λ z. flat_map tiling_text (map (placed v) z)) (sym (take-append-drop (i + 1) all)) ∙ ap (flat_map tiling_text) (map_append (placed v) (take (i + 1) all) (drop (i + 1) all))
+    = ap (λ z. flat_map tiling_text (map (placed v) z)) (sym (take-append-drop (i + 1) all)) ∙ ap (flat_map tiling_text) (map-append (placed v) (take (i + 1) all) (drop (i + 1) all))
     ∙ flat_map-append tiling_text (map (placed v) (take (i + 1) all)) (map (placed v) (drop (i + 1) all)) ∙ ap (λ z. z ++ tail) (lines_more v all i T lt is) in
     (tail ++ end, sym (ap (λ z. z ++ end) parts ∙ append_assoc (lines_to v all i ++ tiling_text (placed v T)) tail end ∙ append_assoc (lines_to v all i) (tiling_text (placed v T)) (tail ++ end)))

@@ -4,17 +4,4 @@ pub mod Runs
 pub mod Slow
 pub mod Listings
 pub mod Paths
-pub mod Replies
-pub mod Gives
-pub mod Json
-pub mod Views
-pub mod Outer
-pub mod Board
-pub mod Head
-pub mod Names
-pub mod Words
-pub mod Commands
-pub mod Fields
-pub mod Piece
-pub mod Puzzle
 pub mod Sessions

@@ -11,7 +11,7 @@ use Rattle.poly_tiling.specs.Names.{WellNamed}
 use Rattle.poly_tiling.specs.Puzzle.{View, is_tiling}
 use Rattle.poly_tiling.specs.Shows.{Shows, names}
 use Rattle.poly_tiling.specs.TilingOrder.{placed, tiling_cmp}
-use Rattle.poly_cli.specs.Replies.{covered}
+use Rattle.poly_text.specs.Replies.{covered}
 
 -- the view shows the design, and the numbers of each of its tilings stand in the list once, in the order of tilings
 pub record IsListing (d : Layout) (v : View) (all : List (List ℕ)) : Type 0 where

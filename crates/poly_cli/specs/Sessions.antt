@@ -6,12 +6,12 @@ use Rattle.poly_grid.specs.declared.refusal.Refusal.TheVariants.{LineTooLong, Me
 use Rattle.poly_design.specs.Layout.{Layout}
 use Rattle.poly_cli.specs.declared.writing.Fault.{Fault}
 use Rattle.poly_cli.specs.declared.writing.Fault.TheVariants.{Read, Write}
-use Rattle.poly_cli.specs.declared.opening.End.{End}
-use Rattle.poly_cli.specs.declared.opening.End.TheVariants.{Done, Refused}
+use Rattle.poly_cli.specs.declared.sessions.End.{End}
+use Rattle.poly_cli.specs.declared.sessions.End.TheVariants.{Done, Refused}
 use Rattle.poly_cli.specs.Cutting.{lines_of}
-use Rattle.poly_cli.specs.Puzzle.{PuzzleSays}
-use Rattle.poly_cli.specs.Replies.{ok_text, refusal_text}
-use Rattle.poly_cli.specs.Runs.{Limits, Runs, lines_heard}
+use Rattle.poly_text.specs.Puzzle.{PuzzleSays}
+use Rattle.poly_text.specs.Replies.{ok_text, refusal_text}
+use Rattle.poly_cli.specs.Runs.{AreReadWhole, Limits, Runs, lines_heard}
 use Rattle.poly_cli.specs.Slow.{State, Slow, opened}
 
 -- an input without a line is a puzzle line of no bytes
@@ -43,9 +43,9 @@ abbrev pub opening_text : Result (Unit {0}) Refusal → List ℕ
 opening_text (Ok x) = ok_text 0
 opening_text (Err e) = refusal_text e
 
--- a session whose first line was refused
+-- a session whose first line was refused; only memory can be refused before a line is there
 abbrev pub RunsRefused : List (Option (List ℕ)) → List ℕ → Type 0
-RunsRefused [] out = ⊥
+RunsRefused [] out = out ≡ refusal_text Memory
 RunsRefused (first ∷ lines) out = (e : Refusal) × Refuses first e × (out ≡ refusal_text e)
 
 -- a session whose first line was accepted, if there was one
@@ -54,14 +54,16 @@ RunsOpened [] out = out ≡ []
 RunsOpened (first ∷ lines) out = (s : State) × (rest : List ℕ) × Accepts first s × Runs Slow s lines rest × (out ≡ ok_text 0 ++ rest)
 
 -- What a session says of the bytes that it took. Done: the end, within the limits, and a run on all lines. Refused: the reply to the
--- first line. At a read fault a run on the lines read whole before, and at a write fault a first part of a run's output.
+-- first line, which was read whole, unless memory ran out before. At a read fault a run on the lines read whole before, and at a write
+-- fault a first part of a run's output on the first of the lines read whole.
 abbrev pub SessionSays : Limits → List ℕ → Result End Fault → Option (List ℕ) → Option (List ℕ) → Option (List ℕ) → Type 0
 SessionSays m bytes (Ok Done) left old new =
     IsAtEnd left × (length bytes ≤ m.bytes) × (length (session_lines m.line bytes) ≤ m.lines) × ((out : List ℕ) × Appends old new out × RunsOpened (session_lines m.line bytes) out)
-SessionSays m bytes (Ok Refused) left old new = (out : List ℕ) × Appends old new out × RunsRefused (session_lines m.line bytes) out
+SessionSays m bytes (Ok Refused) left old new =
+    (out : List ℕ) × (lines : List (Option (List ℕ))) × Appends old new out × AreReadWhole m (session_lines m.line) bytes left lines × RunsRefused lines out
 SessionSays m bytes (Err Read) left old new = (out : List ℕ) × Appends old new out × RunsOpened (lines_heard m bytes) out
 SessionSays m bytes (Err Write) left old new =
-    (out rest : List ℕ) × (lines more : List (Option (List ℕ))) × Appends old new out × (RunsOpened lines (out ++ rest) ⊎ RunsRefused lines (out ++ rest)) × (take m.lines (session_lines m.line (take m.bytes bytes)) ≡ lines ++ more)
+    (out rest : List ℕ) × (lines more : List (Option (List ℕ))) × Appends old new out × (RunsOpened lines (out ++ rest) ⊎ RunsRefused lines (out ++ rest)) × AreReadWhole m (session_lines m.line) bytes left (lines ++ more)
 
 -- the limits of every session
 unfoldable pub session_limits : Limits

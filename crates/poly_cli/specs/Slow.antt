@@ -12,12 +12,12 @@ use Rattle.poly_design.specs.declared.edit.Edit.{Edit}
 use Rattle.poly_design.specs.declared.placement.Placement.{Placement}
 use Rattle.poly_undo.specs.Steps.{newest}
 use Rattle.poly_undo.specs.declared.step.Step.{Step}
-use Rattle.poly_cli.specs.declared.command.Command.{Command}
-use Rattle.poly_cli.specs.declared.command.Command.TheVariants as command
-use Rattle.poly_cli.specs.Commands.{CommandSays}
+use Rattle.poly_text.specs.declared.command.Command.{Command}
+use Rattle.poly_text.specs.declared.command.Command.TheVariants as command
+use Rattle.poly_text.specs.Commands.{CommandSays}
 use Rattle.poly_tiling.specs.Listings.{IsListOfTilings, HasOverTilings}
-use Rattle.poly_cli.specs.Replies.{ok_text, refusal_text, tiling_text, tilings_text}
-use Rattle.poly_cli.specs.Words.{words_of}
+use Rattle.poly_text.specs.Replies.{ok_text, refusal_text, tiling_text, tilings_text}
+use Rattle.poly_text.specs.Words.{words_of}
 
 -- the design, how often it was changed, and the changes that can be undone and redone: each list ends with the one whose turn is next
 pub record State : Type 0 where

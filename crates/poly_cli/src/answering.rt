@@ -5,16 +5,15 @@ ghost use Rattle.poly_tiling.specs.Puzzle.{is_tiling};
 ghost use Rattle.poly_tiling.specs.Shows.{names};
 ghost use Rattle.poly_tiling.specs.TilingOrder.{placed};
 ghost use Rattle.poly_cli.specs.Listings.{IsPrintable};
-ghost use Rattle.poly_cli.specs.Replies.{covered, refusal_text, step_text, tiling_text};
+ghost use Rattle.poly_text.specs.Replies.{covered, refusal_text, step_text, tiling_text};
 ghost use Rattle.poly_cli.specs.Runs.{Writes};
 ghost use Rattle.poly_cli.specs.Slow.{Answers, IsRefusal, Slow, Tells, count_text, list_text};
 
-use crate::command::{Command, asked};
 use crate::engine::{Engine, Listing};
-use crate::replies::{ReplyLine, refusal_line};
 use crate::writing::{Fault, write_bytes, write_whole};
 use poly_design::Placement;
 use poly_grid::Refusal;
+use poly_text::{Command, ReplyLine, asked, refusal_line};
 use poly_tiling::{Tiling, View, listings_show, numbers_show};
 use std::alloc::Global;
 use std::io::Write;

@@ -37,14 +37,9 @@ mod tests {
         }
     }
 
-    const FAULTS: [(&[&str], Option<(ErrorKind, i32)>); 5] = [
+    const FAULTS: [(&[&str], Option<(ErrorKind, i32)>); 3] = [
         (&["polybench"], None),
         (&["polybench", "--help"], Some((ErrorKind::DisplayHelp, 0))),
-        (
-            &["polybench", "--workers"],
-            Some((ErrorKind::UnknownArgument, 2)),
-        ),
-        (&["polybench", "-x"], Some((ErrorKind::UnknownArgument, 2))),
         (
             &["polybench", "puzzle.json"],
             Some((ErrorKind::UnknownArgument, 2)),

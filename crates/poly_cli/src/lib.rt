@@ -1,28 +1,28 @@
-//! The text side of the workbench: lines in, replies out.
+//! The session: it reads lines, and writes the replies of an engine that knows all tilings of a design under edits.
 #![tactic(auto)]
 
 mod answering;
 mod arguments;
-mod command;
 mod engine;
 mod lines;
-mod opening;
 mod plain;
-mod puzzle;
-mod replies;
 mod serving;
+mod sessions;
 #[cfg(test)]
 mod tests;
-mod words;
 mod writing;
 
-pub use arguments::read_arguments;
-pub use command::{Command, asked, command_of};
-pub use engine::{Engine, Listing};
-pub use lines::{INPUT_LIMIT, LINE_LIMIT};
-pub use opening::{End, LINE_COUNT, session};
-pub use plain::Plain;
-pub use puzzle::puzzle_of;
-pub use replies::{REPLY_LIMIT, ReplyLine, refusal_line};
-pub use words::{name_of, words_of};
+// A whole session over a reader, a writer and an engine.
+pub use sessions::{End, session};
 pub use writing::Fault;
+
+// What a session runs on.
+pub use engine::{Engine, Listing};
+pub use plain::Plain;
+
+// The limits on a line and on an input.
+pub use lines::{INPUT_LIMIT, LINE_LIMIT};
+pub use sessions::LINE_COUNT;
+
+// The arguments of the program.
+pub use arguments::read_arguments;

@@ -1,14 +1,49 @@
-//! Designs for tests, from a puzzle line and commands as a session reads them.
+//! The test kit: designs, their views and their changes, from the lines that a session reads.
+//!
+//! A test says a design by its puzzle line and a change by its command line, for example
+//!
+//! - `design(&rt, DOMINOES)` is the design of a puzzle line;
+//! - `edited(&rt, DOMINOES, &[b"pin A 0,0 0,1"])` is that design after edits;
+//! - `view(&rt, &design)` is its view, whose numbers are those of `Design::places`;
+//! - `change_of(alloc, &design, b"drop A")` is the change that a command asks for.
+//!
+//! `design`, `edited` and `view` end the test if a line is refused or memory runs out, so that a test holds no error.
 ghost use Rattle.std.specs.Prelude.{IfOk};
 ghost use Rattle.poly_design.specs.Changes.{HasBefore, changed};
 ghost use Rattle.poly_design.specs.Limits.{IsDesign};
+ghost use Rattle.poly_tiling.specs.Shows.{IsPlain, Shows};
 
-use poly_cli::{Command, asked, puzzle_of};
 use poly_design::{Change, Design};
 use poly_grid::Refusal;
-use std::alloc::Global;
+use poly_text::{Command, asked, puzzle_of};
+use poly_tiling::View;
+use std::alloc::{AllocGlobal, Global};
+use std::process::Abort;
 
-/// The change that the line asks for on the design.
+/// A square of four cells and two dominoes, A and B: 4 tilings.
+pub(crate) const DOMINOES: &[u8] =
+    b"{\"format\":1,\"grid\":\"square\",\"board\":[\"##\",\"##\"],\"pieces\":[{\"name\":\"A\",\"cells\":[[0,0],[1,0]]},{\"name\":\"B\",\"cells\":[[0,0],[1,0]]}]}";
+
+/// The design of the puzzle line.
+pub(crate) fn design(rt: &(impl AllocGlobal + Abort), line: &[u8]) -> Design {
+    puzzle_of(rt.alloc(), line).expect(rt, "a puzzle line")
+}
+
+/// The design of the puzzle line after the edits that the command lines ask for.
+pub(crate) fn edited(rt: &(impl AllocGlobal + Abort), line: &[u8], edits: &[&[u8]]) -> Design {
+    design_of(rt.alloc(), line, edits).expect(rt, "a puzzle line and edits")
+}
+
+/// The view of the design by itself. Its numbers are the places in `Design::places`; a pin that is no placement comes
+/// after them.
+pub(crate) fn view(rt: &(impl AllocGlobal + Abort), design: &Design) -> View
+    ensures shows { Shows result design.now }
+    ensures plain { IsPlain result design.now }
+{
+    View::plain(rt.alloc(), design).expect(rt, "memory")
+}
+
+/// The change that the command line asks for on the design. A line that asks for no edit is a `BadCommand`.
 pub(crate) fn change_of(alloc: Global, design: &Design, line: &[u8]) -> Result<Change, Refusal>
     ensures stands { IfOk result (λ change. HasBefore design.now change) }
     ensures limits { IfOk result (λ change. IsDesign (changed design.now change)) }
@@ -23,7 +58,7 @@ pub(crate) fn change_of(alloc: Global, design: &Design, line: &[u8]) -> Result<C
     }
 }
 
-/// The design of the puzzle line after the edits that the lines ask for.
+/// The design of the puzzle line after the edits that the command lines ask for, or the first refusal.
 pub(crate) fn design_of(alloc: Global, puzzle: &[u8], lines: &[&[u8]]) -> Result<Design, Refusal> {
     let mut design = puzzle_of(alloc, puzzle)?;
     for line in lines {

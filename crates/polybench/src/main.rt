@@ -1,8 +1,9 @@
 //! The program: arguments, standard input and output, and the exit status. What it answers is `poly_cli::session`'s.
 #![tactic(auto)]
 
-use poly_cli::{End, Fault, Plain, read_arguments, refusal_line, session};
+use poly_cli::{End, Fault, Plain, read_arguments, session};
 use poly_grid::Refusal;
+use poly_text::refusal_line;
 use std::alloc::AllocError;
 use std::io;
 use std::process::ExitCode;

@@ -1,5 +1,5 @@
 use Rattle.std.proofs.Common.{◌≡◌, ◌∷◌, ◌++◌, [], refl, sym, ◌∙◌, ap, arith, length, length-append}
-use Rattle.poly_cli.specs.Replies.{covered}
+use Rattle.poly_text.specs.Replies.{covered}
 use Rattle.poly_cli.proofs.Collected.{names_more, names_same, names_short, covered_append}
 use Rattle.poly_cli.proofs.answering.Answerer.collect.Goals as goal
 use Rattle.poly_cli.proofs.answering.Answerer.collect.Goals.{in-Some, in_default}

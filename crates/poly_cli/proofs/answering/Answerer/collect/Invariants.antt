@@ -1,6 +1,6 @@
 use Rattle.std.proofs.Common.{◌≡◌, ◌≤◌, take, length}
 use Rattle.poly_tiling.specs.Shows.{names}
-use Rattle.poly_cli.specs.Replies.{covered}
+use Rattle.poly_text.specs.Replies.{covered}
 use Rattle.poly_cli.proofs.answering.Answerer.collect.Given as goal
 
 abbrev pub invariant-loop-number : goal.invariant-loop-number

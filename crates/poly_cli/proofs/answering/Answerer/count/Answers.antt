@@ -1,7 +1,7 @@
 use Rattle.std.proofs.Common.{◌≡◌, inl, refl, ◌∙◌, ap, map, sym, subst, arith}
 use Rattle.std.proofs.lemmas.List.{length-map}
 use Rattle.poly_tiling.specs.TilingOrder.{placed}
-use Rattle.poly_cli.specs.Replies.{tilings_text}
+use Rattle.poly_text.specs.Replies.{tilings_text}
 use Rattle.poly_cli.specs.Runs.{Writes}
 use Rattle.poly_cli.specs.Slow.{count_text}
 use Rattle.poly_cli.proofs.answering.Answerer.count.Goals as goal

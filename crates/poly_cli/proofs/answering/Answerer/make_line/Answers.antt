@@ -2,7 +2,7 @@ use Rattle.std.proofs.Common.{◌∙◌, ap, subst, arith, length}
 use Rattle.std.specs.List.Sorted.{IsPermutation}
 use Rattle.std.proofs.lemmas.List.Sorted.{sum_by-IsPermutation}
 use Rattle.poly_tiling.specs.Shows.{names}
-use Rattle.poly_cli.specs.Replies.{covered, tiling_text}
+use Rattle.poly_text.specs.Replies.{covered, tiling_text}
 use Rattle.poly_cli.proofs.Placed.{sorted_is_placed}
 use Rattle.poly_cli.proofs.answering.Answerer.make_line.Goals as goal
 

@@ -2,7 +2,7 @@ use Rattle.std.proofs.Common.{◌≡◌, ◌<◌, ◌++◌, [], sym, ◌∙◌, 
 use Rattle.std.specs.List.{flat_map}
 use Rattle.std.proofs.lemmas.List.{get_or_read, length-map, take_all}
 use Rattle.poly_tiling.specs.TilingOrder.{placed}
-use Rattle.poly_cli.specs.Replies.{tiling_text, tilings_text}
+use Rattle.poly_text.specs.Replies.{tiling_text, tilings_text}
 use Rattle.poly_cli.specs.Runs.{Writes}
 use Rattle.poly_cli.proofs.Written.{writes_last, writes_part, lines_to, lines_left}
 use Rattle.poly_cli.proofs.answering.Answerer.print.Goals as goal

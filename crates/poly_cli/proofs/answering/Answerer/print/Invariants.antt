@@ -2,7 +2,7 @@ use Rattle.std.proofs.Common.{map, take}
 use Rattle.std.specs.List.{flat_map}
 use Rattle.std.specs.Io.KnownBytes.{Appends}
 use Rattle.poly_tiling.specs.TilingOrder.{placed}
-use Rattle.poly_cli.specs.Replies.{tiling_text}
+use Rattle.poly_text.specs.Replies.{tiling_text}
 use Rattle.poly_cli.proofs.answering.Answerer.print.Given as goal
 
 abbrev pub invariant-loop-i : goal.invariant-loop-i

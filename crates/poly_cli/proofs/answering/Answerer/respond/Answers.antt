@@ -1,5 +1,5 @@
 use Rattle.std.proofs.Common.{subst, Ok}
-use Rattle.poly_cli.specs.Commands.{Asks}
+use Rattle.poly_text.specs.Commands.{Asks}
 use Rattle.poly_cli.proofs.LineReplies.{command_says}
 use Rattle.poly_cli.proofs.answering.Answerer.respond.Goals as goal
 

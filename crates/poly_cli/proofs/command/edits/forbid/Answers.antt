@@ -1,5 +1,0 @@
-use Rattle.poly_design.specs.declared.edit.Edit.TheVariants as edit
-use Rattle.poly_cli.proofs.command.edits.forbid.Goals as goal
-
-pub returns-in-Ok : goal.returns-in-Ok
-returns-in-Ok c g = c.in-Ok.ensures g (λ name set. edit.Forbid name set)

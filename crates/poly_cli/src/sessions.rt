@@ -1,0 +1,152 @@
+//! A whole session: the puzzle line, and then a reply to each line.
+ghost use Rattle.std.specs.Prelude.{◌≡◌, ◌<◌, ◌++◌, [], ℕ, List, IfOk, option_map};
+ghost use Rattle.std.specs.Io.KnownBytes.{Consumes};
+ghost use Rattle.poly_cli.specs.Buffered.{ahead, IsReady};
+ghost use Rattle.poly_cli.specs.Runs.{Writes, limits_from};
+ghost use Rattle.poly_cli.specs.Sessions.{Opens, SessionSays, opening_text, session_limits};
+
+use crate::answering::Answerer;
+use crate::engine::Engine;
+use crate::lines::{Event, INPUT_LIMIT, LINE_LIMIT, Lines};
+use crate::serving::serve;
+use crate::writing::{Fault, write_whole};
+use poly_grid::Refusal;
+use poly_text::{puzzle_of, refusal_line};
+use std::alloc::Global;
+use std::io::{Read, Write};
+
+/// The most lines of an input.
+pub const LINE_COUNT: u64 = 1_000_000;
+
+/// How a session ended that met no fault.
+#[derive(Debug, Drop, Clone, Copy, PartialEq, Eq)]
+pub enum End {
+    /// The input ended.
+    Done,
+    /// The puzzle line was refused.
+    Refused,
+}
+
+/// A whole session over what the reader gives: the puzzle line, and a reply to each line after it.
+///
+/// A line has at most 65,536 bytes, and the input at most 1,073,741,824 in 1,000,000 lines; what goes over these two is a read fault, as
+/// is any error of a read.
+pub fn session<R: Read, W: Write, E: Engine>(
+    alloc: Global,
+    reader: &mut R,
+    writer: &mut W,
+    engine: &mut E,
+) -> Result<End, Fault>
+    requires { E.ready engine.old }
+    ensures ready { E.ready engine.new }
+    ensures run { (taken : List ℕ) × Consumes (R.remaining reader.old) (R.remaining reader.new) taken
+        × SessionSays session_limits taken result (R.remaining reader.new) (W.contents writer.old) (W.contents writer.new) }
+{
+    match buffers(alloc) {
+        Ok((mut lines, mut answerer)) => {
+            match run(
+                alloc,
+                LINE_COUNT,
+                &mut lines,
+                reader,
+                writer,
+                engine,
+                &mut answerer,
+            ) {
+                Ok(end) => Ok(end),
+                Err(fault) => Err(fault),
+            }
+        }
+        Err(_) => match write_whole(writer, refusal_line(Refusal::Memory).as_bytes()) {
+            Ok(()) => Ok(End::Refused),
+            Err(fault) => Err(fault),
+        },
+    }
+}
+
+// All the memory of reading and writing. The only refusal is `Memory`.
+fn buffers(alloc: Global) -> Result<(Lines, Answerer), Refusal>
+    ensures ready { IfOk result (λ b. IsReady b.0) }
+    ensures limits { IfOk result (λ b. (b.0.limit ≡ 65536) × (b.0.left ≡ 1073741824)) }
+    ensures fresh { IfOk result (λ b. ahead b.0 ≡ []) }
+{
+    let lines = Lines::new(alloc, LINE_LIMIT, INPUT_LIMIT)?;
+    let answerer = Answerer::new(alloc)?;
+    Ok((lines, answerer))
+}
+
+// Opens a session with the first line, and answers the lines after it; `most` lines at most, the first among them.
+fn run<R: Read, W: Write, E: Engine>(
+    alloc: Global,
+    most: u64,
+    lines: &mut Lines,
+    reader: &mut R,
+    writer: &mut W,
+    engine: &mut E,
+    answerer: &mut Answerer,
+) -> Result<End, Fault>
+    requires some { 0 < most }
+    requires buffer { IsReady lines.old }
+    requires fresh { ahead lines.old ≡ [] }
+    requires ready { E.ready engine.old }
+    ensures ready { E.ready engine.new }
+    ensures run { (taken : List ℕ) × Consumes (R.remaining reader.old) (R.remaining reader.new) taken
+        × SessionSays (limits_from most lines.old) taken result
+        (R.remaining reader.new) (W.contents writer.old) (W.contents writer.new) }
+{
+    match lines.next_line(reader) {
+        Event::Line => {
+            let opened = open(alloc, lines.ended(), engine);
+            match answer_opening(opened, writer) {
+                Ok(()) => {}
+                Err(fault) => return Err(fault),
+            }
+            match opened {
+                Ok(()) => match serve(most - 1, lines, reader, writer, engine, answerer) {
+                    Ok(()) => Ok(End::Done),
+                    Err(fault) => Err(fault),
+                },
+                Err(_) => Ok(End::Refused),
+            }
+        }
+        Event::End => {
+            let opened = open(alloc, lines.unended(), engine);
+            match answer_opening(opened, writer) {
+                Ok(()) => {}
+                Err(fault) => return Err(fault),
+            }
+            match opened {
+                Ok(()) => Ok(End::Done),
+                Err(_) => Ok(End::Refused),
+            }
+        }
+        Event::Fault => Err(Fault::Read),
+    }
+}
+
+// Begins with the design that the puzzle line gives.
+fn open<E: Engine>(alloc: Global, line: Option<&[u8]>, engine: &mut E) -> Result<(), Refusal>
+    requires { E.ready engine.old }
+    ensures ready { E.ready engine.new }
+    ensures opens { Opens (option_map (λ l. l.now) line.entry) result (E.state engine.new) }
+{
+    let Some(text) = line else {
+        return Err(Refusal::LineTooLong);
+    };
+    match puzzle_of(alloc, text) {
+        Ok(design) => match engine.begin(design) {
+            Ok(()) => Ok(()),
+            Err(refusal) => Err(refusal),
+        },
+        Err(refusal) => Err(refusal),
+    }
+}
+
+fn answer_opening<W: Write>(opened: Result<(), Refusal>, writer: &mut W) -> Result<(), Fault>
+    ensures { Writes result (W.contents writer.old) (W.contents writer.new) (opening_text opened) }
+{
+    match opened {
+        Ok(()) => write_whole(writer, b"ok 0\n"),
+        Err(refusal) => write_whole(writer, refusal_line(refusal).as_bytes()),
+    }
+}

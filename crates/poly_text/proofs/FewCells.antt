@@ -1,0 +1,51 @@
+-- Whether cells make a set or a shape is told by the first of them, where these are more than a set can have.
+use Rattle.std.proofs.Common.{◌≡◌, ◌<◌, ℕ, List, take, Result, Ok, Err, refl, sym, subst, arith}
+use Rattle.std.specs.Prelude.{◌↔◌, IsOk, IfOk, IfErr}
+use Rattle.std.proofs.lemmas.Bool.{false≢true}
+use Rattle.std.proofs.lemmas.List.{take_all, length-take}
+use Rattle.poly_grid.specs.Spot.{Spot}
+use Rattle.poly_grid.specs.declared.grid.Grid.{Grid}
+use Rattle.poly_grid.specs.declared.refusal.Refusal.{Refusal}
+use Rattle.poly_grid.specs.declared.refusal.Refusal.TheVariants.{BadShape}
+use Rattle.poly_shape.specs.Cells.{IsCells}
+use Rattle.poly_shape.specs.Connected.{IsConnected}
+use Rattle.poly_shape.specs.Figure.{Figure}
+use Rattle.poly_shape.specs.Order.{AreFewDistinct, HasSame}
+use Rattle.poly_shape.specs.Shape.{IsImage}
+use Rattle.poly_text.specs.Commands.{SetSays}
+use Rattle.poly_text.specs.Gives.{Follows}
+use Rattle.poly_text.specs.Piece.{ShapeSays}
+
+few_first : (n : ℕ) (cells : List Spot) → 16 < n → AreFewDistinct (take n cells) → take n cells ≡ cells
+few_first n cells lt few = take_all n cells (omega (arith, lt, few.few, length-take n cells))
+
+few_all : (n : ℕ) (cells : List Spot) → 16 < n → AreFewDistinct cells → take n cells ≡ cells
+few_all n cells lt few = take_all n cells (omega (arith, lt, few.few))
+
+pub set_says : (n : ℕ) (cells : List Spot) (r : Result (List Spot) Refusal) → 16 < n → IfOk r (λ set. HasSame set (take n cells)) → IfOk r IsCells → (IsOk r ↔ AreFewDistinct (take n cells)) → IfErr r (λ e. e ≡ BadShape)
+    → SetSays cells r
+set_says n cells (Ok set) lt same kept when why =
+    let few : AreFewDistinct (take n cells) = when.0 refl in
+    let all = few_first n cells lt few in
+    (subst (λ z. AreFewDistinct z) all few, kept, subst (λ z. HasSame set z) all same)
+set_says n cells (Err e) lt same kept when why = (why, λ few. false≢true (when.1 (subst (λ z. AreFewDistinct z) (sym (few_all n cells lt few)) few)))
+
+pub shape_says : (g : Grid) (n : ℕ) (cells : List Spot) (r : Result Figure Refusal) → 16 < n → IfOk r (λ s. (s.grid ≡ g) × IsImage g 0 (take n cells) s.cells) → (IsOk r ↔ (AreFewDistinct (take n cells) × IsConnected g (take n cells)))
+    → IfErr r (λ e. e ≡ BadShape) → ShapeSays g cells r
+shape_says g n cells (Ok s) lt ok when why =
+    let made : AreFewDistinct (take n cells) × IsConnected g (take n cells) = when.0 refl in
+    let all = few_first n cells lt made.0 in
+    (record { few = subst (λ z. AreFewDistinct z) all made.0; connected = subst (λ z. IsConnected g z) all made.1 }, ok.0, subst (λ z. IsImage g 0 z s.cells) all ok.1)
+shape_says g n cells (Err e) lt ok when why =
+    (why, λ makes. let all = sym (few_all n cells lt makes.few) in false≢true (when.1 (subst (λ z. AreFewDistinct z) all makes.few, subst (λ z. IsConnected g z) all makes.connected)))
+
+pub set_follows : (n count : ℕ) (room cells : List Spot) (read r : Result (List Spot) Refusal) → 16 < n → read ≡ Ok cells → take count room ≡ take n cells → IfOk r (λ set. HasSame set (take count room)) → IfOk r IsCells
+    → (IsOk r ↔ AreFewDistinct (take count room)) → IfErr r (λ e. e ≡ BadShape) → Follows read (λ some. SetSays some r) r
+set_follows n count room cells read r lt is first same kept when why =
+    rw is (set_says n cells r lt (subst (λ z. IfOk r (λ set. HasSame set z)) first same) kept (subst (λ z. IsOk r ↔ AreFewDistinct z) first when) why)
+
+pub shape_follows : (g : Grid) (n count : ℕ) (room cells : List Spot) (read : Result (List Spot) Refusal) (r : Result Figure Refusal) → 16 < n → read ≡ Ok cells → take count room ≡ take n cells
+    → IfOk r (λ s. (s.grid ≡ g) × IsImage g 0 (take count room) s.cells) → (IsOk r ↔ (AreFewDistinct (take count room) × IsConnected g (take count room))) → IfErr r (λ e. e ≡ BadShape)
+    → Follows read (λ some. ShapeSays g some r) r
+shape_follows g n count room cells read r lt is first ok when why =
+    rw is (shape_says g n cells r lt (subst (λ z. IfOk r (λ s. (s.grid ≡ g) × IsImage g 0 z s.cells)) first ok) (subst (λ z. IsOk r ↔ (AreFewDistinct z × IsConnected g z)) first when) why)

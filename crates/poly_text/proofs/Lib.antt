@@ -1,0 +1,14 @@
+pub mod Digits
+pub mod Lists
+pub mod Testing
+pub mod Boards
+pub mod Naming
+pub mod CellsRead
+pub mod CellWords
+pub mod Numbers
+pub mod FewCells
+pub mod CopiesWords
+pub mod Blank
+pub mod PiecesRead
+pub mod Texts
+pub mod Puzzles

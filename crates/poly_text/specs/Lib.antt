@@ -1,0 +1,13 @@
+pub mod Replies
+pub mod Gives
+pub mod Json
+pub mod Views
+pub mod Outer
+pub mod Board
+pub mod Head
+pub mod Names
+pub mod Words
+pub mod Commands
+pub mod Fields
+pub mod Piece
+pub mod Puzzle

@@ -1,0 +1,188 @@
+//! The commands that ask for an edit, each by the words after its first one.
+ghost use Rattle.std.specs.Prelude.{◌≡◌, ◌∷◌, codes, map};
+ghost use Rattle.poly_grid.specs.declared.grid.Grid as grid;
+ghost use Rattle.poly_text.specs.Commands.{CommandSays, SetSays, NamedSays};
+ghost use Rattle.poly_grid.specs.declared.refusal.Refusal.TheVariants.{BadCommand};
+ghost use Rattle.poly_text.specs.Fields.{copies_of};
+ghost use Rattle.poly_text.specs.Gives.{Follows, ok_or};
+ghost use Rattle.poly_text.specs.Piece.{ShapeSays};
+ghost use Rattle.poly_text.specs.Words.{cells_of, number_of};
+
+use crate::command::Command;
+use crate::words::{cell_of, cells_of, mode_of, name_of, need_of, number_of, switch_of};
+use poly_design::{Copies, Edit, Name};
+use poly_grid::{Cell, Grid, Refusal};
+use poly_shape::{Cells, Shape};
+
+// One cell more than a set can have: a longer list of cells is refused whatever follows.
+const ROOM: usize = 17;
+
+/// `add NAME required/optional on/off CELL..`
+pub fn add(grid: Grid, words: &[&[u8]]) -> Result<Command, Refusal>
+    ensures { CommandSays grid (codes "add" ∷ map (λ w. w.now) words.now) result }
+{
+    let [name, need, mirror, cells @ ..] = words else {
+        return Err(Refusal::BadCommand);
+    };
+    if cells.is_empty() {
+        return Err(Refusal::BadCommand);
+    }
+    let need = need_of(need).ok_or(Refusal::BadCommand)?;
+    let mirror = switch_of(mirror).ok_or(Refusal::BadCommand)?;
+    let name = name_of(name).ok_or(Refusal::BadName)?;
+    match shape_of(grid, cells) {
+        Ok(shape) => Ok(Command::Edit(Edit::Add {
+            name,
+            shape,
+            need,
+            mirror,
+        })),
+        Err(refusal) => Err(refusal),
+    }
+}
+
+/// `drop NAME`
+pub fn drop_piece(words: &[&[u8]]) -> Result<Command, Refusal>
+    ensures { (g : grid.Grid) → CommandSays g (codes "drop" ∷ map (λ w. w.now) words.now) result }
+{
+    let [name] = words else {
+        return Err(Refusal::BadCommand);
+    };
+    let name = name_of(name).ok_or(Refusal::BadName)?;
+    Ok(Command::Edit(Edit::Drop { name }))
+}
+
+/// `need NAME required/optional`
+pub fn need(words: &[&[u8]]) -> Result<Command, Refusal>
+    ensures { (g : grid.Grid) → CommandSays g (codes "need" ∷ map (λ w. w.now) words.now) result }
+{
+    let [name, need] = words else {
+        return Err(Refusal::BadCommand);
+    };
+    let need = need_of(need).ok_or(Refusal::BadCommand)?;
+    let name = name_of(name).ok_or(Refusal::BadName)?;
+    Ok(Command::Edit(Edit::Need { name, need }))
+}
+
+/// `copies NAME a b`
+pub fn copies(words: &[&[u8]]) -> Result<Command, Refusal>
+    ensures { (g : grid.Grid) → CommandSays g (codes "copies" ∷ map (λ w. w.now) words.now) result }
+{
+    let [name, least, most] = words else {
+        return Err(Refusal::BadCommand);
+    };
+    let name = name_of(name).ok_or(Refusal::BadName)?;
+    match copies_of(least, most) {
+        Ok(copies) => Ok(Command::Edit(Edit::Copies { name, copies })),
+        Err(refusal) => Err(refusal),
+    }
+}
+
+/// `mirror NAME on/off`
+pub fn mirror(words: &[&[u8]]) -> Result<Command, Refusal>
+    ensures { (g : grid.Grid) → CommandSays g (codes "mirror" ∷ map (λ w. w.now) words.now) result }
+{
+    let [name, mirror] = words else {
+        return Err(Refusal::BadCommand);
+    };
+    let mirror = switch_of(mirror).ok_or(Refusal::BadCommand)?;
+    let name = name_of(name).ok_or(Refusal::BadName)?;
+    Ok(Command::Edit(Edit::Mirror { name, mirror }))
+}
+
+/// `cell CELL required/optional/blocked`
+pub fn cell(words: &[&[u8]]) -> Result<Command, Refusal>
+    ensures { (g : grid.Grid) → CommandSays g (codes "cell" ∷ map (λ w. w.now) words.now) result }
+{
+    let [cell, mode] = words else {
+        return Err(Refusal::BadCommand);
+    };
+    let mode = mode_of(mode).ok_or(Refusal::BadCommand)?;
+    let cell = cell_of(cell)?;
+    Ok(Command::Edit(Edit::Cell { cell, mode }))
+}
+
+/// `pin NAME CELL..`
+pub fn pin(words: &[&[u8]]) -> Result<Command, Refusal>
+    ensures { (g : grid.Grid) → CommandSays g (codes "pin" ∷ map (λ w. w.now) words.now) result }
+{
+    match named_cells(words) {
+        Ok((name, cells)) => Ok(Command::Edit(Edit::Pin { name, cells })),
+        Err(refusal) => Err(refusal),
+    }
+}
+
+/// `unpin NAME`
+pub fn unpin(words: &[&[u8]]) -> Result<Command, Refusal>
+    ensures { (g : grid.Grid) → CommandSays g (codes "unpin" ∷ map (λ w. w.now) words.now) result }
+{
+    let [name] = words else {
+        return Err(Refusal::BadCommand);
+    };
+    let name = name_of(name).ok_or(Refusal::BadName)?;
+    Ok(Command::Edit(Edit::Unpin { name }))
+}
+
+/// `forbid NAME CELL..`
+pub fn forbid(words: &[&[u8]]) -> Result<Command, Refusal>
+    ensures { (g : grid.Grid) → CommandSays g (codes "forbid" ∷ map (λ w. w.now) words.now) result }
+{
+    match named_cells(words) {
+        Ok((name, cells)) => Ok(Command::Edit(Edit::Forbid { name, cells })),
+        Err(refusal) => Err(refusal),
+    }
+}
+
+/// `allow NAME CELL..`
+pub fn allow(words: &[&[u8]]) -> Result<Command, Refusal>
+    ensures { (g : grid.Grid) → CommandSays g (codes "allow" ∷ map (λ w. w.now) words.now) result }
+{
+    match named_cells(words) {
+        Ok((name, cells)) => Ok(Command::Edit(Edit::Allow { name, cells })),
+        Err(refusal) => Err(refusal),
+    }
+}
+
+// `NAME CELL..`
+fn named_cells(words: &[&[u8]]) -> Result<(Name, Cells), Refusal>
+    ensures { NamedSays (map (λ w. w.now) words.now) result }
+{
+    let [name, cells @ ..] = words else {
+        return Err(Refusal::BadCommand);
+    };
+    if cells.is_empty() {
+        return Err(Refusal::BadCommand);
+    }
+    let name = name_of(name).ok_or(Refusal::BadName)?;
+    match set_of(cells) {
+        Ok(set) => Ok((name, set)),
+        Err(refusal) => Err(refusal),
+    }
+}
+
+// A number that is too large to be counted is over 16 like any other.
+fn copies_of(least: &[u8], most: &[u8]) -> Result<Copies, Refusal>
+    ensures { Follows (ok_or (number_of least.now) BadCommand) (λ l. Follows (ok_or (number_of most.now) BadCommand) (λ m. result ≡ ok_or (copies_of l m) BadCommand) result) result }
+{
+    let least = number_of(least).ok_or(Refusal::BadCommand)?;
+    let most = number_of(most).ok_or(Refusal::BadCommand)?;
+    Copies::new(least, most).ok_or(Refusal::BadCommand)
+}
+
+fn set_of(words: &[&[u8]]) -> Result<Cells, Refusal>
+    ensures { Follows (cells_of (map (λ w. w.now) words.now)) (λ cells. SetSays cells result) result }
+{
+    let mut room = [Cell::ORIGIN; ROOM];
+    let count = cells_of(words, &mut room)?;
+    let cells = &room[..];
+    Cells::new(&cells[..count])
+}
+
+fn shape_of(grid: Grid, words: &[&[u8]]) -> Result<Shape, Refusal>
+    ensures { Follows (cells_of (map (λ w. w.now) words.now)) (λ cells. ShapeSays grid cells result) result }
+{
+    let mut room = [Cell::ORIGIN; ROOM];
+    let count = cells_of(words, &mut room)?;
+    let cells = &room[..];
+    Shape::from_cells(grid, &cells[..count])
+}

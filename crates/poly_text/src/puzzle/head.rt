@@ -1,0 +1,107 @@
+//! The outer object of a puzzle line.
+ghost use Rattle.std.specs.Prelude.{◌≡◌, ◌≤◌, List, length, map, option_map, IfOk};
+ghost use Rattle.serde_json.specs.View.{view};
+ghost use Rattle.poly_text.specs.Gives.{seen};
+ghost use Rattle.poly_text.specs.Head.{format_of, grid_of, head_of, IsWithin};
+ghost use Rattle.poly_text.specs.Outer.{outer_of};
+ghost use Rattle.poly_text.specs.Views.{views, outer_view, head_view};
+
+use crate::puzzle::board::{is_board, is_small};
+use crate::puzzle::json::{are_objects, are_texts, count, is_whole, list_at, text_at};
+use poly_grid::{Grid, Refusal};
+use serde_json::Value;
+
+/// How the pieces of a puzzle line give their copies.
+#[derive(Clone, Copy, Debug, PartialEq, Eq)]
+pub enum Format {
+    /// By `need`: one copy, or at most one.
+    One,
+    /// By `least` and `most`.
+    Two,
+}
+
+#[derive(Clone, Copy)]
+struct Outer<'v> {
+    format: Option<u64>,
+    grid: &'v str,
+    board: &'v [Value],
+    pieces: &'v [Value],
+}
+
+/// The outer object with its values judged.
+#[derive(Clone, Copy)]
+pub struct Head<'v> {
+    pub format: Format,
+    pub grid: Grid,
+    pub rows: &'v [Value],
+    pub pieces: &'v [Value],
+}
+
+#[tactic(auto, using(crate::proofs::Testing::list_all_views), unfolding(crate::specs::Outer::outer_of))]
+fn outer_of(value: &Value) -> Option<Outer<'_>>
+    ensures { option_map outer_view result ≡ outer_of (view value.now) }
+{
+    let map = value.as_object()?;
+    let format = value.get("format")?;
+    let grid = text_at(value, "grid")?;
+    let board = list_at(value, "board")?;
+    let pieces = list_at(value, "pieces")?;
+    if count(map) == 4 && is_whole(format) && are_texts(board) && are_objects(pieces) {
+        Some(Outer {
+            format: format.as_u64(),
+            grid,
+            board,
+            pieces,
+        })
+    } else {
+        None
+    }
+}
+
+fn format_of(number: Option<u64>) -> Option<Format>
+    ensures { result ≡ format_of number }
+{
+    match number {
+        Some(1) => Some(Format::One),
+        Some(2) => Some(Format::Two),
+        _ => None,
+    }
+}
+
+fn grid_of(name: &str) -> Option<Grid>
+    ensures { result ≡ grid_of name.now }
+{
+    if name == "square" {
+        Some(Grid::Square)
+    } else if name == "hex" {
+        Some(Grid::Hex)
+    } else {
+        None
+    }
+}
+
+/// The outer object of the value, or its first refusal. It takes no memory.
+#[tactic(auto, using(crate::proofs::Testing::length_views), unfolding(crate::specs::Head::head_of))]
+pub fn head_of(value: &Value) -> Result<Head<'_>, Refusal>
+    ensures head { seen head_view result ≡ head_of (view value.now) }
+    ensures within { IfOk result (λ h. IsWithin (head_view h)) }
+{
+    let outer = outer_of(value).ok_or(Refusal::BadField)?;
+    let format = format_of(outer.format).ok_or(Refusal::BadFormat)?;
+    let grid = grid_of(outer.grid).ok_or(Refusal::BadGrid)?;
+    if !is_board(outer.board) {
+        return Err(Refusal::BadBoard);
+    }
+    if !is_small(outer.board) {
+        return Err(Refusal::TooManyCells);
+    }
+    if outer.pieces.len() > 64 {
+        return Err(Refusal::TooManyPieces);
+    }
+    Ok(Head {
+        format,
+        grid,
+        rows: outer.board,
+        pieces: outer.pieces,
+    })
+}

@@ -1,0 +1,48 @@
+//! Puzzle lines: one line of JSON that gives a design.
+ghost use Rattle.std.specs.Prelude.{◌≡◌};
+ghost use Rattle.serde_json.specs.View.{view};
+ghost use Rattle.poly_grid.specs.declared.refusal.Refusal.TheVariants.{BadJson};
+ghost use Rattle.poly_text.specs.Gives.{ok_or, Gives, GivesBy};
+ghost use Rattle.poly_text.specs.Puzzle.{json_of, PuzzleSays, DesignSays};
+
+use crate::puzzle::board::cells_of_rows;
+use crate::puzzle::head::head_of;
+use crate::puzzle::piece::pieces_of;
+use poly_design::Design;
+use poly_grid::Refusal;
+use serde_json::Value;
+use std::alloc::Global;
+
+mod board;
+mod fields;
+mod head;
+mod json;
+mod piece;
+
+fn json_of(alloc: Global, line: &[u8]) -> Result<Value, Refusal>
+    ensures { Gives view result (ok_or (json_of line.now) BadJson) }
+{
+    match Value::from_slice(alloc, line) {
+        Ok(value) => Ok(value),
+        Err(error) => {
+            if error.is_memory() {
+                return Err(Refusal::Memory);
+            }
+            Err(Refusal::BadJson)
+        }
+    }
+}
+
+/// The design that the line gives, or its first refusal. `Memory` may stand in place of any later one.
+pub fn puzzle_of(alloc: Global, line: &[u8]) -> Result<Design, Refusal>
+    ensures { GivesBy (λ d. d) result (PuzzleSays line.now) }
+{
+    let value = json_of(alloc, line)?;
+    let head = match head_of(&value) {
+        Ok(head) => head,
+        Err(refusal) => return Err(refusal),
+    };
+    let pieces = pieces_of(alloc, head.format, head.grid, head.pieces)?;
+    let cells = cells_of_rows(alloc, head.rows)?;
+    Design::of_parts(alloc, head.grid, cells, pieces)
+}

@@ -1,0 +1,144 @@
+//! The words of a line, and what a word may be.
+ghost use Rattle.std.specs.Prelude.{◌≡◌, ◌==◌, ◌^◌, ◌-◌, ◌≤◌, ◌<◌, List, map, min, take, length, option_map, IfOk, IfErr, IfSome, filter, Ok, Err};
+ghost use Rattle.std.specs.List.{slice_split, list_all, position};
+ghost use Rattle.poly_grid.specs.Spot.{Spot};
+ghost use Rattle.poly_text.specs.Names.{name_of};
+ghost use Rattle.poly_text.specs.Words.{words_of, has_byte, need_of, switch_of, mode_of, number_of, coordinate_of, cell_of, cells_of};
+
+use poly_design::{Mode, Name, Need};
+use poly_grid::{Cell, Refusal};
+use std::alloc::Global;
+
+/// The words of a line: what stands between spaces and has a byte. The only error is `Memory`.
+pub fn words_of(alloc: Global, line: &[u8]) -> Result<Vec<&[u8]>, Refusal>
+    ensures ok { IfOk result (λ words. map (λ w. w.now) words.items ≡ words_of line.now) }
+    ensures why { IfErr result (λ e. e ≡ Refusal.Memory) }
+{
+    let words: Vec<&[u8]> = line
+        .split(|byte| *byte == b' ')
+        .filter(|word| !word.is_empty())
+        .collect(alloc)?;
+    Ok(words)
+}
+
+/// Whether the line has no word.
+pub fn is_blank(line: &[u8]) -> bool
+    ensures { result ≡ list_all (λ b. b == 32) line.now }
+{
+    line.iter().all(|byte| *byte == b' ')
+}
+
+/// The name that the bytes are, if they are one.
+pub fn name_of(bytes: &[u8]) -> Option<Name>
+    ensures { result ≡ name_of bytes.now }
+{
+    match Name::new(bytes) {
+        Ok(name) => Some(name),
+        Err(_) => None,
+    }
+}
+
+/// `required` or `optional`.
+pub fn need_of(word: &[u8]) -> Option<Need>
+    ensures { result ≡ need_of word.now }
+{
+    if word == b"required".as_slice() {
+        Some(Need::Required)
+    } else if word == b"optional".as_slice() {
+        Some(Need::Optional)
+    } else {
+        None
+    }
+}
+
+/// Whether the word is `on` and not `off`; none where it is neither.
+pub fn switch_of(word: &[u8]) -> Option<bool>
+    ensures { result ≡ switch_of word.now }
+{
+    if word == b"on".as_slice() {
+        Some(true)
+    } else if word == b"off".as_slice() {
+        Some(false)
+    } else {
+        None
+    }
+}
+
+/// `required`, `optional` or `blocked`.
+pub fn mode_of(word: &[u8]) -> Option<Mode>
+    ensures { result ≡ mode_of word.now }
+{
+    if word == b"required".as_slice() {
+        Some(Mode::Required)
+    } else if word == b"optional".as_slice() {
+        Some(Mode::Optional)
+    } else if word == b"blocked".as_slice() {
+        Some(Mode::Blocked)
+    } else {
+        None
+    }
+}
+
+/// The number that the word writes with one or more decimal digits; `u64::MAX` stands for a larger one.
+pub fn number_of(word: &[u8]) -> Option<u64>
+    ensures { result ≡ option_map (λ n. min n (2 ^ 64 - 1)) (number_of word.now) }
+{
+    if word.is_empty() {
+        return None;
+    }
+    let mut number = 0u64;
+    for byte in word {
+        let digit = char::from(*byte).to_digit(10)?;
+        number = number.saturating_mul(10).saturating_add(u64::from(digit));
+    }
+    Some(number)
+}
+
+// The most digits of a coordinate, zeros in front among them.
+const COORDINATE_DIGITS: usize = 9;
+
+fn coordinate_of(word: &[u8]) -> Option<u64>
+    ensures { result ≡ coordinate_of word.now }
+{
+    if word.len() > COORDINATE_DIGITS {
+        return None;
+    }
+    number_of(word)
+}
+
+fn comma_of(word: &[u8]) -> Option<usize>
+    ensures is { result ≡ position (λ b. b == 44) word.now }
+    ensures within { IfSome result (λ i. i < length word.now) }
+{
+    word.iter().position(|byte| *byte == b',')
+}
+
+/// The cell that the word names by its column and its row, each 1 to 9 decimal digits, with a comma between them. A word of another
+/// form is a `BadCommand`, a column or a row over 63 a `BadCell`.
+#[tactic(auto, unfolding(crate::specs::Words::cell_of))]
+pub fn cell_of(word: &[u8]) -> Result<Cell, Refusal>
+    ensures { result ≡ cell_of word.now }
+{
+    let comma = comma_of(word).ok_or(Refusal::BadCommand)?;
+    let column = coordinate_of(&word[..comma]).ok_or(Refusal::BadCommand)?;
+    let row = coordinate_of(&word[comma + 1..]).ok_or(Refusal::BadCommand)?;
+    Cell::new(column, row).ok_or(Refusal::BadCell)
+}
+
+/// Reads the cells that the words name into the room, as many as it holds, and answers how many stand there. The leftmost word that
+/// names no cell decides the refusal, also one past the room.
+pub fn cells_of(words: &[&[u8]], room: &mut [Cell]) -> Result<usize, Refusal>
+    ensures read { IfOk result (λ n. (cells : List Spot) × (cells_of (map (λ w. w.now) words.now) ≡ Ok cells) × (take n room.new ≡ take (length room.old) cells)) }
+    ensures within { IfOk result (λ n. n ≤ length room.new) }
+    ensures refused { IfErr result (λ e. cells_of (map (λ w. w.now) words.now) ≡ Err e) }
+{
+    let mut count = 0;
+    for word in words {
+        let cell = cell_of(word)?;
+        if count < room.len() {
+            room[count] = cell;
+            count += 1;
+        }
+    }
+    Ok(count)
+}
