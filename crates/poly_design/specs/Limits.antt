@@ -1,6 +1,6 @@
 -- What holds of every design.
-use Rattle.std.specs.Prelude.{◌≡◌, ◌≢◌, ℕ, ◌≤◌, List, length}
-use Rattle.std.specs.List.{Contains}
+use Rattle.std.specs.Prelude.{◌≡◌, ◌≢◌, ℕ, ◌<◌, ◌≤◌, List, length}
+use Rattle.std.specs.List.{All, Contains}
 use Rattle.std.specs.Map.{keys_of}
 use Rattle.poly_grid.specs.declared.grid.Grid.{Grid}
 use Rattle.poly_grid.specs.Spot.{Spot}
@@ -13,6 +13,10 @@ use Rattle.poly_design.specs.Layout.{Layout}
 use Rattle.poly_design.specs.Listed.{IsCount}
 use Rattle.poly_design.specs.PlacementOrder.{placement_cmp}
 use Rattle.poly_design.specs.Placements.{FewPlacements, IsPlacement}
+
+-- the cell is one that a board can have
+abbrev pub IsInRange : Spot → Type 0
+IsInRange c = (c.x < 64) × (c.y < 64)
 
 -- no entry says that its cell is blocked
 abbrev pub NoneBlocked : List (Spot × Mode) → Type 0
@@ -31,7 +35,8 @@ pub record IsDesign (d : Layout) : Type 0 where
   pub of_grid : AreOfGrid d.grid d.pieces
   pub few_placements : FewPlacements d
 
--- a design and the number of its placements
+-- a design on cells that a board can have, and the number of its placements
 pub record IsCounted (d : Layout) (count : ℕ) : Type 0 where
   pub design : IsDesign d
+  pub in_range : All IsInRange (keys_of d.cells)
   pub counted : IsCount placement_cmp (IsPlacement d) count

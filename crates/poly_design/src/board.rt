@@ -2,6 +2,8 @@
 ghost use Rattle.std.specs.Prelude.{◌≡◌, ◌↔◌, ◌++◌, ◌∷◌, [], IsTrue, OnOk, IfOk, IfErr, replicate, false};
 ghost use Rattle.std.specs.BTreeMap.{keys};
 ghost use Rattle.poly_shape.specs.Order.{IsAscending, spot_cmp};
+ghost use Rattle.std.specs.List.{All};
+ghost use Rattle.poly_design.specs.Limits.{IsInRange};
 ghost use Rattle.poly_design.specs.Moved.{LandsOn};
 
 use crate::mode::Mode;
@@ -36,6 +38,7 @@ impl Board {
     pub(crate) fn of(alloc: Global, modes: &BTreeMap<Cell, Mode>) -> Result<Board, Refusal>
         ensures ok { IfOk result (λ board. board ≡ keys modes.now) }
         ensures ascending { OnOk result (IsAscending spot_cmp (keys modes.now)) }
+        ensures in_range { OnOk result (All IsInRange (keys modes.now)) }
         ensures why { IfErr result (λ e. e ≡ Refusal.Memory) }
     {
         let mut board = Board::empty(alloc)?;
@@ -58,6 +61,7 @@ impl Board {
 
     fn add(&mut self, cell: Cell) -> Result<(), Refusal>
         ensures ok { OnOk result (self.new ≡ self.old ++ cell ∷ []) }
+        ensures in_range { IsInRange cell }
         ensures why { IfErr result (λ e. e ≡ Refusal.Memory) }
     {
         let at = WIDTH * usize::from(cell.y()) + usize::from(cell.x());

@@ -1,6 +1,7 @@
 //! The design: a board and named pieces, within limits that its type keeps.
 ghost use Rattle.std.specs.Prelude.{◌≡◌, ◌↔◌, ◌⊎◌, ◌≤◌, [], None, Err, IsOk, IsTrue, IfOk, IfErr, OnOk, OnErr, length};
-ghost use Rattle.std.specs.List.{Contains};
+ghost use Rattle.std.specs.List.{All, Contains};
+ghost use Rattle.std.specs.Map.{keys_of};
 ghost use Rattle.std.specs.Option.{option_copied};
 ghost use Rattle.std.specs.BTreeMap.{btree_map_len};
 ghost use Rattle.poly_design.specs.Layout.{mode_of, spec_of};
@@ -8,7 +9,7 @@ ghost use Rattle.poly_design.specs.Listed.{IsListOf};
 ghost use Rattle.poly_design.specs.PlacementOrder.{placement_cmp};
 ghost use Rattle.poly_design.specs.Placements.{FewPlacements, IsPlacement};
 ghost use Rattle.poly_design.specs.Changes.{changed};
-ghost use Rattle.poly_design.specs.Limits.{AreOfGrid, IsDesign, NoneBlocked};
+ghost use Rattle.poly_design.specs.Limits.{AreOfGrid, IsDesign, IsInRange, NoneBlocked};
 
 mod check;
 mod count;
@@ -100,10 +101,11 @@ impl Design {
         self.grid
     }
 
-    /// The cells that are not blocked, with their modes, in cell order.
+    /// The cells that are not blocked, with their modes, in cell order. Columns and rows are 0 to 63.
     pub fn cells(&self) -> &BTreeMap<Cell, Mode>
         ensures value { result.now.entries ≡ self.now.cells }
         ensures design { IsDesign self.now }
+        ensures in_range { All IsInRange (keys_of self.now.cells) }
     {
         &self.cells
     }

@@ -1,6 +1,6 @@
 //! The placements of all pieces.
 ghost use Rattle.std.specs.Prelude.{◌≡◌, ◌⊎◌, ◌≤◌, ◌++◌, length, map, OnOk, IfOk, IfErr};
-ghost use Rattle.std.specs.List.{Contains};
+ghost use Rattle.std.specs.List.{All, Contains};
 ghost use Rattle.std.specs.BTreeMap.{keys};
 ghost use Rattle.poly_grid.specs.declared.grid.Grid.{Grid};
 ghost use Rattle.poly_shape.specs.Order.{IsAscending, spot_cmp};
@@ -8,7 +8,7 @@ ghost use Rattle.poly_design.specs.Name.{name_cmp};
 ghost use Rattle.poly_design.specs.Listed.{IsListOf};
 ghost use Rattle.poly_design.specs.PlacementOrder.{placement_cmp};
 ghost use Rattle.poly_design.specs.Placements.{FewPlacements, IsPlace, IsPlacement};
-ghost use Rattle.poly_design.specs.Limits.{NoneBlocked};
+ghost use Rattle.poly_design.specs.Limits.{IsInRange, NoneBlocked};
 
 use crate::board::Board;
 use crate::mode::Mode;
@@ -32,6 +32,7 @@ pub(crate) fn all_placements(
     requires { NoneBlocked cells.now.entries }
     ensures ok { (grid : Grid) → IfOk result (λ list. IsListOf placement_cmp (IsPlacement (record { grid = grid; cells = cells.now.entries; pieces = pieces.now.entries })) list.items) }
     ensures ascending { OnOk result (IsAscending spot_cmp (keys cells.now) × IsAscending name_cmp (keys pieces.now)) }
+    ensures in_range { OnOk result (All IsInRange (keys cells.now)) }
     ensures few { IfOk result (λ list. length list.items ≤ 20000) }
     ensures why { (grid : Grid) → IfErr result (λ e. (e ≡ Refusal.Memory) ⊎ ((e ≡ Refusal.TooManyPlacements) × (¬ FewPlacements (record { grid = grid; cells = cells.now.entries; pieces = pieces.now.entries })))) }
 {

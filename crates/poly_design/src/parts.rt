@@ -1,6 +1,9 @@
 //! The two maps of a design: what a change puts in, and equal ones.
 ghost use Rattle.std.specs.Prelude.{◌≡◌, IfOk, IfErr, OnOk, OnErr};
+ghost use Rattle.std.specs.List.{All};
+ghost use Rattle.std.specs.BTreeMap.{keys};
 ghost use Rattle.poly_design.specs.Changes.{set_mode, set_spec};
+ghost use Rattle.poly_design.specs.Limits.{IsInRange};
 
 use crate::mode::Mode;
 use crate::name::Name;
@@ -15,9 +18,12 @@ pub(crate) fn put_mode(
     mode: Mode,
 ) -> Result<(), Refusal>
     ensures ok { OnOk result (cells.new.entries ≡ set_mode cells.old.entries cell mode) }
+    ensures in_range { OnOk result (All IsInRange (keys cells.old) → All IsInRange (keys cells.new)) }
     ensures err { OnErr result (cells.new.entries ≡ cells.old.entries) }
     ensures why { IfErr result (λ e. e ≡ Refusal.Memory) }
 {
+    prove!(cell.x() < 64);
+    prove!(cell.y() < 64);
     match mode {
         Mode::Required => {
             cells.insert(cell, Mode::Required)?;

@@ -14,9 +14,9 @@ fn cell(rt: &impl Abort, x: u64) -> Cell {
     Cell::new(x, 0).expect(rt, "a cell")
 }
 
-// The two cells from a column on, in the first row.
-fn two(rt: &impl Abort, x: u64) -> Cells {
-    let cells = [cell(rt, x), cell(rt, x + 1)];
+// Two cells of the first row.
+fn two(rt: &impl Abort, left: u64, right: u64) -> Cells {
+    let cells = [cell(rt, left), cell(rt, right)];
     Cells::new(&cells).expect(rt, "a set")
 }
 
@@ -32,13 +32,13 @@ fn names_and_copies(rt: HostRuntime) {
 #[test]
 fn sets_of_cells(rt: HostRuntime) {
     let mut set = CellsSet::new(rt.alloc());
-    set.insert(two(&rt, 1)).expect(&rt, "memory");
-    set.insert(two(&rt, 0)).expect(&rt, "memory");
+    set.insert(two(&rt, 1, 2)).expect(&rt, "memory");
+    set.insert(two(&rt, 0, 1)).expect(&rt, "memory");
     let copy = set.copy().expect(&rt, "memory");
-    assert!(rt; copy.as_slice() == [two(&rt, 0), two(&rt, 1)].as_slice());
-    set.remove(&two(&rt, 0));
-    assert!(rt; !set.contains(&two(&rt, 0)));
-    assert!(rt; set.contains(&two(&rt, 1)));
+    assert!(rt; copy.as_slice() == [two(&rt, 0, 1), two(&rt, 1, 2)].as_slice());
+    set.remove(&two(&rt, 0, 1));
+    assert!(rt; !set.contains(&two(&rt, 0, 1)));
+    assert!(rt; set.contains(&two(&rt, 1, 2)));
 }
 
 // Makes the edit.
@@ -55,7 +55,7 @@ fn domino(rt: &(impl AllocGlobal + Abort)) -> Design {
         let mode = Mode::Required;
         make(rt, &mut design, &Edit::Cell { cell, mode });
     }
-    let shape = Shape::from_cells(Grid::Square, two(rt, 0).as_slice()).expect(rt, "a shape");
+    let shape = Shape::from_cells(Grid::Square, two(rt, 0, 1).as_slice()).expect(rt, "a shape");
     let add = Edit::Add {
         name: named(rt, b"A"),
         shape,

@@ -15,5 +15,6 @@ invariant_of-result c = rw (c.new.ensures.empty, c.new-2.ensures.empty) (record 
     of_grid = λ n s h. absurd (lacks_nil (n, s) h);
     few_placements = few_without_pieces _ refl;
   };
+  in_range = λ i d lt. absurd (omega arith);
   counted = count_none _ refl;
 })

@@ -23,6 +23,7 @@ invariant_of-result c =
         of_grid = c.requires.of_grid;
         few_placements = few_from_list d _ (c.in-Ok.ensures.ok c.args.grid) c.in-Ok.ensures.few;
       };
+      in_range = c.in-Ok.ensures.in_range;
       counted = record { list = c.in-Ok.list.items; listed = c.in-Ok.ensures.ok c.args.grid; whole = omega (arith, c.len.ensures) };
     }
 
