@@ -23,16 +23,11 @@ use Rattle.poly_tiling.specs.Shows.{IsNamed, cell_bound, given, item_bounds, pie
 use Rattle.poly_tiling.specs.Tilings.{bounds_of}
 use Rattle.poly_tiling.proofs.Bounded.{shown_bounds}
 use Rattle.poly_tiling.proofs.Contained.{contains_in, in_contains, one_place, pairs_cons, pairs_none}
-use Rattle.poly_tiling.proofs.Lists.{In, all_from, all_in, any_from, any_in, filter_in, in_append_cases, in_append_right, in_filter, in_map, in_mem, mem_in}
+use Rattle.poly_tiling.proofs.Lists.{In, all_from, all_in, any_from, any_in, filter_in, in_append_cases, in_append_right, in_filter, in_map, in_mem, map_in, mem_in}
 use Rattle.poly_tiling.proofs.Searched.{bound_at, item_total}
 use Rattle.poly_tiling.proofs.Tilings.{bound_none, same_item_is, same_item_self}
 use Rattle.poly_place.specs.Delta.{AreNumbersFor, LeastRises, MostFalls}
 use Rattle.poly_place.specs.Falls.{falls, falls_at}
-
-map_in : {X Y : Type 0} (f : X → Y) (xs : List X) (y : Y) → In y (map f xs) → (x : X) × In x xs × (f x ≡ y)
-map_in f [] y i = absurd i
-map_in f (x ∷ xs) y (inl e) = (x, inl refl, e)
-map_in f (x ∷ xs) y (inr i) = let r = map_in f xs y i in (r.0, inr r.1, r.2)
 
 -- ---- numbers
 
@@ -94,20 +89,20 @@ risen_at f b bs up ih true = pairs_cons (λ i j. item_cmp i j ≡ Less) b.0 (map
     (λ i h. let r = map_in item_of (filter f bs) i h in subst (λ j. item_cmp b.0 j ≡ Less) r.2 (less_later b bs up r.0 (filter_in f bs r.0 r.1).0)) ih
 risen_at f b bs up ih false = ih
 
-risen_up : (f : Bound → Bool) (bs : List Bound) → items_ascend bs ≡ true → IsAscending item_cmp (map item_of (filter f bs))
+pub risen_up : (f : Bound → Bool) (bs : List Bound) → items_ascend bs ≡ true → IsAscending item_cmp (map item_of (filter f bs))
 risen_up f [] up = pairs_none (λ i j. item_cmp i j ≡ Less)
 risen_up f (b ∷ bs) up = risen_at f b bs up (risen_up f bs (rest_up b bs up)) (f b)
 
-bound_of_in : (bs : List Bound) → items_ascend bs ≡ true → (b : Bound) → In b bs → (f : Bound → ℕ) → bound_in bs b.0 f ≡ f b
+pub bound_of_in : (bs : List Bound) → items_ascend bs ≡ true → (b : Bound) → In b bs → (f : Bound → ℕ) → bound_in bs b.0 f ≡ f b
 bound_of_in bs up b i f = let k = in_contains bs b i in bound_at bs b.0 f k.0 b up k.1 (ap (λ c. item_cmp c.0 b.0) k.2 ∙ tied_itself item_total b.0) ∙ ap f k.2
 
-least_of : (d : Layout) (i : Item) → bound_in (item_bounds d) i (λ b. b.1) ≡ (bounds_of d i).least
+pub least_of : (d : Layout) (i : Item) → bound_in (item_bounds d) i (λ b. b.1) ≡ (bounds_of d i).least
 least_of d i = shown_bounds d (λ x. x.least) refl i
 
-most_of : (d : Layout) (i : Item) → bound_in (item_bounds d) i (λ b. b.2) ≡ (bounds_of d i).most
+pub most_of : (d : Layout) (i : Item) → bound_in (item_bounds d) i (λ b. b.2) ≡ (bounds_of d i).most
 most_of d i = shown_bounds d (λ x. x.most) refl i
 
-listed_item : (bs : List Bound) (i : Item) (f : Bound → ℕ) → 0 < bound_in bs i f → (t : Bool) → list_any (λ b. same_item b.0 i) bs ≡ t → (b : Bound) × In b bs × (b.0 ≡ i)
+pub listed_item : (bs : List Bound) (i : Item) (f : Bound → ℕ) → 0 < bound_in bs i f → (t : Bool) → list_any (λ b. same_item b.0 i) bs ≡ t → (b : Bound) × In b bs × (b.0 ≡ i)
 listed_item bs i f pos true h = let r = any_in (λ b. same_item b.0 i) bs h in (r.0, r.1, same_item_is r.0.0 i r.2)
 listed_item bs i f pos false h = absurd (omega (arith, pos, bound_none bs i f h))
 
@@ -205,7 +200,7 @@ fallen_up : (h : Bound → Option (List ℕ)) → ((b : Bound) (y : List ℕ) �
 fallen_up h is [] up = pairs_none (λ m k. name_cmp m k ≡ Less)
 fallen_up h is (b ∷ bs) up = fallen_at h is b bs up (fallen_up h is bs (rest_up b bs up)) (h b) refl
 
-piece_key : (d : Layout) (b : Bound) (y : List ℕ) → In b (item_bounds d) → b.0 ≡ Piece y → Contains (keys_of d.pieces) y
+pub piece_key : (d : Layout) (b : Bound) (y : List ℕ) → In b (item_bounds d) → b.0 ≡ Piece y → Contains (keys_of d.pieces) y
 piece_key d b y i e = elim (in_append_cases b (map cell_bound d.cells) (map piece_bound d.pieces) i) [
   | inl c ↦ let r = map_in cell_bound d.cells b c in let no : Cell r.0.0 ≡ Piece y = ap item_of r.2 ∙ e in cc
   | inr p ↦
@@ -215,7 +210,7 @@ piece_key d b y i e = elim (in_append_cases b (map cell_bound d.cells) (map piec
       subst (λ n. Contains (keys_of d.pieces) n) same (in_contains (keys_of d.pieces) r.0.0 (in_map (λ (x : List ℕ × Spec). x.0) d.pieces r.0 r.1))
 ]
 
-key_piece : (d : Layout) (y : List ℕ) → Contains (keys_of d.pieces) y → (b : Bound) × In b (item_bounds d) × (b.0 ≡ Piece y)
+pub key_piece : (d : Layout) (y : List ℕ) → Contains (keys_of d.pieces) y → (b : Bound) × In b (item_bounds d) × (b.0 ≡ Piece y)
 key_piece d y h =
     let r = map_in (λ (x : List ℕ × Spec). x.0) d.pieces y (contains_in (keys_of d.pieces) y h) in
     (piece_bound r.0, in_append_right (piece_bound r.0) (map cell_bound d.cells) (map piece_bound d.pieces) (in_map piece_bound d.pieces r.0 r.1), ap Piece r.2)

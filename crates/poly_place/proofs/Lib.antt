@@ -12,3 +12,5 @@ pub mod Rows
 pub mod Indexed
 pub mod Found
 pub mod Merging
+pub mod Between
+pub mod Arrives

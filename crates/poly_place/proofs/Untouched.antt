@@ -130,10 +130,10 @@ apart_cell c p h k i e = both_ways (list_any (λ k. spot_eq k c) p.cells) h (any
 
 -- ---- pieces
 
-exact_name : (x y : List ℕ) → name_cmp x y ≡ Equal → x ≡ y
+pub exact_name : (x y : List ℕ) → name_cmp x y ≡ Equal → x ≡ y
 exact_name x y e = slice_cmp-IsAntisymmetric nat_cmp-IsAntisymmetric x y e
 
-spec_from : (pieces : List (List ℕ × Spec)) (name : List ℕ) (after : Option Spec) (e : List ℕ × Spec) → e.0 ≢ name → In e (set_spec pieces name after) → In e pieces
+pub spec_from : (pieces : List (List ℕ × Spec)) (name : List ℕ) (after : Option Spec) (e : List ℕ × Spec) → e.0 ≢ name → In e (set_spec pieces name after) → In e pieces
 spec_from pieces name None e d i = in_taken exact_name pieces name e i
 spec_from pieces name (Some s) e d i = in_put exact_name pieces name s e d i
 

@@ -9,3 +9,4 @@ pub mod Delta
 pub mod Spent
 pub mod Touched
 pub mod Index
+pub mod Between

@@ -1,7 +1,8 @@
 //! What a change does to numbers, items and pieces.
-ghost use Rattle.std.specs.Prelude.{◌≡◌, ◌<◌, true, false, not, length, map, filter, nat_lt, replicate, slice_index_or, slice_set, ℕ, IfOk, IfErr};
+ghost use Rattle.std.specs.Prelude.{◌≡◌, ◌<◌, ◌&&◌, true, false, not, length, map, filter, nat_lt, replicate, slice_index_or, slice_set, ℕ, IfOk, IfErr};
 ghost use Rattle.std.specs.List.{filter_map, list_all, list_any};
 ghost use Rattle.poly_tiling.specs.Lists.{mem};
+ghost use Rattle.poly_tiling.specs.Names.{items_ascend};
 ghost use Rattle.poly_tiling.specs.Puzzle.{bound_in, same_item};
 ghost use Rattle.poly_place.specs.Falls.{falls};
 ghost use Rattle.poly_place.specs.Differences.{AreDifferences};
@@ -9,7 +10,7 @@ ghost use Rattle.poly_place.specs.Differences.{AreDifferences};
 use crate::sides::Sides;
 use poly_design::Name;
 use poly_grid::Refusal;
-use poly_tiling::Item;
+use poly_tiling::{Item, find_bound};
 use std::alloc::{AllocError, Global};
 
 /// What a change does: the differences between the design before and the design after. Numbers are in the order of their
@@ -101,27 +102,26 @@ fn mark(marks: &mut Vec<bool>, number: u32)
     marks[number as usize] = true;
 }
 
-// The least and the most of an item, 0 and 0 where it is not there.
-fn bounds_in(bounds: &[(Item, u8, u8)], item: &Item) -> (u8, u8)
-    ensures least { result.0 ≡ bound_in bounds.now item.now (λ b. b.1) }
-    ensures most { result.1 ≡ bound_in bounds.now item.now (λ b. b.2) }
+// The least of an item, 0 if it isn't there.
+fn least_in(bounds: &[(Item, u8, u8)], item: &Item) -> u8
+    requires { items_ascend bounds.now ≡ true }
+    ensures { result ≡ bound_in bounds.now item.now (λ b. b.1) }
 {
-    match bounds {
-        [] => (0, 0),
-        [first, rest @ ..] => {
-            if first.0.is(item) {
-                (first.1, first.2)
-            } else {
-                bounds_in(rest, item)
-            }
-        }
+    match find_bound(bounds, item) {
+        Some(bound) => bound.1,
+        None => 0,
     }
 }
 
-fn has_item(bounds: &[(Item, u8, u8)], item: &Item) -> bool
-    ensures { result ≡ list_any (λ b. same_item b.0 item.now) bounds.now }
+// Whether the item is there with a lower most.
+fn is_lower(bounds: &[(Item, u8, u8)], item: &Item, most: u8) -> bool
+    requires { items_ascend bounds.now ≡ true }
+    ensures { result ≡ (list_any (λ b. same_item b.0 item.now) bounds.now && nat_lt (bound_in bounds.now item.now (λ b. b.2)) most) }
 {
-    bounds.iter().any(|b| b.0.is(item))
+    match find_bound(bounds, item) {
+        Some(bound) => bound.2 < most,
+        None => false,
+    }
 }
 
 // The items whose least is higher in the second list.
@@ -130,12 +130,16 @@ fn risen(
     from: &[(Item, u8, u8)],
     to: &[(Item, u8, u8)],
 ) -> Result<Vec<Item>, AllocError>
+    requires { items_ascend from.now ≡ true }
     ensures { IfOk result (λ list. list.items ≡ map (λ b. b.0) (filter (λ b. nat_lt (bound_in from.now b.0 (λ c. c.1)) b.1) to.now)) }
 {
-    to.iter()
-        .filter(|b| bounds_in(from, &b.0).0 < b.1)
-        .map(|b| b.0)
-        .collect(alloc)
+    let mut list = Vec::new(alloc);
+    for bound in to {
+        if least_in(from, &bound.0) < bound.1 {
+            list.push(bound.0)?;
+        }
+    }
+    Ok(list)
 }
 
 // The pieces of both lists whose most is lower in the second.
@@ -144,19 +148,27 @@ fn fallen(
     from: &[(Item, u8, u8)],
     to: &[(Item, u8, u8)],
 ) -> Result<Vec<Name>, AllocError>
+    requires { items_ascend to.now ≡ true }
     ensures { IfOk result (λ list. list.items ≡ filter_map (falls to.now) from.now) }
 {
-    from.iter().filter_map(|b| falls(to, b)).collect(alloc)
+    let mut list = Vec::new(alloc);
+    for bound in from {
+        if let Some(name) = falls(to, bound) {
+            list.push(name)?;
+        }
+    }
+    Ok(list)
 }
 
 // The piece of the bound, where the list has it with a lower most.
 fn falls(to: &[(Item, u8, u8)], bound: &(Item, u8, u8)) -> Option<Name>
+    requires { items_ascend to.now ≡ true }
     ensures { result ≡ falls to.now bound.now }
 {
     match bound.0 {
         Item::Cell(_) => None,
         Item::Piece(name) => {
-            if has_item(to, &bound.0) && bounds_in(to, &bound.0).1 < bound.2 {
+            if is_lower(to, &Item::Piece(name), bound.2) {
                 Some(name)
             } else {
                 None
@@ -176,6 +188,8 @@ pub(crate) fn differences(
     requires live_after { list_all (λ n. nat_lt n count) new.now.live.items ≡ true }
     requires pins_before { list_all (λ n. nat_lt n count) old.now.pins.items ≡ true }
     requires pins_after { list_all (λ n. nat_lt n count) new.now.pins.items ≡ true }
+    requires items_before { items_ascend old.now.bounds.items ≡ true }
+    requires items_after { items_ascend new.now.bounds.items ≡ true }
     ensures ok { IfOk result (AreDifferences old.now new.now) }
     ensures why { IfErr result (λ e. e ≡ Refusal.Memory) }
 {

@@ -14,6 +14,7 @@ use std::marker::Model;
 /// A number for each placement that was ever given one. Numbers count up from 0, and a number never changes its placement.
 #[derive(Drop)]
 pub struct Interner {
+    alloc: Global,
     all: IndexSet<Placement>,
 }
 
@@ -37,6 +38,7 @@ impl Interner {
         ensures { result ≡ [] }
     {
         Interner {
+            alloc,
             all: IndexSet::new(alloc),
         }
     }
@@ -83,11 +85,11 @@ impl Interner {
     }
 
     /// All placements, in the order of their numbers. The only refusal is `Memory`.
-    pub fn placements(&self, alloc: Global) -> Result<Vec<Placement>, Refusal>
+    pub fn placements(&self) -> Result<Vec<Placement>, Refusal>
         ensures ok { IfOk result (λ list. list.items ≡ self.now) }
         ensures why { IfErr result (λ e. e ≡ Refusal.Memory) }
     {
-        Ok(Vec::from_slice(alloc, self.all.as_slice())?)
+        Ok(Vec::from_slice(self.alloc, self.all.as_slice())?)
     }
 
     /// The number of the placement, which is the next number where it has none yet.
@@ -140,7 +142,7 @@ impl Interner {
     ///
     /// Refused with `Spent` where there are more placements than numbers, and else only with `Memory`. A refused call
     /// gives nothing out.
-    pub fn give_all(&mut self, alloc: Global, placements: &[Placement]) -> Result<Vec<u32>, Refusal>
+    pub fn give_all(&mut self, placements: &[Placement]) -> Result<Vec<u32>, Refusal>
         ensures ok { IfOk result (λ numbers. AreNumbersOf self.new numbers.items placements.now) }
         ensures gives { OnOk result (GoesOnWith self.old placements.now self.new) }
         ensures numbered { OnOk result (AreNumbered self.new) }
@@ -150,7 +152,7 @@ impl Interner {
     {
         self.reserve(placements.len())?;
         let before = self.len();
-        let mut numbers = Vec::with_capacity(alloc, placements.len())?;
+        let mut numbers = Vec::with_capacity(self.alloc, placements.len())?;
         for placement in placements {
             match self.give(placement) {
                 Ok(number) => numbers.push_reserved(number),

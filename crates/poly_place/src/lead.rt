@@ -41,7 +41,7 @@ pub(crate) fn lead(
     ensures why { IfErr result (λ e. (e ≡ Refusal.Spent) ⊎ (e ≡ Refusal.Memory)) }
 {
     let parts = Parts::of(alloc, after)?;
-    let next = Sides::of(alloc, names, parts)?;
+    let next = Sides::of(names, parts)?;
     let index = Index::of(alloc, names, &next)?;
     let plan = plan_between(alloc, names, sides, next, index)?;
     Ok(plan)
@@ -107,7 +107,7 @@ pub(crate) fn view_of(alloc: Global, names: &Interner, sides: &Sides) -> Result<
     ensures ok { IfOk result (λ v. v ≡ by_sides names.now sides.now) }
     ensures why { IfErr result (λ e. e ≡ Refusal.Memory) }
 {
-    let placements = names.placements(alloc)?;
+    let placements = names.placements()?;
     let live = Vec::from_slice(alloc, &sides.live)?;
     let bounds = Vec::from_slice(alloc, &sides.bounds)?;
     let pins = Vec::from_slice(alloc, &sides.pins)?;

@@ -11,7 +11,6 @@ use crate::interner::Interner;
 use crate::parts::Parts;
 use poly_grid::Refusal;
 use poly_tiling::Item;
-use std::alloc::Global;
 
 /// A design's placements and pins by their numbers, both in placement order, and its items with their bounds, in item
 /// order.
@@ -26,7 +25,7 @@ impl Sides {
     /// The parts by numbers. New numbers go to placements first, then to pins.
     ///
     /// Refused with `Spent` where there are more placements than numbers, and else only with `Memory`.
-    pub(crate) fn of(alloc: Global, names: &mut Interner, parts: Parts) -> Result<Sides, Refusal>
+    pub(crate) fn of(names: &mut Interner, parts: Parts) -> Result<Sides, Refusal>
         ensures right { (d : Layout) → ArePartsOf d parts.places.items parts.pins.items parts.bounds.items → IfOk result (λ s. IsRight (record { placements = names.new; live = s.live.items; bounds = s.bounds.items; pins = s.pins.items }) d) }
         ensures grows { GoesOn names.old names.new }
         ensures gives { OnOk result ((between : List Place) × GoesOnWith names.old parts.places.items between × GoesOnWith between parts.pins.items names.new) }
@@ -34,8 +33,8 @@ impl Sides {
         ensures many { result ≡ Err Refusal.Spent → 2 ^ 32 < length names.old + length parts.places.items + length parts.pins.items }
         ensures why { IfErr result (λ e. (e ≡ Refusal.Spent) ⊎ (e ≡ Refusal.Memory)) }
     {
-        let live = names.give_all(alloc, &parts.places)?;
-        let pins = names.give_all(alloc, &parts.pins)?;
+        let live = names.give_all(&parts.places)?;
+        let pins = names.give_all(&parts.pins)?;
         Ok(Sides {
             live,
             bounds: parts.bounds,

@@ -53,7 +53,7 @@ impl Table {
     {
         let mut names = Interner::new(alloc);
         let parts = Parts::of(alloc, design)?;
-        match Sides::of(alloc, &mut names, parts) {
+        match Sides::of(&mut names, parts) {
             Ok(sides) => {
                 let index = Index::of(alloc, &names, &sides)?;
                 Ok(Table {
@@ -117,7 +117,14 @@ impl Table {
         }
     }
 
-    fn plan_by(&mut self, design: &Design, change: &Change, after: &Design) -> Result<Plan, Refusal>
+    /// The plan of a change of the design that the table is right for, whose design after it the caller has made: `plan`
+    /// without the copy.
+    pub fn plan_by(
+        &mut self,
+        design: &Design,
+        change: &Change,
+        after: &Design,
+    ) -> Result<Plan, Refusal>
         requires standing { IsRight self.old design.now }
         requires after { after.now ≡ changed design.now change.now }
         ensures ok { IfOk result (λ p. IsPlanFor self.old design.now after.now (arc_value p.view) p.delta) }

@@ -246,12 +246,12 @@ fn numbers_are_given_once(rt: HostRuntime) {
     assert!(rt; names.is_empty());
     assert_eq!(rt; names.number(&there), None);
     assert_eq!(rt; names.give(&there).expect(&rt, "a number"), 0);
-    let both = names.give_all(alloc, &[here, there]).expect(&rt, "numbers");
+    let both = names.give_all(&[here, there]).expect(&rt, "numbers");
     expect_numbers(&rt, &both, &[1, 0]);
     assert_eq!(rt; names.number(&here), Some(1));
     assert_eq!(rt; names.placement(1), Some(here));
     assert_eq!(rt; names.placement(2), None);
-    let all = names.placements(alloc).expect(&rt, "memory");
+    let all = names.placements().expect(&rt, "memory");
     assert_eq!(rt; all.as_slice(), [there, here].as_slice());
     assert_eq!(rt; names.len(), 2);
 }

@@ -63,9 +63,9 @@ pub(crate) fn turned(
     let pinned = pins(alloc, after)?;
     let bounds = item_list(alloc, after)?;
     let kept = unmarked(alloc, &sides.live, marks)?;
-    let fresh = names.give_all(alloc, &found)?;
+    let fresh = names.give_all(&found)?;
     let live = merged(alloc, names, &kept, &fresh)?;
-    let pins = names.give_all(alloc, &pinned)?;
+    let pins = names.give_all(&pinned)?;
     Ok(Turn {
         sides: Sides { live, bounds, pins },
         found: fresh,

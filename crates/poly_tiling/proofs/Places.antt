@@ -199,7 +199,7 @@ one_option ys None = refl
 one_option ys (Some y) = refl
 
 -- one more number's place
-pub places_more : (f : ℕ → Option ℕ) (xs : List ℕ) (i d : ℕ) → i < length xs → filter_map f (take (i + 1) xs) ≡ filter_map f (take i xs) ++ option_to_list (f (get_or xs i d))
+pub places_more : {X Y : Type 0} (f : X → Option Y) (xs : List X) (i : ℕ) (d : X) → i < length xs → filter_map f (take (i + 1) xs) ≡ filter_map f (take i xs) ++ option_to_list (f (get_or xs i d))
 places_more f xs i d l = rw (take_more xs i d l, filter_map-append f (take i xs) (get_or xs i d ∷ [])) (one_option (filter_map f (take i xs)) (f (get_or xs i d)))
 
 -- the next live number has a row in the table

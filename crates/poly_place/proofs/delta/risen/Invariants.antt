@@ -1,0 +1,7 @@
+use Rattle.std.proofs.Common.{filter, map, take, ◌≡◌}
+use Rattle.std.specs.Prelude.{nat_lt}
+use Rattle.poly_tiling.specs.Puzzle.{bound_in}
+use Rattle.poly_place.proofs.delta.risen.Given as goal
+
+abbrev pub invariant-loop-bound : goal.invariant-loop-bound
+invariant-loop-bound l = l.list.items ≡ map (λ b. b.0) (filter (λ b. nat_lt (bound_in l.from b.0 (λ c. c.1)) b.1) (take l.bound-index l.to))
