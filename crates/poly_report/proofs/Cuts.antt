@@ -53,7 +53,7 @@ arm_rests v A before p t n =
     ap (λ b. cond b [] (rests v ((A ++ map (λ q. Lacks q) before) ++ Has p ∷ []) t)) (dead_behind v A before p n) ∙ ap (λ B. cond (dead v A p) [] (rests v B t)) (atoms_behind A before p)
 
 -- one number stands once among the others
-apart_from : (xs : List ℕ) (p : ℕ) (ys : List ℕ) → distinct (xs ++ p ∷ ys) ≡ true → mem xs p ≡ false
+pub apart_from : (xs : List ℕ) (p : ℕ) (ys : List ℕ) → distinct (xs ++ p ∷ ys) ≡ true → mem xs p ≡ false
 apart_from [] p ys d = refl
 apart_from (x ∷ xs) p ys d =
     let rest = apart_from xs p ys (distinct_rest x (xs ++ p ∷ ys) d) in

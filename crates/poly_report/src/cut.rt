@@ -1,8 +1,7 @@
 //! Whether a tree holds, and what it leaves: one walk over a frame tells both.
-ghost use Rattle.std.specs.Prelude.{IfErr, IfOk, MatchOption, [], false, length, true, ◌+◌, ◌++◌, ◌<◌, ◌≡◌, ◌≤◌, ◌∷◌, OnOk};
+ghost use Rattle.std.specs.Prelude.{IfErr, IfOk, MatchOption, [], false, length, true, ◌+◌, ◌++◌, ◌<◌, ◌≡◌, ◌≤◌};
 ghost use Rattle.poly_tiling.specs.Lists.{distinct};
-ghost use Rattle.poly_atom.specs.declared.atom.Atom.TheVariants.{Has as HasAtom};
-ghost use Rattle.poly_report.specs.Trees.{Finds, heads};
+ghost use Rattle.poly_report.specs.Trees.{heads};
 ghost use Rattle.poly_report.specs.Shapes.{arms_list, plan_of};
 ghost use Rattle.poly_report.specs.Sizes.{arms_total, fits, total};
 ghost use Rattle.poly_report.specs.Holds.{arms_hold, holds};
@@ -15,47 +14,8 @@ use crate::tree::{Arm, Tree};
 use poly_atom::Atom;
 use poly_frame::Frame;
 use poly_grid::Refusal;
-use poly_tiling::{Tiling, View};
+use poly_tiling::View;
 use std::alloc::Global;
-
-fn push_found(alloc: Global, frame: &Frame<'_>, out: &mut Leaves) -> Result<(), Refusal>
-    ensures tilings { OnOk result (out.new.tilings.items ≡ out.old.tilings.items ++ tilings frame.now.scene frame.now.atoms Finds) }
-    ensures rests { OnOk result (out.new.rests.items ≡ out.old.rests.items) }
-    ensures why { IfErr result (λ e. e ≡ Refusal.Memory) }
-{
-    if let Some(base) = frame.found() {
-        let numbers = Vec::from_slice(alloc, base)?;
-        out.tilings.push(Tiling::new(numbers))?;
-    }
-    Ok(())
-}
-
-fn push_rest(alloc: Global, frame: &Frame<'_>, out: &mut Leaves) -> Result<(), Refusal>
-    ensures tilings { OnOk result (out.new.tilings.items ≡ out.old.tilings.items) }
-    ensures rests { OnOk result (lists out.new.rests.items ≡ lists out.old.rests.items ++ frame.now.atoms ∷ []) }
-    ensures why { IfErr result (λ e. e ≡ Refusal.Memory) }
-{
-    let rest = Vec::from_slice(alloc, frame.atoms())?;
-    out.rests.push(rest)?;
-    Ok(())
-}
-
-// The rest of a placement that would be taken: the step itself is spared.
-fn push_rest_with(
-    alloc: Global,
-    frame: &Frame<'_>,
-    placement: u32,
-    out: &mut Leaves,
-) -> Result<(), Refusal>
-    ensures tilings { OnOk result (out.new.tilings.items ≡ out.old.tilings.items) }
-    ensures rests { OnOk result (lists out.new.rests.items ≡ lists out.old.rests.items ++ (frame.now.atoms ++ HasAtom placement ∷ []) ∷ []) }
-    ensures why { IfErr result (λ e. e ≡ Refusal.Memory) }
-{
-    let mut rest = Vec::from_slice(alloc, frame.atoms())?;
-    rest.push(Atom::Has(placement))?;
-    out.rests.push(rest)?;
-    Ok(())
-}
 
 // Walks a tree at the frame's atoms. A tree that holds leaves the frame as it was, and its leaves are kept on demand.
 #[cycle(walk)]
@@ -77,7 +37,7 @@ fn walk(
     match tree {
         Tree::Rest => {
             if keep {
-                push_rest(alloc, frame, out)?;
+                out.push_rest(alloc, frame)?;
             }
             Ok(true)
         }
@@ -86,7 +46,7 @@ fn walk(
                 return Ok(false);
             }
             if keep {
-                push_found(alloc, frame, out)?;
+                out.push_found(alloc, frame)?;
             }
             Ok(true)
         }
@@ -170,7 +130,7 @@ fn walk_taken(
     }
     if let Tree::Rest = tree {
         if keep {
-            push_rest_with(alloc, frame, placement, out)?;
+            out.push_rest_with(alloc, frame, Atom::Has(placement))?;
         }
         return Ok(true);
     }
@@ -191,7 +151,7 @@ pub fn holds(alloc: Global, view: &View, atoms: &[Atom], tree: &Tree) -> Result<
     ensures why { IfErr result (λ e. e ≡ Refusal.Memory) }
 {
     let mut frame = Frame::new(alloc, view, atoms)?;
-    let mut none = no_leaves(alloc);
+    let mut none = Leaves::none(alloc);
     let yes = walk(alloc, &mut frame, tree, false, &mut none)?;
     Ok(yes)
 }
@@ -206,7 +166,7 @@ pub fn leaves(alloc: Global, view: &View, atoms: &[Atom], tree: &Tree) -> Result
     ensures why { IfErr result (λ e. e ≡ Refusal.Memory) }
 {
     let mut frame = Frame::new(alloc, view, atoms)?;
-    let mut all = no_leaves(alloc);
+    let mut all = Leaves::none(alloc);
     let _ = walk(alloc, &mut frame, tree, true, &mut all)?;
     Ok(all)
 }
@@ -224,22 +184,12 @@ pub fn cut_up(
     ensures why { IfErr result (λ e. e ≡ Refusal.Memory) }
 {
     let mut frame = Frame::new(alloc, view, atoms)?;
-    let mut all = no_leaves(alloc);
+    let mut all = Leaves::none(alloc);
     let yes = walk(alloc, &mut frame, tree, true, &mut all)?;
     if !yes {
         return Ok(None);
     }
     Ok(Some(all))
-}
-
-fn no_leaves(alloc: Global) -> Leaves
-    ensures tilings { result.tilings.items ≡ [] }
-    ensures rests { result.rests.items ≡ [] }
-{
-    Leaves {
-        tilings: Vec::new(alloc),
-        rests: Vec::new(alloc),
-    }
 }
 
 #[cfg(test)]

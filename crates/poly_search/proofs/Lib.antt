@@ -1,7 +1,7 @@
-pub mod Rows
 pub mod Opens
 pub mod Nodes
 pub mod Links
 pub mod Swept
 pub mod Arms
 pub mod Families
+pub mod Gathered

@@ -1,48 +1,29 @@
 -- Which placements stay open as the path grows.
-use Rattle.std.proofs.Common.{◌≡◌, ℕ, ◌<◌, true, not, ◌&&◌, eqb, List, ◌++◌, inl, inr, refl, sym, subst, ◌∙◌, arith, nat_lt}
-use Rattle.std.proofs.lemmas.Bool.{eqb-true, and_parts, and_from, both_ways, not-true, not_from_false, false_from_ne_true, lt-ltb, ltb-true, cases_Bool}
+use Rattle.std.proofs.Common.{◌≡◌, ℕ, ◌<◌, Bool, true, not, ◌&&◌, ◌||◌, eqb, List, ◌++◌, inl, inr, refl, sym, subst, ◌∙◌, arith, nat_lt}
+use Rattle.std.specs.List.{list_any}
+use Rattle.std.proofs.lemmas.Bool.{eq-eqb, eqb-true, or_left, and_parts, and_from, both_ways, not-true, not_from_false, false_from_ne_true, lt-ltb, ltb-true, cases_Bool}
 use Rattle.poly_tiling.specs.declared.item.Item.{Item}
 use Rattle.poly_atom.specs.declared.atom.Atom.{Atom}
 use Rattle.poly_atom.specs.declared.atom.Atom.TheVariants.{Has, Lacks}
 use Rattle.poly_tiling.specs.Lists.{mem, tally, distinct}
 use Rattle.poly_tiling.specs.Puzzle.{View, has_item, count}
-use Rattle.poly_atom.specs.Hopeless.{base}
+use Rattle.poly_atom.specs.Hopeless.{base, lacks}
 use Rattle.poly_frame.specs.Open.{asks, lower, ruled_out, open_in, arms_fit}
 use Rattle.poly_frame.specs.Walk.{open_count}
-use Rattle.poly_tiling.proofs.Lists.{In, all_from, mem_in, in_mem, in_append_left}
+use Rattle.poly_tiling.proofs.Lists.{In, all_from, any_from, mem_in, in_mem}
 use Rattle.poly_tiling.proofs.Counts.{tally_within, tally_fewer}
 use Rattle.poly_atom.proofs.Bases.{in_base_has}
-use Rattle.poly_frame.proofs.Later.{Later, later_base, later_ruled, lacks_rules}
-
--- the same design with more atoms
-same_later : (v : View) (A B : List Atom) → distinct v.live ≡ true → Later v A v (A ++ B)
-same_later v A B d = record {
-  atoms = λ a i. in_append_left a A B i;
-  placed = λ p i. inl i;
-  enough = λ i. inl (omega arith);
-  few = λ p i k h. inl (omega arith);
-  pinned = λ p i. inl i;
-  carried = λ p i h. h;
-  same_items = λ p i. refl;
-  clashed = λ p q h. h;
-  once = d;
-}
-
--- what is open with more atoms was open before
-open_before : (v : View) (A B : List Atom) (p : ℕ) → distinct v.live ≡ true → In p v.live → open_in v (A ++ B) p ≡ true → open_in v A p ≡ true
-open_before v A B p d i h =
-    let l = same_later v A B d in
-    let hs = and_parts (not (mem (base v (A ++ B)) p)) (not (ruled_out v (A ++ B) p)) h in
-    and_from _ _
-    (not_from_false _ (false_from_ne_true (mem (base v A) p) (λ m. both_ways (mem (base v (A ++ B)) p) (not-true _ hs.0) (in_mem _ p (later_base v v A (A ++ B) l p (mem_in _ p m))))))
-    (not_from_false _ (false_from_ne_true (ruled_out v A p) (λ r. both_ways (ruled_out v (A ++ B) p) (not-true _ hs.1) (later_ruled v v A (A ++ B) l p i r))))
+use Rattle.poly_frame.proofs.Opens.{open_before}
 
 -- once a placement is named it isn't open
 named_closed : (v : View) (A B : List Atom) (q : ℕ) → distinct v.live ≡ true → In (Has q) (A ++ B) → open_in v (A ++ B) q ≡ true → ⊥
 named_closed v A B q d i h = both_ways (mem (base v (A ++ B)) q) (not-true _ (and_parts (not (mem (base v (A ++ B)) q)) (not (ruled_out v (A ++ B) q)) h).0) (in_mem _ q (in_base_has v (A ++ B) q i))
 
+lacked : (A : List Atom) (q : ℕ) (clashes full : Bool) → In (Lacks q) A → (list_any (λ a. lacks a q) A || clashes || full) ≡ true
+lacked A q clashes full i = or_left (list_any (λ a. lacks a q) A || clashes) full (or_left (list_any (λ a. lacks a q) A) clashes (any_from (λ a. lacks a q) A (Lacks q) i (eq-eqb q q refl)))
+
 left_closed : (v : View) (A B : List Atom) (q : ℕ) → distinct v.live ≡ true → In (Lacks q) (A ++ B) → open_in v (A ++ B) q ≡ true → ⊥
-left_closed v A B q d i h = both_ways (ruled_out v (A ++ B) q) (not-true _ (and_parts (not (mem (base v (A ++ B)) q)) (not (ruled_out v (A ++ B) q)) h).1) (lacks_rules v v A (A ++ B) (same_later v A B d) q i)
+left_closed v A B q d i h = both_ways (ruled_out v (A ++ B) q) (not-true _ (and_parts (not (mem (base v (A ++ B)) q)) (not (ruled_out v (A ++ B) q)) h).1) (lacked (A ++ B) q _ _ i)
 
 fewer_open : (v : View) (A B : List Atom) (q : ℕ) → distinct v.live ≡ true → In q v.live → open_in v A q ≡ true → (open_in v (A ++ B) q ≡ true → ⊥) → open_count v (A ++ B) < open_count v A
 fewer_open v A B q d i h n =

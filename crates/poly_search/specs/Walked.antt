@@ -1,5 +1,7 @@
 -- What a walk over the options of an item brings back.
-use Rattle.std.specs.Prelude.{◌≡◌, ℕ, ◌+◌, ◌-◌, ◌<◌, ◌≤◌, List, length, take}
+use Rattle.std.specs.Prelude.{◌≡◌, ℕ, ◌+◌, ◌++◌, ◌-◌, ◌<◌, ◌≤◌, ◌∷◌, List, [], cond, length, map, nat_lt, take}
+use Rattle.poly_atom.specs.declared.atom.Atom.{Atom}
+use Rattle.poly_atom.specs.declared.atom.Atom.TheVariants.{Lacks}
 use Rattle.poly_report.specs.declared.tree.Arm.{Arm}
 use Rattle.poly_report.specs.Trees.{heads}
 use Rattle.poly_report.specs.Shapes.{arms_list}
@@ -22,3 +24,7 @@ pub record Walked (w : Walk) (depth kept : ℕ) (options : List ℕ) (nodes held
   pub room : kept + length options ≤ nodes + length arms
   pub grown : ArmsGrown w.scene w.atoms (depth - 1) (arms_list arms)
   pub early : length arms < length options → CanChain w depth kept nodes held arms
+
+-- the rest of the options that weren't walked, of so many: what has none of the arms
+abbrev pub left_over : List Atom → ℕ → List Arm → List (List Atom)
+left_over A n arms = cond (nat_lt (length arms) n) ((A ++ map (λ q. Lacks q) (heads (arms_list arms))) ∷ []) []

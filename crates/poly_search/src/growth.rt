@@ -4,42 +4,47 @@
 //! A budget that ends in the middle of a Branch would leave many small tasks. So one node is held back for each arm after
 //! the first; where the budget ends with several arms untouched, the arms that were walked become a chain of Splits whose
 //! one Rest has all the others; and a small subtree that has a Rest becomes that Rest.
-ghost use Rattle.std.specs.Prelude.{◌≡◌, ◌&&◌, ◌^◌, ℕ, true, false, ◌+◌, ◌-◌, ◌≤◌, ◌<◌, IfOk, IfErr, OnOk, length, if◌then◌else◌};
+ghost use Rattle.std.specs.Prelude.{◌≡◌, ◌&&◌, ◌^◌, ◌++◌, [], ◌∷◌, ℕ, true, false, ◌+◌, ◌-◌, ◌≤◌, ◌<◌, IfOk, IfErr, OnOk, length, if◌then◌else◌};
 ghost use Rattle.poly_tiling.specs.Lists.{distinct, mem};
 ghost use Rattle.poly_report.specs.Trees.{Rests};
 ghost use Rattle.poly_report.specs.Shapes.{plan_of, arms_list};
+ghost use Rattle.poly_report.specs.Gather.{lists};
+ghost use Rattle.poly_report.specs.Leaves.{arms_rests, arms_tilings, rests, tilings};
 ghost use Rattle.poly_report.specs.Sizes.{total, arms_total, inner, arms_inner, is_rest, Grown};
 ghost use Rattle.poly_frame.specs.Walk.{is_due, is_open, is_option};
 ghost use Rattle.poly_search.specs.Chains.{chain};
-ghost use Rattle.poly_search.specs.Walked.{Walked};
+ghost use Rattle.poly_search.specs.Walked.{Walked, left_over};
 
 use poly_grid::Refusal;
-use poly_report::{Arm, Frame, Tree};
+use poly_report::{Arm, Frame, Leaves, Tree};
 use poly_tiling::Item;
 use std::alloc::Global;
 
-/// What may still be made.
-#[derive(Debug, Drop)]
-pub struct Budget {
+/// A tree as it grows: what may still be made, and the leaves so far.
+#[derive(Drop)]
+pub struct Growth {
     /// Nodes of any kind.
     pub nodes: u32,
     /// Nodes that aren't Rest.
     pub inner: u32,
     /// How many nodes that aren't Rest there were to begin with.
     pub whole: u32,
-    /// How many times Rest was made.
-    pub rests: u32,
+    /// The leaves of what has grown, in the order of the tree.
+    pub leaves: Leaves,
 }
 
-fn rest(budget: &mut Budget) -> Tree
-    requires { 1 ≤ budget.old.nodes }
-    ensures tree { plan_of result ≡ Rests }
-    ensures nodes { budget.new.nodes + 1 ≡ budget.old.nodes }
-    ensures inner { budget.new.inner ≡ budget.old.inner }
+fn rest(alloc: Global, frame: &Frame<'_>, growth: &mut Growth) -> Result<Tree, Refusal>
+    requires { 1 ≤ growth.old.nodes }
+    ensures tree { IfOk result (λ t. plan_of t ≡ Rests) }
+    ensures nodes { OnOk result (growth.new.nodes + 1 ≡ growth.old.nodes) }
+    ensures inner { OnOk result (growth.new.inner ≡ growth.old.inner) }
+    ensures tilings { OnOk result (growth.new.leaves.tilings.items ≡ growth.old.leaves.tilings.items) }
+    ensures rests { OnOk result (lists growth.new.leaves.rests.items ≡ lists growth.old.leaves.rests.items ++ frame.now.atoms ∷ []) }
+    ensures why { IfErr result (λ e. e ≡ Refusal.Memory) }
 {
-    budget.nodes -= 1;
-    budget.rests = budget.rests.saturating_add(1);
-    Tree::Rest
+    growth.nodes -= 1;
+    growth.leaves.push_rest(alloc, frame)?;
+    Ok(Tree::Rest)
 }
 
 /// Grows a tree for the frame's atoms, no deeper than `depth`; it leaves `kept` of the nodes. The frame stays as it was.
@@ -47,51 +52,54 @@ fn rest(budget: &mut Budget) -> Tree
 pub fn grow(
     alloc: Global,
     frame: &mut Frame<'_>,
-    budget: &mut Budget,
+    growth: &mut Growth,
     kept: u32,
     depth: u32,
     root: bool,
 ) -> Result<Tree, Refusal>
-    requires room { kept < budget.old.nodes }
+    requires room { kept < growth.old.nodes }
     requires low { 1 ≤ depth }
-    requires steps { length frame.old.atoms + budget.old.nodes ≤ frame.old.given + 4096 + kept }
+    requires steps { length frame.old.atoms + growth.old.nodes ≤ frame.old.given + 4096 + kept }
     requires begun { frame.old.given ≤ length frame.old.atoms }
     requires once { distinct frame.old.scene.live ≡ true }
     ensures same { OnOk result (frame.new ≡ frame.old) }
     ensures grown { IfOk result (λ t. Grown frame.old.scene frame.old.atoms depth (plan_of t)) }
-    ensures nodes { IfOk result (λ t. budget.new.nodes + total (plan_of t) ≡ budget.old.nodes) }
-    ensures inner { IfOk result (λ t. budget.new.inner + inner (plan_of t) ≤ budget.old.inner) }
-    ensures kept { OnOk result (kept ≤ budget.new.nodes) }
-    ensures root { IfOk result (λ t. root ≡ true → kept + 3 ≤ budget.old.nodes → 1 ≤ budget.old.inner → 2 ≤ depth → is_rest (plan_of t) ≡ false) }
+    ensures nodes { IfOk result (λ t. growth.new.nodes + total (plan_of t) ≡ growth.old.nodes) }
+    ensures inner { IfOk result (λ t. growth.new.inner + inner (plan_of t) ≤ growth.old.inner) }
+    ensures tilings { IfOk result (λ t. growth.new.leaves.tilings.items ≡ growth.old.leaves.tilings.items ++ tilings frame.old.scene frame.old.atoms (plan_of t)) }
+    ensures rests { IfOk result (λ t. lists growth.new.leaves.rests.items ≡ lists growth.old.leaves.rests.items ++ rests frame.old.scene frame.old.atoms (plan_of t)) }
+    ensures kept { OnOk result (kept ≤ growth.new.nodes) }
+    ensures root { IfOk result (λ t. root ≡ true → kept + 3 ≤ growth.old.nodes → 1 ≤ growth.old.inner → 2 ≤ depth → is_rest (plan_of t) ≡ false) }
     ensures why { IfErr result (λ e. e ≡ Refusal.Memory) }
 {
-    if budget.inner == 0 {
-        return Ok(rest(budget));
+    if growth.inner == 0 {
+        return rest(alloc, frame, growth);
     }
     let open = match frame.first_open() {
         None => {
-            budget.nodes -= 1;
-            budget.inner -= 1;
+            growth.nodes -= 1;
+            growth.inner -= 1;
+            growth.leaves.push_found(alloc, frame)?;
             return Ok(Tree::Found);
         }
         Some(p) => p,
     };
     if depth < 2 {
-        return Ok(rest(budget));
+        return rest(alloc, frame, growth);
     }
     if let Some(item) = frame.next_due() {
         let options = Vec::from_slice(alloc, frame.options(item))?;
-        if options.len() < (budget.nodes - kept) as usize {
-            if !root && budget.inner < 2 && !options.is_empty() {
-                return Ok(rest(budget));
+        if options.len() < (growth.nodes - kept) as usize {
+            if !root && growth.inner < 2 && !options.is_empty() {
+                return rest(alloc, frame, growth);
             }
-            return branch(alloc, frame, budget, kept, depth, &item, &options);
+            return branch(alloc, frame, growth, kept, depth, &item, &options);
         }
     }
-    if budget.nodes - kept < 3 {
-        return Ok(rest(budget));
+    if growth.nodes - kept < 3 {
+        return rest(alloc, frame, growth);
     }
-    split(alloc, frame, budget, kept, depth, open)
+    split(alloc, frame, growth, kept, depth, open)
 }
 
 // A tree below the root: where little of the budget went into it and it has a Rest, it becomes that Rest.
@@ -99,30 +107,35 @@ pub fn grow(
 fn child(
     alloc: Global,
     frame: &mut Frame<'_>,
-    budget: &mut Budget,
+    growth: &mut Growth,
     kept: u32,
     depth: u32,
 ) -> Result<Tree, Refusal>
-    requires room { kept < budget.old.nodes }
+    requires room { kept < growth.old.nodes }
     requires low { 1 ≤ depth }
-    requires steps { length frame.old.atoms + budget.old.nodes ≤ frame.old.given + 4096 + kept }
+    requires steps { length frame.old.atoms + growth.old.nodes ≤ frame.old.given + 4096 + kept }
     requires begun { frame.old.given ≤ length frame.old.atoms }
     requires once { distinct frame.old.scene.live ≡ true }
     ensures same { OnOk result (frame.new ≡ frame.old) }
     ensures grown { IfOk result (λ t. Grown frame.old.scene frame.old.atoms depth (plan_of t)) }
-    ensures nodes { IfOk result (λ t. budget.new.nodes + total (plan_of t) ≡ budget.old.nodes) }
-    ensures inner { IfOk result (λ t. budget.new.inner + inner (plan_of t) ≤ budget.old.inner) }
-    ensures kept { OnOk result (kept ≤ budget.new.nodes) }
+    ensures nodes { IfOk result (λ t. growth.new.nodes + total (plan_of t) ≡ growth.old.nodes) }
+    ensures inner { IfOk result (λ t. growth.new.inner + inner (plan_of t) ≤ growth.old.inner) }
+    ensures tilings { IfOk result (λ t. growth.new.leaves.tilings.items ≡ growth.old.leaves.tilings.items ++ tilings frame.old.scene frame.old.atoms (plan_of t)) }
+    ensures rests { IfOk result (λ t. lists growth.new.leaves.rests.items ≡ lists growth.old.leaves.rests.items ++ rests frame.old.scene frame.old.atoms (plan_of t)) }
+    ensures kept { OnOk result (kept ≤ growth.new.nodes) }
     ensures why { IfErr result (λ e. e ≡ Refusal.Memory) }
 {
-    let nodes = budget.nodes;
-    let inner = budget.inner;
-    let rests = budget.rests;
-    let tree = grow(alloc, frame, budget, kept, depth, false)?;
-    if rests < budget.rests && inner - budget.inner < budget.whole / 8 {
-        budget.nodes = nodes;
-        budget.rests = rests;
-        return Ok(rest(budget));
+    let nodes = growth.nodes;
+    let inner = growth.inner;
+    let tilings = growth.leaves.tilings.len();
+    let rests = growth.leaves.rests.len();
+    let tree = grow(alloc, frame, growth, kept, depth, false)?;
+    if rests < growth.leaves.rests.len() && inner - growth.inner < growth.whole / 8 {
+        growth.nodes = nodes;
+        growth.leaves.tilings.truncate(tilings);
+        growth.leaves.rests.truncate(rests);
+        let cut = rest(alloc, frame, growth)?;
+        return Ok(cut);
     }
     Ok(tree)
 }
@@ -139,37 +152,40 @@ struct Arms {
 fn walk_arms(
     alloc: Global,
     frame: &mut Frame<'_>,
-    budget: &mut Budget,
+    growth: &mut Growth,
     kept: u32,
     depth: u32,
     item: &Item,
     options: &[u32],
 ) -> Result<Arms, Refusal>
-    requires room { kept + length options.now ≤ budget.old.nodes }
+    requires room { kept + length options.now ≤ growth.old.nodes }
     requires low { 2 ≤ depth }
-    requires steps { length frame.old.atoms + budget.old.nodes + 1 ≤ frame.old.given + 4096 + kept }
+    requires steps { length frame.old.atoms + growth.old.nodes + 1 ≤ frame.old.given + 4096 + kept }
     requires begun { frame.old.given ≤ length frame.old.atoms }
     requires once { distinct frame.old.scene.live ≡ true }
     requires members { (p : ℕ) → mem options.now p ≡ (mem frame.old.scene.live p && is_option frame.old item.now p) }
     ensures same { OnOk result (frame.new ≡ frame.old) }
-    ensures walked { IfOk result (λ a. Walked frame.old depth kept options.now budget.new.nodes a.held a.arms.items) }
-    ensures nodes { IfOk result (λ a. budget.new.nodes + arms_total (arms_list a.arms.items) ≡ budget.old.nodes) }
-    ensures inner { IfOk result (λ a. budget.new.inner + arms_inner (arms_list a.arms.items) + a.held ≤ budget.old.inner) }
+    ensures walked { IfOk result (λ a. Walked frame.old depth kept options.now growth.new.nodes a.held a.arms.items) }
+    ensures nodes { IfOk result (λ a. growth.new.nodes + arms_total (arms_list a.arms.items) ≡ growth.old.nodes) }
+    ensures inner { IfOk result (λ a. growth.new.inner + arms_inner (arms_list a.arms.items) + a.held ≤ growth.old.inner) }
+    ensures tilings { IfOk result (λ a. growth.new.leaves.tilings.items ≡ growth.old.leaves.tilings.items ++ arms_tilings frame.old.scene frame.old.atoms [] (arms_list a.arms.items)) }
+    ensures rests { IfOk result (λ a. lists growth.new.leaves.rests.items ≡ lists growth.old.leaves.rests.items ++ (arms_rests frame.old.scene frame.old.atoms [] (arms_list a.arms.items) ++ left_over frame.old.atoms (length options.now) a.arms.items)) }
     ensures why { IfErr result (λ e. e ≡ Refusal.Memory) }
 {
     let start = frame.mark();
-    let chained = budget.inner > 0 && options.len() < (depth / 2) as usize;
+    let chained = growth.inner > 0 && options.len() < (depth / 2) as usize;
     let mut arms = Vec::with_capacity(alloc, options.len())?;
     let mut held: u32 = 0;
     for j in 0..options.len() {
         if chained && j > 0 {
-            if budget.inner > 1 {
-                budget.inner -= 1;
+            if growth.inner > 1 {
+                growth.inner -= 1;
                 held += 1;
             } else if options.len() - j > 1
                 && j <= held as usize + 1
-                && j <= (budget.nodes - kept) as usize
+                && j <= (growth.nodes - kept) as usize
             {
+                growth.leaves.push_rest(alloc, frame)?;
                 frame.back_to(start);
                 return Ok(Arms { arms, held });
             }
@@ -183,7 +199,7 @@ fn walk_arms(
         };
         let mark = frame.mark();
         frame.pick(placement);
-        let tree = child(alloc, frame, budget, kept + after, deeper)?;
+        let tree = child(alloc, frame, growth, kept + after, deeper)?;
         frame.back_to(mark);
         frame.leave(placement);
         arms.push(Arm { placement, tree })?;
@@ -197,16 +213,16 @@ fn walk_arms(
 fn branch(
     alloc: Global,
     frame: &mut Frame<'_>,
-    budget: &mut Budget,
+    growth: &mut Growth,
     kept: u32,
     depth: u32,
     item: &Item,
     options: &[u32],
 ) -> Result<Tree, Refusal>
-    requires room { kept + length options.now < budget.old.nodes }
-    requires inner { 1 ≤ budget.old.inner }
+    requires room { kept + length options.now < growth.old.nodes }
+    requires inner { 1 ≤ growth.old.inner }
     requires low { 2 ≤ depth }
-    requires steps { length frame.old.atoms + budget.old.nodes ≤ frame.old.given + 4096 + kept }
+    requires steps { length frame.old.atoms + growth.old.nodes ≤ frame.old.given + 4096 + kept }
     requires begun { frame.old.given ≤ length frame.old.atoms }
     requires once { distinct frame.old.scene.live ≡ true }
     requires due { is_due frame.old item.now ≡ true }
@@ -214,51 +230,23 @@ fn branch(
     requires members { (p : ℕ) → mem options.now p ≡ (mem frame.old.scene.live p && is_option frame.old item.now p) }
     ensures same { OnOk result (frame.new ≡ frame.old) }
     ensures grown { IfOk result (λ t. Grown frame.old.scene frame.old.atoms depth (plan_of t)) }
-    ensures nodes { IfOk result (λ t. budget.new.nodes + total (plan_of t) ≡ budget.old.nodes) }
-    ensures inner { IfOk result (λ t. budget.new.inner + inner (plan_of t) ≤ budget.old.inner) }
-    ensures kept { OnOk result (kept ≤ budget.new.nodes) }
+    ensures nodes { IfOk result (λ t. growth.new.nodes + total (plan_of t) ≡ growth.old.nodes) }
+    ensures inner { IfOk result (λ t. growth.new.inner + inner (plan_of t) ≤ growth.old.inner) }
+    ensures tilings { IfOk result (λ t. growth.new.leaves.tilings.items ≡ growth.old.leaves.tilings.items ++ tilings frame.old.scene frame.old.atoms (plan_of t)) }
+    ensures rests { IfOk result (λ t. lists growth.new.leaves.rests.items ≡ lists growth.old.leaves.rests.items ++ rests frame.old.scene frame.old.atoms (plan_of t)) }
+    ensures kept { OnOk result (kept ≤ growth.new.nodes) }
     ensures root { IfOk result (λ t. is_rest (plan_of t) ≡ false) }
     ensures why { IfErr result (λ e. e ≡ Refusal.Memory) }
 {
-    budget.nodes -= 1;
-    budget.inner -= 1;
-    let walked = walk_arms(alloc, frame, budget, kept, depth, item, options)?;
-    let tree = finish(alloc, frame, budget, kept, depth, item, options, walked)?;
-    Ok(tree)
-}
-
-// A Branch where all options were walked, and else a chain over those that were.
-fn finish(
-    alloc: Global,
-    frame: &Frame<'_>,
-    budget: &mut Budget,
-    kept: u32,
-    depth: u32,
-    item: &Item,
-    options: &[u32],
-    walked: Arms,
-) -> Result<Tree, Refusal>
-    requires low { 2 ≤ depth }
-    requires once { distinct frame.now.scene.live ≡ true }
-    requires due { is_due frame.now item.now ≡ true }
-    requires each_once { distinct options.now ≡ true }
-    requires members { (p : ℕ) → mem options.now p ≡ (mem frame.now.scene.live p && is_option frame.now item.now p) }
-    requires fits { budget.old.inner + walked.held < 2 ^ 32 }
-    requires walked { Walked frame.now depth kept options.now budget.old.nodes walked.held walked.arms.items }
-    ensures grown { IfOk result (λ t. Grown frame.now.scene frame.now.atoms depth (plan_of t)) }
-    ensures nodes { IfOk result (λ t. budget.new.nodes + total (plan_of t) ≡ budget.old.nodes + arms_total (arms_list walked.arms.items) + 1) }
-    ensures inner { IfOk result (λ t. budget.new.inner + inner (plan_of t) ≤ budget.old.inner + arms_inner (arms_list walked.arms.items) + walked.held + 1) }
-    ensures kept { OnOk result (kept ≤ budget.new.nodes) }
-    ensures root { IfOk result (λ t. is_rest (plan_of t) ≡ false) }
-    ensures why { IfErr result (λ e. e ≡ Refusal.Memory) }
-{
+    growth.nodes -= 1;
+    growth.inner -= 1;
+    let walked = walk_arms(alloc, frame, growth, kept, depth, item, options)?;
     let Arms { arms, held } = walked;
     if arms.len() == options.len() {
-        budget.inner += held;
+        growth.inner += held;
         return Ok(Tree::Branch { item: *item, arms });
     }
-    budget.nodes -= arms.len() as u32;
-    budget.rests = budget.rests.saturating_add(1);
+    growth.nodes -= arms.len() as u32;
     let tree = link(alloc, arms)?;
     Ok(tree)
 }
@@ -291,35 +279,37 @@ fn link(alloc: Global, arms: Vec<Arm>) -> Result<Tree, Refusal>
 fn split(
     alloc: Global,
     frame: &mut Frame<'_>,
-    budget: &mut Budget,
+    growth: &mut Growth,
     kept: u32,
     depth: u32,
     placement: u32,
 ) -> Result<Tree, Refusal>
-    requires room { kept + 3 ≤ budget.old.nodes }
-    requires inner { 1 ≤ budget.old.inner }
+    requires room { kept + 3 ≤ growth.old.nodes }
+    requires inner { 1 ≤ growth.old.inner }
     requires low { 2 ≤ depth }
-    requires steps { length frame.old.atoms + budget.old.nodes ≤ frame.old.given + 4096 + kept }
+    requires steps { length frame.old.atoms + growth.old.nodes ≤ frame.old.given + 4096 + kept }
     requires begun { frame.old.given ≤ length frame.old.atoms }
     requires once { distinct frame.old.scene.live ≡ true }
     requires place { mem frame.old.scene.live placement ≡ true }
     requires open { is_open frame.old placement ≡ true }
     ensures same { OnOk result (frame.new ≡ frame.old) }
     ensures grown { IfOk result (λ t. Grown frame.old.scene frame.old.atoms depth (plan_of t)) }
-    ensures nodes { IfOk result (λ t. budget.new.nodes + total (plan_of t) ≡ budget.old.nodes) }
-    ensures inner { IfOk result (λ t. budget.new.inner + inner (plan_of t) ≤ budget.old.inner) }
-    ensures kept { OnOk result (kept ≤ budget.new.nodes) }
+    ensures nodes { IfOk result (λ t. growth.new.nodes + total (plan_of t) ≡ growth.old.nodes) }
+    ensures inner { IfOk result (λ t. growth.new.inner + inner (plan_of t) ≤ growth.old.inner) }
+    ensures tilings { IfOk result (λ t. growth.new.leaves.tilings.items ≡ growth.old.leaves.tilings.items ++ tilings frame.old.scene frame.old.atoms (plan_of t)) }
+    ensures rests { IfOk result (λ t. lists growth.new.leaves.rests.items ≡ lists growth.old.leaves.rests.items ++ rests frame.old.scene frame.old.atoms (plan_of t)) }
+    ensures kept { OnOk result (kept ≤ growth.new.nodes) }
     ensures root { IfOk result (λ t. is_rest (plan_of t) ≡ false) }
     ensures why { IfErr result (λ e. e ≡ Refusal.Memory) }
 {
-    budget.nodes -= 1;
-    budget.inner -= 1;
+    growth.nodes -= 1;
+    growth.inner -= 1;
     let mark = frame.mark();
     frame.pick(placement);
-    let taken = child(alloc, frame, budget, kept + 1, depth - 1)?;
+    let taken = child(alloc, frame, growth, kept + 1, depth - 1)?;
     frame.back_to(mark);
     frame.leave(placement);
-    let left = child(alloc, frame, budget, kept, depth - 1)?;
+    let left = child(alloc, frame, growth, kept, depth - 1)?;
     frame.back_to(mark);
     let taken = Box::new(alloc, taken)?;
     let left = Box::new(alloc, left)?;

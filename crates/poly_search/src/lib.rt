@@ -6,8 +6,5 @@ mod lister;
 mod step;
 mod whole;
 
-pub use step::explore;
+pub use step::{Explored, explore, explore_with_leaves};
 pub use whole::search_all;
-
-#[cfg(test)]
-mod tests;

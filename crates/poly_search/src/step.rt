@@ -1,22 +1,57 @@
 //! The worker's step.
 ghost use Rattle.std.specs.Prelude.{◌≡◌, ◌≤◌, true, false, IfOk, IfErr};
 ghost use Rattle.poly_report.specs.Holds.{holds};
-ghost use Rattle.poly_report.specs.Leaves.{rests};
+ghost use Rattle.poly_report.specs.Gather.{lists};
+ghost use Rattle.poly_report.specs.Leaves.{rests, tilings};
 ghost use Rattle.poly_report.specs.Shapes.{plan_of};
 ghost use Rattle.poly_report.specs.Sizes.{all_fewer, fits, inner, is_rest};
 
-use crate::growth::{Budget, grow};
+use crate::growth::{Growth, grow};
 use poly_atom::Atom;
 use poly_grid::Refusal;
-use poly_report::{Frame, Tree};
+use poly_report::{DEPTH, Frame, Leaves, NODES, Tree};
 use poly_tiling::View;
 use std::alloc::Global;
 
-/// The most nodes of a tree.
-const NODES: u32 = 4096;
+/// A tree that was grown for a task, and its leaves.
+#[derive(Drop)]
+pub struct Explored {
+    /// The tree, as `explore` answers it.
+    pub tree: Tree,
+    /// Its leaves, as `poly_report::leaves` answers them.
+    pub leaves: Leaves,
+}
 
-/// The greatest depth of a tree.
-const DEPTH: u32 = 512;
+/// Cuts the family of the atoms up as `explore` does, and gathers the leaves of the tree on the way: the same tilings and
+/// rests as `poly_report::leaves` finds in it, in the same order. The only refusal is `Memory`.
+pub fn explore_with_leaves(
+    alloc: Global,
+    view: &View,
+    atoms: &[Atom],
+    nodes: u32,
+) -> Result<Explored, Refusal>
+    requires some { 1 ≤ nodes }
+    requires few { nodes ≤ 4096 }
+    ensures fits { IfOk result (λ e. fits (plan_of e.tree) ≡ true) }
+    ensures holds { IfOk result (λ e. holds view.now atoms.now (plan_of e.tree) ≡ true) }
+    ensures inner { IfOk result (λ e. inner (plan_of e.tree) ≤ nodes) }
+    ensures root { IfOk result (λ e. is_rest (plan_of e.tree) ≡ false) }
+    ensures smaller { IfOk result (λ e. all_fewer view.now atoms.now (rests view.now atoms.now (plan_of e.tree)) ≡ true) }
+    ensures tilings { IfOk result (λ e. e.leaves.tilings.items ≡ tilings view.now atoms.now (plan_of e.tree)) }
+    ensures rests { IfOk result (λ e. lists e.leaves.rests.items ≡ rests view.now atoms.now (plan_of e.tree)) }
+    ensures why { IfErr result (λ e. e ≡ Refusal.Memory) }
+{
+    let mut frame = Frame::new(alloc, view, atoms)?;
+    let mut growth = Growth {
+        nodes: NODES,
+        inner: nodes,
+        whole: nodes,
+        leaves: Leaves::none(alloc),
+    };
+    let tree = grow(alloc, &mut frame, &mut growth, 0, DEPTH, true)?;
+    let Growth { leaves, .. } = growth;
+    Ok(Explored { tree, leaves })
+}
 
 /// Cuts the family of the atoms up, with at most `nodes` nodes that aren't Rest; `nodes` is from 1 to 4,096.
 ///
@@ -32,13 +67,24 @@ pub fn explore(alloc: Global, view: &View, atoms: &[Atom], nodes: u32) -> Result
     ensures rests { IfOk result (λ t. all_fewer view.now atoms.now (rests view.now atoms.now (plan_of t)) ≡ true) }
     ensures why { IfErr result (λ e. e ≡ Refusal.Memory) }
 {
-    let mut frame = Frame::new(alloc, view, atoms)?;
-    let mut budget = Budget {
-        nodes: NODES,
-        inner: nodes,
-        whole: nodes,
-        rests: 0,
-    };
-    let tree = grow(alloc, &mut frame, &mut budget, 0, DEPTH, true)?;
+    let Explored { tree, leaves: _ } = explore_with_leaves(alloc, view, atoms, nodes)?;
     Ok(tree)
+}
+
+#[cfg(test)]
+mod tests {
+    use super::*;
+
+    #[test]
+    fn nothing_is_open_in_the_empty_design(rt: HostRuntime) {
+        let view = View::with(
+            Vec::new(rt.alloc()),
+            Vec::new(rt.alloc()),
+            Vec::new(rt.alloc()),
+            Vec::new(rt.alloc()),
+        );
+        let found = explore_with_leaves(rt.alloc(), &view, &[], 1).expect(&rt, "memory");
+        assert!(rt; matches!(&found.tree, Tree::Found));
+        assert!(rt; found.leaves.tilings.len() == 1);
+    }
 }

@@ -1,15 +1,21 @@
-use Rattle.std.proofs.Common.{◌≡◌, ◌+◌, ◌-◌, ◌<◌, ◌≤◌, get_or, length, ◌++◌, [], ◌∷◌, arith, refl, sym, ap, subst, length-append, ◌∙◌}
+use Rattle.std.proofs.Common.{◌≡◌, ◌+◌, ◌-◌, ◌<◌, ◌≤◌, get_or, take, length, ◌++◌, [], ◌∷◌, arith, refl, sym, ap, subst, length-append, ◌∙◌}
 use Rattle.poly_atom.specs.declared.atom.Atom.TheVariants.{Has, Lacks}
 use Rattle.poly_report.specs.declared.tree.Arm.{Arm}
-use Rattle.poly_report.specs.Shapes.{plan_of}
+use Rattle.poly_report.specs.declared.leaf.Leaves.{Leaves}
+use Rattle.poly_report.specs.Trees.{Plan, heads}
+use Rattle.poly_report.proofs.Rows.{plan_of-Branch}
+use Rattle.poly_report.specs.Shapes.{arms_list, plan_of}
+use Rattle.poly_report.specs.Gather.{lists}
+use Rattle.poly_report.specs.Leaves.{rests, tilings}
 use Rattle.std.proofs.lemmas.Bool.{true≢false}
-use Rattle.poly_report.specs.Sizes.{Grown}
+use Rattle.poly_report.specs.Sizes.{Grown, inner, total}
 use Rattle.poly_frame.specs.Walk.{Walk}
-use Rattle.poly_search.specs.declared.growth.Budget.{Budget}
-use Rattle.poly_search.proofs.Nodes.{back_is, split_of, past_next, names_next, total_next, inner_next, grown_next, total_some}
-use Rattle.poly_search.proofs.Links.{linked_next, grown_deeper}
+use Rattle.poly_search.specs.declared.growth.Growth.{Growth}
+use Rattle.poly_search.proofs.Gathered.{arm_path, branch_rests, branch_tilings, linked_rests, linked_tilings, named_once, rests_cut, rests_next, split_rests, split_tilings, tilings_next}
+use Rattle.poly_search.proofs.Nodes.{back_is, branch_of, option_at, take_whole, split_of, past_next, names_next, total_next, inner_next, grown_next, total_some}
+use Rattle.poly_search.proofs.Links.{chain_grown, chain_inner, chain_no_rest, chain_total, grown_deeper, linked_next}
 use Rattle.poly_search.proofs.growth.+grow.Goals as goal
-use Rattle.poly_search.proofs.growth.+grow.Goals.{walk_arms-then-chained+then-j-gt0+then-budget-gt1, walk_arms-then-chained+then-j-gt0+else-budget-gt1+else-options-j-gt1, walk_arms-else-chained, walk_arms-then-chained-2, walk_arms-else-chained-2}
+use Rattle.poly_search.proofs.growth.+grow.Goals.{walk_arms-then-chained+then-j-gt0+then-growth-gt1, walk_arms-then-chained+then-j-gt0+else-growth-gt1+else-options-j-gt1, walk_arms-else-chained, walk_arms-then-chained-2, walk_arms-else-chained-2}
 
 pub split-returns-clause-grown : goal.split-returns-clause-grown
 split-returns-clause-grown t c =
@@ -19,6 +25,24 @@ split-returns-clause-grown t c =
     let back = back_is w c.pick.new.self c.child.new.frame c.back_to.new.self (Has p) c.mark-mark.result c.mark-mark.ensures c.pick.ensures c.in_ok-taken.ensures.same c.back_to.ensures in
     let left : c.leave.new.self ≡ record w { atoms = w.atoms ++ Lacks p ∷ [] } = c.leave.ensures ∙ ap (λ (x : Walk). record x { atoms = x.atoms ++ Lacks p ∷ [] }) back in
     let a = split_of w c.pick.new.self c.leave.new.self c.args.depth p (plan_of c.in_ok-taken.taken) (plan_of c.in_ok-left.left) r.low r.once r.place r.open c.pick.ensures left c.in_ok-taken.ensures.grown c.in_ok-left.ensures.grown in
+    rw (c.in_ok-taken-2.ensures.ok, c.in_ok-left-2.ensures.ok) a
+
+pub split-returns-clause-tilings : goal.split-returns-clause-tilings
+split-returns-clause-tilings t c =
+    let w = c.args.frame.now in
+    let r = c.requires in
+    let back = back_is w c.pick.new.self c.child.new.frame c.back_to.new.self (Has c.args.placement) c.mark-mark.result c.mark-mark.ensures c.pick.ensures c.in_ok-taken.ensures.same c.back_to.ensures in
+    let left : c.leave.new.self ≡ record w { atoms = w.atoms ++ Lacks c.args.placement ∷ [] } = c.leave.ensures ∙ ap (λ (x : Walk). record x { atoms = x.atoms ++ Lacks c.args.placement ∷ [] }) back in
+    let a = split_tilings w c.pick.new.self c.leave.new.self c.args.placement (plan_of c.in_ok-taken.taken) (plan_of c.in_ok-left.left) _ _ _ r.place r.open c.pick.ensures left c.in_ok-taken.ensures.tilings c.in_ok-left.ensures.tilings in
+    rw (c.in_ok-taken-2.ensures.ok, c.in_ok-left-2.ensures.ok) a
+
+pub split-returns-clause-rests : goal.split-returns-clause-rests
+split-returns-clause-rests t c =
+    let w = c.args.frame.now in
+    let r = c.requires in
+    let back = back_is w c.pick.new.self c.child.new.frame c.back_to.new.self (Has c.args.placement) c.mark-mark.result c.mark-mark.ensures c.pick.ensures c.in_ok-taken.ensures.same c.back_to.ensures in
+    let left : c.leave.new.self ≡ record w { atoms = w.atoms ++ Lacks c.args.placement ∷ [] } = c.leave.ensures ∙ ap (λ (x : Walk). record x { atoms = x.atoms ++ Lacks c.args.placement ∷ [] }) back in
+    let a = split_rests w c.pick.new.self c.leave.new.self c.args.placement (plan_of c.in_ok-taken.taken) (plan_of c.in_ok-left.left) _ _ _ r.place r.open c.pick.ensures left c.in_ok-taken.ensures.rests c.in_ok-left.ensures.rests in
     rw (c.in_ok-taken-2.ensures.ok, c.in_ok-left-2.ensures.ok) a
 
 pub walk_arms-loop-j-preserved : goal.walk_arms-loop-j-preserved
@@ -31,11 +55,11 @@ walk_arms-loop-j-preserved t c =
     let r = c.requires in
     let a : Arm = record { placement = p; tree = c.in_ok-tree.tree } in
     let lt : j < length ps = omega arith in
-    let spent : (c.if-chained.budget.nodes ≡ c.loop-j.budget.nodes) × (c.if-chained.budget.inner + c.if-chained.held ≤ c.loop-j.budget.inner + c.loop-j.held) × (c.if-chained.held ≤ c.loop-j.held + 1) =
+    let spent : (c.if-chained.growth.nodes ≡ c.loop-j.growth.nodes) × (c.if-chained.growth.inner + c.if-chained.held ≤ c.loop-j.growth.inner + c.loop-j.held) × (c.if-chained.held ≤ c.loop-j.held + 1) =
     elim c.if-chained.branch [
-      | walk_arms-then-chained+then-j-gt0+then-budget-gt1 k ↦ (ap (λ (b : Budget). b.nodes) k.budget-is, omega (arith, ap (λ (b : Budget). b.inner) k.budget-is, k.held-is), omega (arith, k.held-is))
-      | walk_arms-then-chained+then-j-gt0+else-budget-gt1+else-options-j-gt1 k ↦ (ap (λ (b : Budget). b.nodes) k.budget-is, omega (arith, ap (λ (b : Budget). b.inner) k.budget-is, k.held-is), omega (arith, k.held-is))
-      | walk_arms-else-chained k ↦ (ap (λ (b : Budget). b.nodes) k.budget-is, omega (arith, ap (λ (b : Budget). b.inner) k.budget-is, k.held-is), omega (arith, k.held-is))
+      | walk_arms-then-chained+then-j-gt0+then-growth-gt1 k ↦ (ap (λ (b : Growth). b.nodes) k.growth-is, omega (arith, ap (λ (b : Growth). b.inner) k.growth-is, k.held-is), omega (arith, k.held-is))
+      | walk_arms-then-chained+then-j-gt0+else-growth-gt1+else-options-j-gt1 k ↦ (ap (λ (b : Growth). b.nodes) k.growth-is, omega (arith, ap (λ (b : Growth). b.inner) k.growth-is, k.held-is), omega (arith, k.held-is))
+      | walk_arms-else-chained k ↦ (ap (λ (b : Growth). b.nodes) k.growth-is, omega (arith, ap (λ (b : Growth). b.inner) k.growth-is, k.held-is), omega (arith, k.held-is))
     ] in
     let shallow : c.if-chained-2.deeper ≤ c.args.depth - 1 = elim c.if-chained-2.branch [
       | walk_arms-then-chained-2 k ↦ omega (arith, k.deeper-is)
@@ -47,12 +71,21 @@ walk_arms-loop-j-preserved t c =
     let un = inner_next c.loop-j.arms.items c.push.new.self.items a more in
     let g = c.in_ok-tree.ensures in
     let some = total_some (plan_of a.tree) in
+    let o = option_at w c.args.item.now ps j lt r.members in
+    let under = arm_path w c.loop-j.frame c.pick.new.self (take j ps) (heads (arms_list c.loop-j.arms.items)) p i.path c.pick.ensures i.names in
+    let same : c.if-chained.growth.leaves ≡ c.loop-j.growth.leaves = elim c.if-chained.branch [
+      | walk_arms-then-chained+then-j-gt0+then-growth-gt1 k ↦ ap (λ (b : Growth). b.leaves) k.growth-is
+      | walk_arms-then-chained+then-j-gt0+else-growth-gt1+else-options-j-gt1 k ↦ ap (λ (b : Growth). b.leaves) k.growth-is
+      | walk_arms-else-chained k ↦ ap (λ (b : Growth). b.leaves) k.growth-is
+    ] in
     record {
       path = past_next w c.back_to-in-loop-j.new.self c.leave.new.self ps j lt (back ∙ i.path) c.leave.ensures;
       many = omega (arith, ap length more, length-append c.loop-j.arms.items (a ∷ []), i.many);
       names = names_next c.loop-j.arms.items c.push.new.self.items a ps j lt more refl i.names;
       nodes = omega (arith, tn, g.nodes, i.nodes, spent.0);
       inner = omega (arith, un, g.inner, i.inner, spent.1);
+      tilings = tilings_next w c.pick.new.self c.loop-j.arms.items c.push.new.self.items a p o.0 o.1 under more refl _ c.loop-j.growth.leaves.tilings.items _ i.tilings (g.tilings ∙ ap (λ (l : Leaves). l.tilings.items ++ tilings c.pick.new.self.scene c.pick.new.self.atoms (plan_of a.tree)) same);
+      rests = rests_next w c.pick.new.self c.loop-j.arms.items c.push.new.self.items a p o.0 o.1 under more refl _ (lists c.loop-j.growth.leaves.rests.items) _ i.rests (g.rests ∙ ap (λ (l : Leaves). lists l.rests.items ++ rests c.pick.new.self.scene c.pick.new.self.atoms (plan_of a.tree)) same);
       counted = omega (arith, tn, some, i.counted);
       room = omega (arith, g.kept, i.room);
       grown = grown_next w c.loop-j.frame c.pick.new.self _ c.args.item.now c.loop-j.arms.items c.push.new.self.items a ps j lt r.once r.members i.path c.pick.ensures i.names more refl i.grown (grown_deeper _ _ _ _ _ shallow g.grown);
@@ -66,3 +99,81 @@ walk_arms-loop-j-preserved t c =
       short = i.short;
       held = omega (arith, spent.2, i.held);
     }
+
+pub child-returns-then-inner-growth-clause-rests : goal.child-returns-then-inner-growth-clause-rests
+child-returns-then-inner-growth-clause-rests t c =
+    let w = c.args.frame.now in
+    let old = c.args.growth.now.leaves.rests in
+    let cut = c.truncate-then-inner-growth in
+    let back = rests_cut old.items c.grow.new.growth.leaves.rests.items cut.new.self.items _ c.len-rests.result (omega (arith, c.len-rests.ensures, old.ok)) c.in_ok-tree.ensures.rests cut.ensures.items in
+    c.in_ok-cut.ensures.rests ∙ ap (λ xs. xs ++ c.grow.new.frame.atoms ∷ []) back ∙ ap (λ (x : Walk). lists old.items ++ x.atoms ∷ []) c.in_ok-tree.ensures.same
+    ∙ ap (λ p. lists old.items ++ rests w.scene w.atoms p) (sym c.in_ok-cut.ensures.tree)
+
+pub branch-returns-then-len-options-clause-grown : goal.branch-returns-then-len-options-clause-grown
+branch-returns-then-len-options-clause-grown t c =
+    let r = c.requires in
+    let e = c.in_ok-walked.ensures in
+    let arms = c.in_ok-walked.walked.arms in
+    let all = take_whole c.args.options.now (length arms.items) (omega (arith, c.len.ensures, c.if-len-options.true, arms.ok)) in
+    branch_of c.args.frame.now c.args.depth c.args.item.now arms.items c.args.options.now _ r.low r.once r.each_once r.members r.due (e.walked.names ∙ all) e.walked.grown (plan_of-Branch c.args.item.now arms)
+
+pub branch-returns-then-len-options-clause-nodes : goal.branch-returns-then-len-options-clause-nodes
+branch-returns-then-len-options-clause-nodes t c = omega (arith, ap total (plan_of-Branch c.args.item.now c.in_ok-walked.walked.arms), c.in_ok-walked.ensures.nodes, c.requires.room)
+
+pub branch-returns-then-len-options-clause-inner : goal.branch-returns-then-len-options-clause-inner
+branch-returns-then-len-options-clause-inner t c = omega (arith, ap inner (plan_of-Branch c.args.item.now c.in_ok-walked.walked.arms), c.in_ok-walked.ensures.inner, c.requires.inner)
+
+pub branch-returns-then-len-options-clause-tilings : goal.branch-returns-then-len-options-clause-tilings
+branch-returns-then-len-options-clause-tilings t c =
+    let arms = c.in_ok-walked.walked.arms in
+    branch_tilings c.args.frame.now c.args.item.now arms.items _ _ _ (plan_of-Branch c.args.item.now arms) c.in_ok-walked.ensures.tilings
+
+pub branch-returns-then-len-options-clause-rests : goal.branch-returns-then-len-options-clause-rests
+branch-returns-then-len-options-clause-rests t c =
+    let arms = c.in_ok-walked.walked.arms in
+    let all : length c.args.options.now ≤ length arms.items = omega (arith, c.len.ensures, c.if-len-options.true, arms.ok) in
+    branch_rests c.args.frame.now c.args.item.now arms.items (length c.args.options.now) _ _ _ (plan_of-Branch c.args.item.now arms) all c.in_ok-walked.ensures.rests
+
+pub branch-returns-clause-grown : goal.branch-returns-clause-grown
+branch-returns-clause-grown t c =
+    let r = c.requires in
+    let arms = c.in_ok-walked.walked.arms in
+    let few = c.in_ok-walked.ensures.walked in
+    let early = few.early (omega (arith, c.len.ensures, c.if-len-options.false, arms.ok, few.few)) in
+    subst (λ (p : Plan). Grown c.args.frame.now.scene c.args.frame.now.atoms c.args.depth p) (sym c.in_ok-tree.ensures.tree)
+    (chain_grown c.args.frame.now c.args.depth c.args.item.now arms.items c.args.options.now r.once r.members few.names few.few early.some early.shallow early.linked)
+
+pub branch-returns-clause-nodes : goal.branch-returns-clause-nodes
+branch-returns-clause-nodes t c =
+    let arms = c.in_ok-walked.walked.arms in
+    let few = c.in_ok-walked.ensures.walked in
+    let early = few.early (omega (arith, c.len.ensures, c.if-len-options.false, arms.ok, few.few)) in
+    omega (arith, chain_total arms.items (plan_of c.in_ok-tree.tree) c.in_ok-tree.ensures.tree, c.len-2.ensures, arms.ok, early.room, c.in_ok-walked.ensures.nodes, c.requires.room)
+
+pub branch-returns-clause-inner : goal.branch-returns-clause-inner
+branch-returns-clause-inner t c =
+    let arms = c.in_ok-walked.walked.arms in
+    let few = c.in_ok-walked.ensures.walked in
+    let early = few.early (omega (arith, c.len.ensures, c.if-len-options.false, arms.ok, few.few)) in
+    omega (arith, chain_inner arms.items (plan_of c.in_ok-tree.tree) c.in_ok-tree.ensures.tree, early.paid, c.in_ok-walked.ensures.inner, c.requires.inner)
+
+pub branch-returns-clause-tilings : goal.branch-returns-clause-tilings
+branch-returns-clause-tilings t c =
+    let arms = c.in_ok-walked.walked.arms in
+    let once = named_once c.args.options.now _ (length arms.items) c.in_ok-walked.ensures.walked.names c.requires.each_once in
+    linked_tilings c.args.frame.now arms.items (plan_of c.in_ok-tree.tree) _ _ c.in_ok-tree.ensures.tree once c.in_ok-walked.ensures.tilings
+
+pub branch-returns-clause-rests : goal.branch-returns-clause-rests
+branch-returns-clause-rests t c =
+    let arms = c.in_ok-walked.walked.arms in
+    let few = c.in_ok-walked.ensures.walked in
+    let short : length arms.items < length c.args.options.now = omega (arith, c.len.ensures, c.if-len-options.false, arms.ok, few.few) in
+    let once = named_once c.args.options.now _ (length arms.items) few.names c.requires.each_once in
+    linked_rests c.args.frame.now arms.items (length c.args.options.now) (plan_of c.in_ok-tree.tree) _ _ c.in_ok-tree.ensures.tree once short c.in_ok-walked.ensures.rests
+
+pub branch-returns-clause-root : goal.branch-returns-clause-root
+branch-returns-clause-root t c =
+    let arms = c.in_ok-walked.walked.arms in
+    let few = c.in_ok-walked.ensures.walked in
+    let early = few.early (omega (arith, c.len.ensures, c.if-len-options.false, arms.ok, few.few)) in
+    chain_no_rest arms.items (plan_of c.in_ok-tree.tree) c.in_ok-tree.ensures.tree early.some

@@ -1,7 +1,9 @@
-use Rattle.std.proofs.Common.{◌≡◌, ◌+◌, ◌*◌, ◌-◌, ◌≤◌, ◌++◌, take, map, length, true}
+use Rattle.std.proofs.Common.{◌≡◌, ◌+◌, ◌*◌, ◌-◌, ◌≤◌, ◌++◌, take, map, length, true, []}
 use Rattle.poly_atom.specs.declared.atom.Atom.TheVariants.{Lacks}
 use Rattle.poly_report.specs.Trees.{heads}
 use Rattle.poly_report.specs.Shapes.{arms_list}
+use Rattle.poly_report.specs.Gather.{lists}
+use Rattle.poly_report.specs.Leaves.{arms_rests, arms_tilings}
 use Rattle.poly_report.specs.Sizes.{arms_total, arms_inner, ArmsGrown}
 use Rattle.poly_search.specs.Chains.{Chains}
 use Rattle.poly_search.proofs.growth.+grow.Given as goal
@@ -27,10 +29,12 @@ invariant-walk_arms-loop-j l = record {
   path : l.frame ≡ record l.fn.frame { atoms = l.fn.frame.atoms ++ map (λ q. Lacks q) (take l.j l.options) };
   many : length l.arms.items ≡ l.j;
   names : heads (arms_list l.arms.items) ≡ take l.j l.options;
-  nodes : l.budget.nodes + arms_total (arms_list l.arms.items) ≡ l.fn.budget.nodes;
-  inner : l.budget.inner + arms_inner (arms_list l.arms.items) + l.held ≤ l.fn.budget.inner;
+  nodes : l.growth.nodes + arms_total (arms_list l.arms.items) ≡ l.fn.growth.nodes;
+  inner : l.growth.inner + arms_inner (arms_list l.arms.items) + l.held ≤ l.fn.growth.inner;
+  tilings : l.growth.leaves.tilings.items ≡ l.fn.growth.leaves.tilings.items ++ arms_tilings l.fn.frame.scene l.fn.frame.atoms [] (arms_list l.arms.items);
+  rests : lists l.growth.leaves.rests.items ≡ lists l.fn.growth.leaves.rests.items ++ arms_rests l.fn.frame.scene l.fn.frame.atoms [] (arms_list l.arms.items);
   counted : l.j ≤ arms_total (arms_list l.arms.items);
-  room : l.kept + length l.options ≤ l.budget.nodes + l.j;
+  room : l.kept + length l.options ≤ l.growth.nodes + l.j;
   grown : ArmsGrown l.fn.frame.scene l.fn.frame.atoms (l.depth - 1) (arms_list l.arms.items);
   linked : l.chained ≡ true → Chains l.fn.frame.scene l.fn.frame.atoms l.depth (arms_list l.arms.items);
   short : l.chained ≡ true → length l.options + 2 ≤ l.depth;
