@@ -1,12 +1,12 @@
 -- What the rows say of the arms of a Branch, of dead placements and of a base that is short.
 use Rattle.std.proofs.Common.{◌≡◌, ℕ, zero, suc, ◌+◌, ◌-◌, ◌*◌, ◌<◌, ◌≤◌, Bool, true, false, max, not, ◌&&◌, ◌||◌, ltb, leb, List, [], ◌∷◌, ◌++◌, sym, ap, ◌∙◌, arith, length, get_or, take}
 use Rattle.std.specs.List.{list_any}
-use Rattle.std.proofs.lemmas.Bool.{and_from, and_parts, false_from_ne_true, lt-ltb, ltb-true, not-true, or_parts}
+use Rattle.std.proofs.lemmas.Bool.{and_from, and_parts, false_from_ne_true, ltb-true, not-true, or_parts}
 use Rattle.std.proofs.lemmas.List.{take_more}
 use Rattle.poly_tiling.specs.declared.item.Item.{Item}
 use Rattle.poly_tiling.specs.Lists.{distinct, mem, one, tally}
 use Rattle.poly_tiling.specs.Puzzle.{View, clash, count, has_item, is_tiling, items, same_item}
-use Rattle.poly_tiling.proofs.Lists.{In, in_mem, mem_in, same_truth}
+use Rattle.poly_tiling.proofs.Lists.{In, in_mem, mem_in}
 use Rattle.poly_tiling.proofs.Counts.{ascending_distinct, tally_within}
 use Rattle.poly_tiling.proofs.Orders.{live_once}
 use Rattle.poly_tiling.proofs.Tilings.{parts, same_item_is}
@@ -76,14 +76,14 @@ apart f g (x ∷ xs) = omega (arith, parted (f x) (g x), apart f g xs)
 
 -- what is not ruled out is open, or it is a member of the base
 pub loose_parts : (v : View) (A : List Atom) (first : ℕ) (t : Table) (live have raised marks : List ℕ) → Kept v A first t live have raised marks → (i : Item) →
-    tally (λ p. open_in v A p && has_item v p i) t.numbers.items + tally (λ p. has_item v p i && (mem v.live p && not (ruled_out v A p))) (base v A)
+    tally (λ p. open_in v A p && has_item v p i) t.matrix.numbers.items + tally (λ p. has_item v p i && (mem v.live p && not (ruled_out v A p))) (base v A)
     ≡ tally (λ p. has_item v p i && not (ruled_out v A p)) v.live
 loose_parts v A first t live have raised marks K i =
     omega (
       arith,
       apart f (λ p. mem T p) v.live,
-      tally_within g out t.numbers.items v.live K.table.once down,
-      tally_within out g v.live t.numbers.items once up,
+      tally_within g out t.matrix.numbers.items v.live K.table.matrix.once down,
+      tally_within out g v.live t.matrix.numbers.items once up,
       tally_within h in' T v.live (ascending_distinct T (base_up v A)) here,
       tally_within in' h v.live T once there,
     )
@@ -92,7 +92,7 @@ loose_parts v A first t live have raised marks K i =
     T = base v A
 
     once : distinct v.live ≡ true
-    once = live_once v K.table.well
+    once = live_once v K.table.matrix.well
 
     f : ℕ → Bool
     f p = has_item v p i && not (ruled_out v A p)
@@ -109,13 +109,13 @@ loose_parts v A first t live have raised marks K i =
     in' : ℕ → Bool
     in' p = f p && mem T p
 
-    down : (x : ℕ) → In x t.numbers.items → g x ≡ true → In x v.live × (out x ≡ true)
+    down : (x : ℕ) → In x t.matrix.numbers.items → g x ≡ true → In x v.live × (out x ≡ true)
     down x k e =
         let one' = and_parts (open_in v A x) (has_item v x i) e in
         let free = and_parts (not (mem T x)) (not (ruled_out v A x)) one'.0 in
-        (mem_in v.live x (K.table.begun x (in_mem t.numbers.items x k)).0, and_from _ _ (and_from _ _ one'.1 free.1) free.0)
+        (mem_in v.live x (K.table.begun x (in_mem t.matrix.numbers.items x k)).0, and_from _ _ (and_from _ _ one'.1 free.1) free.0)
 
-    up : (x : ℕ) → In x v.live → out x ≡ true → In x t.numbers.items × (g x ≡ true)
+    up : (x : ℕ) → In x v.live → out x ≡ true → In x t.matrix.numbers.items × (g x ≡ true)
     up x k e =
         let three = and_parts (f x) (not (mem T x)) e in
         let one' = and_parts (has_item v x i) (not (ruled_out v A x)) three.0 in
@@ -135,10 +135,10 @@ loose_parts v A first t live have raised marks K i =
         (mem_in T x three.1, and_from _ _ one'.0 (and_from _ _ (in_mem v.live x k) one'.1))
 
 -- a number that is in both rows
-pub loose_says : (v : View) (A : List Atom) (first : ℕ) (t : Table) (live have raised marks : List ℕ) → Kept v A first t live have raised marks → (i : Item) (at b : ℕ) → at ≡ length live - t.width → b < length v.bounds → same_item (item_of v b) i ≡ true →
-    (j : ℕ) → j < length t.numbers.items → (open_in v A (get_or t.numbers.items j 0) && has_item v (get_or t.numbers.items j 0) i) ≡ in_both live at t.rows.items (t.width * b) j
+pub loose_says : (v : View) (A : List Atom) (first : ℕ) (t : Table) (live have raised marks : List ℕ) → Kept v A first t live have raised marks → (i : Item) (at b : ℕ) → at ≡ length live - t.matrix.width → b < length v.bounds → same_item (item_of v b) i ≡ true →
+    (j : ℕ) → j < length t.matrix.numbers.items → (open_in v A (get_or t.matrix.numbers.items j 0) && has_item v (get_or t.matrix.numbers.items j 0) i) ≡ in_both live at t.matrix.rows.items (t.matrix.width * b) j
 loose_says v A first t live have raised marks K i at b e l s j h =
-    ap (λ k. open_in v A (get_or t.numbers.items j 0) && has_item v (get_or t.numbers.items j 0) k) (sym (same_item_is (item_of v b) i s))
+    ap (λ k. open_in v A (get_or t.matrix.numbers.items j 0) && has_item v (get_or t.matrix.numbers.items j 0) k) (sym (same_item_is (item_of v b) i s))
     ∙ row_says v A first t live have raised marks K at b e l j h
 
 -- what a Branch needs is the greater of what is asked for and what the base has

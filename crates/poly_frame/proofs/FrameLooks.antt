@@ -1,9 +1,9 @@
 -- What the rows of a frame answer.
-use Rattle.std.proofs.Common.{◌≡◌, ℕ, zero, suc, ◌+◌, ◌-◌, ◌*◌, ◌<◌, ◌≤◌, Bool, true, false, cond, not, ◌&&◌, nat_lt, List, [], ◌∷◌, ◌++◌, inl, inr, refl, sym, ap, subst, ◌∙◌, arith, length, get_or, take, drop}
+use Rattle.std.proofs.Common.{◌≡◌, ℕ, zero, suc, ◌+◌, ◌-◌, ◌*◌, ◌<◌, ◌≤◌, MatchOption, None, Option, Some, ◌||◌, Bool, true, false, cond, not, ◌&&◌, nat_lt, List, [], ◌∷◌, ◌++◌, inl, inr, refl, sym, ap, subst, ◌∙◌, arith, length, get_or, take, drop}
 use Rattle.std.specs.List.{filter, list_any, list_all}
 use Rattle.std.proofs.Math.Nat.{mul-le-mul_left}
 use Rattle.std.proofs.lemmas.List.{take_more, take_all, take-append-drop}
-use Rattle.std.proofs.lemmas.Bool.{and_from, and_parts, both_ways, false_from_ne_true, not_from_false, not-true}
+use Rattle.std.proofs.lemmas.Bool.{and_from, and_parts, both_ways, false_from_ne_true, not_from_false, not-true, or_cases}
 use Rattle.poly_tiling.specs.declared.item.Item.{Item}
 use Rattle.poly_tiling.specs.Lists.{distinct, mem}
 use Rattle.poly_tiling.specs.Puzzle.{Bound, View, count, has_item, same_item}
@@ -25,6 +25,40 @@ use Rattle.poly_frame.proofs.Opens.{open_before}
 use Rattle.poly_frame.proofs.Walks.{distinct_filter, mem_filter}
 use Rattle.poly_frame.proofs.FramePicks.{place_of}
 use Rattle.poly_frame.proofs.FrameSteps.{index_in, listed_at, top_have, top_level}
+
+all_bounds : (bs : List Bound) (f : Bound → Bool) → ((b : ℕ) → b < length bs → f (get_or bs b no_bound) ≡ true) → list_all f bs ≡ true
+all_bounds [] f h = refl
+all_bounds (x ∷ bs) f h = and_from _ _ (h zero (omega arith)) (all_bounds bs f (λ b l. h (suc b) (omega arith)))
+
+-- where no item of the view is due, and none that an atom asks for is both due and elsewhere, the atoms ask for none that is due
+none_elsewhere : (v : View) (A : List Atom) (T : List ℕ) (X : List Atom) → ((b : ℕ) → b < length v.bounds → nat_lt (count v T (item_of v b)) (asks v A (item_of v b)) ≡ false) →
+    list_all (of_asked (λ i. list_any (λ b. same_item b.0 i) v.bounds || not (nat_lt (count v T i) (asks v A i)))) X ≡ true → list_all (of_asked (λ i. not (nat_lt (count v T i) (asks v A i)))) X ≡ true
+none_elsewhere v A T [] n h = refl
+none_elsewhere v A T (Has p ∷ X) n h = none_elsewhere v A T X n h
+none_elsewhere v A T (Lacks p ∷ X) n h = none_elsewhere v A T X n h
+none_elsewhere v A T (AtMost i k ∷ X) n h = none_elsewhere v A T X n h
+none_elsewhere v A T (AtLeast i k ∷ X) n h =
+    let here = list_any (λ b. same_item b.0 i) v.bounds in
+    let free = not (nat_lt (count v T i) (asks v A i)) in
+    let hs = and_parts (here || free) (list_all (of_asked (λ j. list_any (λ b. same_item b.0 j) v.bounds || not (nat_lt (count v T j) (asks v A j)))) X) h in
+    let yes : free ≡ true = elim (or_cases here free hs.0) [
+      | inl y ↦ let w = place_of v.bounds i y in not_from_false _ (subst (λ j. nat_lt (count v T j) (asks v A j) ≡ false) w.2 (n w.0 w.1))
+      | inr e ↦ e
+    ] in
+    and_from free (list_all (of_asked (λ j. not (nat_lt (count v T j) (asks v A j)))) X) yes (none_elsewhere v A T X n hs.1)
+
+pub none_asked : (v : View) (A : List Atom) (T : List ℕ) → T ≡ base v A → list_all (of_asked (λ i. list_any (λ b. same_item b.0 i) v.bounds || not (nat_lt (count v T i) (asks v A i)))) A ≡ true →
+    ((b : ℕ) → b < length v.bounds → nat_lt (count v (base v A) (item_of v b)) (asks v A (item_of v b)) ≡ false) → (i : Item) → nat_lt (count v (base v A) i) (asks v A i) ≡ false
+none_asked v A T e h n i =
+    let h2 = subst (λ (xs : List ℕ). list_all (of_asked (λ i. list_any (λ b. same_item b.0 i) v.bounds || not (nat_lt (count v xs i) (asks v A i)))) A ≡ true) e h in
+    none_due v A (base v A) (all_bounds v.bounds (λ b. not (nat_lt (count v (base v A) b.0) (asks v A b.0))) (λ b l. not_from_false _ (n b l))) (none_elsewhere v A (base v A) A n h2) i
+
+-- none at all where none of the view's is due
+pub all_due : (v : View) (A : List Atom) (o : Option Item) → MatchOption o ((b : ℕ) → b < length v.bounds → nat_lt (count v (base v A) (item_of v b)) (asks v A (item_of v b)) ≡ false) (λ i. nat_lt (count v (base v A) i) (asks v A i) ≡ true) →
+    (((b : ℕ) → b < length v.bounds → nat_lt (count v (base v A) (item_of v b)) (asks v A (item_of v b)) ≡ false) → (i : Item) → nat_lt (count v (base v A) i) (asks v A i) ≡ false) →
+    MatchOption o ((i : Item) → nat_lt (count v (base v A) i) (asks v A i) ≡ false) (λ i. nat_lt (count v (base v A) i) (asks v A i) ≡ true)
+all_due v A None h f = f h
+all_due v A (Some i) h f = h
 
 due_atoms : (v : View) (f : Item → Bool) (A : List Atom) → list_all (of_asked (λ i. list_any (λ b. same_item b.0 i) v.bounds)) A ≡ true → ((i : Item) → ((b : ℕ) × (b < length v.bounds) × (item_of v b ≡ i)) → f i ≡ true) → list_all (of_asked f) A ≡ true
 due_atoms v f [] h g = refl
@@ -72,60 +106,60 @@ in_row ws at j = twice (has_bit ws (64 * at + j))
 
 module _ (v : View) (A : List Atom) (first : ℕ) (t : Table) (live have raised marks : List ℕ) (K : Kept v A first t live have raised marks) where
   -- the row on top
-  pub top_row : (at j : ℕ) → at ≡ length live - t.width → j < length t.numbers.items → has_bit live (64 * at + j) ≡ open_in v A (get_or t.numbers.items j 0)
+  pub top_row : (at j : ℕ) → at ≡ length live - t.matrix.width → j < length t.matrix.numbers.items → has_bit live (64 * at + j) ≡ open_in v A (get_or t.matrix.numbers.items j 0)
   top_row at j e h = ap (λ x. has_bit live x) (omega (arith, K.live_len)) ∙ (top_level v A first t live have raised marks K).row.opened j h
 
-  pub top_room : t.width ≤ length live
-  top_room = let m = mul-le-mul_left {m = 1} {n = length marks + 1} t.width (omega arith) in omega (arith, K.live_len)
+  pub top_room : t.matrix.width ≤ length live
+  top_room = let m = mul-le-mul_left {m = 1} {n = length marks + 1} t.matrix.width (omega arith) in omega (arith, K.live_len)
 
-  pub rows_room : (b : ℕ) → b < length v.bounds → t.width * b + t.width ≤ length t.rows.items
-  rows_room b h = let m = mul-le-mul_left {m = b + 1} {n = length v.bounds} t.width (omega arith) in omega (arith, K.table.rows_len)
+  pub rows_room : (b : ℕ) → b < length v.bounds → t.matrix.width * b + t.matrix.width ≤ length t.matrix.rows.items
+  rows_room b h = let m = mul-le-mul_left {m = b + 1} {n = length v.bounds} t.matrix.width (omega arith) in omega (arith, K.table.matrix.rows_len)
 
-  pub row_says : (at b : ℕ) → at ≡ length live - t.width → b < length v.bounds → (j : ℕ) → j < length t.numbers.items →
-      (open_in v A (get_or t.numbers.items j 0) && has_item v (get_or t.numbers.items j 0) (item_of v b)) ≡ (has_bit live (64 * at + j) && has_bit t.rows.items (64 * (t.width * b) + j))
-  row_says at b e l j h = sym (ap (λ x. x && has_bit t.rows.items (64 * (t.width * b) + j)) (top_row at j e h) ∙ ap (λ x. open_in v A (get_or t.numbers.items j 0) && x) (K.table.rows b j l h))
+  pub row_says : (at b : ℕ) → at ≡ length live - t.matrix.width → b < length v.bounds → (j : ℕ) → j < length t.matrix.numbers.items →
+      (open_in v A (get_or t.matrix.numbers.items j 0) && has_item v (get_or t.matrix.numbers.items j 0) (item_of v b)) ≡ (has_bit live (64 * at + j) && has_bit t.matrix.rows.items (64 * (t.matrix.width * b) + j))
+  row_says at b e l j h = sym (ap (λ x. x && has_bit t.matrix.rows.items (64 * (t.matrix.width * b) + j)) (top_row at j e h) ∙ ap (λ x. open_in v A (get_or t.matrix.numbers.items j 0) && x) (K.table.matrix.rows b j l h))
 
-  pub open_first : (q : ℕ) → mem v.live q ≡ true → open_in v A q ≡ true → mem t.numbers.items q ≡ true
-  open_first q m o = K.table.all q m (open_before v (take first A) (drop first A) q (live_once v K.table.well) (mem_in _ q m) (subst (λ xs. open_in v xs q ≡ true) (sym (take-append-drop first A)) o))
+  pub open_first : (q : ℕ) → mem v.live q ≡ true → open_in v A q ≡ true → mem t.matrix.numbers.items q ≡ true
+  open_first q m o = K.table.all q m (open_before v (take first A) (drop first A) q (live_once v K.table.matrix.well) (mem_in _ q m) (subst (λ xs. open_in v xs q ≡ true) (sym (take-append-drop first A)) o))
 
-  pub options_once : (f : ℕ → Bool) → distinct (filter f t.numbers.items) ≡ true
-  options_once f = distinct_filter f t.numbers.items K.table.once
+  pub options_once : (f : ℕ → Bool) → distinct (filter f t.matrix.numbers.items) ≡ true
+  options_once f = distinct_filter f t.matrix.numbers.items K.table.matrix.once
 
-  pub options_members : (i : Item) (p : ℕ) → mem (filter (λ p. open_in v A p && has_item v p i) t.numbers.items) p ≡ (mem v.live p && (open_in v A p && has_item v p i))
-  options_members i p = mem_filter (λ p. open_in v A p && has_item v p i) t.numbers.items p ∙ same_truth _ _
-      (λ e. let r = and_parts (mem t.numbers.items p) _ e in and_from _ _ (K.table.begun p r.0).0 r.1)
+  pub options_members : (i : Item) (p : ℕ) → mem (filter (λ p. open_in v A p && has_item v p i) t.matrix.numbers.items) p ≡ (mem v.live p && (open_in v A p && has_item v p i))
+  options_members i p = mem_filter (λ p. open_in v A p && has_item v p i) t.matrix.numbers.items p ∙ same_truth _ _
+      (λ e. let r = and_parts (mem t.matrix.numbers.items p) _ e in and_from _ _ (K.table.begun p r.0).0 r.1)
       (λ e. let r = and_parts (mem v.live p) _ e in and_from _ _ (open_first p r.0 (and_parts (open_in v A p) _ r.1).0) r.1)
 
   none_in : (i : Item) → ((b : ℕ) → b < length v.bounds → same_item (item_of v b) i ≡ false) → (xs : List ℕ) → ((x : ℕ) → In x xs → In x v.live) → filter (λ p. open_in v A p && has_item v p i) xs ≡ []
   none_in i n [] h = refl
   none_in i n (x ∷ xs) h =
-      let no : has_item v x i ≡ false = false_from_ne_true _ (λ y. let w = place_of v.bounds i (listed_item v K.table.well x (h x (inl refl)) i y) in both_ways _ (n w.0 w.1) (ap (λ k. same_item k i) w.2 ∙ same_item_self i)) in
+      let no : has_item v x i ≡ false = false_from_ne_true _ (λ y. let w = place_of v.bounds i (listed_item v K.table.matrix.well x (h x (inl refl)) i y) in both_ways _ (n w.0 w.1) (ap (λ k. same_item k i) w.2 ∙ same_item_self i)) in
       ap (λ b. cond (open_in v A x && b) (x ∷ filter (λ p. open_in v A p && has_item v p i) xs) (filter (λ p. open_in v A p && has_item v p i) xs)) no ∙ never (open_in v A x) _ _ ∙ none_in i n xs (λ y k. h y (inr k))
     where
       never : (b : Bool) (xs ys : List ℕ) → cond (b && false) xs ys ≡ ys
       never true xs ys = refl
       never false xs ys = refl
 
-  pub none_has : (i : Item) → ((b : ℕ) → b < length v.bounds → same_item (item_of v b) i ≡ false) → [] ≡ filter (λ p. open_in v A p && has_item v p i) t.numbers.items
-  none_has i n = sym (none_in i n t.numbers.items (λ x k. mem_in v.live x (K.table.begun x (in_mem t.numbers.items x k)).0))
+  pub none_has : (i : Item) → ((b : ℕ) → b < length v.bounds → same_item (item_of v b) i ≡ false) → [] ≡ filter (λ p. open_in v A p && has_item v p i) t.matrix.numbers.items
+  none_has i n = sym (none_in i n t.matrix.numbers.items (λ x k. mem_in v.live x (K.table.begun x (in_mem t.matrix.numbers.items x k)).0))
 
-  pub open_one : (j : ℕ) → j < length t.numbers.items → open_in v A (get_or t.numbers.items j 0) ≡ true → (mem v.live (get_or t.numbers.items j 0) ≡ true) × (open_in v A (get_or t.numbers.items j 0) ≡ true)
-  open_one j h o = ((K.table.begun _ (listed_at t.numbers.items j h)).0, o)
+  pub open_one : (j : ℕ) → j < length t.matrix.numbers.items → open_in v A (get_or t.matrix.numbers.items j 0) ≡ true → (mem v.live (get_or t.matrix.numbers.items j 0) ≡ true) × (open_in v A (get_or t.matrix.numbers.items j 0) ≡ true)
+  open_one j h o = ((K.table.begun _ (listed_at t.matrix.numbers.items j h)).0, o)
 
-  pub open_none : ((j : ℕ) → j < length t.numbers.items → open_in v A (get_or t.numbers.items j 0) ≡ false) → list_all (λ p. not (open_in v A p)) v.live ≡ true
+  pub open_none : ((j : ℕ) → j < length t.matrix.numbers.items → open_in v A (get_or t.matrix.numbers.items j 0) ≡ false) → list_all (λ p. not (open_in v A p)) v.live ≡ true
   open_none n = all_from (λ p. not (open_in v A p)) v.live (λ q i. not_from_false _ (false_from_ne_true (open_in v A q) (λ o.
-      let w = index_in t.numbers.items q (open_first q (in_mem v.live q i) o) in
+      let w = index_in t.matrix.numbers.items q (open_first q (in_mem v.live q i) o) in
       both_ways (open_in v A q) (subst (λ p. open_in v A p ≡ false) w.2 (n w.0 w.1)) o)))
 
   -- the row on top, looked at beside itself
-  module _ (ws rs : List ℕ) (at : ℕ) (same : ws ≡ live) (too : rs ≡ live) (e : at ≡ length live - t.width) where
-    row_alone : (j : ℕ) → j < length t.numbers.items → open_in v A (get_or t.numbers.items j 0) ≡ in_both ws at rs at j
+  module _ (ws rs : List ℕ) (at : ℕ) (same : ws ≡ live) (too : rs ≡ live) (e : at ≡ length live - t.matrix.width) where
+    row_alone : (j : ℕ) → j < length t.matrix.numbers.items → open_in v A (get_or t.matrix.numbers.items j 0) ≡ in_both ws at rs at j
     row_alone j h = sym (ap (λ xs. in_both xs at rs at j) same ∙ ap (λ xs. in_both live at xs at j) too ∙ in_row live at j ∙ top_row at j e h)
 
-    pub none_to : (high : ℕ) → length t.numbers.items ≤ high → NoneIn (in_both ws at rs at) 0 high → list_all (λ p. not (open_in v A p)) v.live ≡ true
+    pub none_to : (high : ℕ) → length t.matrix.numbers.items ≤ high → NoneIn (in_both ws at rs at) 0 high → list_all (λ p. not (open_in v A p)) v.live ≡ true
     none_to high h none = open_none (λ j l. row_alone j l ∙ none j (omega arith) (omega arith))
 
-    pub one_at : (j p : ℕ) → j < length t.numbers.items → in_both ws at rs at j ≡ true → p ≡ get_or t.numbers.items j 0 → (mem v.live p ≡ true) × (open_in v A p ≡ true)
+    pub one_at : (j p : ℕ) → j < length t.matrix.numbers.items → in_both ws at rs at j ≡ true → p ≡ get_or t.matrix.numbers.items j 0 → (mem v.live p ≡ true) × (open_in v A p ≡ true)
     one_at j p h is at' = subst (λ (q : ℕ). (mem v.live q ≡ true) × (open_in v A q ≡ true)) (sym at') (open_one j h (row_alone j h ∙ is))
 
   -- too few of the item at a place
@@ -138,10 +172,6 @@ module _ (v : View) (A : List Atom) (first : ℕ) (t : Table) (live have raised 
       ap (λ m. nat_lt (count v (base v A) i) m) (same i) ∙ none_due v (take first A) (base v A)
       (all_bounds v.bounds (λ b. not (nat_lt (count v (base v A) b.0) (asks v (take first A) b.0))) (λ b h. not_from_false _ (ap (λ m. nat_lt (count v (base v A) (item_of v b)) m) (sym (same (item_of v b))) ∙ n b h)))
       (due_atoms v (λ k. not (nat_lt (count v (base v A) k) (asks v (take first A) k))) (take first A) (K.table.listed y) (λ k w. not_from_false _ (subst (λ j. nat_lt (count v (base v A) j) (asks v (take first A) j) ≡ false) w.2 (ap (λ m. nat_lt (count v (base v A) (item_of v w.0)) m) (sym (same (item_of v w.0))) ∙ n w.0 w.1)))) i
-    where
-      all_bounds : (bs : List Bound) (f : Bound → Bool) → ((b : ℕ) → b < length bs → f (get_or bs b no_bound) ≡ true) → list_all f bs ≡ true
-      all_bounds [] f h = refl
-      all_bounds (x ∷ bs) f h = and_from _ _ (h zero (omega arith)) (all_bounds bs f (λ b l. h (suc b) (omega arith)))
 
 -- some placement is open
 pub some_open : (v : View) (A : List Atom) (p : ℕ) → mem v.live p ≡ true → open_in v A p ≡ true → list_all (λ q. not (open_in v A q)) v.live ≡ false

@@ -1,39 +1,19 @@
--- What was open at the start, and the rows of the table.
-use Rattle.std.proofs.Common.{◌≡◌, ℕ, zero, suc, ◌+◌, ◌*◌, ◌<◌, ◌≤◌, Bool, true, false, not, max, ◌&&◌, ◌||◌, eqb, ltb, List, [], ◌∷◌, inl, inr, refl, sym, ap, subst, ◌∙◌, arith, length, get_or, take, replicate}
+-- How the rows of a matrix are made.
+use Rattle.std.proofs.Common.{◌≡◌, ℕ, zero, suc, ◌+◌, ◌*◌, ◌<◌, ◌≤◌, Bool, true, false, max, ◌&&◌, ◌||◌, eqb, ltb, List, [], ◌∷◌, inl, inr, refl, sym, ap, subst, ◌∙◌, arith, length, get_or, take, replicate}
 use Rattle.std.specs.List.{list_any, list_all}
 use Rattle.std.proofs.Math.ListN.{set}
 use Rattle.std.proofs.Math.Nat.{mul-le-mul_left}
-use Rattle.std.proofs.lemmas.Bool.{and_from, and_parts, both_ways, cases_eq, cases_lt, eq-eqb, eqb-true, false_from_ne_true, le-leb, lt-ltb, ltb-true, ne_eqb, or_cases, or_left, or_right, true≢false}
+use Rattle.std.proofs.lemmas.Bool.{and_from, and_parts, cases_eq, cases_lt, eq-eqb, eqb-true, false_from_ne_true, lt-ltb, ltb-true, ne_eqb, or_cases, or_left, or_right, true≢false}
 use Rattle.std.proofs.lemmas.List.{get_or-set_other, get_or-set_same, take_more}
-use Rattle.poly_tiling.specs.Lists.{distinct, mem, one}
-use Rattle.poly_tiling.specs.Puzzle.{View, count, has_item, items, same_item}
+use Rattle.poly_tiling.specs.Lists.{distinct, one}
+use Rattle.poly_tiling.specs.Puzzle.{View, has_item, items}
 use Rattle.poly_tiling.proofs.Lists.{all_append, any_from, any_in, same_truth}
-use Rattle.poly_tiling.proofs.Tilings.{bound_none, same_item_self}
-use Rattle.poly_atom.specs.declared.atom.Atom.{Atom}
-use Rattle.poly_atom.specs.Hopeless.{base, lacks}
-use Rattle.poly_frame.specs.Open.{open_in, upper}
 use Rattle.poly_frame.specs.Bits.{has_bit}
 use Rattle.poly_frame.specs.FrameItems.{Noted, item_of, times}
-use Rattle.poly_frame.specs.FrameTable.{HaveShows, RowsShow, ShutShows, UppersShow, place, shut_at}
+use Rattle.poly_frame.specs.Matrices.{RowsShow, place}
 use Rattle.poly_frame.proofs.Words.{no_bits}
-use Rattle.poly_frame.proofs.Later.{upper_le_most}
-use Rattle.poly_frame.proofs.FramePicks.{is_shut, one_true, open_is_free, place_of, some_times, times_some}
+use Rattle.poly_frame.proofs.FramePicks.{one_true, some_times, times_some}
 use Rattle.poly_frame.proofs.FrameSteps.{distinct_at}
-
-pub shut_shows : (v : View) (A : List Atom) (T us hs : List ℕ) → T ≡ base v A → UppersShow v A us → HaveShows v T hs → ShutShows v.bounds us hs (is_shut v A)
-shut_shows v A T us hs e u h = record {
-  at = λ b l. ap (λ n. shut_at (item_of v b) n (count v (base v A) (item_of v b))) (sym (u b l)) ∙ ap (λ n. shut_at (item_of v b) (get_or us b 0) n) (sym (h b l ∙ ap (λ xs. count v xs (item_of v b)) e));
-  none = λ i n.
-      let away : list_any (λ b. same_item b.0 i) v.bounds ≡ false = false_from_ne_true _ (λ y. let w = place_of v.bounds i y in both_ways _ (n w.0 w.1) (ap (λ k. same_item k i) w.2 ∙ same_item_self i)) in
-      let zero_most = bound_none v.bounds i (λ b. b.2) away in
-      or_left _ _ (le-leb (upper v A i) (count v (base v A) i) (omega (arith, upper_le_most v i A, zero_most)));
-}
-
-pub is_open_yes : (v : View) (A : List Atom) (q : ℕ) (T : List ℕ) (r c : Bool) → T ≡ base v A → r ≡ not (list_any (is_shut v A) (items v q)) → r ≡ true → c ≡ (not (mem T q) && not (list_any (λ a. lacks a q) A)) → c ≡ open_in v A q
-is_open_yes v A q T r c e f y g = g ∙ ap (λ xs. not (mem xs q) && not (list_any (λ a. lacks a q) A)) e ∙ ap (λ b. b && (not (mem (base v A) q) && not (list_any (λ a. lacks a q) A))) (sym y ∙ f) ∙ sym (open_is_free v A q)
-
-pub is_open_no : (v : View) (A : List Atom) (q : ℕ) (r : Bool) → r ≡ not (list_any (is_shut v A) (items v q)) → r ≡ false → r ≡ open_in v A q
-is_open_no v A q r f n = n ∙ ap (λ b. b && (not (mem (base v A) q) && not (list_any (λ a. lacks a q) A))) (sym n ∙ f) ∙ sym (open_is_free v A q)
 
 -- a place says which row and which number
 pub place_once : (w a b i j : ℕ) → i < 64 * w → j < 64 * w → place w a i ≡ place w b j → (a ≡ b) × (i ≡ j)

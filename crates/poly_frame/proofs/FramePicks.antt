@@ -21,7 +21,8 @@ use Rattle.poly_atom.proofs.Bases.{base_up}
 use Rattle.poly_frame.specs.Open.{open_in, others, ruled_out, upper}
 use Rattle.poly_frame.specs.Bits.{has_bit}
 use Rattle.poly_frame.specs.FrameItems.{Noted, item_at, item_of, times}
-use Rattle.poly_frame.specs.FrameTable.{RowsShow, limit_at, place, shut_at}
+use Rattle.poly_frame.specs.Matrices.{RowsShow, place}
+use Rattle.poly_frame.specs.FrameTable.{limit_at, shut_at}
 use Rattle.poly_frame.proofs.Steps.{base_leave, base_pick, open_pick, tally_put, upper_pick}
 
 pub has_in : (v : View) (p : ℕ) (i : Item) → has_item v p i ≡ true → In i (items v p)

@@ -1,8 +1,8 @@
 -- The table of a frame.
-use Rattle.std.proofs.Common.{◌≡◌, ℕ, zero, suc, ◌+◌, ◌<◌, ◌≤◌, Bool, true, false, cond, not, ◌||◌, List, [], ◌∷◌, inl, inr, refl, sym, ap, subst, ◌∙◌, arith, map, length, get_or, take, drop}
+use Rattle.std.proofs.Common.{◌≡◌, ℕ, zero, suc, ◌+◌, ◌<◌, ◌≤◌, Bool, true, false, cond, List, [], ◌∷◌, inl, inr, refl, sym, ap, subst, ◌∙◌, arith, map, length, get_or, take, drop}
 use Rattle.std.proofs.Math.ListN.{set}
 use Rattle.std.specs.List.{filter}
-use Rattle.std.proofs.lemmas.Bool.{and_parts, both_ways, false_from_ne_true, cases_Bool, cases_eq, true≢false, cond-false}
+use Rattle.std.proofs.lemmas.Bool.{and_parts, both_ways, false_from_ne_true, cases_Bool, cases_eq, cond-false}
 use Rattle.std.proofs.lemmas.List.{take_more, get_or-set_other, get_or-set_same}
 use Rattle.poly_tiling.specs.declared.item.Item.{Item}
 use Rattle.poly_tiling.specs.Lists.{one, tally}
@@ -105,19 +105,6 @@ pub length_take_le : (k : ℕ) (xs : List ℕ) → length (take k xs) ≤ length
 length_take_le zero xs = omega arith
 length_take_le (suc k) [] = omega arith
 length_take_le (suc k) (x ∷ xs) = omega (arith, length_take_le k xs)
-
--- an item among some is shut
-pub free_no : (a b : Bool) → b ≡ true → false ≡ not (a || b)
-free_no true b e = refl
-free_no false b e = sym (ap not e)
-
-pub free_yes : (r a b : Bool) → r ≡ a → b ≡ false → not r ≡ not (a || b)
-free_yes r true b e f = ap not e
-free_yes r false b e f = ap not (e ∙ sym f)
-
-pub or_first : (a b : Bool) → a ≡ true → false ≡ not (a || b)
-or_first true b e = refl
-or_first false b e = absurd (true≢false (sym e))
 
 pub filter_len : (f : ℕ → Bool) (xs : List ℕ) → length (filter f xs) ≤ length xs
 filter_len f [] = omega arith

@@ -1,19 +1,19 @@
 -- What a later design and more atoms make of what is open.
-use Rattle.std.proofs.Common.{◌≡◌, ℕ, Bool, true, false, not, ◌&&◌, ◌||◌, eqb, List, [], ◌∷◌, ◌++◌, ◌⊎◌, inl, inr, refl, sym, ap, subst, ◌∙◌, Option, Some, None, slice_get, ◌≤◌, leb, ltb, min, max, nat_lt, arith}
+use Rattle.std.proofs.Common.{◌≡◌, ℕ, Bool, true, not, ◌&&◌, ◌||◌, eqb, List, [], ◌∷◌, ◌++◌, ◌⊎◌, inl, inr, refl, sym, ap, subst, ◌∙◌, ◌≤◌, leb, min, max, nat_lt, arith}
 use Rattle.std.specs.List.{list_any, list_all}
-use Rattle.std.proofs.lemmas.Bool.{eq-eqb, and_parts, and_from, or_cases, or_left, or_right, both_ways, not-true, not-false, not_from_false, false_from_ne_true, cases_Bool, and_cases, cond_both, leb-true, le-leb, ltb-true, ltb-false, lt-ltb}
+use Rattle.std.proofs.lemmas.Bool.{eq-eqb, and_parts, and_from, or_cases, or_left, or_right, both_ways, not-true, not_from_false, false_from_ne_true, cases_Bool, cond_both, leb-true, le-leb, ltb-true, lt-ltb}
 use Rattle.poly_tiling.specs.Lists.{mem, tally}
 use Rattle.poly_tiling.specs.Lists.{distinct}
 use Rattle.poly_tiling.specs.declared.item.Item.{Item}
-use Rattle.poly_tiling.specs.Puzzle.{View, items, items_of, same_item, clash, share_cell, has_item, least, most}
+use Rattle.poly_tiling.specs.Puzzle.{View, items, same_item, clash, has_item, least, most}
 use Rattle.poly_atom.specs.declared.atom.Atom.{Atom}
 use Rattle.poly_atom.specs.declared.atom.Atom.TheVariants.{Has, Lacks, AtLeast, AtMost}
 use Rattle.poly_atom.specs.Hopeless.{base, lacks}
-use Rattle.poly_frame.specs.Open.{upper, asks, lower, others, ruled_out, open_in, dead, arms_fit}
-use Rattle.poly_tiling.proofs.Lists.{In, all_in, all_from, any_in, any_from, mem_in, in_mem, in_append_left, in_append_right, in_append_cases, slice_get_more}
+use Rattle.poly_frame.specs.Open.{upper, asks, lower, others, ruled_out, dead, arms_fit}
+use Rattle.poly_tiling.proofs.Lists.{In, all_in, all_from, any_in, any_from, mem_in, in_mem, in_append_left, in_append_right, in_append_cases}
 use Rattle.poly_tiling.proofs.Counts.{tally_within, ascending_distinct}
 use Rattle.poly_atom.proofs.Bases.{base_in, base_up, in_base_has, in_base_pin}
-use Rattle.poly_tiling.proofs.Tilings.{same_item_is, same_item_self, bound_none}
+use Rattle.poly_tiling.proofs.Tilings.{same_item_is, same_item_self}
 
 -- w is a later design than v, and the atoms B are those of A and what was laid on them since
 pub record Later (v : View) (A : List Atom) (w : View) (B : List Atom) : Type 0 where

@@ -11,7 +11,7 @@ pub mod FrameTable
 pub mod FramePicks
 pub mod FrameSteps
 pub mod FrameOpen
-pub mod FrameFlags
+pub mod Matrices
 pub mod FrameLooks
 pub mod FrameMembers
 pub mod FrameArms

@@ -217,3 +217,13 @@ module _ (ws : List ℕ) (at : ℕ) (rs : List ℕ) (from low k past w : ℕ)
         is = both_word ws at rs from k w t same f.most ∙ f.is;
         before = none_both t (omega (arith, f.most)) f.before;
       }
+
+full_at : (n x k : ℕ) → k < n → get_or (replicate n x) k 0 ≡ x
+full_at zero x k h = absurd (omega arith)
+full_at (suc n) x zero h = refl
+full_at (suc n) x (suc k) h = full_at n x k (omega arith)
+
+-- words that have all their bits
+pub full_bits : (n x j : ℕ) → ((t : ℕ) → t < 64 → bit_at x t ≡ 1) → j < 64 * n → has_bit (replicate n x) j ≡ true
+unfolding has_bit
+full_bits n x j ones h = ap (λ w. eqb (bit_at w (j % 64)) 1) (full_at n x (j / 64) (omega arith)) ∙ ap (λ b. eqb b 1) (ones (j % 64) (omega arith))

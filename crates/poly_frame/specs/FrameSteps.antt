@@ -9,7 +9,8 @@ use Rattle.poly_atom.specs.Hopeless.{base}
 use Rattle.poly_frame.specs.Open.{asks, open_in, upper}
 use Rattle.poly_frame.specs.Bits.{has_bit}
 use Rattle.poly_frame.specs.FrameItems.{item_of, times}
-use Rattle.poly_frame.specs.FrameTable.{TableShows, place}
+use Rattle.poly_frame.specs.Matrices.{place}
+use Rattle.poly_frame.specs.FrameTable.{TableShows}
 use Rattle.poly_frame.specs.declared.frame.table.Table.{Table}
 use Rattle.poly_frame.specs.declared.frame.steps.Steps.{Steps}
 
@@ -30,7 +31,7 @@ HaveAt v A have raised mark = (b : ℕ) → b < length v.bounds → slice_index 
 
 -- one level
 pub record LevelShows (v : View) (A0 A : List Atom) (t : Table) (live have raised marks : List ℕ) (k : ℕ) : Type 0 where
-  pub row : RowShows v A t.numbers.items t.width live k
+  pub row : RowShows v A t.matrix.numbers.items t.matrix.width live k
   pub counted : HaveAt v A have raised (mark_of marks raised k)
   pub uppers : (i : Item) → upper v A i ≡ upper v A0 i
   pub asked : (i : Item) → asks v A i ≡ asks v A0 i
@@ -43,7 +44,7 @@ pub record Kept (v : View) (A : List Atom) (first : ℕ) (t : Table) (live have 
   pub table : TableShows v (take first A) t
   pub steps : length marks + first ≡ length A
   pub have_len : length have ≡ length v.bounds
-  pub live_len : length live ≡ t.width * (length marks + 1)
+  pub live_len : length live ≡ t.matrix.width * (length marks + 1)
   pub places : list_all (λ b. nat_lt b (length v.bounds)) raised ≡ true
   pub up : (k l : ℕ) → k ≤ l → l ≤ length marks → mark_of marks raised k ≤ mark_of marks raised l
   pub levels : (k : ℕ) → k ≤ length marks → LevelShows v (take first A) (take (first + k) A) t live have raised marks k
@@ -54,6 +55,6 @@ StepsKeep v A first t s = Kept v A first t s.live.items s.have.items s.raised.it
 
 -- room for 4,096 steps
 pub record HasRoom (t : Table) (s : Steps) : Type 0 where
-  pub live : t.width * 4097 ≤ vec_capacity s.live
+  pub live : t.matrix.width * 4097 ≤ vec_capacity s.live
   pub raised : 69632 ≤ vec_capacity s.raised
   pub marks : 4096 ≤ vec_capacity s.marks

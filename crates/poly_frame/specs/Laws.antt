@@ -1,5 +1,5 @@
 -- What is proved of walks.
-use Rattle.std.specs.Prelude.{List, length, ℕ, ◌≡◌}
+use Rattle.std.specs.Prelude.{length, ℕ, ◌≡◌}
 use Rattle.poly_tiling.specs.Lists.{tally}
 use Rattle.poly_tiling.specs.declared.item.Item.{Item}
 use Rattle.poly_atom.specs.declared.atom.Atom.{Atom}

@@ -6,6 +6,7 @@ pub mod Lending
 pub mod Laws
 pub mod Bits
 pub mod FrameItems
+pub mod Matrices
 pub mod FrameTable
 pub mod FrameMembers
 pub mod FrameSound

@@ -9,18 +9,21 @@ ghost use Rattle.poly_tiling.specs.Puzzle.{has_item};
 ghost use Rattle.poly_atom.specs.Atoms.{in_family};
 ghost use Rattle.poly_atom.specs.Hopeless.{base};
 ghost use Rattle.poly_frame.specs.Open.{dead, lower, ruled_out};
+ghost use Rattle.poly_frame.specs.Matrices.{IsWhole};
 ghost use Rattle.poly_frame.specs.Walk.{back_to, is_due, is_open, is_option, step_back, with_step};
 
 mod allowed;
 mod busy;
 mod items;
 mod looks;
+mod matrix;
 mod members;
+mod opened;
 mod sound;
 mod steps;
 mod table;
 
-use crate::frame::items::guess_cells;
+pub use crate::frame::matrix::Matrix;
 use crate::frame::steps::{Steps, start};
 use crate::frame::table::{Table, counts_of, table_of, uppers_of};
 use crate::plain;
@@ -62,9 +65,28 @@ impl<'a> Frame<'a> {
     ghost use Rattle.std.specs.Borrow.{sem};
     ghost use Rattle.poly_frame.specs.Lending.{StaysSame};
 
-    /// A frame of the view with these atoms and no step.
-    #[tactic(auto, using(poly_tiling::proofs::Orders::live_once))]
+    /// A frame of the view with these atoms and no step. It makes the view's matrix for itself.
     pub fn new(alloc: Global, view: &'a View, atoms: &[Atom]) -> Result<Frame<'a>, Refusal>
+        ensures made { IfOk result (λ f. f ≡ record { scene = view.now; atoms = atoms.now; given = length atoms.now }) }
+        ensures why { IfErr result (λ e. e ≡ Refusal.Memory) }
+        ensures well { WellNamed view.now }
+        ensures once { distinct view.now.live ≡ true }
+    {
+        let whole = Matrix::new(alloc, view)?;
+        let frame = Frame::over(alloc, view, &whole, atoms)?;
+        Ok(frame)
+    }
+
+    /// A frame of the view with these atoms and no step, from the view's matrix. It takes memory by the items, the atoms
+    /// and the placements that are open at the atoms alone.
+    #[tactic(auto, using(poly_tiling::proofs::Orders::live_once))]
+    pub fn over(
+        alloc: Global,
+        view: &'a View,
+        whole: &Matrix,
+        atoms: &[Atom],
+    ) -> Result<Frame<'a>, Refusal>
+        requires { IsWhole view.now whole.now }
         ensures made { IfOk result (λ f. f ≡ record { scene = view.now; atoms = atoms.now; given = length atoms.now }) }
         ensures why { IfErr result (λ e. e ≡ Refusal.Memory) }
         ensures well { WellNamed view.now }
@@ -79,21 +101,11 @@ impl<'a> Frame<'a> {
         plain::make_base(view, atoms, &mut members);
         let sizes = Vec::with_capacity(alloc, STEPS)?;
         let options = Vec::with_capacity(alloc, live)?;
-        let cells = guess_cells(alloc, view.items())?;
         let mut raised = Vec::with_capacity(alloc, STEPS * 17)?;
-        let have = counts_of(alloc, view, &members, &cells, &mut raised)?;
-        let uppers = uppers_of(alloc, view, atoms, &cells)?;
-        let sound = sound::begin(alloc, view, atoms, &members, &uppers, &have)?;
-        let table = table_of(
-            alloc,
-            view,
-            atoms,
-            &members,
-            cells,
-            &uppers,
-            &have,
-            &mut raised,
-        )?;
+        let have = counts_of(alloc, view, &members, &whole.cells, &mut raised)?;
+        let uppers = uppers_of(alloc, view, atoms, &whole.cells)?;
+        let sound = sound::begin(view, whole, atoms, &members, &uppers, &have);
+        let table = table_of(alloc, view, whole, atoms, &members, &uppers, &have)?;
         let steps = start(alloc, view, atoms, &table, have, raised)?;
         Ok(Frame {
             view,
@@ -191,7 +203,6 @@ impl<'a> Frame<'a> {
             self.given,
             &self.table,
             &mut self.steps,
-            mark - self.given,
         );
         members::back(
             self.view,
@@ -250,22 +261,20 @@ impl<'a> Frame<'a> {
         }
     }
 
-    /// An item of which the base has fewer than the design and the atoms ask for, one with the fewest options beyond
-    /// what it still needs; none where no item is short.
+    /// An item of which the base has fewer than the design and the atoms ask for; none if no item is short. An item that
+    /// an atom asks for and the view does not have comes first: it has no option. Of the others it is one with the fewest
+    /// options beyond what it still needs.
     pub fn next_due(&self) -> Option<Item>
         ensures { MatchOption result ((i : Item) → is_due self.now i ≡ false) (λ i. is_due self.now i ≡ true) }
     {
-        match looks::next_listed(self.view, &self.path, self.given, &self.table, &self.steps) {
-            Some(b) => Some(self.view.items()[b].0),
-            None => looks::next_other(
-                self.view,
-                &self.path,
-                self.given,
-                &self.table,
-                &self.steps,
-                &self.members,
-            ),
-        }
+        looks::next_due(
+            self.view,
+            &self.path,
+            self.given,
+            &self.table,
+            &self.steps,
+            &self.members,
+        )
     }
 
     /// Whether the placement is dead: no placement of the design now, or out by an atom.

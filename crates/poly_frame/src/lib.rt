@@ -6,5 +6,5 @@ mod frame;
 mod laws;
 mod plain;
 
-pub use frame::{Frame, STEPS};
+pub use frame::{Frame, Matrix, STEPS};
 pub use laws::steps_come_back;

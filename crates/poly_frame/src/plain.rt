@@ -1,10 +1,10 @@
 //! What is open, due and found after a list of atoms, asked of the view placement by placement. `members` is the base
 //! of the atoms throughout.
-ghost use Rattle.std.specs.Prelude.{IfNone, IfSome, MatchOption, None, false, if◌then◌else◌, length, map, nat_le, nat_lt, not, true, vec_len, ◌&&◌, ◌+◌, ◌==◌, ◌<◌, ◌≡◌, ◌≤◌, ◌∷◌};
+ghost use Rattle.std.specs.Prelude.{MatchOption, false, if◌then◌else◌, length, map, nat_le, nat_lt, not, true, vec_len, ◌&&◌, ◌||◌, ◌+◌, ◌==◌, ◌<◌, ◌≡◌, ◌≤◌, ◌∷◌};
 ghost use Rattle.std.specs.List.{filter, list_all, list_any};
 ghost use Rattle.std.specs.Vec.{vec_capacity};
 ghost use Rattle.poly_tiling.specs.Lists.{mem, put, put_all, tally};
-ghost use Rattle.poly_tiling.specs.Puzzle.{clash, count, has_item, items, items_of};
+ghost use Rattle.poly_tiling.specs.Puzzle.{clash, count, has_item, items, items_of, same_item};
 ghost use Rattle.poly_tiling.specs.Names.{WellNamed};
 ghost use Rattle.poly_atom.specs.Atoms.{in_family, meets, meets_all};
 ghost use Rattle.poly_atom.specs.Hopeless.{asked, base, lacks};
@@ -211,53 +211,6 @@ pub fn is_open(view: &View, atoms: &[Atom], members: &[u32], number: u32) -> boo
     !has_number(members, number) && !is_ruled_out(view, atoms, members, number)
 }
 
-// Whether the number's placement is open and has the item.
-fn is_ready(view: &View, atoms: &[Atom], members: &[u32], item: &Item, number: u32) -> bool
-    requires { members.now ≡ base view.now atoms.now }
-    ensures { result ≡ (open_in view.now atoms.now number && has_item view.now number item.now) }
-{
-    view.covers(number, *item) && is_open(view, atoms, members, number)
-}
-
-/// Lists the open placements that have the item. The list has room for each number that is a placement of the design.
-pub fn list_ready(view: &View, atoms: &[Atom], members: &[u32], item: &Item, into: &mut Vec<u32>)
-    requires base { members.now ≡ base view.now atoms.now }
-    requires space { length view.now.live ≤ vec_capacity into.old }
-    ensures items { into.new.items ≡ filter (λ p. open_in view.now atoms.now p && has_item view.now p item.now) view.now.live }
-    ensures room { vec_capacity into.old ≤ vec_capacity into.new }
-    ensures well { WellNamed view.now }
-{
-    into.clear();
-    for p in view.live() {
-        if is_ready(view, atoms, members, item, *p) {
-            into.push_reserved(*p);
-        }
-    }
-}
-
-/// Some open placement.
-pub fn first_open(view: &View, atoms: &[Atom], members: &[u32]) -> Option<u32>
-    requires { members.now ≡ base view.now atoms.now }
-    ensures { MatchOption result (list_all (λ p. not (open_in view.now atoms.now p)) view.now.live ≡ true) (λ p. (mem view.now.live p ≡ true) × (open_in view.now atoms.now p ≡ true)) }
-{
-    for p in view.live() {
-        if is_open(view, atoms, members, *p) {
-            return Some(*p);
-        }
-    }
-    None
-}
-
-/// Whether no placement is open.
-pub fn none_open(view: &View, atoms: &[Atom], members: &[u32]) -> bool
-    requires { members.now ≡ base view.now atoms.now }
-    ensures { result ≡ list_all (λ p. not (open_in view.now atoms.now p)) view.now.live }
-{
-    view.live()
-        .iter()
-        .all(|p| !is_open(view, atoms, members, *p))
-}
-
 // Whether the members have too few of the item.
 fn is_due(view: &View, atoms: &[Atom], members: &[u32], item: &Item) -> bool
     ensures { result ≡ nat_lt (count view.now members.now item.now) (asks view.now atoms.now item.now) }
@@ -265,80 +218,24 @@ fn is_due(view: &View, atoms: &[Atom], members: &[u32], item: &Item) -> bool
     view.count(members, item) < least_of(view, atoms, item) as usize
 }
 
-fn count_ready(view: &View, atoms: &[Atom], members: &[u32], item: &Item) -> usize
-    requires { members.now ≡ base view.now atoms.now }
+fn is_listed(view: &View, item: &Item) -> bool
+    ensures { result ≡ list_any (λ b. same_item b.0 item.now) view.now.bounds }
 {
-    view.live()
-        .iter()
-        .filter(|p| is_ready(view, atoms, members, item, **p))
-        .count()
+    view.items().iter().any(|b| b.0.is(item))
 }
 
-// Of two items that are due the one with fewer open placements; the second is a candidate only if it is due.
-fn better(
-    view: &View,
-    atoms: &[Atom],
-    members: &[u32],
-    best: Option<(Item, usize)>,
-    item: &Item,
-) -> Option<(Item, usize)>
-    requires base { members.now ≡ base view.now atoms.now }
-    requires due { IfSome best (λ b. nat_lt (count view.now members.now b.0) (asks view.now atoms.now b.0) ≡ true) }
-    ensures due { IfSome result (λ b. nat_lt (count view.now members.now b.0) (asks view.now atoms.now b.0) ≡ true) }
-    ensures none { IfNone result ((best ≡ None) × (nat_lt (count view.now members.now item.now) (asks view.now atoms.now item.now) ≡ false)) }
+/// An item that an atom asks for, that is no item of the view, and of which the members have too few. It has no option.
+pub(crate) fn due_elsewhere(view: &View, atoms: &[Atom], members: &[u32]) -> Option<Item>
+    ensures { MatchOption result (list_all (of_asked (λ i. list_any (λ b. same_item b.0 i) view.now.bounds || not (nat_lt (count view.now members.now i) (asks view.now atoms.now i)))) atoms.now ≡ true) (λ i. nat_lt (count view.now members.now i) (asks view.now atoms.now i) ≡ true) }
 {
-    if !is_due(view, atoms, members, item) {
-        return best;
-    }
-    let n = count_ready(view, atoms, members, item);
-    match best {
-        Some((other, m)) if m <= n => Some((other, m)),
-        _ => Some((*item, n)),
-    }
-}
-
-fn due_bound(view: &View, atoms: &[Atom], members: &[u32]) -> Option<(Item, usize)>
-    requires { members.now ≡ base view.now atoms.now }
-    ensures due { IfSome result (λ b. nat_lt (count view.now members.now b.0) (asks view.now atoms.now b.0) ≡ true) }
-    ensures none { IfNone result (list_all (λ b. not (nat_lt (count view.now members.now b.0) (asks view.now atoms.now b.0))) view.now.bounds ≡ true) }
-{
-    let mut best = None;
-    for b in view.items() {
-        best = better(view, atoms, members, best, &b.0);
-    }
-    best
-}
-
-fn due_asked(
-    view: &View,
-    atoms: &[Atom],
-    members: &[u32],
-    start: Option<(Item, usize)>,
-) -> Option<(Item, usize)>
-    requires base { members.now ≡ base view.now atoms.now }
-    requires due { IfSome start (λ b. nat_lt (count view.now members.now b.0) (asks view.now atoms.now b.0) ≡ true) }
-    ensures due { IfSome result (λ b. nat_lt (count view.now members.now b.0) (asks view.now atoms.now b.0) ≡ true) }
-    ensures none { IfNone result ((start ≡ None) × (list_all (of_asked (λ i. not (nat_lt (count view.now members.now i) (asks view.now atoms.now i)))) atoms.now ≡ true)) }
-{
-    let mut best = start;
-    for a in atoms {
-        if let Atom::AtLeast(item, _) = a {
-            best = better(view, atoms, members, best, item);
+    for atom in atoms {
+        if let Atom::AtLeast(item, _) = atom {
+            if !is_listed(view, item) && is_due(view, atoms, members, item) {
+                return Some(*item);
+            }
         }
     }
-    best
-}
-
-/// An item of which the members have too few; of these one with the fewest open placements that have it.
-pub fn next_due(view: &View, atoms: &[Atom], members: &[u32]) -> Option<Item>
-    requires { members.now ≡ base view.now atoms.now }
-    ensures { MatchOption result ((i : Item) → nat_lt (count view.now (base view.now atoms.now) i) (asks view.now atoms.now i) ≡ false) (λ i. nat_lt (count view.now (base view.now atoms.now) i) (asks view.now atoms.now i) ≡ true) }
-{
-    let first = due_bound(view, atoms, members);
-    match due_asked(view, atoms, members, first) {
-        None => None,
-        Some((item, _)) => Some(item),
-    }
+    None
 }
 
 /// How many placements have the item and are not ruled out.

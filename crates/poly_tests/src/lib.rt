@@ -6,6 +6,8 @@ mod design;
 #[cfg(test)]
 mod designs;
 #[cfg(test)]
+mod frame;
+#[cfg(test)]
 mod solvers;
 #[cfg(test)]
 mod tables;

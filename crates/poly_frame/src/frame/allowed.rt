@@ -19,17 +19,24 @@ use poly_tiling::{Item, View};
 
 // How many numbers are in both rows.
 fn count_both(table: &Table, live: &[u64], at: usize, from: usize) -> usize
-    requires wide { length table.now.numbers.items ≤ 64 * table.now.width }
-    requires narrow { table.now.width < 2 ^ 58 }
-    requires live { at + table.now.width ≤ length live.now }
-    requires rows { from + table.now.width ≤ length table.now.rows.items }
-    ensures value { (g : ℕ → Bool) → ((j : ℕ) → j < length table.now.numbers.items → g (slice_index table.now.numbers.items j) ≡ in_both live.now at table.now.rows.items from j) → result ≡ tally g table.now.numbers.items }
-    ensures few { result ≤ length table.now.numbers.items }
+    requires wide { length table.now.matrix.numbers.items ≤ 64 * table.now.matrix.width }
+    requires narrow { table.now.matrix.width < 2 ^ 58 }
+    requires live { at + table.now.matrix.width ≤ length live.now }
+    requires rows { from + table.now.matrix.width ≤ length table.now.matrix.rows.items }
+    ensures value { (g : ℕ → Bool) → ((j : ℕ) → j < length table.now.matrix.numbers.items → g (slice_index table.now.matrix.numbers.items j) ≡ in_both live.now at table.now.matrix.rows.items from j) → result ≡ tally g table.now.matrix.numbers.items }
+    ensures few { result ≤ length table.now.matrix.numbers.items }
 {
     let mut n = 0;
     let mut low = 0;
-    while let Some(j) = bits::next_both(live, at, &table.rows, from, table.width, low) {
-        if j >= table.numbers.len() {
+    while let Some(j) = bits::next_both(
+        live,
+        at,
+        &table.matrix.rows,
+        from,
+        table.matrix.width,
+        low,
+    ) {
+        if j >= table.matrix.numbers.len() {
             return n;
         }
         n += 1;
@@ -70,9 +77,9 @@ fn count_row(
     requires members { members.now ≡ base view.now path.now }
     ensures { result ≡ tally (λ p. has_item view.now p item.now && not (ruled_out view.now path.now p)) view.now.live }
 {
-    let at = steps.live.len() - table.width;
+    let at = steps.live.len() - table.matrix.width;
     let held = count_held(view, path, members, item);
-    held + count_both(table, &steps.live, at, table.width * b)
+    held + count_both(table, &steps.live, at, table.matrix.width * b)
 }
 
 /// How many placements have the item and are not ruled out.
@@ -90,7 +97,7 @@ pub(crate) fn count(
     ensures { result ≡ tally (λ p. has_item view.now p item.now && not (ruled_out view.now path.now p)) view.now.live }
 {
     let _ = first;
-    match index_of(view.items(), guess_item(&table.cells, item), *item) {
+    match index_of(view.items(), guess_item(&table.matrix.cells, item), *item) {
         Some(b) => count_row(view, path, first, table, steps, members, b, item),
         None => plain::count_allowed(view, path, members, item),
     }
@@ -132,7 +139,7 @@ pub(crate) fn least(
     ensures { result ≡ lower view.now path.now item.now }
 {
     let _ = first;
-    match index_of(view.items(), guess_item(&table.cells, item), *item) {
+    match index_of(view.items(), guess_item(&table.matrix.cells, item), *item) {
         Some(b) => least_of_row(view, path, first, table, steps, b, item),
         None => plain::lower_of(view, path, members, item),
     }

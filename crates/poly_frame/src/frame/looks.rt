@@ -14,7 +14,7 @@ ghost use Rattle.poly_frame.specs.FrameSteps.{StepsKeep};
 
 use crate::frame::busy::{Busy, busy_words, common};
 use crate::frame::items::{guess_of, index_of};
-use crate::frame::steps::{Steps, number_at};
+use crate::frame::steps::Steps;
 use crate::frame::table::Table;
 use crate::{bits, plain};
 use poly_atom::Atom;
@@ -30,21 +30,28 @@ pub(crate) fn guess_item(cells: &[usize], item: &Item) -> usize {
 
 // Lists the numbers that are in both rows.
 fn list_both(table: &Table, live: &[u64], at: usize, from: usize, into: &mut Vec<u32>)
-    requires wide { length table.now.numbers.items ≤ 64 * table.now.width }
-    requires narrow { table.now.width < 2 ^ 58 }
-    requires live { at + table.now.width ≤ length live.now }
-    requires rows { from + table.now.width ≤ length table.now.rows.items }
-    requires space { length table.now.numbers.items ≤ vec_capacity into.old }
-    ensures items { (f : ℕ → Bool) → ((j : ℕ) → j < length table.now.numbers.items → f (slice_index table.now.numbers.items j) ≡ in_both live.now at table.now.rows.items from j) → into.new.items ≡ filter f table.now.numbers.items }
+    requires wide { length table.now.matrix.numbers.items ≤ 64 * table.now.matrix.width }
+    requires narrow { table.now.matrix.width < 2 ^ 58 }
+    requires live { at + table.now.matrix.width ≤ length live.now }
+    requires rows { from + table.now.matrix.width ≤ length table.now.matrix.rows.items }
+    requires space { length table.now.matrix.numbers.items ≤ vec_capacity into.old }
+    ensures items { (f : ℕ → Bool) → ((j : ℕ) → j < length table.now.matrix.numbers.items → f (slice_index table.now.matrix.numbers.items j) ≡ in_both live.now at table.now.matrix.rows.items from j) → into.new.items ≡ filter f table.now.matrix.numbers.items }
     ensures room { vec_capacity into.new ≡ vec_capacity into.old }
 {
     into.clear();
     let mut low = 0;
-    while let Some(j) = bits::next_both(live, at, &table.rows, from, table.width, low) {
-        if j >= table.numbers.len() {
+    while let Some(j) = bits::next_both(
+        live,
+        at,
+        &table.matrix.rows,
+        from,
+        table.matrix.width,
+        low,
+    ) {
+        if j >= table.matrix.numbers.len() {
             return;
         }
-        into.push_reserved(table.numbers[j]);
+        into.push_reserved(table.matrix.numbers[j]);
         low = j + 1;
     }
 }
@@ -61,14 +68,14 @@ fn list_row(
 )
     requires kept { StepsKeep view.now path.now first table.now steps.now }
     requires row { b < length view.now.bounds }
-    requires space { length table.now.numbers.items ≤ vec_capacity into.old }
-    ensures items { into.new.items ≡ filter (λ p. open_in view.now path.now p && has_item view.now p (item_of view.now b)) table.now.numbers.items }
+    requires space { length table.now.matrix.numbers.items ≤ vec_capacity into.old }
+    ensures items { into.new.items ≡ filter (λ p. open_in view.now path.now p && has_item view.now p (item_of view.now b)) table.now.matrix.numbers.items }
     ensures room { vec_capacity into.new ≡ vec_capacity into.old }
 {
     let _ = view;
     let _ = path;
-    let at = steps.live.len() - table.width;
-    list_both(table, &steps.live, at, table.width * b, into);
+    let at = steps.live.len() - table.matrix.width;
+    list_both(table, &steps.live, at, table.matrix.width * b, into);
 }
 
 /// Lists the open placements that have the item.
@@ -82,11 +89,11 @@ pub(crate) fn list_options(
     into: &mut Vec<u32>,
 )
     requires kept { StepsKeep view.now path.now first table.now steps.now }
-    requires space { length table.now.numbers.items ≤ vec_capacity into.old }
-    ensures items { into.new.items ≡ filter (λ p. open_in view.now path.now p && has_item view.now p item) table.now.numbers.items }
+    requires space { length table.now.matrix.numbers.items ≤ vec_capacity into.old }
+    ensures items { into.new.items ≡ filter (λ p. open_in view.now path.now p && has_item view.now p item) table.now.matrix.numbers.items }
     ensures room { vec_capacity into.new ≡ vec_capacity into.old }
 {
-    match index_of(view.items(), guess_item(&table.cells, &item), item) {
+    match index_of(view.items(), guess_item(&table.matrix.cells, &item), item) {
         None => into.clear(),
         Some(b) => list_row(view, path, first, table, steps, b, into),
     }
@@ -105,12 +112,12 @@ pub(crate) fn first_open(
 {
     let _ = view;
     let _ = path;
-    let at = steps.live.len() - table.width;
-    let Some(j) = bits::next_both(&steps.live, at, &steps.live, at, table.width, 0) else {
+    let at = steps.live.len() - table.matrix.width;
+    let Some(j) = bits::next_both(&steps.live, at, &steps.live, at, table.matrix.width, 0) else {
         return None;
     };
-    if j < table.numbers.len() {
-        Some(table.numbers[j])
+    if j < table.matrix.numbers.len() {
+        Some(table.matrix.numbers[j])
     } else {
         None
     }
@@ -130,8 +137,8 @@ pub(crate) fn stands_open(
 {
     let _ = view;
     let _ = path;
-    let at = steps.live.len() - table.width;
-    match number_at(table, number) {
+    let at = steps.live.len() - table.matrix.width;
+    match table.matrix.place_of(number) {
         None => false,
         Some(j) => bits::has(&steps.live, at, j),
     }
@@ -202,8 +209,8 @@ fn spare(
 ) -> Option<usize>
     requires have { b < length steps.now.have.items }
     requires asked { b < length table.now.asked.items }
-    requires live { at + table.now.width ≤ length steps.now.live.items }
-    requires rows { table.now.width * b + table.now.width ≤ length table.now.rows.items }
+    requires live { at + table.now.matrix.width ≤ length steps.now.live.items }
+    requires rows { table.now.matrix.width * b + table.now.matrix.width ≤ length table.now.matrix.rows.items }
     ensures { MatchOption result (nat_lt (slice_index steps.now.have.items b) (slice_index table.now.asked.items b) ≡ false) (λ _. nat_lt (slice_index steps.now.have.items b) (slice_index table.now.asked.items b) ≡ true) }
 {
     let have = steps.have[b];
@@ -212,17 +219,17 @@ fn spare(
         return None;
     }
     let needed = (asked - have) as usize - 1;
-    let from = table.width * b;
+    let from = table.matrix.width * b;
     let filled = filled_words(table, b);
     let most = fewest.saturating_add(needed);
     let n = common(
         &steps.live,
         at,
         busy,
-        &table.rows,
+        &table.matrix.rows,
         from,
         &filled,
-        table.width,
+        table.matrix.width,
         most,
     );
     Some(n.saturating_sub(needed))
@@ -236,8 +243,8 @@ fn filled_words(table: &Table, b: usize) -> Busy {
     }
 }
 
-/// An item of the view of which the base has too few, one with the fewest options beyond what it still needs.
-pub(crate) fn next_listed(
+// An item of the view of which the base has too few, one with the fewest options beyond what it still needs.
+fn next_listed(
     view: &View,
     path: &[Atom],
     first: usize,
@@ -249,8 +256,8 @@ pub(crate) fn next_listed(
 {
     let _ = view;
     let _ = path;
-    let at = steps.live.len() - table.width;
-    let busy = busy_words(&steps.live, at, table.width);
+    let at = steps.live.len() - table.matrix.width;
+    let busy = busy_words(&steps.live, at, table.matrix.width);
     let mut best = None;
     let mut fewest = usize::MAX;
     for b in 0..steps.have.len() {
@@ -267,8 +274,25 @@ pub(crate) fn next_listed(
     best
 }
 
-/// An item that is due, where no item of the view is.
-pub(crate) fn next_other(
+// The same as an item.
+fn listed_due(
+    view: &View,
+    path: &[Atom],
+    first: usize,
+    table: &Table,
+    steps: &Steps,
+) -> Option<Item>
+    requires kept { StepsKeep view.now path.now first table.now steps.now }
+    ensures { MatchOption result ((b : ℕ) → b < length view.now.bounds → nat_lt (count view.now (base view.now path.now) (item_of view.now b)) (asks view.now path.now (item_of view.now b)) ≡ false) (λ i. nat_lt (count view.now (base view.now path.now) i) (asks view.now path.now i) ≡ true) }
+{
+    match next_listed(view, path, first, table, steps) {
+        Some(b) => Some(view.items()[b].0),
+        None => None,
+    }
+}
+
+/// An item that is due: one that is no item of the view first, since it has no option.
+pub(crate) fn next_due(
     view: &View,
     path: &[Atom],
     first: usize,
@@ -278,12 +302,13 @@ pub(crate) fn next_other(
 ) -> Option<Item>
     requires kept { StepsKeep view.now path.now first table.now steps.now }
     requires members { members.now ≡ base view.now path.now }
-    requires none { (b : ℕ) → b < length view.now.bounds → nat_lt (count view.now (base view.now path.now) (item_of view.now b)) (asks view.now path.now (item_of view.now b)) ≡ false }
     ensures { MatchOption result ((i : Item) → nat_lt (count view.now (base view.now path.now) i) (asks view.now path.now i) ≡ false) (λ i. nat_lt (count view.now (base view.now path.now) i) (asks view.now path.now i) ≡ true) }
 {
-    let _ = steps;
     if table.listed {
-        return None;
+        return listed_due(view, path, first, table, steps);
     }
-    plain::next_due(view, path, members)
+    if let Some(item) = plain::due_elsewhere(view, path, members) {
+        return Some(item);
+    }
+    listed_due(view, path, first, table, steps)
 }

@@ -1,6 +1,6 @@
 //! How many steps of a frame left its base sound: each member a placement of the design that is not ruled out. Where all
 //! did, the base is a tiling that meets the atoms as soon as no item is short.
-ghost use Rattle.std.specs.Prelude.{[], IfErr, IfOk, false, slice_index_or, ℕ, length, not, take, true, ◌&&◌, ◌++◌, ◌-◌, ◌<◌, ◌∷◌, ◌≡◌, ◌≤◌};
+ghost use Rattle.std.specs.Prelude.{[], ℕ, length, not, take, true, ◌&&◌, ◌++◌, ◌-◌, ◌<◌, ◌∷◌, ◌≡◌, ◌≤◌};
 ghost use Rattle.std.specs.List.{list_all, list_any};
 ghost use Rattle.poly_tiling.specs.Lists.{mem};
 ghost use Rattle.poly_atom.specs.Hopeless.{base, lacks};
@@ -8,13 +8,12 @@ ghost use Rattle.poly_tiling.specs.Puzzle.{is_piece};
 ghost use Rattle.poly_frame.specs.Open.{open_in, ruled_out};
 ghost use Rattle.poly_frame.specs.FrameSound.{AllFit, SoundShows, fits_at, is_sound};
 ghost use Rattle.poly_frame.specs.FrameTable.{HaveShows, UppersShow};
+ghost use Rattle.poly_frame.specs.Matrices.{IsWhole, StandsShow};
 
-use crate::frame::table::{flags_of, has_flag};
+use crate::frame::matrix::Matrix;
 use crate::plain;
 use poly_atom::Atom;
-use poly_grid::Refusal;
 use poly_tiling::{Item, View, has_number};
-use std::alloc::Global;
 
 /// Whether the number is a placement of the design that is not ruled out.
 pub(crate) fn is_right(view: &View, atoms: &[Atom], members: &[u32], number: u32) -> bool
@@ -53,22 +52,23 @@ fn all_fit(bounds: &[(Item, u8, u8)], uppers: &[u8], have: &[u64]) -> bool
     true
 }
 
-// Whether the number is a placement of the design that no atom lacks.
-fn is_kept(view: &View, atoms: &[Atom], flags: &[bool], number: u32) -> bool
-    requires { (p : ℕ) → slice_index_or flags.now p false ≡ mem view.now.live p }
-    ensures { result ≡ (mem view.now.live number && not (list_any (λ a. lacks a number) atoms.now)) }
+// Whether the number is in the matrix and no atom lacks it.
+fn is_kept(whole: &Matrix, atoms: &[Atom], number: u32) -> bool
+    requires { StandsShow whole.now.numbers.items whole.now.stands.items }
+    ensures { result ≡ (mem whole.now.numbers.items number && not (list_any (λ a. lacks a number) atoms.now)) }
 {
-    // The clauses alone speak of the view.
-    let _ = view;
-    has_flag(flags, number) && !plain::any_lacks(atoms, number)
+    match whole.place_of(number) {
+        None => false,
+        Some(_) => !plain::any_lacks(atoms, number),
+    }
 }
 
-fn are_kept(view: &View, atoms: &[Atom], flags: &[bool], members: &[u32]) -> bool
-    requires { (p : ℕ) → slice_index_or flags.now p false ≡ mem view.now.live p }
-    ensures { result ≡ list_all (λ p. mem view.now.live p && not (list_any (λ a. lacks a p) atoms.now)) members.now }
+fn are_kept(whole: &Matrix, atoms: &[Atom], members: &[u32]) -> bool
+    requires { StandsShow whole.now.numbers.items whole.now.stands.items }
+    ensures { result ≡ list_all (λ p. mem whole.now.numbers.items p && not (list_any (λ a. lacks a p) atoms.now)) members.now }
 {
     for p in members {
-        if !is_kept(view, atoms, flags, *p) {
+        if !is_kept(whole, atoms, *p) {
             return false;
         }
     }
@@ -78,26 +78,25 @@ fn are_kept(view: &View, atoms: &[Atom], flags: &[bool], members: &[u32]) -> boo
 /// For the given atoms alone: 1 where their base is known to be sound, and else 0. `uppers` and `have` are what each item
 /// may have at most, and how many members have it.
 pub(crate) fn begin(
-    alloc: Global,
     view: &View,
+    whole: &Matrix,
     atoms: &[Atom],
     members: &[u32],
     uppers: &[u8],
     have: &[u64],
-) -> Result<usize, Refusal>
+) -> usize
+    requires whole { IsWhole view.now whole.now }
     requires base { members.now ≡ base view.now atoms.now }
     requires uppers_len { length uppers.now ≡ length view.now.bounds }
     requires have_len { length have.now ≡ length view.now.bounds }
     requires uppers { UppersShow view.now atoms.now uppers.now }
     requires have { HaveShows view.now members.now have.now }
-    ensures value { IfOk result (λ n. SoundShows view.now atoms.now (length atoms.now) n) }
-    ensures why { IfErr result (λ e. e ≡ Refusal.Memory) }
+    ensures { SoundShows view.now atoms.now (length atoms.now) result }
 {
-    let flags = flags_of(alloc, view.live())?;
-    if all_fit(view.items(), uppers, have) && are_kept(view, atoms, &flags, members) {
-        Ok(1)
+    if all_fit(view.items(), uppers, have) && are_kept(whole, atoms, members) {
+        1
     } else {
-        Ok(0)
+        0
     }
 }
 

@@ -1,14 +1,16 @@
 //! What changes while a frame moves: for each step a row of what is open after it, and how many members of the base
 //! have each item. A step copies the last row and takes out what it closes, so taking it back drops the row.
-ghost use Rattle.std.specs.Prelude.{IfErr, IfOk, MatchOption, false, length, nat_le, nat_lt, not, slice_index, true, vec_capacity, vec_len, ℕ, [], ◌&&◌, ◌*◌, ◌++◌, ◌+◌, ◌-◌, ◌<◌, ◌∷◌, ◌≡◌, ◌≤◌, take};
+ghost use Rattle.std.specs.Prelude.{IfErr, IfOk, IfSome, List, false, length, nat_le, nat_lt, not, slice_index, true, vec_capacity, vec_len, ℕ, [], ◌&&◌, ◌*◌, ◌++◌, ◌+◌, ◌-◌, ◌<◌, ◌∷◌, ◌≡◌, ◌≤◌, take};
 ghost use Rattle.std.specs.List.{list_all, list_any};
-ghost use Rattle.poly_tiling.specs.Lists.{mem};
 ghost use Rattle.poly_atom.specs.Hopeless.{base};
 ghost use Rattle.poly_frame.specs.Bits.{has_bit};
+ghost use Rattle.poly_frame.specs.FrameItems.{Noted};
+ghost use Rattle.poly_tiling.specs.Puzzle.{items};
 
 use crate::bits;
 use crate::frame::items::{lower, note_items, raise};
-use crate::frame::table::{Table, guess_at};
+use crate::frame::matrix::Matrix;
+use crate::frame::table::Table;
 use poly_atom::Atom;
 use poly_grid::Refusal;
 use poly_tiling::{View, has_number};
@@ -24,38 +26,61 @@ pub(crate) struct Steps {
     pub(crate) marks: Vec<usize>,
 }
 
-ghost use Rattle.poly_frame.specs.FrameTable.{HaveShows, StandsShow, TableShows, place};
+ghost use Rattle.poly_frame.specs.Matrices.{IsMatrix, place};
+ghost use Rattle.poly_frame.specs.FrameTable.{HaveShows, TableShows};
 ghost use Rattle.poly_frame.specs.FrameSteps.{HasRoom, StepsKeep};
 
-/// Where a number stands among those that were open at the start.
-pub(crate) fn number_at(table: &Table, number: u32) -> Option<usize>
-    requires { StandsShow table.now.numbers.items table.now.stands.items }
-    ensures { MatchOption result (mem table.now.numbers.items number ≡ false) (λ j. (j < length table.now.numbers.items) × (slice_index table.now.numbers.items j ≡ number)) }
+// Notes where the items of a number stand, which may stand in the table.
+fn note_number(
+    view: &View,
+    matrix: &Matrix,
+    place: Option<usize>,
+    number: u32,
+    noted: &mut Vec<usize>,
+)
+    requires part { IsMatrix view.now matrix.now }
+    requires place { IfSome place (λ j. (j < length matrix.now.numbers.items) × (slice_index matrix.now.numbers.items j ≡ number)) }
+    requires room { vec_len noted.old + 17 ≤ vec_capacity noted.old }
+    ensures capacity { vec_capacity noted.new ≡ vec_capacity noted.old }
+    ensures len { vec_len noted.new ≤ vec_len noted.old + 17 }
+    ensures places { (places : List ℕ) × (noted.new.items ≡ noted.old.items ++ places) × Noted view.now.bounds (items view.now number) places }
 {
-    let p = number as usize;
-    if p < table.stands.len() {
-        let j = table.stands[p];
-        if j < table.numbers.len() && table.numbers[j] == number {
-            return Some(j);
-        }
+    match place {
+        Some(j) => note_list(matrix.lists.of(j), noted),
+        None => note_items(view, &matrix.cells, 0, number, noted),
     }
-    None
+}
+
+fn note_list(list: &[usize], noted: &mut Vec<usize>)
+    requires { vec_len noted.old + length list.now ≤ vec_capacity noted.old }
+    ensures capacity { vec_capacity noted.new ≡ vec_capacity noted.old }
+    ensures items { noted.new.items ≡ noted.old.items ++ list.now }
+{
+    for b in list {
+        noted.push_reserved(*b);
+    }
 }
 
 // Takes out all that have an item at one of the places and are closed by its count.
 fn close(table: &Table, have: &[u64], places: &[usize], live: &mut Vec<u64>, at: usize)
     requires low { list_all (λ b. nat_lt b (length have.now)) places.now ≡ true }
     requires limits { length table.now.limits.items ≡ length have.now }
-    requires rows { length table.now.rows.items ≡ table.now.width * length have.now }
-    requires live { at + table.now.width ≤ length live.old.items }
+    requires rows { length table.now.matrix.rows.items ≡ table.now.matrix.width * length have.now }
+    requires live { at + table.now.matrix.width ≤ length live.old.items }
     ensures len { length live.new.items ≡ length live.old.items }
     ensures capacity { vec_capacity live.new ≡ vec_capacity live.old }
-    ensures row { (j : ℕ) → j < 64 * table.now.width → has_bit live.new.items (64 * at + j) ≡ (has_bit live.old.items (64 * at + j) && not (list_any (λ b. nat_le (slice_index table.now.limits.items b) (slice_index have.now b) && has_bit table.now.rows.items (place table.now.width b j)) places.now)) }
+    ensures row { (j : ℕ) → j < 64 * table.now.matrix.width → has_bit live.new.items (64 * at + j) ≡ (has_bit live.old.items (64 * at + j) && not (list_any (λ b. nat_le (slice_index table.now.limits.items b) (slice_index have.now b) && has_bit table.now.matrix.rows.items (place table.now.matrix.width b j)) places.now)) }
     ensures before { (x : ℕ) → x < 64 * at → has_bit live.new.items x ≡ has_bit live.old.items x }
 {
     for b in places {
         if u64::from(table.limits[*b]) <= have[*b] {
-            bits::take_out_row(live, at, &table.rows, table.width * *b, table.width);
+            bits::take_out_row(
+                live,
+                at,
+                &table.matrix.rows,
+                table.matrix.width * *b,
+                table.matrix.width,
+            );
         }
     }
 }
@@ -79,14 +104,13 @@ pub(crate) fn pick(
 {
     let at = steps.live.len();
     let mark = steps.raised.len();
-    bits::copy_last(&mut steps.live, table.width);
+    bits::copy_last(&mut steps.live, table.matrix.width);
     steps.marks.push_reserved(mark);
     if has_number(members, number) {
         return;
     }
-    let place = number_at(table, number);
-    let guess = guess_at(&table.pieces, place.unwrap_or(0));
-    note_items(view, &table.cells, guess, number, &mut steps.raised);
+    let place = table.matrix.place_of(number);
+    note_number(view, &table.matrix, place, number, &mut steps.raised);
     raise(&mut steps.have, &steps.raised[mark..]);
     close(
         table,
@@ -119,35 +143,28 @@ pub(crate) fn leave(
     let _ = path;
     let at = steps.live.len();
     let mark = steps.raised.len();
-    bits::copy_last(&mut steps.live, table.width);
+    bits::copy_last(&mut steps.live, table.matrix.width);
     steps.marks.push_reserved(mark);
-    if let Some(j) = number_at(table, number) {
+    if let Some(j) = table.matrix.place_of(number) {
         bits::take_out(&mut steps.live, at, j);
     }
 }
 
-/// Takes back all steps but the first `n`.
-pub(crate) fn back(
-    view: &View,
-    path: &[Atom],
-    first: usize,
-    table: &Table,
-    steps: &mut Steps,
-    n: usize,
-)
+/// Takes the last step back.
+pub(crate) fn back(view: &View, path: &[Atom], first: usize, table: &Table, steps: &mut Steps)
     requires kept { StepsKeep view.now path.now first table.now steps.old }
     requires room { HasRoom table.now steps.old }
-    requires some { first + n < length path.now }
-    ensures kept { StepsKeep view.now (take (first + n) path.now) first table.now steps.new }
+    requires some { first < length path.now }
+    ensures kept { StepsKeep view.now (take (length path.now - 1) path.now) first table.now steps.new }
     ensures room { HasRoom table.now steps.new }
 {
     let _ = view;
-    let _ = path;
+    let n = path.len() - 1 - first;
     let mark = steps.marks[n];
     lower(&mut steps.have, &steps.raised[mark..]);
     steps.raised.truncate(mark);
     steps.marks.truncate(n);
-    steps.live.truncate(table.width * (n + 1));
+    steps.live.truncate(table.matrix.width * (n + 1));
 }
 
 fn first_row(alloc: Global, n: usize, width: usize) -> Result<Vec<u64>, Refusal>
@@ -187,7 +204,7 @@ pub(crate) fn start(
 {
     let _ = view;
     let _ = atoms;
-    let live = first_row(alloc, table.numbers.len(), table.width)?;
+    let live = first_row(alloc, table.matrix.numbers.len(), table.matrix.width)?;
     let marks = Vec::with_capacity(alloc, 4096)?;
     let mut raised = raised;
     raised.clear();

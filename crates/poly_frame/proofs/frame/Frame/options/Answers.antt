@@ -9,7 +9,7 @@ use Rattle.poly_frame.proofs.FrameLooks.{options_members, options_once}
 use Rattle.poly_frame.proofs.frame.Frame.options.Goals as goal
 
 pub list_options-requires-clause-space : goal.list_options-requires-clause-space
-list_options-requires-clause-space c = omega (arith, c.self.invariant.levels.table.fewer, c.self.invariant.lists.answers)
+list_options-requires-clause-space c = omega (arith, c.self.invariant.levels.table.matrix.fewer, c.self.invariant.lists.answers)
 
 pub returns : goal.returns
 returns c =
@@ -19,7 +19,7 @@ returns c =
     let s = c.self.inside.steps in
     let K = c.self.invariant.levels in
     let f = λ (p : ℕ). open_in v A p && has_item v p c.args.item in
-    let listed : c.deref-2.result.now ≡ filter f t.numbers.items = c.deref-2.ensures.value ∙ c.list_options.ensures.items ∙ ap (λ (B : List Atom). filter (λ p. open_in v B p && has_item v p c.args.item) t.numbers.items) c.deref.ensures.value in (
+    let listed : c.deref-2.result.now ≡ filter f t.matrix.numbers.items = c.deref-2.ensures.value ∙ c.list_options.ensures.items ∙ ap (λ (B : List Atom). filter (λ p. open_in v B p && has_item v p c.args.item) t.matrix.numbers.items) c.deref.ensures.value in (
       (refl, λ _. tt, c.self.view_is),
       record {
         same = tt;

@@ -5,4 +5,4 @@ use Rattle.poly_atom.specs.Hopeless.{lacks}
 use Rattle.poly_frame.proofs.frame.sound.are_kept.Given as goal
 
 abbrev pub invariant-loop-p : goal.invariant-loop-p
-invariant-loop-p l = list_all (λ p. mem l.view.live p && not (list_any (λ a. lacks a p) l.atoms)) (take l.p-index l.members) ≡ true
+invariant-loop-p l = list_all (λ p. mem l.whole.numbers.items p && not (list_any (λ a. lacks a p) l.atoms)) (take l.p-index l.members) ≡ true

@@ -8,12 +8,12 @@ use Rattle.poly_frame.specs.FrameTable.{HaveShows}
 use Rattle.poly_frame.proofs.FrameSound.{sound_fits, sound_one}
 use Rattle.poly_frame.proofs.frame.sound.begin.Goals as goal
 
-pub returns-then-are_kept-clause-value : goal.returns-then-are_kept-clause-value
-returns-then-are_kept-clause-value c =
+pub returns-then-are_kept : goal.returns-then-are_kept
+returns-then-are_kept c =
     let v = c.args.view.now in
     let A = c.args.atoms.now in
-    let kept = λ (p : ℕ). mem v.live p && not (list_any (λ a. lacks a p) A) in
+    let kept = λ (ns : List ℕ) (p : ℕ). mem ns p && not (list_any (λ a. lacks a p) A) in
     let fit = subst (λ (bs : List Bound). AllFit bs c.args.uppers.now c.args.have.now) c.items.ensures.value (c.all_fit.ensures c.if-all_fit.true) in
     let have = subst (λ (xs : List ℕ). HaveShows v xs c.args.have.now) c.requires.base c.requires.have in
-    let all : list_all kept (base v A) ≡ true = ap (λ xs. list_all kept xs) (sym c.requires.base) ∙ sym c.are_kept.ensures ∙ c.if-are_kept.true in
+    let all : list_all (kept v.live) (base v A) ≡ true = ap (λ xs. list_all (kept v.live) xs) (sym c.requires.base) ∙ ap (λ ns. list_all (kept ns) c.args.members.now) (sym c.requires.whole.all) ∙ sym c.are_kept.ensures ∙ c.if-are_kept.true in
     sound_one v A (sound_fits v A c.args.uppers.now c.args.have.now c.items.ensures.well c.requires.uppers have fit all)

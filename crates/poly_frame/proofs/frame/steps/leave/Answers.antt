@@ -11,7 +11,7 @@ returns-in-Some-clause-kept c =
     let A = c.args.path.now in
     let K = c.requires.kept in
     let live1 = c.copy_last.new.words.items in
-    let C = copied_from t.width (vec_len s.live) s.live.items live1 s.live.ok.0 (sym c.copy_last.new.words.ok.0 ∙ c.copy_last.ensures.len) c.copy_last.ensures.before c.copy_last.ensures.row in
+    let C = copied_from t.matrix.width (vec_len s.live) s.live.items live1 s.live.ok.0 (sym c.copy_last.new.words.ok.0 ∙ c.copy_last.ensures.len) c.copy_last.ensures.before c.copy_last.ensures.row in
     let at : c.len-at.result ≡ length s.live.items = c.len-at.ensures ∙ s.live.ok.0 in
     let mk : c.len-mark.result ≡ length s.raised.items = c.len-mark.ensures ∙ s.raised.ok.0 in
     kept_as v _ c.args.first t c.take_out.new.words.items s.have.items s.raised.items (s.marks.items ++ length s.raised.items ∷ []) s.raised.items c.push_reserved.new.self.items refl (marks_from s.marks.items s.raised.items c.push_reserved.new.self.items c.len-mark.result mk c.push_reserved.ensures.items)
@@ -26,7 +26,7 @@ returns-in_default-clause-kept c =
     let A = c.args.path.now in
     let K = c.requires.kept in
     let live1 = c.copy_last.new.words.items in
-    let C = copied_from t.width (vec_len s.live) s.live.items live1 s.live.ok.0 (sym c.copy_last.new.words.ok.0 ∙ c.copy_last.ensures.len) c.copy_last.ensures.before c.copy_last.ensures.row in
+    let C = copied_from t.matrix.width (vec_len s.live) s.live.items live1 s.live.ok.0 (sym c.copy_last.new.words.ok.0 ∙ c.copy_last.ensures.len) c.copy_last.ensures.before c.copy_last.ensures.row in
     let at : c.len-at.result ≡ length s.live.items = c.len-at.ensures ∙ s.live.ok.0 in
     let mk : c.len-mark.result ≡ length s.raised.items = c.len-mark.ensures ∙ s.raised.ok.0 in
     kept_as v _ c.args.first t live1 s.have.items s.raised.items (s.marks.items ++ length s.raised.items ∷ []) s.raised.items c.push_reserved.new.self.items refl (marks_from s.marks.items s.raised.items c.push_reserved.new.self.items c.len-mark.result mk c.push_reserved.ensures.items)

@@ -1,0 +1,171 @@
+-- The columns of a matrix: the items of each, and which are open.
+use Rattle.std.proofs.Common.{Bool, List, [], ap, arith, drop, false, get_or, inl, inr, length, length-append, not, refl, suc, sym, subst, take, true, zero, ℕ, ◌&&◌, ◌++◌, ◌+◌, ◌-◌, ◌<◌, ◌∙◌, ◌∷◌, ◌||◌, ◌≡◌, ◌≤◌}
+use Rattle.std.specs.List.{list_any}
+use Rattle.std.proofs.Math.Seq.{drop-append_seam, get_or-append_seam}
+use Rattle.std.proofs.lemmas.List.{drop-append-le, get_or_append_left, length-drop, take-append-le, take_all, take_more}
+use Rattle.std.proofs.lemmas.Bool.{and_from, and_parts, cases_eq, cases_lt, or_cases, or_left, or_right}
+use Rattle.poly_tiling.specs.Lists.{mem}
+use Rattle.poly_tiling.specs.Names.{WellNamed}
+use Rattle.poly_tiling.specs.Puzzle.{View, count, has_item, items}
+use Rattle.poly_tiling.proofs.Lists.{any_append, any_from, any_in, mem_in, same_truth}
+use Rattle.poly_tiling.proofs.Named.{listed_item}
+use Rattle.poly_atom.specs.declared.atom.Atom.{Atom}
+use Rattle.poly_atom.specs.Hopeless.{base, lacks}
+use Rattle.poly_frame.specs.Open.{open_in, upper}
+use Rattle.poly_frame.specs.FrameItems.{Noted, item_of}
+use Rattle.poly_frame.specs.FrameTable.{HaveShows, UppersShow, shut_at}
+use Rattle.poly_frame.specs.Matrices.{ListShows, ListsTo, StandsShow, any_below, list_at}
+use Rattle.poly_frame.proofs.FrameSteps.{index_in}
+use Rattle.poly_frame.proofs.FramePicks.{has_in, in_has, is_shut, open_is_free, place_of}
+
+-- a part of a list stays as the list grows
+part_kept : (xs ys : List ℕ) (s e : ℕ) → s ≤ e → e ≤ length xs → take (e - s) (drop s (xs ++ ys)) ≡ take (e - s) (drop s xs)
+part_kept xs ys s e h l = ap (λ zs. take (e - s) zs) (drop-append-le s xs ys (omega arith)) ∙ take-append-le (e - s) (drop s xs) ys (omega (arith, length-drop s xs))
+
+part_new : (xs ys : List ℕ) (s e : ℕ) → s ≡ length xs → e ≡ length (xs ++ ys) → take (e - s) (drop s (xs ++ ys)) ≡ ys
+part_new xs ys s e f g =
+    let n : e - s ≡ length ys = omega (arith, length-append xs ys) in
+    ap (λ k. take k (drop s (xs ++ ys))) n ∙ ap (λ k. take (length ys) (drop k (xs ++ ys))) f ∙ ap (λ zs. take (length ys) zs) (drop-append_seam xs ys) ∙ take_all (length ys) ys (omega arith)
+
+module _ (v : View) (ns starts places new : List ℕ) (k : ℕ) (L : ListsTo v ns starts places k) (noted : Noted v.bounds (items v (get_or ns k 0)) new) (short : length new ≤ 17) where
+  abbrev pub starts2 : List ℕ
+  starts2 = starts ++ length (places ++ new) ∷ []
+
+  old_start : (j : ℕ) → j ≤ k → get_or starts2 j 0 ≡ get_or starts j 0
+  old_start j h = get_or_append_left starts (length (places ++ new) ∷ []) 0 j (omega (arith, L.len))
+
+  new_start : get_or starts2 (k + 1) 0 ≡ length (places ++ new)
+  new_start = ap (λ n. get_or starts2 n 0) (sym L.len) ∙ get_or-append_seam starts (length (places ++ new)) [] 0
+
+  -- one list more
+  pub lists_more : ListsTo v ns starts2 (places ++ new) (k + 1)
+  lists_more = record {
+    len = omega (arith, length-append starts (length (places ++ new) ∷ []), L.len);
+    last = new_start;
+    each = λ j h. elim (cases_lt j k) [
+      | inl l ↦
+          let E = L.each j l in
+          let s = old_start j (omega arith) in
+          let e = old_start (j + 1) (omega arith) in
+          let same : list_at starts2 (places ++ new) j ≡ list_at starts places j =
+          ap (λ n. take (get_or starts2 (j + 1) 0 - n) (drop n (places ++ new))) s ∙ ap (λ n. take (n - get_or starts j 0) (drop (get_or starts j 0) (places ++ new))) e
+          ∙ part_kept places new (get_or starts j 0) (get_or starts (j + 1) 0) E.up E.end in
+          record {
+            up = omega (arith, s, e, E.up);
+            end = omega (arith, e, E.end, length-append places new);
+            noted = subst (λ xs. Noted v.bounds (items v (get_or ns j 0)) xs) (sym same) E.noted;
+            short = omega (arith, ap length same, E.short);
+          }
+      | inr l ↦
+          let top : j ≡ k = omega arith in
+          let s : get_or starts2 k 0 ≡ length places = old_start k (omega arith) ∙ L.last in
+          let same : list_at starts2 (places ++ new) k ≡ new = part_new places new (get_or starts2 k 0) (get_or starts2 (k + 1) 0) s new_start in
+          subst (λ n. ListShows v (get_or ns n 0) starts2 (places ++ new) n) (sym top) (record {
+            up = omega (arith, s, new_start, length-append places new);
+            end = omega (arith, new_start);
+            noted = subst (λ xs. Noted v.bounds (items v (get_or ns k 0)) xs) (sym same) noted;
+            short = omega (arith, ap length same, short);
+          })
+    ];
+  }
+
+pub lists_none : (v : View) (ns starts places : List ℕ) → starts ≡ 0 ∷ [] → places ≡ [] → ListsTo v ns starts places 0
+lists_none v ns starts places e f = record {
+  len = ap length e;
+  last = ap (λ xs. get_or xs 0 0) e ∙ sym (ap length f);
+  each = λ j h. absurd (omega (arith, h));
+}
+
+-- a number that has a column stands where the list says
+pub stand_of : (ns stands : List ℕ) (p : ℕ) → StandsShow ns stands → mem ns p ≡ true → (p < length stands) × (get_or stands p 0 < length ns) × (get_or ns (get_or stands p 0) 0 ≡ p)
+stand_of ns stands p s m =
+    let w = index_in ns p m in
+    let h = s w.0 w.1 in
+    let at : get_or stands p 0 ≡ w.0 = ap (λ q. get_or stands q 0) (sym w.2) ∙ h.1 in
+    (subst (λ q. q < length stands) w.2 h.0, subst (λ k. k < length ns) (sym at) w.1, ap (λ k. get_or ns k 0) at ∙ w.2)
+
+-- the lists that the code made
+pub lists_as : (v : View) (ns s1 p1 s2 p2 : List ℕ) (k : ℕ) → s1 ≡ s2 → p1 ≡ p2 → ListsTo v ns s1 p1 k → ListsTo v ns s2 p2 k
+lists_as v ns s1 p1 s2 p2 k e f L = subst (λ xs. ListsTo v ns xs p2 k) e (subst (λ xs. ListsTo v ns s1 xs k) f L)
+
+-- some number below
+pub below_any : (f : ℕ → Bool) (n : ℕ) → any_below f n ≡ true → (b : ℕ) × (b < n) × (f b ≡ true)
+below_any f zero h = absurd cc
+below_any f (suc n) h = elim (or_cases (any_below f n) (f n) h) [
+  | inl e ↦ let r = below_any f n e in let l : r.0 < suc n = omega (arith, r.1) in (r.0, l, r.2)
+  | inr e ↦ let l : n < suc n = omega arith in (n, l, e)
+]
+
+pub any_from_below : (f : ℕ → Bool) (n b : ℕ) → b < n → f b ≡ true → any_below f n ≡ true
+any_from_below f zero b h e = absurd (omega arith)
+any_from_below f (suc n) b h e = elim (cases_eq b n) [
+  | inl s ↦ or_right (any_below f n) (f n) (ap f (sym s) ∙ e)
+  | inr d ↦ or_left (any_below f n) (f n) (any_from_below f n b (omega arith) e)
+]
+
+below_more : (f : ℕ → Bool) (n : ℕ) → any_below f (n + 1) ≡ (any_below f n || f n)
+below_more f n = let e : n + 1 ≡ suc n = omega arith in ap (λ m. any_below f m) e
+
+and_more : (a b c : Bool) → ((a && not b) && not c) ≡ (a && not (b || c))
+and_more true true c = refl
+and_more true false c = refl
+and_more false b c = refl
+
+and_spared : (a b c : Bool) → c ≡ false → (a && not b) ≡ (a && not (b || c))
+and_spared a b c e = sym (yes (a && not b)) ∙ ap (λ x. (a && not b) && not x) (sym e) ∙ and_more a b c
+  where
+    yes : (x : Bool) → (x && true) ≡ x
+    yes true = refl
+    yes false = refl
+
+-- one row more is taken out, or none
+pub shut_more : (f : ℕ → Bool) (old cur new r s : Bool) (n : ℕ) → cur ≡ (old && not (any_below f n)) → new ≡ (cur && not r) → f n ≡ (s && r) → s ≡ true → new ≡ (old && not (any_below f (n + 1)))
+shut_more f old cur new r s n h e g y = e ∙ ap (λ b. b && not r) h ∙ and_more old (any_below f n) r ∙ ap (λ b. old && not (any_below f n || b)) (ap (λ b. b && r) (sym y) ∙ sym g) ∙ ap (λ b. old && not b) (sym (below_more f n))
+
+pub shut_same : (f : ℕ → Bool) (old cur r s : Bool) (n : ℕ) → cur ≡ (old && not (any_below f n)) → f n ≡ (s && r) → s ≡ false → cur ≡ (old && not (any_below f (n + 1)))
+shut_same f old cur r s n h g y = h ∙ and_spared old (any_below f n) (f n) (g ∙ ap (λ b. b && r) y) ∙ ap (λ b. old && not b) (sym (below_more f n))
+
+pub shut_none : (f : ℕ → Bool) (old : Bool) → old ≡ (old && not (any_below f 0))
+shut_none f true = refl
+shut_none f false = refl
+
+-- one more of a list is taken out
+pub out_more : {X : Type 0} (f : X → Bool) (xs : List X) (k : ℕ) (d : X) (old cur new : Bool) → k < length xs → cur ≡ (old && not (list_any f (take k xs))) → new ≡ (cur && not (f (get_or xs k d))) → new ≡ (old && not (list_any f (take (k + 1) xs)))
+out_more f xs k d old cur new h e g =
+    g ∙ ap (λ b. b && not (f (get_or xs k d))) e ∙ and_more old (list_any f (take k xs)) (f (get_or xs k d))
+    ∙ ap (λ b. old && not (list_any f (take k xs) || b)) (sym (or_false (f (get_or xs k d)))) ∙ ap (λ b. old && not b) (sym (any_append f (take k xs) (get_or xs k d ∷ [])))
+    ∙ ap (λ ys. old && not (list_any f ys)) (sym (take_more xs k d h))
+  where
+    or_false : (b : Bool) → (b || false) ≡ b
+    or_false true = refl
+    or_false false = refl
+
+-- a placement has an item that is shut if and only if some row that is shut has it
+pub shut_says : (v : View) (A : List Atom) (q : ℕ) (us hs T : List ℕ) (g : ℕ → Bool) → WellNamed v → mem v.live q ≡ true → T ≡ base v A → UppersShow v A us → HaveShows v T hs →
+    ((b : ℕ) → b < length v.bounds → g b ≡ (shut_at (item_of v b) (get_or us b 0) (get_or hs b 0) && has_item v q (item_of v b))) → any_below g (length v.bounds) ≡ list_any (is_shut v A) (items v q)
+shut_says v A q us hs T g well live e uppers have says = same_truth _ _
+    (λ t.
+    let r = below_any g (length v.bounds) t in
+    let two = and_parts (shut_at (item_of v r.0) (get_or us r.0 0) (get_or hs r.0 0)) _ (sym (says r.0 r.1) ∙ r.2) in
+    any_from (is_shut v A) (items v q) (item_of v r.0) (has_in v q _ two.1) (sym (counts r.0 r.1) ∙ two.0))
+    (λ t.
+    let r = any_in (is_shut v A) (items v q) t in
+    let w = place_of v.bounds r.0 (listed_item v well q (mem_in v.live q live) r.0 (in_has v q r.0 r.1)) in
+    any_from_below g (length v.bounds) w.0 w.1 (says w.0 w.1 ∙ and_from _ _ (counts w.0 w.1 ∙ ap (λ i. is_shut v A i) w.2 ∙ r.2) (ap (λ i. has_item v q i) w.2 ∙ in_has v q r.0 r.1)))
+  where
+    counts : (b : ℕ) → b < length v.bounds → shut_at (item_of v b) (get_or us b 0) (get_or hs b 0) ≡ is_shut v A (item_of v b)
+    counts b h = ap (λ n. shut_at (item_of v b) n (get_or hs b 0)) (uppers b h) ∙ ap (λ n. shut_at (item_of v b) (upper v A (item_of v b)) n) (have b h ∙ ap (λ xs. count v xs (item_of v b)) e)
+
+-- what is left is open
+pub left_open : (v : View) (A : List Atom) (q : ℕ) (T : List ℕ) (full shut r1 r2 r3 : Bool) → T ≡ base v A → full ≡ true → shut ≡ list_any (is_shut v A) (items v q) → r1 ≡ (full && not shut) → r2 ≡ (r1 && not (list_any (λ a. lacks a q) A)) → r3 ≡ (r2 && not (mem T q)) → r3 ≡ open_in v A q
+left_open v A q T full shut r1 r2 r3 e f s a b c =
+    c ∙ ap (λ x. x && not (mem T q)) (b ∙ ap (λ x. x && not (list_any (λ a. lacks a q) A)) (a ∙ ap (λ x. x && not shut) f ∙ ap not s))
+    ∙ ap (λ xs. (not (list_any (is_shut v A) (items v q)) && not (list_any (λ a. lacks a q) A)) && not (mem xs q)) e
+    ∙ turn (not (list_any (is_shut v A) (items v q))) (not (list_any (λ a. lacks a q) A)) (not (mem (base v A) q)) ∙ sym (open_is_free v A q)
+  where
+    turn : (x y z : Bool) → ((x && y) && z) ≡ (x && (z && y))
+    turn true true true = refl
+    turn true true false = refl
+    turn true false true = refl
+    turn true false false = refl
+    turn false y z = refl

@@ -1,0 +1,64 @@
+-- What a cover matrix stands for.
+use Rattle.std.specs.Prelude.{Bool, List, drop, false, length, slice_index, take, true, ℕ, zero, suc, ◌*◌, ◌+◌, ◌-◌, ◌<◌, ◌^◌, ◌||◌, ◌≡◌, ◌≤◌}
+use Rattle.poly_tiling.specs.Lists.{distinct, mem}
+use Rattle.poly_tiling.specs.Names.{WellNamed}
+use Rattle.poly_tiling.specs.Puzzle.{View, has_item, items}
+use Rattle.poly_frame.specs.Bits.{has_bit}
+use Rattle.poly_frame.specs.FrameItems.{Noted, item_of}
+use Rattle.poly_frame.specs.declared.frame.matrix.Lists.{Lists}
+use Rattle.poly_frame.specs.declared.frame.matrix.Matrix.{Matrix}
+
+-- where number j of row b stands, where a row has w words
+abbrev pub place : ℕ → ℕ → ℕ → ℕ
+place w b j = 64 * (w * b) + j
+
+-- row b has the numbers that have the item at b
+abbrev pub RowsShow : View → List ℕ → ℕ → List ℕ → Type 0
+RowsShow v ns w rows = (b j : ℕ) → b < length v.bounds → j < length ns → has_bit rows (place w b j) ≡ has_item v (slice_index ns j) (item_of v b)
+
+-- each number stands where the list says
+abbrev pub StandsShow : List ℕ → List ℕ → Type 0
+StandsShow ns stands = (j : ℕ) → j < length ns → (slice_index ns j < length stands) × (slice_index stands (slice_index ns j) ≡ j)
+
+-- list j, from where it starts to where the next one does
+abbrev pub list_at : List ℕ → List ℕ → ℕ → List ℕ
+list_at starts places j = take (slice_index starts (j + 1) - slice_index starts j) (drop (slice_index starts j) places)
+
+-- list j has the places of the items of number j
+pub record ListShows (v : View) (p : ℕ) (starts places : List ℕ) (j : ℕ) : Type 0 where
+  pub up : slice_index starts j ≤ slice_index starts (j + 1)
+  pub end : slice_index starts (j + 1) ≤ length places
+  pub noted : Noted v.bounds (items v p) (list_at starts places j)
+  pub short : length (list_at starts places j) ≤ 17
+
+-- the lists of the first k numbers
+pub record ListsTo (v : View) (ns starts places : List ℕ) (k : ℕ) : Type 0 where
+  pub len : length starts ≡ k + 1
+  pub last : slice_index starts k ≡ length places
+  pub each : (j : ℕ) → j < k → ListShows v (slice_index ns j) starts places j
+
+abbrev pub ListsShow : View → List ℕ → Lists → Type 0
+ListsShow v ns l = ListsTo v ns l.starts.items l.places.items (length ns)
+
+-- some columns of the cover matrix of a view
+pub record IsMatrix (v : View) (m : Matrix) : Type 0 where
+  pub well : WellNamed v
+  pub once : distinct m.numbers.items ≡ true
+  pub fewer : length m.numbers.items ≤ length v.live
+  pub live : (q : ℕ) → mem m.numbers.items q ≡ true → mem v.live q ≡ true
+  pub stands : StandsShow m.numbers.items m.stands.items
+  pub lists : ListsShow v m.numbers.items m.lists
+  pub wide : length m.numbers.items ≤ 64 * m.width
+  pub narrow : m.width < 2 ^ 58
+  pub rows : RowsShow v m.numbers.items m.width m.rows.items
+  pub rows_len : length m.rows.items ≡ m.width * length v.bounds
+
+-- the whole cover matrix: each placement of the design has a column
+pub record IsWhole (v : View) (m : Matrix) : Type 0 where
+  pub part : IsMatrix v m
+  pub all : m.numbers.items ≡ v.live
+
+-- some number below n passes
+abbrev pub any_below : (ℕ → Bool) → ℕ → Bool
+any_below f zero = false
+any_below f (suc n) = any_below f n || f n

@@ -1,0 +1,252 @@
+//! The exact cover matrix of a view: a row of bits for each item, a column for each placement (Knuth, The Art of Computer
+//! Programming, volume 4B, section 7.2.2.1). A frame takes from it the columns that are open at its atoms.
+ghost use Rattle.std.specs.Prelude.{Bool, IfErr, IfOk, List, MatchOption, false, length, nat_lt, slice_index, true, vec_capacity, ℕ, [], ◌&&◌, ◌++◌, ◌*◌, ◌+◌, ◌<◌, ◌==◌, ◌^◌, ◌||◌, ◌≡◌, ◌≤◌};
+ghost use Rattle.std.specs.List.{filter, list_all, list_any};
+ghost use Rattle.poly_tiling.specs.Lists.{distinct, mem};
+ghost use Rattle.poly_tiling.specs.Names.{WellNamed};
+ghost use Rattle.poly_tiling.specs.Puzzle.{View as Scene};
+ghost use Rattle.poly_frame.specs.Bits.{has_bit};
+
+use crate::bits;
+use crate::frame::items::{guess_cells, note_items};
+use poly_grid::Refusal;
+use poly_tiling::View;
+use std::alloc::Global;
+
+/// Lists of places, one after another: list `j` begins at entry `j` of `starts` and ends where the next one begins.
+#[derive(Drop)]
+pub(crate) struct Lists {
+    pub(crate) starts: Vec<usize>,
+    pub(crate) places: Vec<usize>,
+}
+
+/// The exact cover matrix of a view. It is made once for a view, and then serves each frame of that view.
+#[derive(Drop)]
+pub struct Matrix {
+    pub(crate) numbers: Vec<u32>,
+    pub(crate) stands: Vec<usize>,
+    pub(crate) lists: Lists,
+    pub(crate) cells: Vec<usize>,
+    pub(crate) width: usize,
+    pub(crate) rows: Vec<u64>,
+}
+
+ghost use Rattle.poly_frame.specs.Matrices.{IsMatrix, IsWhole, ListsShow, RowsShow, StandsShow, list_at, place};
+
+impl Lists {
+    /// The list at `j`.
+    pub(crate) fn of(&self, j: usize) -> &[usize]
+        requires high { j + 1 < length self.now.starts.items }
+        requires order { slice_index self.now.starts.items j ≤ slice_index self.now.starts.items (j + 1) }
+        requires end { slice_index self.now.starts.items (j + 1) ≤ length self.now.places.items }
+        ensures { result.now ≡ list_at self.now.starts.items self.now.places.items j }
+    {
+        &self.places[self.starts[j]..self.starts[j + 1]]
+    }
+}
+
+impl Matrix {
+    /// The matrix of the view: each placement of the design has a column.
+    #[tactic(auto, using(poly_tiling::proofs::Orders::live_once))]
+    pub fn new(alloc: Global, view: &View) -> Result<Matrix, Refusal>
+        ensures made { IfOk result (λ m. IsWhole view.now m) }
+        ensures why { IfErr result (λ e. e ≡ Refusal.Memory) }
+        ensures well { WellNamed view.now }
+        ensures once { distinct view.now.live ≡ true }
+    {
+        let live = view.live();
+        let mut numbers = Vec::with_capacity(alloc, live.len())?;
+        numbers.extend_from_slice(live)?;
+        let cells = guess_cells(alloc, view.items())?;
+        let lists = list_items(alloc, view, &cells, &numbers)?;
+        let width = numbers.len() / 64 + 1;
+        let rows = rows_of(alloc, view, &numbers, &lists, width)?;
+        let stands = stands_of(alloc, &numbers)?;
+        Ok(Matrix {
+            numbers,
+            stands,
+            lists,
+            cells,
+            width,
+            rows,
+        })
+    }
+
+    /// Where the number stands.
+    pub(crate) fn place_of(&self, number: u32) -> Option<usize>
+        requires { StandsShow self.now.numbers.items self.now.stands.items }
+        ensures { MatchOption result (mem self.now.numbers.items number ≡ false) (λ j. (j < length self.now.numbers.items) × (slice_index self.now.numbers.items j ≡ number)) }
+    {
+        let p = number as usize;
+        if p < self.stands.len() {
+            let j = self.stands[p];
+            if j < self.numbers.len() && self.numbers[j] == number {
+                return Some(j);
+            }
+        }
+        None
+    }
+}
+
+/// The columns of a matrix of the view that have a bit in the row.
+pub(crate) fn narrowed(
+    alloc: Global,
+    view: &View,
+    whole: &Matrix,
+    row: &[u64],
+) -> Result<Matrix, Refusal>
+    requires whole { IsMatrix view.now whole.now }
+    requires row { length row.now ≡ whole.now.width }
+    ensures made { IfOk result (λ m. IsMatrix view.now m) }
+    ensures numbers { IfOk result (λ m. (f : ℕ → Bool) → ((j : ℕ) → j < length whole.now.numbers.items → f (slice_index whole.now.numbers.items j) ≡ has_bit row.now j) → m.numbers.items ≡ filter f whole.now.numbers.items) }
+    ensures why { IfErr result (λ e. e ≡ Refusal.Memory) }
+{
+    let mut numbers = Vec::with_capacity(alloc, whole.numbers.len())?;
+    list_set(&whole.numbers, row, whole.width, &mut numbers);
+    let cells = copied(alloc, &whole.cells)?;
+    let lists = copy_lists(alloc, whole, &numbers)?;
+    let width = numbers.len() / 64 + 1;
+    let rows = rows_of(alloc, view, &numbers, &lists, width)?;
+    let stands = stands_of(alloc, &numbers)?;
+    Ok(Matrix {
+        numbers,
+        stands,
+        lists,
+        cells,
+        width,
+        rows,
+    })
+}
+
+fn copied(alloc: Global, from: &[usize]) -> Result<Vec<usize>, Refusal>
+    ensures { IfErr result (λ e. e ≡ Refusal.Memory) }
+{
+    let mut all = Vec::with_capacity(alloc, from.len())?;
+    all.extend_from_slice(from)?;
+    Ok(all)
+}
+
+// Lists the numbers that have a bit in a row.
+fn list_set(numbers: &[u32], row: &[u64], width: usize, into: &mut Vec<u32>)
+    requires wide { length numbers.now ≤ 64 * width }
+    requires narrow { width < 2 ^ 58 }
+    requires row { length row.now ≡ width }
+    requires none { into.old.items ≡ [] }
+    requires space { length numbers.now ≤ vec_capacity into.old }
+    ensures { (f : ℕ → Bool) → ((j : ℕ) → j < length numbers.now → f (slice_index numbers.now j) ≡ has_bit row.now j) → into.new.items ≡ filter f numbers.now }
+{
+    let mut low = 0;
+    while let Some(j) = bits::next_both(row, 0, row, 0, width, low) {
+        if j >= numbers.len() {
+            return;
+        }
+        into.push_reserved(numbers[j]);
+        low = j + 1;
+    }
+}
+
+// The items of each number, asked of the view.
+fn list_items(
+    alloc: Global,
+    view: &View,
+    cells: &[usize],
+    numbers: &[u32],
+) -> Result<Lists, Refusal>
+    ensures value { IfOk result (λ l. ListsShow view.now numbers.now l) }
+    ensures why { IfErr result (λ e. e ≡ Refusal.Memory) }
+{
+    let mut starts = Vec::with_capacity(alloc, numbers.len())?;
+    let mut places = Vec::new(alloc);
+    let mut piece = 0;
+    starts.push(0usize)?;
+    for p in numbers {
+        places.reserve(17)?;
+        note_items(view, cells, piece, *p, &mut places);
+        if places.len() > starts[starts.len() - 1] {
+            piece = places[starts[starts.len() - 1]];
+        }
+        starts.push(places.len())?;
+    }
+    Ok(Lists { starts, places })
+}
+
+// The items of each of some numbers of a matrix.
+fn copy_lists(alloc: Global, whole: &Matrix, numbers: &[u32]) -> Result<Lists, Refusal>
+    requires whole { (v : Scene) × IsMatrix v whole.now }
+    requires among { (p : ℕ) → mem numbers.now p ≡ true → mem whole.now.numbers.items p ≡ true }
+    ensures value { IfOk result (λ l. (v : Scene) → IsMatrix v whole.now → ListsShow v numbers.now l) }
+    ensures why { IfErr result (λ e. e ≡ Refusal.Memory) }
+{
+    let mut starts = Vec::with_capacity(alloc, numbers.len())?;
+    let mut places = Vec::new(alloc);
+    starts.push(0usize)?;
+    for p in numbers {
+        let j = whole.stands[*p as usize];
+        places.extend_from_slice(whole.lists.of(j))?;
+        starts.push(places.len())?;
+    }
+    Ok(Lists { starts, places })
+}
+
+// A number for which each of these is smaller.
+fn size_for(numbers: &[u32]) -> usize
+    ensures above { list_all (λ p. nat_lt p result) numbers.now ≡ true }
+    ensures small { result ≤ 2 ^ 32 }
+{
+    let mut size = 0usize;
+    for p in numbers {
+        size = size.max(*p as usize + 1);
+    }
+    size
+}
+
+fn stands_of(alloc: Global, numbers: &[u32]) -> Result<Vec<usize>, Refusal>
+    requires { distinct numbers.now ≡ true }
+    ensures value { IfOk result (λ s. StandsShow numbers.now s.items) }
+    ensures why { IfErr result (λ e. e ≡ Refusal.Memory) }
+{
+    let size = size_for(numbers);
+    let mut stands = vec![in alloc; 0usize; size]?;
+    for j in 0..numbers.len() {
+        let p = numbers[j] as usize;
+        stands[p] = j;
+    }
+    Ok(stands)
+}
+
+// Puts the number j into the rows of these places.
+fn put_each(rows: &mut Vec<u64>, width: usize, places: &[usize], j: usize, items: usize)
+    requires low { list_all (λ b. nat_lt b items) places.now ≡ true }
+    requires len { length rows.old.items ≡ width * items }
+    requires wide { j < 64 * width }
+    ensures len { length rows.new.items ≡ width * items }
+    ensures bits { (x : ℕ) → has_bit rows.new.items x ≡ (has_bit rows.old.items x || list_any (λ b. place width b j == x) places.now) }
+{
+    for b in places {
+        bits::put_in(rows, width * *b, j);
+    }
+}
+
+fn rows_of(
+    alloc: Global,
+    view: &View,
+    numbers: &[u32],
+    lists: &Lists,
+    width: usize,
+) -> Result<Vec<u64>, Refusal>
+    requires wide { length numbers.now ≤ 64 * width }
+    requires lists { ListsShow view.now numbers.now lists.now }
+    ensures len { IfOk result (λ r. length r.items ≡ width * length view.now.bounds) }
+    ensures value { IfOk result (λ r. RowsShow view.now numbers.now width r.items) }
+    ensures why { IfErr result (λ e. e ≡ Refusal.Memory) }
+{
+    let items = view.items().len();
+    let Some(words) = width.checked_mul(items) else {
+        return Err(Refusal::Memory);
+    };
+    let mut rows = vec![in alloc; 0u64; words]?;
+    for j in 0..numbers.len() {
+        put_each(&mut rows, width, lists.of(j), j, items);
+    }
+    Ok(rows)
+}

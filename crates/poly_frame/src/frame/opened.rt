@@ -1,0 +1,144 @@
+//! Which columns of a matrix are open at the atoms.
+ghost use Rattle.std.specs.Prelude.{IfErr, IfOk, length, nat_lt, not, slice_index, true, ℕ, ◌&&◌, ◌*◌, ◌<◌, ◌==◌, ◌≡◌};
+ghost use Rattle.std.specs.List.{list_any};
+ghost use Rattle.std.specs.Int.{bit_at};
+ghost use Rattle.poly_tiling.specs.Lists.{mem};
+ghost use Rattle.poly_tiling.specs.Puzzle.{View as Scene, is_piece};
+ghost use Rattle.poly_atom.specs.Hopeless.{base, lacks};
+ghost use Rattle.poly_frame.specs.Bits.{has_bit};
+ghost use Rattle.poly_frame.specs.Open.{open_in};
+ghost use Rattle.poly_frame.specs.FrameItems.{item_at};
+ghost use Rattle.poly_frame.specs.FrameTable.{HaveShows, UppersShow, shut_at};
+ghost use Rattle.poly_frame.specs.Matrices.{IsMatrix, any_below, place};
+
+use crate::bits;
+use crate::frame::matrix::Matrix;
+use poly_atom::Atom;
+use poly_grid::Refusal;
+use poly_tiling::{Item, View};
+use std::alloc::Global;
+
+fn is_shut_at(item: &Item, most: u8, have: u64) -> bool
+    ensures { result ≡ shut_at item.now most have }
+{
+    u64::from(most) <= have || is_had_cell(item, have)
+}
+
+fn is_had_cell(item: &Item, have: u64) -> bool
+    ensures { result ≡ (not (is_piece item.now) && nat_lt 0 have) }
+{
+    match item {
+        Item::Cell(_) => 0 < have,
+        Item::Piece(_) => false,
+    }
+}
+
+fn ones() -> u64
+    ensures { (t : ℕ) → t < 64 → bit_at result t ≡ 1 }
+{
+    !0
+}
+
+fn full_row(alloc: Global, width: usize) -> Result<Vec<u64>, Refusal>
+    ensures len { IfOk result (λ r. length r.items ≡ width) }
+    ensures bits { IfOk result (λ r. (j : ℕ) → j < 64 * width → has_bit r.items j ≡ true) }
+    ensures why { IfErr result (λ e. e ≡ Refusal.Memory) }
+{
+    let row = vec![in alloc; ones(); width]?;
+    Ok(row)
+}
+
+// Takes out what has an item that is shut.
+fn take_out_shut(
+    bounds: &[(Item, u8, u8)],
+    whole: &Matrix,
+    uppers: &[u8],
+    have: &[u64],
+    row: &mut Vec<u64>,
+)
+    requires uppers { length uppers.now ≡ length bounds.now }
+    requires have { length have.now ≡ length bounds.now }
+    requires rows { length whole.now.rows.items ≡ whole.now.width * length bounds.now }
+    requires len { length row.old.items ≡ whole.now.width }
+    ensures len { length row.new.items ≡ length row.old.items }
+    ensures bits { (j : ℕ) → j < 64 * whole.now.width → has_bit row.new.items j ≡ (has_bit row.old.items j && not (any_below (λ b. shut_at (item_at bounds.now b) (slice_index uppers.now b) (slice_index have.now b) && has_bit whole.now.rows.items (place whole.now.width b j)) (length bounds.now))) }
+{
+    for b in 0..bounds.len() {
+        if is_shut_at(&bounds[b].0, uppers[b], have[b]) {
+            bits::take_out_row(row, 0, &whole.rows, whole.width * b, whole.width);
+        }
+    }
+}
+
+// Takes out a number, if it has a column.
+fn take_out_number(whole: &Matrix, number: u32, row: &mut Vec<u64>)
+    requires part { (v : Scene) × IsMatrix v whole.now }
+    requires len { length row.old.items ≡ whole.now.width }
+    ensures len { length row.new.items ≡ length row.old.items }
+    ensures bits { (j : ℕ) → j < length whole.now.numbers.items → has_bit row.new.items j ≡ (has_bit row.old.items j && not (number == slice_index whole.now.numbers.items j)) }
+{
+    if let Some(j) = whole.place_of(number) {
+        bits::take_out(row, 0, j);
+    }
+}
+
+fn take_out_lacked_by(whole: &Matrix, atom: &Atom, row: &mut Vec<u64>)
+    requires part { (v : Scene) × IsMatrix v whole.now }
+    requires len { length row.old.items ≡ whole.now.width }
+    ensures len { length row.new.items ≡ length row.old.items }
+    ensures bits { (j : ℕ) → j < length whole.now.numbers.items → has_bit row.new.items j ≡ (has_bit row.old.items j && not (lacks atom.now (slice_index whole.now.numbers.items j))) }
+{
+    if let Atom::Lacks(number) = atom {
+        take_out_number(whole, *number, row);
+    }
+}
+
+fn take_out_lacked(whole: &Matrix, atoms: &[Atom], row: &mut Vec<u64>)
+    requires part { (v : Scene) × IsMatrix v whole.now }
+    requires len { length row.old.items ≡ whole.now.width }
+    ensures len { length row.new.items ≡ length row.old.items }
+    ensures bits { (j : ℕ) → j < length whole.now.numbers.items → has_bit row.new.items j ≡ (has_bit row.old.items j && not (list_any (λ a. lacks a (slice_index whole.now.numbers.items j)) atoms.now)) }
+{
+    for atom in atoms {
+        take_out_lacked_by(whole, atom, row);
+    }
+}
+
+fn take_out_members(whole: &Matrix, members: &[u32], row: &mut Vec<u64>)
+    requires part { (v : Scene) × IsMatrix v whole.now }
+    requires len { length row.old.items ≡ whole.now.width }
+    ensures len { length row.new.items ≡ length row.old.items }
+    ensures bits { (j : ℕ) → j < length whole.now.numbers.items → has_bit row.new.items j ≡ (has_bit row.old.items j && not (mem members.now (slice_index whole.now.numbers.items j))) }
+{
+    for p in members {
+        take_out_number(whole, *p, row);
+    }
+}
+
+/// A row with a bit for each number of the matrix that is open at the atoms. `members` is their base, `uppers` and `have`
+/// are what each item may have at most and has there.
+pub(crate) fn open_row(
+    alloc: Global,
+    view: &View,
+    whole: &Matrix,
+    atoms: &[Atom],
+    members: &[u32],
+    uppers: &[u8],
+    have: &[u64],
+) -> Result<Vec<u64>, Refusal>
+    requires part { IsMatrix view.now whole.now }
+    requires base { members.now ≡ base view.now atoms.now }
+    requires have_len { length have.now ≡ length view.now.bounds }
+    requires have { HaveShows view.now members.now have.now }
+    requires uppers_len { length uppers.now ≡ length view.now.bounds }
+    requires uppers { UppersShow view.now atoms.now uppers.now }
+    ensures len { IfOk result (λ r. length r.items ≡ whole.now.width) }
+    ensures value { IfOk result (λ r. (j : ℕ) → j < length whole.now.numbers.items → has_bit r.items j ≡ open_in view.now atoms.now (slice_index whole.now.numbers.items j)) }
+    ensures why { IfErr result (λ e. e ≡ Refusal.Memory) }
+{
+    let mut row = full_row(alloc, whole.width)?;
+    take_out_shut(view.items(), whole, uppers, have, &mut row);
+    take_out_lacked(whole, atoms, &mut row);
+    take_out_members(whole, members, &mut row);
+    Ok(row)
+}
