@@ -2,20 +2,19 @@
 use Rattle.std.proofs.Common.{◌≡◌, ◌≢◌, ℕ, Bool, true, false, List, refl, sym, ◌∙◌, ap, arith, get_or, true≢false}
 use Rattle.std.specs.declared.cmp.Ordering.{Ordering}
 use Rattle.std.specs.declared.cmp.Ordering.TheVariants.{Less, Equal, Greater}
-use Rattle.std.specs.Ordering.{is_lt, ordering_reverse, ordering_then}
+use Rattle.std.specs.Ordering.{is_lt, ordering_reverse}
 use Rattle.std.specs.Cmp.{IsTotalOrder}
 use Rattle.std.specs.List.{AllPairs, Contains, filter}
 use Rattle.std.specs.List.Sorted.{IsPermutation, IsSorted}
-use Rattle.std.specs.FinMap.{nat_cmp-IsAntisymmetric, slice_cmp-IsAntisymmetric}
 use Rattle.std.proofs.lemmas.List.MinMax.{ranks_by}
 use Rattle.std.proofs.lemmas.List.Sorted.{sorted_far, Contains-permutation, IsPermutation-sym}
 use Rattle.std.proofs.lemmas.Map.Keys.{IsDistinct-IsPermutation}
 use Rattle.std.proofs.lemmas.Map.Made.{AllPairs-from_IsDistinct, IsDistinct-from_AllPairs}
-use Rattle.poly_shape.specs.Order.{IsAscending, cells_cmp}
-use Rattle.poly_shape.proofs.Ascending.{same_ascending, same_cells}
-use Rattle.poly_design.specs.Name.{name_cmp}
+use Rattle.poly_shape.specs.Order.{IsAscending}
+use Rattle.poly_shape.proofs.Ascending.{same_ascending}
 use Rattle.poly_design.specs.PlacementOrder.{placement_cmp, placement_total}
 use Rattle.poly_design.specs.declared.placement.Placement.{Placement}
+use Rattle.poly_design.proofs.Outside.{same_placement}
 use Rattle.poly_design.proofs.Same.{placement_test, placement_decides}
 use Rattle.poly_tiling.specs.Lists.{mem}
 use Rattle.poly_tiling.specs.Puzzle.{View}
@@ -26,19 +25,6 @@ use Rattle.poly_tiling.proofs.Contained.{contains_in, in_contains}
 use Rattle.poly_tiling.proofs.Shown.{in_names, names_in}
 use Rattle.poly_tiling.proofs.Tilings.{parts}
 use Rattle.poly_cli.specs.Listings.{IsPrintable}
-
-then_equal : (a b : Ordering) → ordering_then a b ≡ Equal → (a ≡ Equal) × (b ≡ Equal)
-then_equal Less b e = (e, absurd cc)
-then_equal Equal b e = (refl, e)
-then_equal Greater b e = (e, absurd cc)
-
--- placements that compare alike are one
-placement_exact : (p q : Placement) → placement_cmp p q ≡ Equal → p ≡ q
-placement_exact p q e =
-    let both = then_equal (name_cmp p.name q.name) (cells_cmp p.cells q.cells) e in
-    let name : p.name ≡ q.name = slice_cmp-IsAntisymmetric nat_cmp-IsAntisymmetric _ _ both.0 in
-    let cells : p.cells ≡ q.cells = same_cells _ _ both.1 in
-    λ i. record { name = name i; cells = cells i }
 
 -- a sorted list in which no two are the same ascends
 ascending_from : {X : Type 0} {R : X → X → Ordering} (o : IsTotalOrder R) → ((x y : X) → R x y ≡ Equal → x ≡ y) → (xs : List X) → IsSorted R xs → AllPairs (λ x y. x ≢ y) xs → IsAscending R xs
@@ -64,7 +50,7 @@ differ_moved ps qs moved differ = AllPairs-from_IsDistinct placement_decides qs 
 
 -- the placements of a tiling, sorted, are its placements in placement order
 pub sorted_is_placed : (v : View) (T : List ℕ) (S : List Placement) → IsPrintable v T → IsPermutation (names v T) S → IsSorted placement_cmp S → S ≡ placed v T
-sorted_is_placed v T S h moved sorted = same_ascending placement_total S (placed v T) (ascending_from placement_total placement_exact S sorted (differ_moved (names v T) S moved h.differ)) h.ascends to from
+sorted_is_placed v T S h moved sorted = same_ascending placement_total S (placed v T) (ascending_from placement_total same_placement S sorted (differ_moved (names v T) S moved h.differ)) h.ascends to from
   where
     live : List ℕ
     live = filter (λ n. mem T n) v.live

@@ -21,7 +21,7 @@ use std::io::Write;
 // The most placements of a tiling: each covers a cell, and there are at most 256.
 const MOST_PLACED: usize = 256;
 
-/// What answers lines by an engine. It takes the memory of its replies once, so that none of them can fail halfway for want of it.
+/// Answers lines by an engine. It takes the memory of its replies once, so no reply can run out of memory halfway.
 #[derive(Drop)]
 pub struct Answerer {
     alloc: Global,
@@ -31,7 +31,7 @@ pub struct Answerer {
 }
 
 impl Answerer {
-    /// The only error is `Memory`.
+    /// An answerer that hasn't answered yet. Fails only with `Memory`.
     pub fn new(alloc: Global) -> Result<Answerer, Refusal>
         ensures { IfErr result (λ e. e ≡ Refusal.Memory) }
     {
@@ -42,7 +42,8 @@ impl Answerer {
         })
     }
 
-    /// Answers a line, of which nothing is given where it is too long. The answer is written whole and flushed.
+    /// Answers a line; `None` stands for a line that is too long. Writes the whole answer and flushes it. Fails with `Write` if the
+    /// writer does.
     pub fn respond<E: Engine, W: Write>(
         &mut self,
         engine: &mut E,
@@ -137,7 +138,7 @@ impl Answerer {
         }
     }
 
-    // Writes the listing. All its memory is there.
+    // Writes the listing. It takes no memory.
     fn print<W: Write>(&mut self, listing: &Listing, writer: &mut W) -> Result<(), Fault>
         requires { All (IsPrintable listing.now.view) listing.now.tilings.items }
         ensures { Writes result (W.contents writer.old) (W.contents writer.new) (list_text (map (placed listing.now.view) listing.now.tilings.items)) }
@@ -153,7 +154,7 @@ impl Answerer {
         write_whole(writer, self.reply.as_bytes())
     }
 
-    // Makes the reply line that of the tiling.
+    // Makes the reply line the one of the tiling.
     fn make_line(&mut self, view: &View, tiling: &Tiling)
         requires { IsPrintable view.now tiling.now }
         ensures { self.new.reply ≡ tiling_text (placed view.now tiling.now) }
@@ -163,7 +164,7 @@ impl Answerer {
         self.reply.tiling(&self.placements);
     }
 
-    // Collects what the numbers name.
+    // Collects the placements that the numbers name.
     fn collect(&mut self, view: &View, numbers: &[u32])
         requires { covered (names view.now numbers.now) ≤ 256 }
         ensures { self.new.placements.items ≡ names view.now numbers.now }
@@ -171,7 +172,7 @@ impl Answerer {
         self.placements.clear();
         for number in numbers {
             if let Some(placement) = view.placement(*number) {
-                // That no set of cells is empty bounds how many there are.
+                // This call says that no set of cells is empty, which bounds how many placements there are.
                 let _cells = placement.cells.as_slice();
                 self.placements.push_reserved(placement);
             }

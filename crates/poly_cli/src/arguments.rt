@@ -8,9 +8,10 @@ use std::alloc::Global;
 const ABOUT: &str =
     "A workbench for polyomino puzzles: standard input is a puzzle line and then a command to a line, standard output has the replies.";
 
-/// Reads the words of the command line, the program's own name first. There is no option yet but `--help`: an error holds the text of
-/// the help or of a mistake, or says that memory ran out. `Error::print` writes it where it belongs, help to standard output and the
-/// rest to standard error, and `Error::exit_code` is 0 for help and 2 for the rest.
+/// Reads the words of the command line, the program's own name first. The only option is `--help`.
+///
+/// The error holds the text of the help or of a mistake, or says that memory ran out. `Error::print` writes help to standard output and
+/// the rest to standard error; `Error::exit_code` is 0 for help and 2 for the rest.
 pub fn read_arguments(alloc: Global, words: &[&str]) -> Result<(), Error>
     ensures { FailsBy (fault_of (new_app (codes "polybench")) (map (λ w. w.now) words.now)) result }
 {

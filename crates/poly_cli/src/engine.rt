@@ -1,7 +1,7 @@
-//! What a session runs on: a design under edits, of which all tilings can be asked.
+//! What a session runs on: a design that is edited, and all its tilings.
 //!
-//! A session knows nothing of how an engine searches, or of what it keeps between two questions: it knows the state that the engine is
-//! in by the definitions alone.
+//! A session doesn't know how an engine searches or what it keeps between two questions. It knows only the state that the engine is in,
+//! by the definitions.
 ghost use Rattle.std.specs.Prelude.{◌≡◌, ◌⊎◌, ◌+◌, Err, IfOk, IfErr, OnOk, OnErr};
 ghost use Rattle.poly_tiling.specs.Listings.{HasOverTilings};
 ghost use Rattle.poly_cli.specs.Listings.{IsListing};
@@ -20,15 +20,15 @@ pub struct Listing {
     pub tilings: Vec<Tiling>,
 }
 
-/// A design under edits, of which all tilings can be asked.
+/// A design that is edited, and all its tilings.
 pub trait Engine {
-    /// The design with its edition and its steps, however they are kept.
+    /// The design with its edition and its steps to undo and redo, however the engine keeps them.
     ghost state: { Self → State };
 
-    /// What is asked of the engine before each call, and holds after it.
+    /// Holds before and after each call.
     ghost ready: { Self → Type 0 } = { λ _. Unit {0} };
 
-    /// Begins anew with the design, at edition 0 and without steps. The only refusal is `Memory`, and leaves the engine as it was.
+    /// Begins anew with the design, at edition 0 and without steps. Fails only with `Memory`, and then leaves the engine as it was.
     fn begin(&mut self, design: Design) -> Result<(), Refusal>
         requires ready { ready self.old }
         ensures ready { ready self.new }
@@ -41,10 +41,10 @@ pub trait Engine {
         requires ready { ready self.now }
         ensures { result ≡ (state self.now).design.grid };
 
-    /// Makes the edit, and answers the edition after it.
+    /// Makes the edit, and returns the edition after it.
     ///
-    /// Refused as `Design::check` says, then with `Spent` where the editions are used up; `Memory` may stand in place of any answer. A
-    /// refused edit leaves the engine as it was.
+    /// Fails as `Design::check` does, then with `Spent` if the editions are used up; `Memory` may come in place of any answer. A refused
+    /// edit leaves the engine as it was.
     fn edit(&mut self, edit: &Edit) -> Result<u64, Refusal>
         requires ready { ready self.old }
         ensures ready { ready self.new }
@@ -53,10 +53,10 @@ pub trait Engine {
         ensures err { OnErr result (state self.new ≡ state self.old) }
         ensures why { IfErr result (λ e. EditRefused (state self.old) edit.now e ⊎ (e ≡ Refusal.Memory)) };
 
-    /// Makes the last change backwards that isn't undone, and answers the edition after it.
+    /// Undoes the last change that isn't undone, and returns the edition after it.
     ///
-    /// Refused with `NothingToUndo` where there is none, then with `Spent` where the editions are used up; `Memory` may stand in place
-    /// of any answer. A refused undo leaves the engine as it was.
+    /// Fails with `NothingToUndo` if there is none, then with `Spent` if the editions are used up; `Memory` may come in place of any
+    /// answer. A refused undo leaves the engine as it was.
     fn undo(&mut self) -> Result<u64, Refusal>
         requires ready { ready self.old }
         ensures ready { ready self.new }
@@ -65,10 +65,10 @@ pub trait Engine {
         ensures err { OnErr result (state self.new ≡ state self.old) }
         ensures why { IfErr result (λ e. UndoRefused (state self.old) e ⊎ (e ≡ Refusal.Memory)) };
 
-    /// Makes the change again that was undone last, and answers the edition after it.
+    /// Makes the change again that was undone last, and returns the edition after it.
     ///
-    /// Refused with `NothingToRedo` where there is none, then with `Spent` where the editions are used up; `Memory` may stand in place
-    /// of any answer. A refused redo leaves the engine as it was.
+    /// Fails with `NothingToRedo` if there is none, then with `Spent` if the editions are used up; `Memory` may come in place of any
+    /// answer. A refused redo leaves the engine as it was.
     fn redo(&mut self) -> Result<u64, Refusal>
         requires ready { ready self.old }
         ensures ready { ready self.new }
@@ -77,9 +77,9 @@ pub trait Engine {
         ensures err { OnErr result (state self.new ≡ state self.old) }
         ensures why { IfErr result (λ e. RedoRefused (state self.old) e ⊎ (e ≡ Refusal.Memory)) };
 
-    /// All tilings of the design.
+    /// All tilings of the design, each once, in the order of tilings.
     ///
-    /// Refused with `CatalogueFull` only where there are over 1,000,000, and else only with `Memory`.
+    /// Fails with `CatalogueFull` only if there are more than 1,000,000, and otherwise only with `Memory`.
     fn tilings(&mut self) -> Result<Listing, Refusal>
         requires ready { ready self.old }
         ensures ready { ready self.new }

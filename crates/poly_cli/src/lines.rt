@@ -1,7 +1,7 @@
-//! Lines cut from any reader, in one buffer that is taken once.
+//! Cuts the bytes of any reader into lines, in memory that is taken once.
 //!
-//! A reader may give any number of bytes at a time, and a line may be far longer than what is kept of it. So each byte goes through
-//! the chunk once, and of a line only the first bytes are kept, one more than a line may have: enough to tell that it is too long.
+//! A reader may give any number of bytes at a time, and a line may be far longer than the memory for it. So each byte passes through a
+//! chunk once, and only the first bytes of a line are kept: one more than a line may have, which is enough to tell that it is too long.
 ghost use Rattle.std.specs.Prelude.{◌↔◌, ◌^◌, IsTrue, option_map, ◌≡◌, ◌+◌, ◌<◌, ◌≤◌, ◌++◌, ◌∷◌, [], ℕ, List, take, drop, length, IfOk, IfErr, IfSome, OnOk, MatchOption, MatchResult, vec_len, vec_capacity};
 ghost use Rattle.std.specs.Io.KnownBytes.{Consumes, IsAtEnd};
 ghost use Rattle.poly_cli.specs.Cutting.{ended, unended, without_return};
@@ -11,15 +11,15 @@ use poly_grid::Refusal;
 use std::alloc::Global;
 use std::io::Read;
 
-/// The most bytes of a line before its line feed.
+/// The most bytes of a line before its line feed. A longer line is a `LineTooLong`.
 pub const LINE_LIMIT: usize = 65_536;
 
-/// The most bytes of an input.
+/// The most bytes of an input. A further byte is a read fault.
 pub const INPUT_LIMIT: u64 = 1 << 30;
 
 const CHUNK: usize = 8192;
 
-/// What was read and not yet cut, the line that was cut last, and how many bytes may still be read.
+/// The bytes that were read and not yet cut, the line that was cut last, and how many bytes may still be read.
 #[derive(Drop)]
 pub struct Lines {
     limit: usize,
@@ -30,20 +30,20 @@ pub struct Lines {
     line: Vec<u8>,
 }
 
-/// What came of looking for the next line.
+/// The result of reading the next line.
 #[derive(Debug, Drop, Clone, Copy, PartialEq, Eq)]
 pub enum Event {
-    /// A line that ended with a line feed.
+    /// A line with its line feed.
     Line,
-    /// The end of the input; what had begun before it, if anything, is the last line.
+    /// The end of the input. If bytes came after the last line feed, they are the last line.
     End,
     /// The reader failed, or gave a byte over the limit of the input.
     Fault,
 }
 
 impl Lines {
-    /// A buffer for lines of up to `limit` bytes out of an input of up to `input` bytes. It takes all the memory that it ever needs;
-    /// the only error is `Memory`.
+    /// A buffer for lines of up to `limit` bytes, from an input of up to `input` bytes. Takes all memory that it ever needs; fails only
+    /// with `Memory`.
     pub fn new(alloc: Global, limit: usize, input: u64) -> Result<Lines, Refusal>
         requires { limit + 1 < 2 ^ 64 }
         ensures ready { IfOk result IsReady }
@@ -61,7 +61,7 @@ impl Lines {
         })
     }
 
-    /// Looks for the next line, and keeps its first bytes. A read that was interrupted is a fault too.
+    /// Reads the next line and keeps its first bytes. An interrupted read is a fault like any other.
     pub fn next_line<R: Read>(&mut self, reader: &mut R) -> Event
         requires ready { IsReady self.old }
         ensures ready { IsReady self.new }
@@ -81,7 +81,7 @@ impl Lines {
         }
     }
 
-    /// What the line says that was cut last, without a carriage return at its end; nothing where it is too long.
+    /// The line that was cut last, without a carriage return at its end, or `None` if it is too long.
     pub fn ended(&self) -> Option<&[u8]>
         ensures { (bytes : List ℕ) → self.now.line.items ≡ kept self.now.limit bytes → option_map (λ l. l.now) result ≡ ended self.now.limit bytes }
     {
@@ -91,7 +91,7 @@ impl Lines {
         Some(without_return(self.line.as_slice()))
     }
 
-    /// What the last line says, which ended with the input; nothing where it is too long.
+    /// The last line, which ended with the input, or `None` if it is too long.
     pub fn unended(&self) -> Option<&[u8]>
         ensures { (bytes : List ℕ) → self.now.line.items ≡ kept self.now.limit bytes → option_map (λ l. l.now) result ≡ unended self.now.limit bytes }
     {
@@ -108,7 +108,7 @@ impl Lines {
         self.line.is_empty()
     }
 
-    // Cuts what was read up to the next line feed, and answers whether there is one.
+    // Cuts the bytes that were read up to the next line feed, and returns whether there is one.
     fn cut(&mut self) -> bool
         requires ready { IsReady self.old }
         ensures ready { IsReady self.new }
@@ -128,7 +128,7 @@ impl Lines {
         }
     }
 
-    // Reads more, where nothing is left of what was read, and answers whether something came.
+    // Reads more bytes once all earlier ones are cut: `Line` if some came.
     fn refill<R: Read>(&mut self, reader: &mut R) -> Event
         requires ready { IsReady self.old }
         ensures ready { IsReady self.new }
@@ -138,7 +138,7 @@ impl Lines {
     {
         self.at = 0;
         self.end = 0;
-        // Near the limit the chunk shrinks, so that no byte past it is read beside others.
+        // Near the limit the chunk shrinks, so that a read never takes a byte past the limit together with others.
         if self.left == 0 {
             self.chunk.truncate(1);
         } else if self.left < self.chunk.len() as u64 {
@@ -156,7 +156,7 @@ impl Lines {
     }
 }
 
-// Takes bytes into the line up to a line feed, and answers how many were taken with it.
+// Takes bytes into the line up to a line feed, and returns how many it took, the line feed included.
 fn gather(limit: usize, line: &mut Vec<u8>, bytes: &[u8]) -> Option<usize>
     requires room { limit + 1 ≤ vec_capacity line.old }
     ensures room { vec_capacity line.new ≡ vec_capacity line.old }
@@ -175,7 +175,7 @@ fn gather(limit: usize, line: &mut Vec<u8>, bytes: &[u8]) -> Option<usize>
     None
 }
 
-// Keeps one more byte of the line, where it has room.
+// Keeps one more byte of the line if it has room.
 fn keep(limit: usize, line: &mut Vec<u8>, byte: u8)
     requires room { limit + 1 ≤ vec_capacity line.old }
     ensures room { vec_capacity line.new ≡ vec_capacity line.old }

@@ -1,4 +1,4 @@
-//! The plain engine: it keeps the design and its steps, and searches anew at each question. What is faster is compared with it.
+//! The plain engine: it keeps the design and its steps, and searches anew at each question. Faster engines are compared with it.
 ghost use Rattle.std.specs.Prelude.{◌≡◌, ◌⊎◌, [], Err, IfErr, IfOk, OnErr, OnOk};
 ghost use Rattle.poly_tiling.specs.Listings.{HasOverTilings};
 ghost use Rattle.poly_cli.specs.Listings.{IsListing};
@@ -12,7 +12,7 @@ use poly_undo::History;
 use std::alloc::Global;
 use std::marker::Model;
 
-/// An engine that keeps the design and its steps alone.
+/// An engine that keeps only the design and its steps.
 #[derive(Drop)]
 pub struct Plain {
     alloc: Global,
@@ -33,7 +33,7 @@ impl Model for Plain {
 }
 
 impl Plain {
-    /// An engine on a square grid without cells and pieces, until it begins with a design. The only refusal is `Memory`.
+    /// An engine whose design is a square grid without cells and pieces, until it begins with another. Fails only with `Memory`.
     pub fn new(alloc: Global) -> Result<Plain, Refusal>
         ensures ok { IfOk result (λ p. p ≡ opened (record { grid = Grid.Square; cells = []; pieces = [] })) }
         ensures why { IfErr result (λ e. e ≡ Refusal.Memory) }
@@ -115,7 +115,7 @@ fn listing_of(alloc: Global, design: &Design) -> Result<Listing, Refusal>
     ensures why { IfErr result (λ e. (e ≡ Refusal.CatalogueFull) ⊎ (e ≡ Refusal.Memory)) }
 {
     let view = View::plain(alloc, design)?;
-    // That a design is within its limits is what this call says of it.
+    // This call says that a design is within its limits.
     let _cells = design.cells();
     over_shows();
     let mut tilings = match list_tilings(alloc, &view) {

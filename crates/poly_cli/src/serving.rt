@@ -1,4 +1,4 @@
-//! Answers to the lines of a reader, written one after another.
+//! Answers the lines of a reader one after another.
 ghost use Rattle.std.specs.Prelude.{◌++◌, ℕ, List};
 ghost use Rattle.std.specs.Io.KnownBytes.{Consumes};
 ghost use Rattle.poly_cli.specs.Buffered.{ahead, IsReady};
@@ -11,7 +11,8 @@ use crate::lines::{Event, Lines};
 use crate::writing::Fault;
 use std::io::{Read, Write};
 
-/// Answers the lines from here on, `most` at most; a further line is a read fault.
+/// Answers the lines from here on, at most `most` of them. Fails with `Read` if the reader fails, a byte comes over the limit or a
+/// further line does, and with `Write` if the writer fails.
 pub fn serve<R: Read, W: Write, E: Engine>(
     most: u64,
     lines: &mut Lines,

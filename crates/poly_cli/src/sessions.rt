@@ -1,4 +1,4 @@
-//! A whole session: the puzzle line, and then a reply to each line.
+//! A whole session: the puzzle line, and a reply to each line after it.
 ghost use Rattle.std.specs.Prelude.{◌≡◌, ◌<◌, ◌++◌, [], ℕ, List, IfOk, option_map};
 ghost use Rattle.std.specs.Io.KnownBytes.{Consumes};
 ghost use Rattle.poly_cli.specs.Buffered.{ahead, IsReady};
@@ -15,22 +15,24 @@ use poly_text::{puzzle_of, refusal_line};
 use std::alloc::Global;
 use std::io::{Read, Write};
 
-/// The most lines of an input.
+/// The most lines of an input. A further line is a read fault.
 pub const LINE_COUNT: u64 = 1_000_000;
 
-/// How a session ended that met no fault.
+/// How a session ended if neither reader nor writer failed.
 #[derive(Debug, Drop, Clone, Copy, PartialEq, Eq)]
 pub enum End {
     /// The input ended.
     Done,
-    /// The puzzle line was refused.
+    /// The puzzle line was refused, or memory ran out before it was read. Nothing after it was answered.
     Refused,
 }
 
-/// A whole session over what the reader gives: the puzzle line, and a reply to each line after it.
+/// Runs a whole session: the first line gives the design with which the engine begins, and each later line is answered by it. Each
+/// answer is written whole and flushed before the next line is looked at.
 ///
-/// A line has at most 65,536 bytes, and the input at most 1,073,741,824 in 1,000,000 lines; what goes over these two is a read fault, as
-/// is any error of a read.
+/// Returns `Done` at the end of the input and `Refused` after a puzzle line that was refused. Fails with `Read` if a read fails or the
+/// input goes over `INPUT_LIMIT` or `LINE_COUNT`, and with `Write` if a write or a flush fails; lines read whole before a read fault are
+/// answered.
 pub fn session<R: Read, W: Write, E: Engine>(
     alloc: Global,
     reader: &mut R,
@@ -64,7 +66,7 @@ pub fn session<R: Read, W: Write, E: Engine>(
     }
 }
 
-// All the memory of reading and writing. The only refusal is `Memory`.
+// All memory for reading and writing. Fails only with `Memory`.
 fn buffers(alloc: Global) -> Result<(Lines, Answerer), Refusal>
     ensures ready { IfOk result (λ b. IsReady b.0) }
     ensures limits { IfOk result (λ b. (b.0.limit ≡ 65536) × (b.0.left ≡ 1073741824)) }
@@ -75,7 +77,7 @@ fn buffers(alloc: Global) -> Result<(Lines, Answerer), Refusal>
     Ok((lines, answerer))
 }
 
-// Opens a session with the first line, and answers the lines after it; `most` lines at most, the first among them.
+// Opens a session with the first line and answers the lines after it: at most `most` lines, the first included.
 fn run<R: Read, W: Write, E: Engine>(
     alloc: Global,
     most: u64,

@@ -126,13 +126,6 @@ fn pieces_of_any_length(rt: HostRuntime) {
 }
 
 #[test]
-fn a_refused_puzzle_line(rt: HostRuntime) {
-    let input = b"{}\ncount\n";
-    let devices = Devices { input, ..WHOLE };
-    expect_end(&rt, devices, Ok(End::Refused), b"no 2 BadField\n");
-}
-
-#[test]
 fn devices_fail(rt: HostRuntime) {
     let fault = Some(ErrorKind::Interrupted);
     let heard = Devices { fault, ..WHOLE };

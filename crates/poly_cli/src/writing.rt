@@ -1,19 +1,19 @@
-//! Writing whole replies.
+//! Writes whole replies.
 ghost use Rattle.std.specs.Io.KnownBytes.{Appends};
 ghost use Rattle.poly_cli.specs.Runs.{Writes};
 
 use std::io::Write;
 
-/// Why a session ended early.
+/// Why a session ended before its input did.
 #[derive(Debug, Drop, Clone, Copy, PartialEq, Eq)]
 pub enum Fault {
-    /// The reader failed, or the input went over a limit.
+    /// The reader failed, or the input is over a limit.
     Read,
     /// The writer failed.
     Write,
 }
 
-/// Writes all bytes. At an error the writer took the first of them.
+/// Writes all bytes. If it fails, the writer took only the first of them.
 pub fn write_bytes<W: Write>(writer: &mut W, bytes: &[u8]) -> Result<(), Fault>
     ensures { Writes result (W.contents writer.old) (W.contents writer.new) bytes.now }
 {
@@ -28,7 +28,7 @@ pub fn write_bytes<W: Write>(writer: &mut W, bytes: &[u8]) -> Result<(), Fault>
     Ok(())
 }
 
-/// Writes all bytes and flushes. At an error the writer took the first of them, perhaps all.
+/// Writes all bytes and flushes. If it fails, the writer took the first of them, perhaps all.
 pub fn write_whole<W: Write>(writer: &mut W, bytes: &[u8]) -> Result<(), Fault>
     ensures { Writes result (W.contents writer.old) (W.contents writer.new) bytes.now }
 {

@@ -9,7 +9,7 @@ use poly_grid::{Cell, Refusal};
 use std::alloc::Global;
 use std::marker::Model;
 
-/// The line `no <code> <name>`. It takes no memory.
+/// The line `no <code> <name>` of the refusal. It takes no memory.
 pub fn refusal_line(refusal: Refusal) -> &'static str
     ensures { result.now ≡ refusal_text refusal }
 {
@@ -67,7 +67,7 @@ impl Model for ReplyLine {
 }
 
 impl ReplyLine {
-    /// An empty line. The only error is `Memory`.
+    /// An empty line with room for any reply. Fails only with `Memory`.
     pub fn new(alloc: Global) -> Result<ReplyLine, Refusal>
         ensures ok { IfOk result (λ r. r ≡ []) }
         ensures why { IfErr result (λ e. e ≡ Refusal.Memory) }
@@ -77,6 +77,7 @@ impl ReplyLine {
         })
     }
 
+    /// The bytes of the line, its line feed included.
     pub fn as_bytes(&self) -> &[u8]
         ensures { result.now ≡ self.now }
     {
@@ -105,7 +106,8 @@ impl ReplyLine {
         self.put(b"\n");
     }
 
-    /// Makes this the `tiling` line of the placements.
+    /// Makes this the `tiling` line of the placements, in the order given; `tiling -` if there is none. Asks that they cover at most 256
+    /// cells in all.
     pub fn tiling(&mut self, placements: &[Placement])
         requires { covered placements.now ≤ 256 }
         ensures { self.new ≡ tiling_text placements.now }
@@ -143,7 +145,7 @@ impl ReplyLine {
             return;
         }
         for placement in placements {
-            // That no set of cells is empty bounds how many placements there are.
+            // This call says that no set of cells is empty, which bounds how many placements there are.
             let cells = placement.cells.as_slice();
             self.put(b" ");
             self.put_placement(&placement.name, cells);

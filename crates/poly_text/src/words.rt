@@ -9,7 +9,7 @@ use poly_design::{Mode, Name, Need};
 use poly_grid::{Cell, Refusal};
 use std::alloc::Global;
 
-/// The words of a line: what stands between spaces and has a byte. The only error is `Memory`.
+/// The words of a line: the parts between spaces that have a byte. Fails only with `Memory`.
 pub fn words_of(alloc: Global, line: &[u8]) -> Result<Vec<&[u8]>, Refusal>
     ensures ok { IfOk result (λ words. map (λ w. w.now) words.items ≡ words_of line.now) }
     ensures why { IfErr result (λ e. e ≡ Refusal.Memory) }
@@ -51,7 +51,7 @@ pub fn need_of(word: &[u8]) -> Option<Need>
     }
 }
 
-/// Whether the word is `on` and not `off`; none where it is neither.
+/// `on` is true and `off` is false.
 pub fn switch_of(word: &[u8]) -> Option<bool>
     ensures { result ≡ switch_of word.now }
 {
@@ -94,7 +94,7 @@ pub fn number_of(word: &[u8]) -> Option<u64>
     Some(number)
 }
 
-// The most digits of a coordinate, zeros in front among them.
+// The most digits of a coordinate, zeros in front included.
 const COORDINATE_DIGITS: usize = 9;
 
 fn coordinate_of(word: &[u8]) -> Option<u64>
@@ -125,8 +125,8 @@ pub fn cell_of(word: &[u8]) -> Result<Cell, Refusal>
     Cell::new(column, row).ok_or(Refusal::BadCell)
 }
 
-/// Reads the cells that the words name into the room, as many as it holds, and answers how many stand there. The leftmost word that
-/// names no cell decides the refusal, also one past the room.
+/// Reads the cells that the words name into the room, as many as fit, and returns how many those are. The leftmost word that names no
+/// cell decides the refusal, even past the room.
 pub fn cells_of(words: &[&[u8]], room: &mut [Cell]) -> Result<usize, Refusal>
     ensures read { IfOk result (λ n. (cells : List Spot) × (cells_of (map (λ w. w.now) words.now) ≡ Ok cells) × (take n room.new ≡ take (length room.old) cells)) }
     ensures within { IfOk result (λ n. n ≤ length room.new) }

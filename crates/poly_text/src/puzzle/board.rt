@@ -13,7 +13,7 @@ use serde_json::Value;
 use std::alloc::Global;
 use std::collections::BTreeMap;
 
-/// What a character says of its cell: nothing where it is blocked.
+/// The mode that a character gives its cell, or `None` if the cell is blocked.
 fn open_mode(byte: u8) -> Option<Mode>
     ensures { result ≡ open_mode byte }
 {
@@ -84,7 +84,7 @@ pub fn is_small(rows: &[Value]) -> bool
     true
 }
 
-/// The cells of the board that are not blocked. The only error is `Memory`.
+/// The cells of the board that are not blocked. Fails only with `Memory`.
 pub fn cells_of_rows(alloc: Global, rows: &[Value]) -> Result<BTreeMap<Cell, Mode>, Refusal>
     requires { is_board (rows_of rows.now) ≡ true }
     ensures ok { IfOk result (λ m. m.entries ≡ board_cells (rows_of rows.now)) }

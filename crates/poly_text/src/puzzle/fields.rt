@@ -20,7 +20,7 @@ pub struct Fields<'v> {
     pub mirror: bool,
 }
 
-/// The fields of the value, where it has exactly the keys of its format, each with a value of its kind.
+/// The fields of the value, if it has exactly the keys of its format, each with a value of its kind.
 pub fn fields_of(format: Format, value: &Value) -> Option<Fields<'_>>
     ensures { option_map fields_view result ≡ fields_of format (view value.now) }
 {

@@ -36,7 +36,7 @@ pub fn text_at<'v>(value: &'v Value, name: &str) -> Option<&'v str>
     }
 }
 
-/// The text, or none where the value is another one.
+/// The text, or an empty one if the value isn't a text.
 pub fn text(value: &Value) -> &str
     ensures { result.now ≡ json.text (view value.now) }
 {

@@ -33,7 +33,11 @@ fn json_of(alloc: Global, line: &[u8]) -> Result<Value, Refusal>
     }
 }
 
-/// The design that the line gives, or its first refusal. `Memory` may stand in place of any later one.
+/// The design that a puzzle line gives, without pins and with nothing forbidden.
+///
+/// Fails with the first of: `BadJson`; `BadField` (the keys of the line and the kinds of their values); `BadFormat`; `BadGrid`;
+/// `BadBoard`; `TooManyCells`; `TooManyPieces`; then for each piece in turn `BadField`, `BadName`, `BadCell`, `BadShape`, `NameTaken`;
+/// then `TooManyPlacements`. `Memory` may come in place of any of these.
 pub fn puzzle_of(alloc: Global, line: &[u8]) -> Result<Design, Refusal>
     ensures { GivesBy (λ d. d) result (PuzzleSays line.now) }
 {

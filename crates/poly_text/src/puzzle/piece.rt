@@ -97,7 +97,7 @@ fn spec_of(
     })
 }
 
-/// The pieces of the list, or the first refusal of one. `Memory` may stand in place of any.
+/// The pieces of the list, or the first refusal of one. `Memory` may come in place of any.
 pub fn pieces_of(
     alloc: Global,
     format: Format,
