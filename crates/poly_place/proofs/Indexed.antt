@@ -24,6 +24,7 @@ use Rattle.poly_tiling.proofs.Lists.{In, all_from, all_in, any_in, filter_in, in
 use Rattle.poly_tiling.proofs.Orders.{live_once}
 use Rattle.poly_tiling.proofs.Shown.{live_given}
 use Rattle.poly_tiling.proofs.Tilings.{same_item_is}
+use Rattle.poly_place.proofs.Marks.{or_false}
 use Rattle.poly_place.specs.Index.{AreNumbersWith, IsIndex, Row, has_of, item_of, row_in, rows_without, with_numbers}
 use Rattle.poly_place.specs.Touched.{AreMarked, touches, touches_named}
 use Rattle.poly_place.proofs.Rows.{items_stay, items_without, live_with, no_row_in, row_grown, row_kept, same_rows, with_from, with_live}
@@ -87,16 +88,12 @@ no_piece : (name : List ℕ) (cells : List Spot) → list_any (λ j. same_item j
 no_piece name [] = refl
 no_piece name (k ∷ cells) = no_piece name cells
 
-or_false : (b : Bool) → b ≡ (b || false)
-or_false true = refl
-or_false false = refl
-
 -- a change touches what has the cell or the piece that changes
 pub touched_has : (x : Change) (o : Option Placement) → touches_named x o ≡ list_any (λ j. same_item j (item_of x)) (items_of o)
 touched_has (CellChange c before after) None = refl
 touched_has (PieceChange name before after) None = refl
 touched_has (CellChange c before after) (Some p) = any_cell c p.cells
-touched_has (PieceChange name before after) (Some p) = or_false (pointwise nat_eq p.name name) ∙ ap (λ b. pointwise nat_eq p.name name || b) (sym (no_piece name p.cells))
+touched_has (PieceChange name before after) (Some p) = sym (or_false (pointwise nat_eq p.name name)) ∙ ap (λ b. pointwise nat_eq p.name name || b) (sym (no_piece name p.cells))
 
 -- the marks of the changed item's numbers tell what the change touches
 pub row_marked : (v : View) (rows : List Row) (x : Change) (marks : List Bool) → IsIndex v rows → ((n : ℕ) → slice_index_or marks n false ≡ mem (row_in rows (item_of x)) n) → AreMarked v x marks

@@ -2,7 +2,7 @@
 use Rattle.std.proofs.Common.{Bool, List, [], ap, arith, eqb, false, get_or, inl, inr, length, refl, replicate, set, subst, sym, take, true, ℕ, ◌+◌, ◌<◌, ◌||◌, ◌∙◌, ◌∷◌, ◌≡◌, ◌≤◌, filter, not}
 use Rattle.std.specs.Prelude.{nat_lt}
 use Rattle.std.specs.List.{list_all}
-use Rattle.std.proofs.lemmas.Bool.{cases_eq, cases_lt, eq-eqb, ltb-true, ne_eqb}
+use Rattle.std.proofs.lemmas.Bool.{cases_eq, cases_lt, eq-eqb, ltb-true, ne_eqb, or_right}
 use Rattle.std.proofs.lemmas.List.{get_or-replicate, get_or-set_other, get_or-set_same, get_or_past, length-replicate, length-set, take_all, take_more}
 use Rattle.poly_tiling.specs.Lists.{mem}
 use Rattle.poly_tiling.proofs.Contained.{at_in}
@@ -24,15 +24,15 @@ marks_none marks count is = record {
 pub low_at : (count : ℕ) (xs : List ℕ) (i : ℕ) → list_all (λ n. nat_lt n count) xs ≡ true → i < length xs → get_or xs i 0 < count
 low_at count xs i low lt = ltb-true (get_or xs i 0) count (all_in (λ n. nat_lt n count) xs low (get_or xs i 0) (at_in xs i 0 lt))
 
-or_false : (a b : Bool) → b ≡ false → (a || (b || false)) ≡ a
-or_false true b e = refl
-or_false false true e = e
-or_false false false e = refl
+pub or_false : (b : Bool) → (b || false) ≡ b
+or_false true = refl
+or_false false = refl
+
+or_neither : (a b : Bool) → b ≡ false → (a || (b || false)) ≡ a
+or_neither a b e = ap (λ c. a || (c || false)) e ∙ or_false a
 
 or_true : (a b : Bool) → b ≡ true → (a || (b || false)) ≡ true
-or_true true b e = refl
-or_true false true e = refl
-or_true false false e = e
+or_true a b e = ap (λ c. a || (c || false)) e ∙ or_right a true refl
 
 pub marks_more : (xs : List ℕ) (i : ℕ) (marks marks' : List Bool) (count : ℕ) → AreMarks (take i xs) marks count → i < length xs → get_or xs i 0 < count → marks' ≡ set marks (get_or xs i 0) true → AreMarks (take (i + 1) xs) marks' count
 marks_more xs i marks marks' count are lt low is = record {
@@ -49,7 +49,7 @@ marks_more xs i marks marks' count are lt low is = record {
             ap (λ l. get_or l n false) is
             ∙ get_or-set_other marks (get_or xs i 0) n true false (λ e. other (sym e))
             ∙ are.exact n
-            ∙ sym (or_false (mem (take i xs) n) (eqb (get_or xs i 0) n) (ne_eqb (get_or xs i 0) n other))
+            ∙ sym (or_neither (mem (take i xs) n) (eqb (get_or xs i 0) n) (ne_eqb (get_or xs i 0) n other))
             ∙ sym more
       ];
 }

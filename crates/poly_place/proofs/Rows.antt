@@ -23,6 +23,7 @@ use Rattle.poly_tiling.proofs.Lists.{In, all_in, any_append, any_in, in_mem, map
 use Rattle.poly_tiling.proofs.Ranks.{lt_less}
 use Rattle.poly_tiling.proofs.Searched.{equal_is, item_total, less_differs, same_item_ties}
 use Rattle.poly_tiling.proofs.Tilings.{same_item_is, same_item_self}
+use Rattle.poly_place.proofs.Marks.{or_false}
 use Rattle.poly_place.specs.Index.{AreNumbersWith, AreRows, Row, place_in, row_in, rows_without, with_numbers}
 use Rattle.poly_place.proofs.Numbers.{get_or_any, take_front}
 
@@ -272,10 +273,6 @@ earlier_apart cells k c up lt is i h =
     let r = any_in (λ d. same_item (Cell d) i) (take k cells) h in
     let less : is_lt (item_cmp (Cell r.0) (Cell c)) ≡ true = ap is_lt (earlier_less cells k c r.0 up lt is r.1) in
     flips (Cell c) i ∙ subst (λ z. same_item z (Cell c) ≡ false) (same_item_is (Cell r.0) i r.2) (less_differs (Cell r.0) (Cell c) less)
-
-or_false : (b : Bool) → (b || false) ≡ b
-or_false true = refl
-or_false false = refl
 
 one_more : (cells : List Spot) (k : ℕ) (c : Spot) → k < length cells → c ≡ get_or cells k c → (i : Item) → (any_of (take k cells) i || same_item (Cell c) i) ≡ any_of (take (k + 1) cells) i
 one_more cells k c lt is i = sym (ap (λ l. any_of l i) (take_more cells k c lt) ∙ any_append (λ d. same_item (Cell d) i) (take k cells) (get_or cells k c ∷ [])

@@ -14,6 +14,7 @@ use Rattle.std.proofs.lemmas.Bool.{both_ways}
 use Rattle.poly_grid.specs.Spot.{Spot}
 use Rattle.poly_shape.specs.Order.{spot_eq, spot_equiv}
 use Rattle.poly_shape.proofs.Ascending.{same_spot}
+use Rattle.poly_design.proofs.Outside.{put_elsewhere, taken_elsewhere}
 use Rattle.poly_design.specs.Changes.{changed, set_mode, set_spec}
 use Rattle.poly_design.specs.Layout.{Layout, mode_at, spec_of}
 use Rattle.poly_design.specs.Listed.{IsListOf}
@@ -33,33 +34,7 @@ use Rattle.poly_place.specs.Touched.{touches}
 
 -- ---- entries of other keys
 
-not_at_by : {K : Type 0} {R : K → K → Ordering} → ((x y : K) → R x y ≡ Equal → x ≡ y) → (q k : K) → q ≢ k → (r : Ordering) → R q k ≡ r → is_eq r ≡ false
-not_at_by exact q k d Less e = refl
-not_at_by exact q k d Equal e = absurd (d (exact q k e))
-not_at_by exact q k d Greater e = refl
-
-not_at : {K : Type 0} {R : K → K → Ordering} → ((x y : K) → R x y ≡ Equal → x ≡ y) → (q k : K) → q ≢ k → is_eq (R q k) ≡ false
-not_at {R = R} exact q k d = not_at_by exact q k d (R q k) refl
-
 module _ {K X : Type 0} {R : K → K → Ordering} (exact : (x y : K) → R x y ≡ Equal → x ≡ y) where
-  pub lookup_put_other : (es : List (K × X)) (k : K) (v : X) (q : K) → q ≢ k → lookup (is_at (R q)) (insert_entry R es k v) ≡ lookup (is_at (R q)) es
-  lookup_put_other [] k v q d = ap (λ b. cond b (Some v) None) (not_at exact q k d)
-  lookup_put_other (e ∷ es) k v q d = (elim (R k e.0) as (λ r. R k e.0 ≡ r → lookup (is_at (R q)) (match_ordering r ((k, v) ∷ e ∷ es) ((e.0, v) ∷ es) (e ∷ insert_entry R es k v)) ≡ lookup (is_at (R q)) (e ∷ es)) [
-    | Less ↦ λ is. ap (λ b. cond b (Some v) (lookup (is_at (R q)) (e ∷ es))) (not_at exact q k d)
-    | Equal ↦ λ is.
-        let n = not_at exact q e.0 (λ s. d (s ∙ sym (exact k e.0 is))) in
-        ap (λ b. cond b (Some v) (lookup (is_at (R q)) es)) n ∙ sym (ap (λ b. cond b (Some e.1) (lookup (is_at (R q)) es)) n)
-    | Greater ↦ λ is. ap (λ t. cond (is_eq (R q e.0)) (Some e.1) t) (lookup_put_other es k v q d)
-  ]) refl
-
-  pub lookup_taken_other : (es : List (K × X)) (k q : K) → q ≢ k → lookup (is_at (R q)) (remove_entry (is_at (R k)) es) ≡ lookup (is_at (R q)) es
-  lookup_taken_other [] k q d = refl
-  lookup_taken_other (e ∷ es) k q d = (elim (R k e.0) as (λ r. R k e.0 ≡ r → lookup (is_at (R q)) (cond (is_eq r) es (e ∷ remove_entry (is_at (R k)) es)) ≡ lookup (is_at (R q)) (e ∷ es)) [
-    | Less ↦ λ is. ap (λ t. cond (is_eq (R q e.0)) (Some e.1) t) (lookup_taken_other es k q d)
-    | Equal ↦ λ is. sym (ap (λ b. cond b (Some e.1) (lookup (is_at (R q)) es)) (not_at exact q e.0 (λ s. d (s ∙ sym (exact k e.0 is)))))
-    | Greater ↦ λ is. ap (λ t. cond (is_eq (R q e.0)) (Some e.1) t) (lookup_taken_other es k q d)
-  ]) refl
-
   in_put_at : (e : K × X) (es : List (K × X)) (k : K) (v : X) (f : K × X) → f.0 ≢ k → (In f (insert_entry R es k v) → In f es) → (r : Ordering) → R k e.0 ≡ r →
       In f (match_ordering r ((k, v) ∷ e ∷ es) ((e.0, v) ∷ es) (e ∷ insert_entry R es k v)) → In f (e ∷ es)
   in_put_at e es k v f d ih Less is (inl s) = absurd (d (sym (ap (λ x. x.0) s)))
@@ -110,9 +85,9 @@ module _ {K X : Type 0} {R : K → K → Ordering} (exact : (x y : K) → R x y 
 -- ---- cells
 
 mode_other : (cells : List (Spot × Mode)) (c : Spot) (m : Mode) (k : Spot) → k ≢ c → mode_at (set_mode cells c m) k ≡ mode_at cells k
-mode_other cells c Required k d = ap (λ r. unwrap_or r Blocked) (lookup_put_other same_spot cells c Required k d)
-mode_other cells c Optional k d = ap (λ r. unwrap_or r Blocked) (lookup_put_other same_spot cells c Optional k d)
-mode_other cells c Blocked k d = ap (λ r. unwrap_or r Blocked) (lookup_taken_other same_spot cells c k d)
+mode_other cells c Required k d = ap (λ r. unwrap_or r Blocked) (put_elsewhere same_spot cells c k Required d)
+mode_other cells c Optional k d = ap (λ r. unwrap_or r Blocked) (put_elsewhere same_spot cells c k Optional d)
+mode_other cells c Blocked k d = ap (λ r. unwrap_or r Blocked) (taken_elsewhere same_spot cells c k d)
 
 place_along : (F G : Spot → Type 0) (spec : Spec) (cells : List Spot) → ((c : Spot) → Contains cells c → F c → G c) → IsPlace F spec cells → IsPlace G spec cells
 place_along F G spec cells to p = record {
