@@ -1,14 +1,11 @@
 //! Edits of whole designs: how many placements a design has after them, and why an edit is refused.
 
-use crate::designs::{change_of, design_of};
+use crate::designs::{DOMINOES, change_of, edited};
 use poly_design::{Design, Name};
 use poly_grid::{Cell, Refusal};
 use poly_shape::Cells;
 use std::alloc::{AllocGlobal, Global};
 use std::process::Abort;
-
-const DOMINOES: &[u8] =
-    b"{\"format\":1,\"grid\":\"square\",\"board\":[\"##\",\"##\"],\"pieces\":[{\"name\":\"A\",\"cells\":[[0,0],[1,0]]},{\"name\":\"B\",\"cells\":[[0,0],[1,0]]}]}";
 
 const HEXAGONS: &[u8] =
     b"{\"format\":1,\"grid\":\"hex\",\"board\":[\"##\",\"##\"],\"pieces\":[{\"name\":\"A\",\"cells\":[[0,0],[1,0]]}]}";
@@ -20,11 +17,6 @@ const PENTOMINO: &[u8] =
 // As many cells as a board can have, and the same pentomino.
 const WIDE: &[u8] =
     b"{\"format\":1,\"grid\":\"square\",\"board\":[\"++++++++++++++++\",\"++++++++++++++++\",\"++++++++++++++++\",\"++++++++++++++++\",\"++++++++++++++++\",\"++++++++++++++++\",\"++++++++++++++++\",\"++++++++++++++++\",\"++++++++++++++++\",\"++++++++++++++++\",\"++++++++++++++++\",\"++++++++++++++++\",\"++++++++++++++++\",\"++++++++++++++++\",\"++++++++++++++++\",\"++++++++++++++++\"],\"pieces\":[{\"name\":\"F\",\"cells\":[[1,0],[2,0],[0,1],[1,1],[1,2]]}]}";
-
-// A design after edits that are not refused.
-fn edited(rt: &(impl AllocGlobal + Abort), puzzle: &[u8], lines: &[&[u8]]) -> Design {
-    design_of(rt.alloc(), puzzle, lines).expect(rt, "a design")
-}
 
 // Asserts how many placements the design has after the edits.
 fn expect_places(rt: &(impl AllocGlobal + Abort), puzzle: &[u8], lines: &[&[u8]], wanted: usize) {
