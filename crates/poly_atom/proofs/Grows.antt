@@ -35,13 +35,13 @@ any_same_in f g [] h = refl
 any_same_in f g (x ∷ xs) h = ap (λ b. b || list_any f xs) (h x (inl refl)) ∙ ap (λ b. g x || b) (any_same_in f g xs (λ y i. h y (inr i)))
 
 -- numbers that name something
-live_low : (v : View) → WellNamed v → (p : ℕ) → In p v.live → p < length v.placements
+pub live_low : (v : View) → WellNamed v → (p : ℕ) → In p v.live → p < length v.placements
 live_low v wn p i = ltb-true p (length v.placements) (all_in (λ q. nat_lt q (length v.placements)) v.live wn.named p i)
 
-pin_low : (v : View) → WellNamed v → (p : ℕ) → In p v.pins → p < length v.placements
+pub pin_low : (v : View) → WellNamed v → (p : ℕ) → In p v.pins → p < length v.placements
 pin_low v wn p i = ltb-true p (length v.placements) (all_in (λ q. nat_lt q (length v.placements)) v.pins wn.pins_named p i)
 
-clash_named : (v w : View) → Names v w → (p q : ℕ) → p < length v.placements → q < length v.placements → clash w p q ≡ clash v p q
+pub clash_named : (v w : View) → Names v w → (p q : ℕ) → p < length v.placements → q < length v.placements → clash w p q ≡ clash v p q
 clash_named v w n p q hp hq =
     ap (λ o. not (eqb p q) && share_cell o (slice_get w.placements q)) (slot_same v w n p hp) ∙ ap (λ o. not (eqb p q) && share_cell (slice_get v.placements p) o) (slot_same v w n q hq)
 

@@ -11,4 +11,8 @@ pub mod Halves
 pub mod Counted
 pub mod Opposites
 pub mod Grows
-pub mod Trimmed
+pub mod Laid
+pub mod Widths
+pub mod Newly
+pub mod Hopes
+pub mod Few

@@ -1,5 +1,5 @@
 -- What a walk over two lists in one order finds.
-use Rattle.std.proofs.Common.{Bool, List, None, Option, Some, [], ap, append_assoc, cond, drop, eqb, false, get_or, inl, inr, length, map, nat_lt, not, refl, slice_get, sym, true, ℕ, ◌&&◌, ◌++◌, ◌+◌, ◌<◌, ◌||◌, ◌∙◌, ◌∷◌, ◌≡◌, ◌≤◌}
+use Rattle.std.proofs.Common.{Bool, List, None, Option, Some, [], ap, append_assoc, cond, drop, eqb, false, get_or, inl, inr, length, map, nat_lt, not, refl, slice_get, suc, sym, true, zero, ℕ, ◌&&◌, ◌++◌, ◌+◌, ◌<◌, ◌||◌, ◌∙◌, ◌∷◌, ◌≡◌, ◌≤◌}
 use Rattle.std.proofs.lemmas.Bool.{and_from, and_parts, both_ways, cond-false, cond-true, eqb-true, false_from_ne_true, ltb-true, true≢false}
 use Rattle.std.proofs.lemmas.List.{append-nil, at_drop_more, drop_all}
 use Rattle.std.specs.Cmp.{tied_itself}
@@ -17,11 +17,13 @@ use Rattle.poly_tiling.specs.declared.item.Item.TheVariants.{Cell, Piece}
 use Rattle.poly_tiling.specs.Names.{Names, WellNamed, below, in_order, item_cmp, items_ascend, placed_below}
 use Rattle.poly_tiling.specs.Puzzle.{Bound, View, bound_in, found_or, least, most, same_item}
 use Rattle.poly_tiling.proofs.Lists.{In, all_from, all_in, filter_in, slice_get_front}
-use Rattle.poly_tiling.proofs.Orders.{placement_total}
+use Rattle.poly_tiling.proofs.Searched.{item_total}
+use Rattle.poly_tiling.proofs.Ranks.{lt_less}
+pub use Rattle.poly_tiling.proofs.Below.{below-trans, below_self, order_kept, slot_same}
 use Rattle.poly_tiling.proofs.Tilings.{same_item_is, same_item_self}
 use Rattle.poly_atom.specs.declared.atom.Atom.TheVariants.{AtLeast, AtMost}
 use Rattle.poly_atom.specs.Guards.{guards_least, guards_most}
-use Rattle.poly_atom.specs.Merge.{behind, front}
+use Rattle.poly_atom.specs.Merge.{behind, front, past}
 
 -- each element is below all that follow it
 abbrev pub sorted : {X : Type 0} → (X → X → Bool) → List X → Bool
@@ -113,27 +115,6 @@ pub sorted_items : (bs : List Bound) → items_ascend bs ≡ true → sorted bou
 sorted_items [] h = refl
 sorted_items (b ∷ bs) h = let hs = and_parts (list_all (λ c. bound_below b c) bs) (items_ascend bs) h in and_from _ _ hs.0 (sorted_items bs hs.1)
 
-lt_less : (r : Ordering) → is_lt r ≡ true → r ≡ Less
-lt_less Less h = refl
-lt_less Equal h = cc
-lt_less Greater h = cc
-
-placed_trans : (a b c : Option Placement) → placed_below a b ≡ true → placed_below b c ≡ true → placed_below a c ≡ true
-placed_trans None b c h k = absurd (true≢false (sym h))
-placed_trans (Some x) None c h k = absurd (true≢false (sym h))
-placed_trans (Some x) (Some y) None h k = absurd (true≢false (sym k))
-placed_trans (Some x) (Some y) (Some z) h k = ap is_lt (placement_total.trans x y z (lt_less _ h) (lt_less _ k))
-
-pub below-trans : (v : View) (p q r : ℕ) → below v p q ≡ true → below v q r ≡ true → below v p r ≡ true
-below-trans v p q r h k = placed_trans (slice_get v.placements p) (slice_get v.placements q) (slice_get v.placements r) h k
-
-placed_self : (o : Option Placement) → placed_below o o ≡ false
-placed_self None = refl
-placed_self (Some x) = ap is_lt (tied_itself placement_total x)
-
-pub below_self : (v : View) (p : ℕ) → below v p p ≡ false
-below_self v p = placed_self (slice_get v.placements p)
-
 pub numbers_order : (v : View) → IsOrder (below v) (λ p q. eqb p q)
 numbers_order v = record {
   trans = λ p q r h k. below-trans v p q r h k;
@@ -141,23 +122,10 @@ numbers_order v = record {
   along = λ p q r h e. ap (λ n. below v p n) (sym (eqb-true q r e)) ∙ h;
 }
 
-pub item_trans : (a b c : Item) → item_cmp a b ≡ Less → item_cmp b c ≡ Less → item_cmp a c ≡ Less
-item_trans (Cell a) (Cell b) (Cell c) h k = spot_total.trans a b c h k
-item_trans (Cell a) (Cell b) (Piece n) h k = refl
-item_trans (Cell a) (Piece m) (Cell c) h k = cc
-item_trans (Cell a) (Piece m) (Piece n) h k = refl
-item_trans (Piece l) (Cell b) c h k = cc
-item_trans (Piece l) (Piece m) (Cell c) h k = cc
-item_trans (Piece l) (Piece m) (Piece n) h k = nat_list_cmp_total.trans l m n h k
-
-pub item_self : (a : Item) → item_cmp a a ≡ Equal
-item_self (Cell a) = tied_itself spot_total a
-item_self (Piece n) = tied_itself nat_list_cmp_total n
-
 pub items_order : IsOrder bound_below same_bound
 items_order = record {
-  trans = λ b c d h k. ap is_lt (item_trans b.0 c.0 d.0 (lt_less _ h) (lt_less _ k));
-  apart = λ b c h e. both_ways (is_lt (item_cmp b.0 c.0)) (ap (λ i. is_lt (item_cmp b.0 i)) (sym (same_item_is b.0 c.0 e)) ∙ ap is_lt (item_self b.0)) h;
+  trans = λ b c d h k. ap is_lt (item_total.trans b.0 c.0 d.0 (lt_less _ h) (lt_less _ k));
+  apart = λ b c h e. both_ways (is_lt (item_cmp b.0 c.0)) (ap (λ i. is_lt (item_cmp b.0 i)) (sym (same_item_is b.0 c.0 e)) ∙ ap is_lt (tied_itself item_total b.0)) h;
   along = λ b c d h e. ap (λ i. is_lt (item_cmp b.0 i)) (sym (same_item_is c.0 d.0 e)) ∙ h;
 }
 
@@ -226,28 +194,40 @@ walk_step lt eq test make xs i x ys zs out b h is rest t =
     ∙ add_at (test x (front (λ y. eq y x) zs)) out (walk lt eq test make (drop (i + 1) xs) zs) (make x)
     ∙ ap (λ w. out ++ w) (sym (walk_more lt eq test make xs i x ys zs h is rest))
 
+pub sorted_drop : {X : Type 0} (lt : X → X → Bool) (n : ℕ) (xs : List X) → sorted lt xs ≡ true → sorted lt (drop n xs) ≡ true
+sorted_drop lt zero xs h = h
+sorted_drop lt (suc n) [] h = refl
+sorted_drop lt (suc n) (x ∷ xs) h = sorted_drop lt n xs (and_parts (list_all (λ y. lt x y) xs) (sorted lt xs) h).1
+
+-- what comes before all that is left needs no second look
+walk_past : {X A : Type 0} (lt eq : X → X → Bool) (test : X → Option X → Bool) (make : X → A) (xs : List X) (y : X) (ys : List X) → ((x : X) → In x xs → lt y x ≡ true) →
+    walk lt eq test make xs (y ∷ ys) ≡ walk lt eq test make xs ys
+walk_past lt eq test make [] y ys h = refl
+walk_past lt eq test make (x ∷ xs) y ys h =
+    ap (λ t. cond (test x (front (λ z. eq z x) t)) (make x ∷ walk lt eq test make xs t) (walk lt eq test make xs t)) (cond-true (lt y x) (behind (λ z. lt z x) ys) (y ∷ ys) (h x (inl refl)))
+
+missing_past_at : (v : View) (x : ℕ) (xs : List ℕ) (y : ℕ) (ys : List ℕ) → ((q : ℕ) → In q xs → below v x q ≡ true) → (b : Bool) → eqb y x ≡ b →
+    walk (below v) (λ p q. eqb p q) is_missing (λ p. p) xs (cond b ys (y ∷ ys)) ≡ walk (below v) (λ p q. eqb p q) is_missing (λ p. p) xs (y ∷ ys)
+missing_past_at v x xs y ys up true e = sym (walk_past (below v) (λ p q. eqb p q) is_missing (λ p. p) xs y ys (λ q i. ap (λ k. below v k q) (eqb-true y x e) ∙ up q i))
+missing_past_at v x xs y ys up false e = refl
+
+missing_past : (v : View) (x : ℕ) (xs ys : List ℕ) → ((q : ℕ) → In q xs → below v x q ≡ true) →
+    walk (below v) (λ p q. eqb p q) is_missing (λ p. p) xs (past (λ y. eqb y x) ys) ≡ walk (below v) (λ p q. eqb p q) is_missing (λ p. p) xs ys
+missing_past v x xs [] up = refl
+missing_past v x xs (y ∷ ys) up = missing_past_at v x xs y ys up (eqb y x) refl
+
+-- the walk goes on past a number that stands in both lists
+pub missing_on : (v : View) (xs : List ℕ) (i x : ℕ) (ys : List ℕ) → in_order v xs ≡ true → i < length xs → x ≡ get_or xs i x →
+    walk (below v) (λ p q. eqb p q) is_missing (λ p. p) (drop (i + 1) xs) (past (λ y. eqb y x) ys) ≡ walk (below v) (λ p q. eqb p q) is_missing (λ p. p) (drop (i + 1) xs) ys
+missing_on v xs i x ys up l is =
+    let here : drop i xs ≡ x ∷ drop (i + 1) xs = at_drop_more (λ t. t) xs i x l ∙ ap (λ y. y ∷ drop (i + 1) xs) (sym is) in
+    let sorts : sorted (below v) (x ∷ drop (i + 1) xs) ≡ true = ap (sorted (below v)) (sym here) ∙ sorted_drop (below v) i xs (sorted_numbers v xs up) in
+    missing_past v x (drop (i + 1) xs) ys (all_in (λ q. below v x q) (drop (i + 1) xs) (and_parts (list_all (λ q. below v x q) (drop (i + 1) xs)) (sorted (below v) (drop (i + 1) xs)) sorts).0)
+
 -- nothing is left to walk over
 pub walk_done : {X A : Type 0} (lt eq : X → X → Bool) (test : X → Option X → Bool) (make : X → A) (xs : List X) (i : ℕ) (ys : List X) (out : List A) →
     length xs ≤ i → out ++ walk lt eq test make (drop i xs) ys ≡ out
 walk_done lt eq test make xs i ys out h = ap (λ t. out ++ walk lt eq test make t ys) (drop_all i xs h) ∙ append-nil out
-
--- a later view keeps the order of an earlier one's numbers
-pub slot_same : (old new : View) → Names old new → (p : ℕ) → p < length old.placements → slice_get new.placements p ≡ slice_get old.placements p
-slot_same old new names p h = ap (λ xs. slice_get xs p) names.1 ∙ slice_get_front old.placements names.0 p h
-
-below_same : (old new : View) → Names old new → (p q : ℕ) → p < length old.placements → q < length old.placements → below new p q ≡ below old p q
-below_same old new names p q hp hq =
-    ap (λ o. placed_below o (slice_get new.placements q)) (slot_same old new names p hp) ∙ ap (λ o. placed_below (slice_get old.placements p) o) (slot_same old new names q hq)
-
-pub order_kept : (old new : View) → Names old new → (ps : List ℕ) → list_all (λ p. nat_lt p (length old.placements)) ps ≡ true → in_order old ps ≡ true → in_order new ps ≡ true
-order_kept old new names [] h up = refl
-order_kept old new names (p ∷ ps) h up =
-    let hs = and_parts (nat_lt p (length old.placements)) (list_all (λ q. nat_lt q (length old.placements)) ps) h in
-    let ups = and_parts (list_all (λ q. below old p q) ps) (in_order old ps) up in
-    and_from _ _
-    (all_from (λ q. below new p q) ps (λ q i.
-    below_same old new names p q (ltb-true _ _ hs.0) (ltb-true _ _ (all_in (λ r. nat_lt r (length old.placements)) ps hs.1 q i)) ∙ all_in (λ r. below old p r) ps ups.0 q i))
-    (order_kept old new names ps hs.1 ups.1)
 
 -- an item's bounds are those that stand beside it
 not_itself : (b : Bound) (bs : List Bound) (c : Bound) → list_all (λ d. bound_below b d) bs ≡ true → In c bs → same_item b.0 c.0 ≡ false

@@ -14,6 +14,19 @@ flat-append (g ∷ L) M = ap (λ x. g ++ x) (flat-append L M) ∙ sym (append_as
 pub flat_push : (L : List (List Atom)) (g : List Atom) → flat (L ++ g ∷ []) ≡ flat L ++ g
 flat_push L g = flat-append L (g ∷ []) ∙ ap (λ x. flat L ++ x) (append-nil g)
 
+-- past the last list there is nothing
+pub flat_none : (n : ℕ) (log : List (List Atom)) → length log ≤ n → flat (drop n log) ≡ []
+flat_none zero [] h = refl
+flat_none zero (g ∷ gs) h = absurd (omega (arith, h))
+flat_none (suc n) [] h = refl
+flat_none (suc n) (g ∷ gs) h = flat_none n gs (omega (arith, h))
+
+-- one more change lays its guards behind
+pub since_push : (n : ℕ) (log : List (List Atom)) (g : List Atom) → n ≤ length log → flat (drop n (log ++ g ∷ [])) ≡ flat (drop n log) ++ g
+since_push zero log g h = flat_push log g
+since_push (suc n) [] g h = absurd (omega (arith, h))
+since_push (suc n) (x ∷ log) g h = since_push n log g (omega (arith, h))
+
 pub offsets_push : (n : ℕ) (L : List (List Atom)) (g : List Atom) → offsets n (L ++ g ∷ []) ≡ offsets n L ++ (n + length (flat L)) ∷ []
 offsets_push n [] g = let e : n ≡ n + 0 = omega arith in ap (λ m. m ∷ []) e
 offsets_push n (h ∷ L) g =
@@ -23,10 +36,6 @@ offsets_push n (h ∷ L) g =
 pub length-rows : (s : List ℕ) (all : List Atom) → length (rows s all) ≡ length s
 length-rows [] all = refl
 length-rows (x ∷ s) all = ap suc (length-rows s all)
-
-pub length-offsets : (n : ℕ) (L : List (List Atom)) → length (offsets n L) ≡ length L
-length-offsets n [] = refl
-length-offsets n (g ∷ L) = ap suc (length-offsets (n + length g) L)
 
 -- the first list ends where the next starts, or where all end
 ends : (n : ℕ) (g : List Atom) (L : List (List Atom)) (m : ℕ) → m ≡ n + length (g ++ flat L) → end_of (offsets (n + length g) L) m ≡ n + length g
@@ -50,9 +59,6 @@ rows_back n front (g ∷ L) f =
 
 pub kept_rows : (L : List (List Atom)) → rows (offsets 0 L) (flat L) ≡ L
 kept_rows L = rows_back 0 [] L refl
-
-pub kept_from : (L : List (List Atom)) → AllSmall (flat L) → IsKept (offsets 0 L) (flat L)
-kept_from L h = record { starts_are = ap (λ M. offsets 0 M) (sym (kept_rows L)); all_are = ap flat (sym (kept_rows L)); small = h }
 
 -- where a list starts
 pub offset_at : (n : ℕ) (L : List (List Atom)) (e d : ℕ) → e < length L → get_or (offsets n L) e d ≡ n + length (flat (take e L))

@@ -8,14 +8,6 @@ use Rattle.poly_atom.specs.declared.stair.Stair.{Stair}
 use Rattle.poly_atom.specs.Laws.{TakenBackIsUndone}
 use Rattle.poly_atom.specs.Logs.{IsStairOf, stair_of}
 
-behind_push : (before gs : List Atom) (g : Atom) → stairs_behind before (gs ++ g ∷ []) ≡ stairs_behind before gs ++ (((before ++ gs) ++ negated g ∷ []) ∷ [])
-behind_push before [] g = ap (λ b. (b ++ negated g ∷ []) ∷ []) (sym (append-nil before))
-behind_push before (h ∷ gs) g =
-    ap (λ t. (before ++ negated h ∷ []) ∷ t) (behind_push (before ++ h ∷ []) gs g ∙ ap (λ b. stairs_behind (before ++ h ∷ []) gs ++ ((b ++ negated g ∷ []) ∷ [])) (append_assoc before (h ∷ []) gs))
-
-pub stairs_push : (gs : List Atom) (g : Atom) → stairs (gs ++ g ∷ []) ≡ stairs gs ++ ((gs ++ negated g ∷ []) ∷ [])
-stairs_push gs g = behind_push [] gs g
-
 pub small_at : (A : List Atom) (i : ℕ) (d : Atom) → AllSmall A → i < length A → IsSmall (slice_index_or A i d)
 small_at [] i d s h = absurd (omega (arith, h))
 small_at (a ∷ A) zero d s h = s.0

@@ -1,8 +1,10 @@
 -- The guards of a change.
 use Rattle.std.specs.List.{filter}
-use Rattle.std.specs.Prelude.{List, map, nat_lt, not, ◌++◌}
+use Rattle.std.specs.Prelude.{List, map, nat_lt, not, ℕ, ◌++◌}
 use Rattle.poly_tiling.specs.Lists.{mem}
 use Rattle.poly_tiling.specs.Puzzle.{View, least, most}
+use Rattle.poly_tiling.specs.declared.item.Item.{Item}
+use Rattle.poly_tiling.specs.declared.item.Item.TheVariants.{Piece}
 use Rattle.poly_atom.specs.declared.atom.Atom.{Atom}
 use Rattle.poly_atom.specs.declared.atom.Atom.TheVariants.{AtLeast, AtMost, Has, Lacks}
 
@@ -21,3 +23,8 @@ guards_pins old new = map (λ p. Has p) (filter (λ p. not (mem new.pins p)) old
 -- what the tilings of the old design have among those of the new one
 abbrev pub guards : View → View → List Atom
 guards old new = guards_fresh old new ++ (guards_least old new ++ (guards_most old new ++ guards_pins old new))
+
+-- the guards of these numbers, items, pieces and pins, with the bounds of the view
+abbrev pub guards_by : View → List ℕ → List Item → List (List ℕ) → List ℕ → List Atom
+guards_by v lacked leasts mosts pins =
+    map (λ p. Lacks p) lacked ++ (map (λ i. AtLeast i (least v i)) leasts ++ (map (λ n. AtMost (Piece n) (most v (Piece n))) mosts ++ map (λ p. Has p) pins))

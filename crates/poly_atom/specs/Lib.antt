@@ -7,3 +7,5 @@ pub mod Merge
 pub mod Hopeless
 pub mod Counted
 pub mod Laws
+pub mod Width
+pub mod Newly

@@ -6,6 +6,11 @@ abbrev pub behind : {X : Type 0} → (X → Bool) → List X → List X
 behind f [] = []
 behind f (x ∷ xs) = cond (f x) (behind f xs) (x ∷ xs)
 
+-- the list without its first element, if that passes
+abbrev pub past : {X : Type 0} → (X → Bool) → List X → List X
+past f [] = []
+past f (x ∷ xs) = cond (f x) xs (x ∷ xs)
+
 -- the first element, if it passes
 abbrev pub front : {X : Type 0} → (X → Bool) → List X → Option X
 front f [] = None

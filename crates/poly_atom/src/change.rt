@@ -10,7 +10,7 @@ ghost use Rattle.poly_tiling.specs.Puzzle.{bound_in};
 ghost use Rattle.poly_atom.specs.declared.atom.Atom.TheVariants.{AtLeast, AtMost, Has, Lacks};
 
 use crate::atom::Atom;
-use crate::order::{bounds_at, skip_items, skip_numbers, stands_at};
+use crate::order::{bounds_at, past, skip_items, skip_numbers, stands_at};
 use poly_grid::Refusal;
 use poly_tiling::{Item, View};
 use std::alloc::{AllocError, Global};
@@ -49,20 +49,23 @@ fn missing(
     let mut rest = Vec::new(alloc);
     let mut at = 0;
     for p in numbers {
-        at = skip_numbers(view, others, at, *p);
-        let is_missing = !stands_at(others, at, *p);
+        let here = skip_numbers(view, others, at, *p);
+        let is_missing = !stands_at(others, here, *p);
         add_if(is_missing, *p, &mut rest)?;
+        at = past(others, here, *p);
     }
     Ok(rest)
 }
 
-fn lacks_all(alloc: Global, numbers: &[u32]) -> Result<Vec<Atom>, AllocError>
+/// `Lacks` of each number.
+pub(crate) fn lacks_all(alloc: Global, numbers: &[u32]) -> Result<Vec<Atom>, AllocError>
     ensures { IfOk result (λ atoms. atoms.items ≡ map (λ p. Lacks p) numbers.now) }
 {
     numbers.iter().map(|p| Atom::Lacks(*p)).collect(alloc)
 }
 
-fn has_all(alloc: Global, numbers: &[u32]) -> Result<Vec<Atom>, AllocError>
+/// `Has` of each number.
+pub(crate) fn has_all(alloc: Global, numbers: &[u32]) -> Result<Vec<Atom>, AllocError>
     ensures { IfOk result (λ atoms. atoms.items ≡ map (λ p. Has p) numbers.now) }
 {
     numbers.iter().map(|p| Atom::Has(*p)).collect(alloc)

@@ -9,9 +9,9 @@ ghost use Rattle.poly_tiling.specs.Puzzle.{clash, count, is_piece, items, most};
 ghost use Rattle.poly_tiling.specs.declared.item.Item.TheVariants.{Piece as PieceItem};
 
 use crate::atom::Atom;
-use crate::order::{find_item, stands_in};
+use crate::order::stands_in;
 use poly_design::Name;
-use poly_tiling::{Item, View, has_number};
+use poly_tiling::{Item, View, find_bound, has_number};
 
 /// Whether the atoms show by themselves that no tiling meets all of them: one asks for a placement that isn't there, that
 /// another rules out, or that is in conflict with a pin or with another that is asked for; or for one placement of a
@@ -45,7 +45,7 @@ fn is_lost(view: &View, atoms: &[Atom], p: u32) -> bool
 fn is_too_many(view: &View, item: &Item, n: u8) -> bool
     ensures { result ≡ bad view.now [] (Atom.AtLeast item.now n) }
 {
-    match find_item(view.items(), item) {
+    match find_bound(view.items(), item) {
         None => false,
         Some(bound) => bound.2 < n,
     }
@@ -54,7 +54,7 @@ fn is_too_many(view: &View, item: &Item, n: u8) -> bool
 fn is_too_few(view: &View, item: &Item, n: u8) -> bool
     ensures { result ≡ bad view.now [] (Atom.AtMost item.now n) }
 {
-    match find_item(view.items(), item) {
+    match find_bound(view.items(), item) {
         None => false,
         Some(bound) => n < bound.1,
     }
@@ -115,30 +115,34 @@ fn is_piece_over(view: &View, atoms: &[Atom], name: Name) -> bool
     ensures { result ≡ nat_lt (most view.now (PieceItem name)) (count view.now (base view.now atoms.now) (PieceItem name)) }
 {
     let piece = Item::Piece(name);
-    most_of(view, &piece) < count_in_base(view, atoms, &piece)
+    has_more(view, atoms, &piece, most_of(view, &piece))
 }
 
 fn most_of(view: &View, item: &Item) -> usize
     ensures { result ≡ most view.now item.now }
 {
-    match find_item(view.items(), item) {
+    match find_bound(view.items(), item) {
         None => 0,
         Some(bound) => bound.2 as usize,
     }
 }
 
-// How many of the placements that each tiling of the family has have the item.
-fn count_in_base(view: &View, atoms: &[Atom], item: &Item) -> usize
-    ensures { result ≡ count view.now (base view.now atoms.now) item.now }
+// Whether of the placements that each tiling of the family has more than so many have the item. It stops at the first one
+// too many, so that what is asked for again and again is looked for again only so often.
+fn has_more(view: &View, atoms: &[Atom], item: &Item, most: usize) -> bool
+    ensures { result ≡ nat_lt most (count view.now (base view.now atoms.now) item.now) }
 {
     let pins = view.pins();
     let mut n = view.count(pins, item);
     for i in 0..atoms.len() {
+        if most < n {
+            return true;
+        }
         if adds_one(view, atoms[i], &atoms[i + 1..], item) {
             n += 1;
         }
     }
-    n
+    most < n
 }
 
 fn adds_one(view: &View, atom: Atom, rest: &[Atom], item: &Item) -> bool

@@ -1,4 +1,6 @@
 //! Laws of the definitions, each the contract of a function that does nothing.
+ghost use Rattle.poly_atom.specs.Newly.{LeavingKeepsHope, NewlyHopelessIsTouched, TakingKeepsHope};
+ghost use Rattle.poly_atom.specs.Width.{WidthIsOne, WidthsShow};
 ghost use Rattle.poly_atom.specs.Laws.{AnswersMayGrow, FamiliesMayGrow, GuardsMayGrow, GuardsTell, HopelessIsEmpty, HopelessMayGrow, HopelessStays, NegationIsOpposite, NegationIsUndone, SameHasNoGuards, StairsShareOut, StairsWereHopeless, TakenBackIsUndone};
 
 /// Of the stairs of any guards, a set that breaks a guard meets exactly one, and one that meets all guards none.
@@ -64,4 +66,31 @@ pub fn guards_may_grow()
 /// Taking the last change's guards back undoes laying them.
 pub fn taken_back_is_undone()
     ensures { TakenBackIsUndone }
+{}
+
+/// A list that a change makes hopeless has an atom about what the change touches: `Has` of a number that is gone, that
+/// belongs to a piece whose most fell, or that has an item of a new pin; `Lacks` of a new pin; `AtLeast` of a piece whose
+/// most fell or of the change's own item; `AtMost` of an item whose least rose.
+pub fn newly_hopeless_is_touched()
+    ensures { NewlyHopelessIsTouched }
+{}
+
+/// `Has` of an open placement leaves a list as hopeless as it was.
+pub fn taking_keeps_hope()
+    ensures { TakingKeepsHope }
+{}
+
+/// `Lacks` of a placement that is neither asked for nor pinned leaves a list as hopeless as it was.
+pub fn leaving_keeps_hope()
+    ensures { LeavingKeepsHope }
+{}
+
+/// The guards of a change and of its inverse are as many as the two designs say.
+pub fn widths_show()
+    ensures { WidthsShow }
+{}
+
+/// The two designs say one number of guards.
+pub fn width_is_one()
+    ensures { WidthIsOne }
 {}

@@ -2,6 +2,7 @@
 #![tactic(auto)]
 
 mod atom;
+mod both;
 mod change;
 mod doom;
 mod laws;
@@ -12,12 +13,14 @@ mod stair;
 mod tests;
 
 pub use atom::Atom;
+pub use both::{BothGuards, both_guards, guard_counts};
 pub use change::guards;
 pub use doom::hopeless;
 pub use laws::{
     answers_may_grow, families_may_grow, guards_may_grow, guards_tell, hopeless_is_empty,
-    hopeless_may_grow, hopeless_stays, negation_is_opposite, negation_is_undone,
-    same_has_no_guards, stairs_share_out, stairs_were_hopeless, taken_back_is_undone,
+    hopeless_may_grow, hopeless_stays, leaving_keeps_hope, negation_is_opposite,
+    negation_is_undone, newly_hopeless_is_touched, same_has_no_guards, stairs_share_out,
+    stairs_were_hopeless, taken_back_is_undone, taking_keeps_hope, width_is_one, widths_show,
 };
 pub use log::GuardLog;
 pub use stair::{Stair, staircase};

@@ -2,7 +2,7 @@
 ghost use Rattle.std.specs.Prelude.{drop, is_some, length, true, ℕ, ◌==◌, ◌≡◌, ◌≤◌};
 ghost use Rattle.std.specs.List.{list_any};
 ghost use Rattle.std.specs.Ordering.{is_lt};
-ghost use Rattle.poly_atom.specs.Merge.{behind, front};
+ghost use Rattle.poly_atom.specs.Merge.{behind, front, past};
 ghost use Rattle.poly_tiling.specs.Lists.{mem};
 ghost use Rattle.poly_tiling.specs.Names.{below, in_order, item_cmp, items_ascend, placement_cmp};
 ghost use Rattle.poly_tiling.specs.Puzzle.{Bound, bound_in, found_or, same_item};
@@ -57,6 +57,18 @@ pub fn skip_numbers(view: &View, numbers: &[u32], from: usize, number: u32) -> u
         }
     }
     numbers.len()
+}
+
+/// The next place, if the number stands at this one, and else this one.
+pub fn past(numbers: &[u32], at: usize, number: u32) -> usize
+    requires { at ≤ length numbers.now }
+    ensures rest { drop result numbers.now ≡ past (λ p. p == number) (drop at numbers.now) }
+    ensures inside { result ≤ length numbers.now }
+{
+    if at < numbers.len() && numbers[at] == number {
+        return at + 1;
+    }
+    at
 }
 
 /// Whether the number stands at the place.
@@ -115,27 +127,4 @@ pub fn stands_in(view: &View, numbers: &[u32], number: u32) -> bool
         }
     }
     false
-}
-
-/// The item with its bounds, where it is there.
-pub fn find_item(bounds: &[(Item, u8, u8)], item: &Item) -> Option<(Item, u8, u8)>
-    requires { items_ascend bounds.now ≡ true }
-    ensures bounds { (f : Bound → ℕ) → bound_in bounds.now item.now f ≡ found_or f result }
-    ensures there { is_some result ≡ list_any (λ b. same_item b.0 item.now) bounds.now }
-{
-    let mut low = 0;
-    let mut high = bounds.len();
-    while low < high {
-        let middle = low + (high - low) / 2;
-        let here = bounds[middle];
-        if here.0.is(item) {
-            return Some(here);
-        }
-        if is_item_below(&here.0, item) {
-            low = middle + 1;
-        } else {
-            high = middle;
-        }
-    }
-    None
 }

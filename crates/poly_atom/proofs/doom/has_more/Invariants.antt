@@ -1,7 +1,7 @@
 use Rattle.std.proofs.Common.{drop, length, ◌+◌, ◌≡◌, ◌≤◌}
 use Rattle.poly_tiling.specs.Puzzle.{count}
 use Rattle.poly_atom.specs.Counted.{extra}
-use Rattle.poly_atom.proofs.doom.count_in_base.Given as goal
+use Rattle.poly_atom.proofs.doom.has_more.Given as goal
 
 abbrev pub invariant-loop-i : goal.invariant-loop-i
 invariant-loop-i l = record {
