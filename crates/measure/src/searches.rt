@@ -1,7 +1,9 @@
 //! What placements, a view, a frame and a whole search cost.
+ghost use Rattle.poly_frame.specs.Matrices.{IsWhole};
+
 use crate::reports;
 use poly_design::Design;
-use poly_report::Frame;
+use poly_frame::{Frame, Matrix};
 use poly_search::search_all;
 use poly_tiling::View;
 use std::io;
@@ -35,7 +37,23 @@ pub fn measure(rt: &HostRuntime, design: &Design) -> io::Result<()> {
 
 fn measure_frame(rt: &HostRuntime, view: &View) -> io::Result<()> {
     let begin = Instant::now(rt)?;
-    let frame = Frame::new(rt.alloc(), view, &[]);
+    let matrix = Matrix::new(rt.alloc(), view);
+    let taken = begin.elapsed(rt)?.as_micros();
+    match matrix {
+        Ok(matrix) => {
+            println!(rt; "a matrix: {taken} us")?;
+            measure_frame_over(rt, view, &matrix)
+        }
+        Err(refusal) => println!(rt; "a matrix was refused: {}", refusal.name()),
+    }
+}
+
+// Measures a frame without atoms.
+fn measure_frame_over(rt: &HostRuntime, view: &View, matrix: &Matrix) -> io::Result<()>
+    requires { IsWhole view.now matrix.now }
+{
+    let begin = Instant::now(rt)?;
+    let frame = Frame::over(rt.alloc(), view, matrix, &[]);
     let taken = begin.elapsed(rt)?.as_micros();
     match frame {
         Ok(_) => println!(rt; "a frame at the root: {taken} us"),

@@ -235,7 +235,6 @@ impl<'a> Frame<'a> {
         looks::list_options(
             self.view,
             &self.path,
-            self.given,
             &self.table,
             &self.steps,
             item,
@@ -248,7 +247,7 @@ impl<'a> Frame<'a> {
     pub fn first_open(&self) -> Option<u32>
         ensures { MatchOption result (list_all (λ p. not (is_open self.now p)) self.now.scene.live ≡ true) (λ p. (mem self.now.scene.live p ≡ true) × (is_open self.now p ≡ true)) }
     {
-        looks::first_open(self.view, &self.path, self.given, &self.table, &self.steps)
+        looks::first_open(self.view, &self.path, &self.table, &self.steps)
     }
 
     /// Whether no placement is open.
@@ -270,7 +269,6 @@ impl<'a> Frame<'a> {
         looks::next_due(
             self.view,
             &self.path,
-            self.given,
             &self.table,
             &self.steps,
             &self.members,
@@ -311,7 +309,6 @@ impl<'a> Frame<'a> {
         allowed::count(
             self.view,
             &self.path,
-            self.given,
             &self.table,
             &self.steps,
             &self.members,
@@ -327,7 +324,6 @@ impl<'a> Frame<'a> {
         allowed::least(
             self.view,
             &self.path,
-            self.given,
             &self.table,
             &self.steps,
             &self.members,
@@ -367,14 +363,7 @@ impl<'a> Frame<'a> {
     fn stands_open(&self, placement: u32) -> bool
         ensures { result ≡ true → (mem self.now.scene.live placement ≡ true) × (is_open self.now placement ≡ true) }
     {
-        looks::stands_open(
-            self.view,
-            &self.path,
-            self.given,
-            &self.table,
-            &self.steps,
-            placement,
-        )
+        looks::stands_open(self.view, &self.path, &self.table, &self.steps, placement)
     }
 }
 

@@ -64,14 +64,13 @@ fn count_held(view: &View, path: &[Atom], members: &[u32], item: &Item) -> usize
 fn count_row(
     view: &View,
     path: &[Atom],
-    first: usize,
     table: &Table,
     steps: &Steps,
     members: &[u32],
     b: usize,
     item: &Item,
 ) -> usize
-    requires kept { StepsKeep view.now path.now first table.now steps.now }
+    requires kept { (first : ℕ) × StepsKeep view.now path.now first table.now steps.now }
     requires row { b < length view.now.bounds }
     requires same { same_item (item_of view.now b) item.now ≡ true }
     requires members { members.now ≡ base view.now path.now }
@@ -86,19 +85,17 @@ fn count_row(
 pub(crate) fn count(
     view: &View,
     path: &[Atom],
-    first: usize,
     table: &Table,
     steps: &Steps,
     members: &[u32],
     item: &Item,
 ) -> usize
-    requires kept { StepsKeep view.now path.now first table.now steps.now }
+    requires kept { (first : ℕ) × StepsKeep view.now path.now first table.now steps.now }
     requires members { members.now ≡ base view.now path.now }
     ensures { result ≡ tally (λ p. has_item view.now p item.now && not (ruled_out view.now path.now p)) view.now.live }
 {
-    let _ = first;
     match index_of(view.items(), guess_item(&table.matrix.cells, item), *item) {
-        Some(b) => count_row(view, path, first, table, steps, members, b, item),
+        Some(b) => count_row(view, path, table, steps, members, b, item),
         None => plain::count_allowed(view, path, members, item),
     }
 }
@@ -107,13 +104,12 @@ pub(crate) fn count(
 fn least_of_row(
     view: &View,
     path: &[Atom],
-    first: usize,
     table: &Table,
     steps: &Steps,
     b: usize,
     item: &Item,
 ) -> usize
-    requires kept { StepsKeep view.now path.now first table.now steps.now }
+    requires kept { (first : ℕ) × StepsKeep view.now path.now first table.now steps.now }
     requires row { b < length view.now.bounds }
     requires same { same_item (item_of view.now b) item.now ≡ true }
     ensures { result ≡ lower view.now path.now item.now }
@@ -128,19 +124,17 @@ fn least_of_row(
 pub(crate) fn least(
     view: &View,
     path: &[Atom],
-    first: usize,
     table: &Table,
     steps: &Steps,
     members: &[u32],
     item: &Item,
 ) -> usize
-    requires kept { StepsKeep view.now path.now first table.now steps.now }
+    requires kept { (first : ℕ) × StepsKeep view.now path.now first table.now steps.now }
     requires members { members.now ≡ base view.now path.now }
     ensures { result ≡ lower view.now path.now item.now }
 {
-    let _ = first;
     match index_of(view.items(), guess_item(&table.matrix.cells, item), *item) {
-        Some(b) => least_of_row(view, path, first, table, steps, b, item),
+        Some(b) => least_of_row(view, path, table, steps, b, item),
         None => plain::lower_of(view, path, members, item),
     }
 }

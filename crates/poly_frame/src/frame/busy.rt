@@ -1,5 +1,5 @@
 //! Which words of a row have bits. Counts by them skip the words that are empty; nothing rests on them but time.
-ghost use Rattle.std.specs.Prelude.{IfErr, length, ◌+◌, ◌<◌, ◌≡◌, ◌≤◌};
+ghost use Rattle.std.specs.Prelude.{IfErr, ◌<◌, ◌≡◌};
 
 use poly_grid::Refusal;
 use std::alloc::Global;
@@ -15,13 +15,11 @@ impl Busy {
     }
 }
 
-/// The words that have bits in the row that begins at word `at`.
-pub(crate) fn busy_words(words: &[u64], at: usize, width: usize) -> Busy
-    requires { at + width ≤ length words.now }
-{
+/// The words of the row that have bits.
+pub(crate) fn busy_words(row: &[u64]) -> Busy {
     let mut busy = [0u64; 5];
-    for k in 0..width.min(320) {
-        if words[at + k] != 0 {
+    for k in 0..row.len().min(320) {
+        if row[k] != 0 {
             busy[k / 64] |= 1u64 << (k % 64);
         }
     }
@@ -38,32 +36,17 @@ pub(crate) fn busy_rows(
     ensures { IfErr result (λ e. e ≡ Refusal.Memory) }
 {
     let mut all = Vec::with_capacity(alloc, count)?;
-    let mut at = 0usize;
-    for row in 0..count {
-        let _ = row;
-        if rows.len() - at < width {
-            return Ok(all);
-        }
-        all.push(busy_words(rows, at, width))?;
-        at += width;
+    let mut left = rows;
+    while all.len() < count && width <= left.len() {
+        all.push(busy_words(&left[..width]))?;
+        left = &left[width..];
     }
     Ok(all)
 }
 
-// How many numbers both rows have in those words of 64 that are in the mask; at `most` it stops.
-fn count_in(
-    words: &[u64],
-    at: usize,
-    rows: &[u64],
-    from: usize,
-    width: usize,
-    first: usize,
-    mask: u64,
-    most: usize,
-) -> usize
-    requires words { at + width ≤ length words.now }
-    requires rows { from + width ≤ length rows.now }
-    requires first { first < 320 }
+// How many numbers both rows have in those words of 64 from `first` on that are in the mask; at `most` it stops.
+fn count_in(some: &[u64], others: &[u64], first: usize, mask: u64, most: usize) -> usize
+    requires { first < 320 }
 {
     let mut left = mask;
     let mut all = 0usize;
@@ -73,8 +56,8 @@ fn count_in(
         }
         let k = first + left.trailing_zeros() as usize;
         left &= left - 1;
-        if k < width {
-            all = all.saturating_add((words[at + k] & rows[from + k]).count_ones() as usize);
+        if k < some.len() && k < others.len() {
+            all = all.saturating_add((some[k] & others[k]).count_ones() as usize);
         }
     }
     all
@@ -82,32 +65,17 @@ fn count_in(
 
 /// How many numbers both rows have, or some number not below `most` where there are so many.
 pub(crate) fn common(
-    words: &[u64],
-    at: usize,
+    some: &[u64],
     busy: &Busy,
-    rows: &[u64],
-    from: usize,
+    others: &[u64],
     filled: &Busy,
-    width: usize,
     most: usize,
-) -> usize
-    requires words { at + width ≤ length words.now }
-    requires rows { from + width ≤ length rows.now }
-{
+) -> usize {
     let mut all = 0usize;
     for c in 0..5usize {
         let mask = busy.0[c] & filled.0[c];
         if mask != 0 && all < most {
-            all = all.saturating_add(count_in(
-                words,
-                at,
-                rows,
-                from,
-                width,
-                64 * c,
-                mask,
-                most - all,
-            ));
+            all = all.saturating_add(count_in(some, others, 64 * c, mask, most - all));
         }
     }
     all

@@ -12,10 +12,7 @@ use poly_grid::{Cell, Refusal};
 use poly_tiling::{Item, View};
 use std::alloc::Global;
 
-/// How many cells a board can have.
-pub(crate) const CELLS: usize = 4096;
-
-/// Where a cell stands in a list with one entry for each cell that a board can have.
+/// Where a cell stands in a list with an entry for each cell that a board can have.
 pub(crate) fn cell_place(cell: Cell) -> usize
     ensures value { result ≡ 64 * cell.y + cell.x }
     ensures column { cell.x < 64 }
@@ -24,11 +21,22 @@ pub(crate) fn cell_place(cell: Cell) -> usize
     usize::from(cell.y()) * 64 + usize::from(cell.x())
 }
 
+// How many entries such a list needs for these items.
+fn cells_room(bounds: &[(Item, u8, u8)]) -> usize {
+    let mut size = 0usize;
+    for bound in bounds {
+        if let Item::Cell(cell) = bound.0 {
+            size = size.max(cell_place(cell) + 1);
+        }
+    }
+    size
+}
+
 /// Guesses where cells stand among the items.
 pub(crate) fn guess_cells(alloc: Global, bounds: &[(Item, u8, u8)]) -> Result<Vec<usize>, Refusal>
     ensures { IfErr result (λ e. e ≡ Refusal.Memory) }
 {
-    let mut guesses = vec![in alloc; 0usize; CELLS]?;
+    let mut guesses = vec![in alloc; 0usize; cells_room(bounds)]?;
     for b in 0..bounds.len() {
         if let Item::Cell(cell) = bounds[b].0 {
             let k = cell_place(cell);

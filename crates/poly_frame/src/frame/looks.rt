@@ -57,16 +57,8 @@ fn list_both(table: &Table, live: &[u64], at: usize, from: usize, into: &mut Vec
 }
 
 // Lists the open numbers of row `b`.
-fn list_row(
-    view: &View,
-    path: &[Atom],
-    first: usize,
-    table: &Table,
-    steps: &Steps,
-    b: usize,
-    into: &mut Vec<u32>,
-)
-    requires kept { StepsKeep view.now path.now first table.now steps.now }
+fn list_row(view: &View, path: &[Atom], table: &Table, steps: &Steps, b: usize, into: &mut Vec<u32>)
+    requires kept { (first : ℕ) × StepsKeep view.now path.now first table.now steps.now }
     requires row { b < length view.now.bounds }
     requires space { length table.now.matrix.numbers.items ≤ vec_capacity into.old }
     ensures items { into.new.items ≡ filter (λ p. open_in view.now path.now p && has_item view.now p (item_of view.now b)) table.now.matrix.numbers.items }
@@ -82,32 +74,25 @@ fn list_row(
 pub(crate) fn list_options(
     view: &View,
     path: &[Atom],
-    first: usize,
     table: &Table,
     steps: &Steps,
     item: Item,
     into: &mut Vec<u32>,
 )
-    requires kept { StepsKeep view.now path.now first table.now steps.now }
+    requires kept { (first : ℕ) × StepsKeep view.now path.now first table.now steps.now }
     requires space { length table.now.matrix.numbers.items ≤ vec_capacity into.old }
     ensures items { into.new.items ≡ filter (λ p. open_in view.now path.now p && has_item view.now p item) table.now.matrix.numbers.items }
     ensures room { vec_capacity into.new ≡ vec_capacity into.old }
 {
     match index_of(view.items(), guess_item(&table.matrix.cells, &item), item) {
         None => into.clear(),
-        Some(b) => list_row(view, path, first, table, steps, b, into),
+        Some(b) => list_row(view, path, table, steps, b, into),
     }
 }
 
 /// Where some open number stands.
-pub(crate) fn first_open(
-    view: &View,
-    path: &[Atom],
-    first: usize,
-    table: &Table,
-    steps: &Steps,
-) -> Option<u32>
-    requires kept { StepsKeep view.now path.now first table.now steps.now }
+pub(crate) fn first_open(view: &View, path: &[Atom], table: &Table, steps: &Steps) -> Option<u32>
+    requires kept { (first : ℕ) × StepsKeep view.now path.now first table.now steps.now }
     ensures { MatchOption result (list_all (λ p. not (open_in view.now path.now p)) view.now.live ≡ true) (λ p. (mem view.now.live p ≡ true) × (open_in view.now path.now p ≡ true)) }
 {
     let _ = view;
@@ -127,12 +112,11 @@ pub(crate) fn first_open(
 pub(crate) fn stands_open(
     view: &View,
     path: &[Atom],
-    first: usize,
     table: &Table,
     steps: &Steps,
     number: u32,
 ) -> bool
-    requires kept { StepsKeep view.now path.now first table.now steps.now }
+    requires kept { (first : ℕ) × StepsKeep view.now path.now first table.now steps.now }
     ensures { result ≡ true → (mem view.now.live number ≡ true) × (open_in view.now path.now number ≡ true) }
 {
     let _ = view;
@@ -154,14 +138,8 @@ fn is_below(table: &Table, steps: &Steps, b: usize) -> bool
 }
 
 /// Whether the base is known to have too few of some item of the view.
-pub(crate) fn is_short(
-    view: &View,
-    path: &[Atom],
-    first: usize,
-    table: &Table,
-    steps: &Steps,
-) -> bool
-    requires kept { StepsKeep view.now path.now first table.now steps.now }
+pub(crate) fn is_short(view: &View, path: &[Atom], table: &Table, steps: &Steps) -> bool
+    requires kept { (first : ℕ) × StepsKeep view.now path.now first table.now steps.now }
     ensures short { result ≡ true → in_family view.now path.now (base view.now path.now) ≡ false }
     ensures enough { result ≡ false → (b : ℕ) → b < length view.now.bounds → nat_lt (count view.now (base view.now path.now) (item_of view.now b)) (asks view.now path.now (item_of view.now b)) ≡ false }
 {
@@ -188,7 +166,7 @@ pub(crate) fn judge(
     requires sound { SoundShows view.now path.now first sound }
     ensures { IfSome result (λ b. in_family view.now path.now (base view.now path.now) ≡ b) }
 {
-    if is_short(view, path, first, table, steps) {
+    if is_short(view, path, table, steps) {
         return Some(false);
     }
     if table.listed && sound > path.len() - first {
@@ -222,16 +200,9 @@ fn spare(
     let from = table.matrix.width * b;
     let filled = filled_words(table, b);
     let most = fewest.saturating_add(needed);
-    let n = common(
-        &steps.live,
-        at,
-        busy,
-        &table.matrix.rows,
-        from,
-        &filled,
-        table.matrix.width,
-        most,
-    );
+    let live = &steps.live[at..at + table.matrix.width];
+    let row = &table.matrix.rows[from..from + table.matrix.width];
+    let n = common(live, busy, row, &filled, most);
     Some(n.saturating_sub(needed))
 }
 
@@ -244,20 +215,14 @@ fn filled_words(table: &Table, b: usize) -> Busy {
 }
 
 // An item of the view of which the base has too few, one with the fewest options beyond what it still needs.
-fn next_listed(
-    view: &View,
-    path: &[Atom],
-    first: usize,
-    table: &Table,
-    steps: &Steps,
-) -> Option<usize>
-    requires kept { StepsKeep view.now path.now first table.now steps.now }
+fn next_listed(view: &View, path: &[Atom], table: &Table, steps: &Steps) -> Option<usize>
+    requires kept { (first : ℕ) × StepsKeep view.now path.now first table.now steps.now }
     ensures { MatchOption result ((b : ℕ) → b < length view.now.bounds → nat_lt (count view.now (base view.now path.now) (item_of view.now b)) (asks view.now path.now (item_of view.now b)) ≡ false) (λ b. (b < length view.now.bounds) × (nat_lt (count view.now (base view.now path.now) (item_of view.now b)) (asks view.now path.now (item_of view.now b)) ≡ true)) }
 {
     let _ = view;
     let _ = path;
     let at = steps.live.len() - table.matrix.width;
-    let busy = busy_words(&steps.live, at, table.matrix.width);
+    let busy = busy_words(&steps.live[at..]);
     let mut best = None;
     let mut fewest = usize::MAX;
     for b in 0..steps.have.len() {
@@ -275,17 +240,11 @@ fn next_listed(
 }
 
 // The same as an item.
-fn listed_due(
-    view: &View,
-    path: &[Atom],
-    first: usize,
-    table: &Table,
-    steps: &Steps,
-) -> Option<Item>
-    requires kept { StepsKeep view.now path.now first table.now steps.now }
+fn listed_due(view: &View, path: &[Atom], table: &Table, steps: &Steps) -> Option<Item>
+    requires kept { (first : ℕ) × StepsKeep view.now path.now first table.now steps.now }
     ensures { MatchOption result ((b : ℕ) → b < length view.now.bounds → nat_lt (count view.now (base view.now path.now) (item_of view.now b)) (asks view.now path.now (item_of view.now b)) ≡ false) (λ i. nat_lt (count view.now (base view.now path.now) i) (asks view.now path.now i) ≡ true) }
 {
-    match next_listed(view, path, first, table, steps) {
+    match next_listed(view, path, table, steps) {
         Some(b) => Some(view.items()[b].0),
         None => None,
     }
@@ -295,20 +254,19 @@ fn listed_due(
 pub(crate) fn next_due(
     view: &View,
     path: &[Atom],
-    first: usize,
     table: &Table,
     steps: &Steps,
     members: &[u32],
 ) -> Option<Item>
-    requires kept { StepsKeep view.now path.now first table.now steps.now }
+    requires kept { (first : ℕ) × StepsKeep view.now path.now first table.now steps.now }
     requires members { members.now ≡ base view.now path.now }
     ensures { MatchOption result ((i : Item) → nat_lt (count view.now (base view.now path.now) i) (asks view.now path.now i) ≡ false) (λ i. nat_lt (count view.now (base view.now path.now) i) (asks view.now path.now i) ≡ true) }
 {
     if table.listed {
-        return listed_due(view, path, first, table, steps);
+        return listed_due(view, path, table, steps);
     }
     if let Some(item) = plain::due_elsewhere(view, path, members) {
         return Some(item);
     }
-    listed_due(view, path, first, table, steps)
+    listed_due(view, path, table, steps)
 }

@@ -1,6 +1,6 @@
 //! The exact cover matrix of a view: a row of bits for each item, a column for each placement (Knuth, The Art of Computer
 //! Programming, volume 4B, section 7.2.2.1). A frame takes from it the columns that are open at its atoms.
-ghost use Rattle.std.specs.Prelude.{Bool, IfErr, IfOk, List, MatchOption, false, length, nat_lt, slice_index, true, vec_capacity, ℕ, [], ◌&&◌, ◌++◌, ◌*◌, ◌+◌, ◌<◌, ◌==◌, ◌^◌, ◌||◌, ◌≡◌, ◌≤◌};
+ghost use Rattle.std.specs.Prelude.{Bool, IfErr, IfOk, List, MatchOption, false, length, nat_lt, replicate, slice_index, true, vec_capacity, ℕ, [], ◌&&◌, ◌++◌, ◌*◌, ◌+◌, ◌<◌, ◌==◌, ◌^◌, ◌||◌, ◌≡◌, ◌≤◌};
 ghost use Rattle.std.specs.List.{filter, list_all, list_any};
 ghost use Rattle.poly_tiling.specs.Lists.{distinct, mem};
 ghost use Rattle.poly_tiling.specs.Names.{WellNamed};
@@ -227,6 +227,20 @@ fn put_each(rows: &mut Vec<u64>, width: usize, places: &[usize], j: usize, items
     }
 }
 
+// Rows without numbers.
+fn empty_rows(alloc: Global, width: usize, count: usize) -> Result<Vec<u64>, Refusal>
+    ensures value { IfOk result (λ r. r.items ≡ replicate (width * count) 0) }
+    ensures why { IfErr result (λ e. e ≡ Refusal.Memory) }
+{
+    let row = vec![in alloc; 0u64; width]?;
+    let mut rows = Vec::new(alloc);
+    for b in 0..count {
+        let _ = b;
+        rows.extend_from_slice(&row)?;
+    }
+    Ok(rows)
+}
+
 fn rows_of(
     alloc: Global,
     view: &View,
@@ -241,10 +255,7 @@ fn rows_of(
     ensures why { IfErr result (λ e. e ≡ Refusal.Memory) }
 {
     let items = view.items().len();
-    let Some(words) = width.checked_mul(items) else {
-        return Err(Refusal::Memory);
-    };
-    let mut rows = vec![in alloc; 0u64; words]?;
+    let mut rows = empty_rows(alloc, width, items)?;
     for j in 0..numbers.len() {
         put_each(&mut rows, width, lists.of(j), j, items);
     }

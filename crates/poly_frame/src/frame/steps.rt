@@ -174,11 +174,8 @@ fn first_row(alloc: Global, n: usize, width: usize) -> Result<Vec<u64>, Refusal>
     ensures bits { IfOk result (λ r. (j : ℕ) → has_bit r.items j ≡ nat_lt j n) }
     ensures why { IfErr result (λ e. e ≡ Refusal.Memory) }
 {
-    let Some(words) = width.checked_mul(4097) else {
-        return Err(Refusal::Memory);
-    };
     let mut row = vec![in alloc; 0u64; width]?;
-    row.reserve(words)?;
+    row.reserve(width.saturating_mul(4097))?;
     for j in 0..n {
         bits::put_in(&mut row, 0, j);
     }

@@ -10,14 +10,14 @@ returns-then-is_below-clause-short c = λ _.
     let s = c.args.steps.now in
     let v = c.args.view.now in
     let A = c.args.path.now in
-    let K = c.requires.kept in
+    let K = c.requires.kept.1 in
     let b = c.loop-b.b in
     let low : b < length v.bounds = omega (arith, c.loop-b-test.true, c.len-b-end.ensures, s.have.ok.0, K.have_len) in
-    short_none v A (base v A) (item_of v b) (due_says v A c.args.first c.args.table.now s.live.items s.have.items s.raised.items s.marks.items K b low ∙ sym c.is_below.ensures ∙ c.if-is_below.true)
+    short_none v A (base v A) (item_of v b) (due_says v A c.requires.kept.0 c.args.table.now s.live.items s.have.items s.raised.items s.marks.items K b low ∙ sym c.is_below.ensures ∙ c.if-is_below.true)
 
 pub returns-clause-enough : goal.returns-clause-enough
 returns-clause-enough c = λ _ b h.
     let s = c.args.steps.now in
-    let K = c.requires.kept in
-    due_says c.args.view.now c.args.path.now c.args.first c.args.table.now s.live.items s.have.items s.raised.items s.marks.items K b h
+    let K = c.requires.kept.1 in
+    due_says c.args.view.now c.args.path.now c.requires.kept.0 c.args.table.now s.live.items s.have.items s.raised.items s.marks.items K b h
     ∙ c.loop-b.invariant b (omega (arith, h, c.loop-b-test.false, c.len-b-end.ensures, s.have.ok.0, K.have_len))

@@ -18,12 +18,12 @@ chosen v A first t live have raised marks K n l (Some b) h = let g : b < length 
 pub returns : goal.returns
 returns c =
     let s = c.args.steps.now in
-    chosen c.args.view.now c.args.path.now c.args.first c.args.table.now s.live.items s.have.items s.raised.items s.marks.items c.requires.kept c.loop-b.b (omega (arith, c.loop-b-test.false, c.len-b-end.ensures, s.have.ok.0)) c.loop-b.best c.loop-b.invariant
+    chosen c.args.view.now c.args.path.now c.requires.kept.0 c.args.table.now s.live.items s.have.items s.raised.items s.marks.items c.requires.kept.1 c.loop-b.b (omega (arith, c.loop-b-test.false, c.len-b-end.ensures, s.have.ok.0)) c.loop-b.best c.loop-b.invariant
 
 pub returns-then-n-eq0 : goal.returns-then-n-eq0
 returns-then-n-eq0 c =
     let s = c.args.steps.now in
-    let K = c.requires.kept in
+    let K = c.requires.kept.1 in
     let b = c.loop-b.b in
     let low : b < length c.args.view.now.bounds = omega (arith, c.loop-b-test.true, c.len-b-end.ensures, s.have.ok.0, K.have_len) in
-    (low, due_says c.args.view.now c.args.path.now c.args.first c.args.table.now s.live.items s.have.items s.raised.items s.marks.items K b low ∙ c.in-Some.ensures)
+    (low, due_says c.args.view.now c.args.path.now c.requires.kept.0 c.args.table.now s.live.items s.have.items s.raised.items s.marks.items K b low ∙ c.in-Some.ensures)

@@ -1,4 +1,5 @@
-use Rattle.std.proofs.Common.{List, ap, arith, eqb, get_or, length, ltb, replicate, rules, subst, ℕ, ◌∙◌, ◌≡◌, ◌||◌}
+use Rattle.std.proofs.lemmas.List.{length-replicate}
+use Rattle.std.proofs.Common.{◌*◌, List, ap, arith, eqb, get_or, length, ltb, replicate, rules, subst, ℕ, ◌∙◌, ◌≡◌, ◌||◌}
 use Rattle.std.specs.List.{list_all, list_any}
 use Rattle.poly_tiling.specs.Puzzle.{has_item}
 use Rattle.poly_frame.specs.Bits.{has_bit}
@@ -9,10 +10,11 @@ use Rattle.poly_frame.proofs.frame.matrix.rows_of.Goals as goal
 
 pub loop-j-init : goal.loop-j-init
 loop-j-init c =
-    let zeros : c.in_ok-rows.rows.items ≡ replicate c.in-Some.words 0 = search rules in
+    let zeros = c.in_ok-rows.ensures.value in
+    let items = ap length c.items-items.ensures.value in
     record {
-      len = search rules;
-      bits = λ b i l g. rows_start c.in_ok-rows.rows.items c.in-Some.words (place c.args.width b i) i (has_item c.args.view.now (get_or c.args.numbers.now i 0) (item_of c.args.view.now b)) zeros;
+      len = ap length zeros ∙ length-replicate _ 0 ∙ ap (λ n. c.args.width * n) items;
+      bits = λ b i l g. rows_start c.in_ok-rows.rows.items _ (place c.args.width b i) i (has_item c.args.view.now (get_or c.args.numbers.now i 0) (item_of c.args.view.now b)) zeros;
     }
 
 pub of-requires-clause-high : goal.of-requires-clause-high
