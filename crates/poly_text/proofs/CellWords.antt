@@ -1,6 +1,6 @@
 -- Cells that a loop reads from words, one after another, and keeps while there is room.
-use Rattle.std.proofs.Common.{◌≡◌, ◌+◌, ◌<◌, ◌≤◌, ℕ, zero, suc, Bor, List, [], ◌∷◌, ◌++◌, length, map, min, take, drop, get_or, set, Result, Ok, Err, refl, sym, ap, ◌∙◌, arith, append_assoc, append-nil, length-append, drop-cons, add-one}
-use Rattle.std.proofs.lemmas.List.{take_all, take_more_set, take-append-le}
+use Rattle.std.proofs.Common.{◌≡◌, ◌+◌, ◌<◌, ◌≤◌, ℕ, Bor, List, [], ◌∷◌, ◌++◌, length, map, min, take, drop, get_or, set, Result, Ok, Err, refl, sym, ap, ◌∙◌, arith, append_assoc, append-nil, length-append}
+use Rattle.std.proofs.lemmas.List.{at_drop_all, at_drop_more, take-append-le, take_all, take_more_set}
 use Rattle.poly_grid.specs.Spot.{Spot}
 use Rattle.poly_grid.specs.declared.refusal.Refusal.{Refusal}
 use Rattle.poly_text.specs.Gives.{◌>>=◌}
@@ -12,15 +12,6 @@ texts words = map (λ w. w.now) words
 -- the cells done, and then those of the rest
 abbrev pub onto : List Spot → Result (List Spot) Refusal → Result (List Spot) Refusal
 onto done rest = rest >>= λ cells. Ok (done ++ cells)
-
-texts_from : (words : List (Bor (List ℕ))) (i : ℕ) (d : Bor (List ℕ)) → i < length words → texts (drop i words) ≡ (get_or words i d).now ∷ texts (drop (i + 1) words)
-texts_from words i d lt = rw (drop-cons words i d lt, add-one i) refl
-
-texts_past : (words : List (Bor (List ℕ))) (i : ℕ) → length words ≤ i → texts (drop i words) ≡ []
-texts_past [] zero le = refl
-texts_past [] (suc i) le = refl
-texts_past (w ∷ words) zero le = absurd (omega (arith, le))
-texts_past (w ∷ words) (suc i) le = texts_past words i (omega (arith, le))
 
 regroup : (done : List Spot) (c : Spot) (rest : Result (List Spot) Refusal) → onto done (rest >>= λ cells. Ok (c ∷ cells)) ≡ onto (done ++ c ∷ []) rest
 regroup done c (Err e) = refl
@@ -34,17 +25,17 @@ begins (Ok cells) = refl
 pub cells_step : (words : List (Bor (List ℕ))) (i : ℕ) (d : Bor (List ℕ)) (done : List Spot) (c : Spot) (total : Result (List Spot) Refusal) → i < length words
     → cell_of (get_or words i d).now ≡ Ok c → onto done (cells_of (texts (drop i words))) ≡ total → onto (done ++ c ∷ []) (cells_of (texts (drop (i + 1) words))) ≡ total
 cells_step words i d done c total lt is so_far =
-    let here : cells_of (texts (drop i words)) ≡ (cells_of (texts (drop (i + 1) words)) >>= λ cells. Ok (c ∷ cells)) = ap cells_of (texts_from words i d lt) ∙ rw is refl in
+    let here : cells_of (texts (drop i words)) ≡ (cells_of (texts (drop (i + 1) words)) >>= λ cells. Ok (c ∷ cells)) = ap cells_of (at_drop_more texts words i d lt) ∙ rw is refl in
     sym (regroup done c (cells_of (texts (drop (i + 1) words)))) ∙ ap (onto done) (sym here) ∙ so_far
 
 pub cells_stop : (words : List (Bor (List ℕ))) (i : ℕ) (d : Bor (List ℕ)) (done : List Spot) (e : Refusal) (total : Result (List Spot) Refusal) → i < length words
     → cell_of (get_or words i d).now ≡ Err e → onto done (cells_of (texts (drop i words))) ≡ total → total ≡ Err e
 cells_stop words i d done e total lt is so_far =
-    let here : cells_of (texts (drop i words)) ≡ Err e = ap cells_of (texts_from words i d lt) ∙ rw is refl in
+    let here : cells_of (texts (drop i words)) ≡ Err e = ap cells_of (at_drop_more texts words i d lt) ∙ rw is refl in
     sym so_far ∙ ap (onto done) here
 
 pub cells_end : (words : List (Bor (List ℕ))) (i : ℕ) (done : List Spot) (total : Result (List Spot) Refusal) → length words ≤ i → onto done (cells_of (texts (drop i words))) ≡ total → total ≡ Ok done
-cells_end words i done total le so_far = sym so_far ∙ ap (λ ws. onto done (cells_of ws)) (texts_past words i le) ∙ ap Ok (append-nil done)
+cells_end words i done total le so_far = sym so_far ∙ at_drop_all (λ ws. onto done (cells_of (texts ws))) words i le ∙ ap Ok (append-nil done)
 
 -- there is room for one cell more
 pub kept_more : (room new done : List Spot) (count : ℕ) (c : Spot) → count < length room → new ≡ set room count c → length new ≡ length room → count ≡ min (length done) (length room)

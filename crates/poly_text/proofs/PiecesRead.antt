@@ -20,21 +20,18 @@ use Rattle.poly_text.specs.declared.puzzle.head.Format.{Format}
 use Rattle.poly_text.specs.Gives.{◌>>=◌}
 use Rattle.poly_text.specs.Piece.{Said, said_of, Pieces, ShapeSays, SpecSays, PiecesSay, has_name, spec_of, new_spec}
 use Rattle.poly_text.specs.Views.{views}
-use Rattle.poly_text.proofs.CellsRead.{views_from, views_past}
-
-from_here : (vs : List Value) (i : ℕ) (v : Value) → i < length vs → v ≡ get_or vs i v → views (drop i vs) ≡ view v ∷ views (drop (i + 1) vs)
-from_here vs i v lt is = views_from vs i v lt ∙ ap (λ x. view x ∷ views (drop (i + 1) vs)) (sym is)
+use Rattle.poly_text.proofs.CellsRead.{views_from}
 
 -- one piece more
 pub piece_step : (f : Format) (g : Grid) (vs : List Value) (i : ℕ) (v : Value) (taken : Pieces) (s : Said) (p : Spec) (r : Result Pieces Refusal) → i < length vs → v ≡ get_or vs i v
     → said_of f (view v) ≡ Ok s → SpecSays g taken s (Ok p) → PiecesSay f g (views (drop (i + 1) vs)) (insert_entry name_cmp taken s.name p) r → PiecesSay f g (views (drop i vs)) taken r
-piece_step f g vs i v taken s p r lt is said spec rest = rw (from_here vs i v lt is, said) (Ok p, spec, rest)
+piece_step f g vs i v taken s p r lt is said spec rest = rw (views_from vs i v lt is, said) (Ok p, spec, rest)
 
 pub said_stop : (e : Refusal) (f : Format) (g : Grid) (vs : List Value) (i : ℕ) (v : Value) (start taken : Pieces) → i < length vs → v ≡ get_or vs i v
     → (e ≡ Memory) ⊎ (said_of f (view v) ≡ Err e) → ((r : Result Pieces Refusal) → PiecesSay f g (views (drop i vs)) taken r → PiecesSay f g (views vs) start r)
     → (e ≡ Memory) ⊎ PiecesSay f g (views vs) start (Err e)
 said_stop e f g vs i v start taken lt is (inl memory) so_far = inl memory
-said_stop e f g vs i v start taken lt is (inr said) so_far = inr (so_far (Err e) (rw (from_here vs i v lt is, said) refl))
+said_stop e f g vs i v start taken lt is (inr said) so_far = inr (so_far (Err e) (rw (views_from vs i v lt is, said) refl))
 
 -- how many pieces there are, and of which grid
 
