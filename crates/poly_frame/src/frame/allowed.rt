@@ -8,8 +8,7 @@ ghost use Rattle.poly_frame.specs.Open.{lower, ruled_out};
 ghost use Rattle.poly_frame.specs.FrameItems.{item_of};
 ghost use Rattle.poly_frame.specs.FrameSteps.{StepsKeep};
 
-use crate::frame::items::index_of;
-use crate::frame::looks::guess_item;
+use crate::frame::items::{guess_item, index_of};
 use crate::frame::sound::is_right;
 use crate::frame::steps::Steps;
 use crate::frame::table::Table;

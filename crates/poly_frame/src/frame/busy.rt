@@ -36,10 +36,14 @@ pub(crate) fn busy_rows(
     ensures { IfErr result (λ e. e ≡ Refusal.Memory) }
 {
     let mut all = Vec::with_capacity(alloc, count)?;
-    let mut left = rows;
-    while all.len() < count && width <= left.len() {
-        all.push(busy_words(&left[..width]))?;
-        left = &left[width..];
+    let mut at = 0usize;
+    for row in 0..count {
+        let _ = row;
+        if rows.len() - at < width {
+            return Ok(all);
+        }
+        all.push(busy_words(&rows[at..at + width]))?;
+        at += width;
     }
     Ok(all)
 }

@@ -54,6 +54,14 @@ pub(crate) fn guess_of(guesses: &[usize], cell: Cell) -> usize {
     if k < guesses.len() { guesses[k] } else { 0 }
 }
 
+/// A guess for where an item stands.
+pub(crate) fn guess_item(cells: &[usize], item: &Item) -> usize {
+    match item {
+        Item::Cell(cell) => guess_of(cells, *cell),
+        Item::Piece(_) => 0,
+    }
+}
+
 /// Where an item stands. Without a guess it is mostly a piece, and these stand last.
 pub(crate) fn index_of(bounds: &[(Item, u8, u8)], guess: usize, item: Item) -> Option<usize>
     ensures { MatchOption result ((b : ℕ) → b < length bounds.now → same_item (item_at bounds.now b) item ≡ false) (λ b. (b < length bounds.now) × (same_item (item_at bounds.now b) item ≡ true)) }

@@ -13,20 +13,12 @@ ghost use Rattle.poly_frame.specs.FrameSound.{SoundShows};
 ghost use Rattle.poly_frame.specs.FrameSteps.{StepsKeep};
 
 use crate::frame::busy::{Busy, busy_words, common};
-use crate::frame::items::{guess_of, index_of};
+use crate::frame::items::{guess_item, index_of};
 use crate::frame::steps::Steps;
 use crate::frame::table::Table;
 use crate::{bits, plain};
 use poly_atom::Atom;
 use poly_tiling::{Item, View};
-
-/// A guess for where an item stands.
-pub(crate) fn guess_item(cells: &[usize], item: &Item) -> usize {
-    match item {
-        Item::Cell(cell) => guess_of(cells, *cell),
-        Item::Piece(_) => 0,
-    }
-}
 
 // Lists the numbers that are in both rows.
 fn list_both(table: &Table, live: &[u64], at: usize, from: usize, into: &mut Vec<u32>)

@@ -8,7 +8,7 @@ ghost use Rattle.poly_frame.specs.Plain.{allowed, needed, of_asked};
 ghost use Rattle.poly_frame.specs.FrameItems.{item_at};
 
 use crate::frame::busy::{Busy, busy_rows};
-use crate::frame::items::{guess_of, index_of, note_items, raise};
+use crate::frame::items::{guess_item, index_of, note_items, raise};
 use crate::frame::matrix::{Matrix, narrowed};
 use crate::frame::opened::open_row;
 use poly_atom::Atom;
@@ -29,13 +29,6 @@ pub(crate) struct Table {
 
 ghost use Rattle.poly_frame.specs.Matrices.{IsWhole};
 ghost use Rattle.poly_frame.specs.FrameTable.{AskedShow, HaveShows, TableShows, UppersShow, limit_at};
-
-fn guess_item(cells: &[usize], item: &Item) -> usize {
-    match item {
-        Item::Cell(cell) => guess_of(cells, *cell),
-        Item::Piece(_) => 0,
-    }
-}
 
 // Lowers the most of the item that an atom speaks of.
 fn allow(bounds: &[(Item, u8, u8)], cells: &[usize], atom: &Atom, uppers: &mut Vec<u8>)
