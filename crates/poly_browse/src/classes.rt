@@ -1,0 +1,69 @@
+//! Counts tilings up to symmetry.
+//!
+//! A tiling counts if no symmetry carries it to a tiling that comes before it, as lists of numbers are compared. So each
+//! class counts once, by the first of its tilings, and no tiling is looked up among the others.
+ghost use Rattle.std.specs.Prelude.{IfErr, IfOk, length, ◌≡◌};
+ghost use Rattle.std.specs.List.{filter};
+ghost use Rattle.poly_tiling.specs.Lister.{HasEachOnce};
+ghost use Rattle.poly_tiling.specs.Shows.{Shows};
+ghost use Rattle.poly_browse.specs.Classes.{AreClasses};
+ghost use Rattle.poly_browse.specs.Maps.{is_first};
+
+use crate::symmetry::{Symmetry, symmetries};
+use poly_design::Design;
+use poly_grid::Refusal;
+use poly_tiling::{Tiling, View, has_all};
+use std::alloc::Global;
+
+/// Returns the number of classes of the design's tilings: two tilings are in one class if a symmetry of the design carries
+/// one to the other. A symmetry is a turn, with or without a reflection whatever the pieces allow, and then a translation,
+/// which together carry the cells with their modes, the placements and the pins to themselves and keep the names.
+///
+/// Requires a view that shows the design, and all tilings of the design, each once, as numbers of that view. Fails with
+/// `Memory` only.
+pub fn classes_of(
+    alloc: Global,
+    design: &Design,
+    view: &View,
+    tilings: &[Tiling],
+) -> Result<u64, Refusal>
+    requires shows { Shows view.now design.now }
+    requires each_once { HasEachOnce view.now tilings.now }
+    ensures ok { IfOk result (AreClasses design.now) }
+    ensures why { IfErr result (λ e. e ≡ Refusal.Memory) }
+{
+    // If a pin is not a placement of the design, there is no tiling.
+    if !has_all(view.live(), view.pins()) {
+        return Ok(0);
+    }
+    let symmetries = symmetries(alloc, design, view)?;
+    count_firsts(alloc, &symmetries, tilings)
+}
+
+// Returns how many of the tilings no symmetry carries to one that comes before it.
+fn count_firsts(alloc: Global, symmetries: &[Symmetry], tilings: &[Tiling]) -> Result<u64, Refusal>
+    ensures ok { IfOk result (λ n. n ≡ length (filter (is_first symmetries.now) tilings.now)) }
+    ensures why { IfErr result (λ e. e ≡ Refusal.Memory) }
+{
+    let mut room = Vec::new(alloc);
+    let mut count = 0;
+    for tiling in tilings {
+        if is_first(symmetries, tiling.numbers(), &mut room)? {
+            count += 1;
+        }
+    }
+    Ok(count)
+}
+
+fn is_first(symmetries: &[Symmetry], numbers: &[u32], room: &mut Vec<u32>) -> Result<bool, Refusal>
+    ensures ok { IfOk result (λ first. first ≡ is_first symmetries.now numbers.now) }
+    ensures why { IfErr result (λ e. e ≡ Refusal.Memory) }
+{
+    for symmetry in symmetries {
+        symmetry.write_image(numbers, room)?;
+        if room.as_slice().cmp(numbers).is_lt() {
+            return Ok(false);
+        }
+    }
+    Ok(true)
+}
