@@ -1,4 +1,4 @@
-//! The cells of a board that are not blocked, kept so that a test of a cell is one look.
+//! The cells of a board that are not blocked, with a flag for each cell, so that testing a cell is one look-up.
 ghost use Rattle.std.specs.Prelude.{◌≡◌, ◌↔◌, ◌++◌, ◌∷◌, [], IsTrue, OnOk, IfOk, IfErr, replicate, false};
 ghost use Rattle.std.specs.BTreeMap.{keys};
 ghost use Rattle.poly_shape.specs.Order.{IsAscending, spot_cmp};
@@ -34,7 +34,7 @@ impl Model for Board {
 }
 
 impl Board {
-    /// The cells that have an entry.
+    /// The board of the cells that have an entry.
     pub(crate) fn of(alloc: Global, modes: &BTreeMap<Cell, Mode>) -> Result<Board, Refusal>
         ensures ok { IfOk result (λ board. board ≡ keys modes.now) }
         ensures ascending { OnOk result (IsAscending spot_cmp (keys modes.now)) }

@@ -12,7 +12,7 @@ use poly_shape::Cells;
 use std::alloc::Global;
 use std::marker::Model;
 
-/// A set of sets of cells, in their order.
+/// A set of sets of cells, kept in ascending order.
 #[derive(Drop)]
 pub struct CellsSet {
     alloc: Global,
@@ -58,7 +58,7 @@ impl CellsSet {
         self.place(cells).is_ok()
     }
 
-    // Where the cells are, or else where they would stand.
+    // The index of the cells, or the index at which they would be inserted.
     fn place(&self, cells: &Cells) -> Result<usize, usize>
         ensures found { IfOk result (λ at. HasAt self.now at cells.now) }
         ensures gap { IfErr result (λ at. IsGapFor cells_cmp cells.now self.now at) }
@@ -67,9 +67,7 @@ impl CellsSet {
         self.list.binary_search(cells)
     }
 
-    /// Puts the cells into the set.
-    ///
-    /// The only refusal is `Memory`, and leaves the set as it was.
+    /// Adds the cells to the set. Fails only when out of memory, and then leaves the set unchanged.
     pub fn insert(&mut self, cells: Cells) -> Result<(), Refusal>
         ensures adds { OnOk result (Adds self.old cells self.new) }
         ensures list { OnOk result (self.new ≡ insert_key cells_cmp self.old cells) }
@@ -83,7 +81,7 @@ impl CellsSet {
         }
     }
 
-    /// Takes the cells out of the set, if they are in it.
+    /// Removes the cells from the set if they are in it.
     pub fn remove(&mut self, cells: &Cells)
         ensures takes { TakesAway cells.now self.old self.new }
         ensures list { self.new ≡ remove_key (is_at (cells_cmp cells.now)) self.old }
@@ -97,7 +95,7 @@ impl CellsSet {
         }
     }
 
-    /// An equal set. The only refusal is `Memory`.
+    /// An equal set. Fails only when out of memory.
     pub fn copy(&self) -> Result<CellsSet, Refusal>
         ensures ok { IfOk result (λ set. set ≡ self.now) }
         ensures why { IfErr result (λ e. e ≡ Refusal.Memory) }

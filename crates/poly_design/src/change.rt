@@ -1,4 +1,4 @@
-//! One step of a design, and the way back.
+//! Changes of a design, and the way back.
 ghost use Rattle.std.specs.Prelude.{◌≡◌, ◌↔◌, IsTrue, IfOk, IfErr};
 ghost use Rattle.poly_design.specs.Layout.{Layout};
 ghost use Rattle.poly_design.specs.Limits.{IsDesign};
@@ -10,14 +10,16 @@ use crate::name::Name;
 use crate::spec::{Spec, copy_of};
 use poly_grid::{Cell, Refusal};
 
-/// What one cell or one piece was before and is after. A piece that is not there is `None`.
+/// A change of one cell or of one piece: what it was before and what it is after.
 #[derive(Drop)]
 pub enum Change {
+    /// The modes of a cell before and after.
     Cell {
         cell: Cell,
         before: Mode,
         after: Mode,
     },
+    /// The piece of a name before and after. `None` if there is no such piece.
     Piece {
         name: Name,
         before: Option<Spec>,
@@ -28,7 +30,7 @@ pub enum Change {
 impl Change {
     /// The change with its sides exchanged.
     ///
-    /// Made after the change, it leads back to every design that held the change's before side.
+    /// Made after the change, it restores every design that had the change's before side.
     pub fn inverse(self) -> Change
         ensures value { result ≡ inverse_of self }
         ensures restores { (d : Layout) → IsDesign d → HasBefore d self → changed (changed d self) result ≡ d }
@@ -74,7 +76,7 @@ impl Change {
         }
     }
 
-    /// An equal change. The only refusal is `Memory`.
+    /// An equal change. Fails only when out of memory.
     pub fn copy(&self) -> Result<Change, Refusal>
         ensures ok { IfOk result (λ change. change ≡ self.now) }
         ensures why { IfErr result (λ e. e ≡ Refusal.Memory) }

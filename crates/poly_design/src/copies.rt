@@ -3,7 +3,7 @@ ghost use Rattle.std.specs.Prelude.{◌≡◌, ◌≤◌, SomeIff};
 
 use std::marker::Model;
 
-/// The least and the most copies of a piece: 0 to 16, and the least is at most the most.
+/// The least and the most copies of a piece that a tiling may use: 0 to 16, the least at most the most.
 #[derive(Clone, Copy, Debug, PartialEq, Eq)]
 pub struct Copies {
     least: u8,
@@ -30,7 +30,7 @@ impl Copies {
     /// One copy or none.
     pub const AT_MOST_ONE: Copies = Copies { least: 0, most: 1 };
 
-    /// The copies with these bounds, where the least is at most the most and neither is over 16.
+    /// The copies with these bounds, or `None` if the least is over the most or the most is over 16.
     pub fn new(least: u64, most: u64) -> Option<Copies>
         ensures { SomeIff result ((least ≤ most) × (most ≤ 16)) (record { least = least; most = most }) }
     {
@@ -44,6 +44,7 @@ impl Copies {
         }
     }
 
+    /// The least number of copies, 0 to 16.
     pub fn least(self) -> u8
         ensures value { result ≡ self.least }
         ensures bounded { (self.least ≤ self.most) × (self.most ≤ 16) }
@@ -51,6 +52,7 @@ impl Copies {
         self.least
     }
 
+    /// The most copies, 0 to 16.
     pub fn most(self) -> u8
         ensures value { result ≡ self.most }
         ensures bounded { (self.least ≤ self.most) × (self.most ≤ 16) }

@@ -27,15 +27,15 @@ use std::alloc::Global;
 use std::collections::BTreeMap;
 use std::marker::Model;
 
-/// A puzzle's design. It has at most 256 cells that are not blocked, 64 pieces and 20,000 placements, and all of its
-/// shapes are of its grid.
+/// The design of a puzzle. It has at most 256 cells that are not blocked, 64 pieces and 20,000 placements, and all of
+/// its shapes are shapes of its grid.
 #[derive(Drop)]
 pub struct Design {
     alloc: Global,
     grid: Grid,
     cells: BTreeMap<Cell, Mode>,
     pieces: BTreeMap<Name, Spec>,
-    // The number of all placements, so that a change counts those alone that it adds or takes away.
+    // The number of all placements, so that a change counts only those that it adds or removes.
     placement_count: usize,
 }
 
@@ -51,7 +51,7 @@ impl Model for Design {
 }
 
 impl Design {
-    /// The design without cells and pieces.
+    /// The design without cells and pieces. Takes no memory.
     pub fn empty(alloc: Global, grid: Grid) -> Design
         ensures { result ≡ record { grid = grid; cells = []; pieces = [] } }
     {
@@ -66,7 +66,8 @@ impl Design {
 
     /// The design of these parts.
     ///
-    /// Refused with `TooManyPlacements` where it would have over 20,000 placements, and else only with `Memory`.
+    /// Fails with `TooManyPlacements` if it would have over 20,000 placements, or with `Memory`. Requires at most 256 cells,
+    /// none of them blocked, and at most 64 pieces, all with shapes of the grid.
     pub fn of_parts(
         alloc: Global,
         grid: Grid,
@@ -94,6 +95,7 @@ impl Design {
         }
     }
 
+    /// The grid that the cells and the shapes belong to.
     pub fn grid(&self) -> Grid
         ensures value { result ≡ self.now.grid }
         ensures design { IsDesign self.now }
@@ -110,7 +112,7 @@ impl Design {
         &self.cells
     }
 
-    /// The pieces by name, in the order of the names.
+    /// The pieces by name, in name order.
     pub fn pieces(&self) -> &BTreeMap<Name, Spec>
         ensures value { result.now.entries ≡ self.now.pieces }
         ensures design { IsDesign self.now }
@@ -126,6 +128,7 @@ impl Design {
         self.cells.len()
     }
 
+    /// How many pieces there are.
     pub fn piece_count(&self) -> usize
         ensures value { result ≡ length self.now.pieces }
         ensures few { result ≤ 64 }
@@ -133,20 +136,21 @@ impl Design {
         self.pieces.len()
     }
 
+    /// The mode of the cell. A cell that is not listed in `cells()` is blocked.
     pub fn mode(&self, cell: Cell) -> Mode
         ensures { result ≡ mode_of self.now cell }
     {
         self.cells.get(&cell).copied().unwrap_or(Mode::Blocked)
     }
 
-    /// The piece of that name.
+    /// The piece of that name, if there is one.
     pub fn spec(&self, name: Name) -> Option<&Spec>
         ensures { option_copied result ≡ spec_of self.now name }
     {
         self.pieces.get(&name)
     }
 
-    /// All placements, in ascending order. The only refusal is `Memory`.
+    /// All placements, in ascending order. Fails only when out of memory.
     pub fn places(&self) -> Result<Vec<Placement>, Refusal>
         ensures ok { IfOk result (λ list. IsListOf placement_cmp (IsPlacement self.now) list.items) }
         ensures few { IfOk result (λ list. length list.items ≤ 20000) }
@@ -157,7 +161,7 @@ impl Design {
 
     /// The placements of the piece, in ascending order.
     ///
-    /// Refused with `NoSuchPiece` where no piece has that name, and else only with `Memory`.
+    /// Fails with `NoSuchPiece` if no piece has that name, or with `Memory`.
     pub fn places_of(&self, name: Name) -> Result<Vec<Placement>, Refusal>
         ensures ok { IfOk result (λ list. IsListOf placement_cmp (λ p. IsPlacement self.now p × (p.name ≡ name)) list.items) }
         ensures unknown { (result ≡ Err Refusal.NoSuchPiece) ↔ (spec_of self.now name ≡ None) }
@@ -169,7 +173,7 @@ impl Design {
         placements_of(self.alloc, &self.cells, name, spec)
     }
 
-    /// The placements that cover the cell, in ascending order. The only refusal is `Memory`.
+    /// The placements that cover the cell, in ascending order. Fails only when out of memory.
     pub fn places_on(&self, cell: Cell) -> Result<Vec<Placement>, Refusal>
         ensures ok { IfOk result (λ list. IsListOf placement_cmp (λ p. IsPlacement self.now p × Contains p.cells cell) list.items) }
         ensures why { IfErr result (λ e. e ≡ Refusal.Memory) }
@@ -177,9 +181,9 @@ impl Design {
         placements_on(self.alloc, &self.cells, &self.pieces, cell)
     }
 
-    /// Makes the change: its after side is put in, whatever stood there.
+    /// Makes the change: puts its after side in, whatever was there. Requires that the result keeps the limits.
     ///
-    /// The only refusal is `Memory`, and leaves the design as it was.
+    /// Fails only when out of memory, and then leaves the design unchanged.
     pub fn make(&mut self, change: &Change) -> Result<(), Refusal>
         requires { IsDesign (changed self.old change.now) }
         ensures ok { OnOk result (self.new ≡ changed self.old change.now) }
@@ -204,7 +208,7 @@ impl Design {
             && same_pieces(self.pieces(), other.pieces())
     }
 
-    /// An equal design. The only refusal is `Memory`.
+    /// An equal design. Fails only when out of memory.
     pub fn copy(&self) -> Result<Design, Refusal>
         ensures ok { IfOk result (λ design. design ≡ self.now) }
         ensures why { IfErr result (λ e. e ≡ Refusal.Memory) }

@@ -1,4 +1,4 @@
-//! What can be asked of a design.
+//! Edits, the requests to change a design.
 
 use crate::copies::Copies;
 use crate::mode::Mode;
@@ -7,55 +7,55 @@ use crate::need::Need;
 use poly_grid::Cell;
 use poly_shape::{Cells, Shape};
 
-/// What a caller asks to be changed in a design.
+/// A request to change a design.
 #[derive(Clone, Copy, Debug)]
 pub enum Edit {
-    /// A new piece, without pin and with nothing forbidden.
+    /// Add a piece, without a pin and with nothing forbidden.
     Add {
         name: Name,
         shape: Shape,
         need: Need,
         mirror: bool,
     },
-    /// The piece goes, with its pin and what is forbidden to it.
+    /// Remove the piece, with its pin and the cells that are forbidden to it.
     Drop {
         name: Name,
     },
-    /// One copy, which has to be used or may be used.
+    /// Set the copies to exactly one, or to at most one.
     Need {
         name: Name,
         need: Need,
     },
-    /// The least and the most copies.
+    /// Set the least and the most copies.
     Copies {
         name: Name,
         copies: Copies,
     },
-    /// Whether the piece may be turned over.
+    /// Set whether the piece may be turned over. Its pin and its forbidden cells stay.
     Mirror {
         name: Name,
         mirror: bool,
     },
-    /// The cell's mode. `Blocked` takes the cell out.
+    /// Set the cell's mode. `Blocked` removes the cell from the board.
     Cell {
         cell: Cell,
         mode: Mode,
     },
-    /// A copy has to lie on the cells, in place of those of an earlier pin.
+    /// Pin the piece: a copy has to lie on the cells. Replaces an earlier pin.
     Pin {
         name: Name,
         cells: Cells,
     },
-    /// No copy has to lie anywhere.
+    /// Remove the piece's pin.
     Unpin {
         name: Name,
     },
-    /// No copy may lie on just these cells.
+    /// Forbid the cells to the piece: no copy may lie on exactly these cells.
     Forbid {
         name: Name,
         cells: Cells,
     },
-    /// A copy may lie on these cells again.
+    /// Allow the cells to the piece again.
     Allow {
         name: Name,
         cells: Cells,

@@ -1,4 +1,4 @@
-//! Whether two designs, or two parts of designs, are equal. Nothing here takes memory.
+//! Tests whether designs, or parts of designs, are equal. Nothing here takes memory.
 ghost use Rattle.std.specs.Prelude.{◌≡◌, ◌↔◌, IsTrue};
 
 use crate::cells_set::CellsSet;
@@ -64,7 +64,7 @@ pub(crate) fn same_name(a: Name, b: Name) -> bool
     a == b
 }
 
-// Whether the pieces are equal, or both are missing.
+// Whether the pieces are equal or both missing.
 pub(crate) fn same_piece(a: &Option<Spec>, b: &Option<Spec>) -> bool
     ensures { IsTrue result ↔ (a.now ≡ b.now) }
 {

@@ -1,4 +1,11 @@
 //! Puzzle designs: a board, named pieces, and the placements of the pieces on the board.
+//!
+//! - [`Design`]: the cells and the pieces, within limits that its type keeps. It lists placements, checks edits and makes
+//!   changes.
+//! - [`Edit`]: a request to change a design. [`Design::check`] answers with the change that it makes, or with a refusal.
+//! - [`Change`]: a change of one cell or one piece, which has an inverse.
+//! - [`Placement`]: a piece's name with the cells that it covers. [`Mode`]: what a tiling does with a cell.
+//! - [`Name`], [`Spec`], [`Copies`], [`Need`], [`CellsSet`]: a piece and its parts.
 #![tactic(auto)]
 
 mod board;

@@ -23,7 +23,7 @@ use std::collections::BTreeMap;
 
 pub(crate) const MAX_PLACEMENTS: usize = 20_000;
 
-/// All placements, in ascending order. It stops where there are too many.
+/// All placements, in ascending order. Fails with `TooManyPlacements` as soon as there are too many.
 pub(crate) fn all_placements(
     alloc: Global,
     cells: &BTreeMap<Cell, Mode>,

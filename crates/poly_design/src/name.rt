@@ -33,7 +33,7 @@ impl Model for Name {
 }
 
 impl Name {
-    /// The name of these bytes, or `BadName` where they are none.
+    /// The name of these bytes. Fails with `BadName` if they are not a name. Takes no memory.
     pub fn new(bytes: &[u8]) -> Result<Name, Refusal>
         ensures ok { IfOk result (λ name. name ≡ bytes.now) }
         ensures when { IsOk result ↔ IsName bytes.now }

@@ -4,15 +4,17 @@ ghost use Rattle.poly_design.specs.Edits.{copies_of};
 
 use crate::copies::Copies;
 
-/// Whether a tiling has to use a piece once, or may use it once.
+/// Whether a tiling has to use a piece once or may use it once.
 #[derive(Clone, Copy, Debug, PartialEq, Eq)]
 pub enum Need {
+    /// Exactly one copy.
     Required,
+    /// One copy or none.
     Optional,
 }
 
 impl Need {
-    /// One and one, or none and one.
+    /// The copies that this need asks for: exactly one, or at most one.
     pub fn copies(self) -> Copies
         ensures { result ≡ copies_of self }
     {

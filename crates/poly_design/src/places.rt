@@ -1,7 +1,7 @@
 //! Where one piece can lie.
 //!
-//! Whatever lies somewhere has its first cell on an unblocked cell. So each orientation is tried once for each
-//! unblocked cell, moved so that its first cell comes to lie there. What is found is sorted once at the end.
+//! The first cell of a placement lies on an unblocked cell. So each orientation is tried once for each unblocked cell,
+//! moved so that its first cell lies there. The placements that fit are sorted once at the end.
 ghost use Rattle.std.specs.Prelude.{◌≡◌, ◌↔◌, ℕ, IsTrue, OnOk, IfOk, IfErr, IfSome, IfNone};
 ghost use Rattle.std.specs.List.{All, Contains};
 ghost use Rattle.poly_grid.specs.Spot.{Spot};
@@ -52,7 +52,7 @@ pub(crate) fn places_on(
     Ok(list)
 }
 
-// Adds wherever the cells can lie.
+// Adds every place where the cells can lie.
 fn add_all(
     list: &mut Vec<Cells>,
     board: &Board,
@@ -69,7 +69,7 @@ fn add_all(
     Ok(())
 }
 
-// Adds wherever the cells can lie so that they cover the cell.
+// Adds every place where the cells can lie and cover the cell.
 fn add_on(
     list: &mut Vec<Cells>,
     board: &Board,
@@ -86,7 +86,7 @@ fn add_on(
     Ok(())
 }
 
-// Adds the cells, moved so that one of them comes to lie where it should, if they can lie there.
+// Adds the cells, moved so that the cell `from` of them lies on `to`, if they can lie there.
 fn add_shifted(
     list: &mut Vec<Cells>,
     board: &Board,

@@ -1,4 +1,4 @@
-//! What a piece is.
+//! Pieces.
 ghost use Rattle.std.specs.Prelude.{◌≡◌, IfOk, IfErr};
 
 use crate::cells_set::CellsSet;
@@ -6,21 +6,23 @@ use crate::copies::Copies;
 use poly_grid::Refusal;
 use poly_shape::{Cells, Shape};
 
-/// A piece without its name.
+/// A piece, apart from its name.
 #[derive(Drop)]
 pub struct Spec {
+    /// The shape, in one of its orientations.
     pub shape: Shape,
+    /// How many copies a tiling uses.
     pub copies: Copies,
     /// Whether the piece may be turned over.
     pub mirror: bool,
-    /// The cells that a copy has to lie on.
+    /// The cells that a copy has to lie on, if any.
     pub pin: Option<Cells>,
-    /// The cells that no copy may lie on, as whole sets.
+    /// Sets of cells such that no copy may cover exactly the cells of one.
     pub forbidden: CellsSet,
 }
 
 impl Spec {
-    /// An equal piece. The only refusal is `Memory`.
+    /// An equal piece. Fails only when out of memory.
     pub fn copy(&self) -> Result<Spec, Refusal>
         ensures ok { IfOk result (λ spec. spec ≡ self.now) }
         ensures why { IfErr result (λ e. e ≡ Refusal.Memory) }

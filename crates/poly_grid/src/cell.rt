@@ -33,7 +33,7 @@ impl Cell {
     /// Column 0 of row 0, the first cell.
     pub const ORIGIN: Cell = Cell { y: 0, x: 0 };
 
-    /// The cell of a column and a row, or none where either is over 63.
+    /// The cell of a column and a row, or `None` if either is over 63.
     pub fn new(x: u64, y: u64) -> Option<Cell>
         ensures { SomeIff result ((x < 64) × (y < 64)) (record { x = x; y = y }) }
     {
@@ -63,8 +63,8 @@ impl Cell {
         self.y
     }
 
-    /// The cell so many columns to the right and so many rows down, or none where it would lie outside
-    /// columns and rows 0 to 63.
+    /// The cell so many columns to the right and so many rows down, or `None` if its column or row would be
+    /// over 63.
     pub fn translated(self, right: u8, down: u8) -> Option<Cell>
         ensures { SomeIff result ((self.x + right < 64) × (self.y + down < 64)) (record { x = self.x + right; y = self.y + down }) }
     {
@@ -74,7 +74,7 @@ impl Cell {
         )
     }
 
-    /// The cell as a point of the endless grid, where turns and neighbours are taken.
+    /// The cell as a point of the endless grid, on which turns and neighbours are defined.
     pub fn point(self) -> Point
         ensures value { result ≡ record { x = pos self.x; y = pos self.y } }
         ensures in_range { (self.x < 64) × (self.y < 64) }

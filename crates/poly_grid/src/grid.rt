@@ -1,10 +1,10 @@
-//! The two grids: to whom a point is next, and what turning the plane makes of it.
+//! The two grids: the neighbours of a point, and its images under the turns of the plane.
 //!
 //! A square has the coordinates (x, y): x grows to the right and y downwards. A hexagon has the
-//! axial coordinates (q, r), which stand in the fields x and y: two of the three cube coordinates
-//! q, r and s, whose sum is always 0. In them each step and each turn is a sum of coordinates, so
-//! that the tables below are all the geometry there is. Both grids have no end: turning takes
-//! place round the point (0, 0), and shapes are moved back into the board's range afterwards.
+//! axial coordinates (q, r), kept in the fields x and y: two of the three cube coordinates q, r and
+//! s, whose sum is always 0. Each step and each turn is a sum of such coordinates, so the tables
+//! below are all the geometry there is. Both grids are endless: turns are about the point (0, 0),
+//! and shapes are moved back into the board's range afterwards.
 
 ghost use Rattle.std.specs.Prelude.{◌≡◌, ◌<◌, ◌≤ℤ◌, pos, negsuc, true, length, slice_index_or};
 ghost use Rattle.poly_grid.specs.declared.grid.Grid.TheVariants.{Square, Hex};
@@ -19,7 +19,7 @@ pub enum Grid {
     Hex,
 }
 
-/// A place of the endless grid: column and row, or the axial q and r.
+/// A point of the endless grid: column and row, or the axial q and r.
 #[derive(Clone, Copy, Debug, PartialEq, Eq)]
 pub struct Point {
     /// The column, or q.
@@ -42,8 +42,8 @@ impl Grid {
     /// The neighbour of the point in a direction, a number below `directions()`.
     ///
     /// Squares: right, down, left, up. Hexagons: by (1, 0), (0, 1), (-1, 1), (-1, 0), (0, -1), (1, -1),
-    /// the way round. Half of the directions further on leads back. The point's coordinates are from
-    /// -1,000 to 1,000, so that no sum overflows.
+    /// in circular order. The direction half a circle further leads back. Requires coordinates from -1,000 to
+    /// 1,000, so that no sum overflows.
     pub fn neighbour(self, direction: u8, point: Point) -> Point
         requires known { direction < length (steps self) }
         requires near { IsNear point }
@@ -76,7 +76,7 @@ impl Grid {
         }
     }
 
-    /// How many turns there are: the rotations alone, 4 or 6, or with the mirror all symmetries, 8 or 12.
+    /// How many turns there are: 4 or 6 rotations, or with `mirror` all 8 or 12 symmetries.
     ///
     /// The rotations come first, so that a piece that may not be turned over uses the numbers below
     /// `turns(false)`.
@@ -91,12 +91,11 @@ impl Grid {
         }
     }
 
-    /// Where a turn, a number below `turns(true)`, takes the point; (0, 0) stays.
+    /// The image of the point under a turn, a number below `turns(true)`. Every turn fixes (0, 0).
     ///
-    /// Turn 0 leaves all as it is, and turn 1 is a quarter or a sixth of a round. The rotations are its
+    /// Turn 0 is the identity, and turn 1 is a quarter or a sixth of a full turn. The rotations are its
     /// powers. The first reflection takes (x, y) to (-x, y), or (q, r) to (r, q), and each further one is
-    /// the first and then a rotation. The point's coordinates are from -1,000 to 1,000, so that no sum
-    /// overflows.
+    /// the first followed by a rotation. Requires coordinates from -1,000 to 1,000, so that no sum overflows.
     pub fn turned(self, turn: u8, point: Point) -> Point
         requires known { turn < turn_count self true }
         requires near { IsNear point }

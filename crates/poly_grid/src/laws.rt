@@ -1,8 +1,7 @@
 //! What is true of turns and neighbours at every point, and of the order of cells.
 //!
-//! Each law is the contract of a function that does nothing: the statement is over all points,
-//! so it is proved once and no call could test it. The tables that `Grid`'s functions answer
-//! from are what the laws speak of.
+//! Each law is the contract of a function that does nothing: it speaks of all points, so no call
+//! could test it. The laws are about the tables from which the functions of `Grid` answer.
 
 ghost use Rattle.poly_grid.specs.Laws.{FirstTurnStays, TurnsCompose, TurnsAreUndone, TurnsDiffer, RotationsArePowers, ReflectionsFollow, NeighboursAreMutual, TurnsKeepNeighbours, CellsGoByRow};
 
@@ -21,7 +20,7 @@ pub fn turns_are_undone()
     ensures { TurnsAreUndone }
 {}
 
-/// No two turns of a grid do the same to every point: the square grid has eight, the hexagonal one twelve.
+/// No two turns of a grid agree on every point: the square grid has eight, the hexagonal one twelve.
 pub fn turns_differ()
     ensures { TurnsDiffer }
 {}
@@ -41,12 +40,12 @@ pub fn neighbours_are_mutual()
     ensures { NeighboursAreMutual }
 {}
 
-/// Each turn carries neighbours to neighbours, and points that are none to points that are none.
+/// Two points are neighbours exactly if their images under a turn are.
 pub fn turns_keep_neighbours()
     ensures { TurnsKeepNeighbours }
 {}
 
-/// Cells are ordered by row, then by column, and no two different cells tie.
+/// Cells are ordered by row, then by column, and no two different cells compare as equal.
 pub fn cells_go_by_row()
     ensures { CellsGoByRow }
 {}

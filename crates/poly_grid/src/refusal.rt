@@ -1,5 +1,5 @@
-//! Why a call of any crate of the workbench was refused: one type, so that a refusal keeps its number
-//! and its name on the way from the layer that saw it to the line that is printed.
+//! Why a call was refused: one type for all crates, so that a refusal keeps its number and its name on the
+//! way from the layer that found it to the line that is printed.
 
 ghost use Rattle.std.specs.Prelude.{◌≡◌};
 ghost use Rattle.poly_grid.specs.Refusal.{code_of, name_of};
@@ -8,10 +8,10 @@ ghost use Rattle.poly_grid.specs.declared.refusal.Refusal.TheVariants.{Memory};
 use std::alloc::{AllocError, AllocFailed};
 use thiserror::Error;
 
-/// Why a call was refused. The text that a refusal is displayed as says its cause.
+/// Why a call was refused. A refusal is displayed as its cause.
 #[derive(Clone, Copy, Debug, PartialEq, Eq, Error)]
 pub enum Refusal {
-    #[error("the puzzle line is no JSON")]
+    #[error("the puzzle line is not valid JSON")]
     BadJson,
     #[error("a key is missing, unknown or of the wrong kind")]
     BadField,
@@ -25,17 +25,17 @@ pub enum Refusal {
     BadName,
     #[error("not a shape of this grid")]
     BadShape,
-    #[error("a piece of that name is there")]
+    #[error("a piece of that name exists")]
     NameTaken,
     #[error("no piece of that name")]
     NoSuchPiece,
     #[error("a coordinate outside 0 to 63")]
     BadCell,
-    #[error("over 256 unblocked cells would stand")]
+    #[error("there would be over 256 unblocked cells")]
     TooManyCells,
-    #[error("over 64 pieces would stand")]
+    #[error("there would be over 64 pieces")]
     TooManyPieces,
-    #[error("over 20,000 placements would stand")]
+    #[error("there would be over 20,000 placements")]
     TooManyPlacements,
     #[error("not a placement of the design")]
     NotAPlacement,
@@ -67,7 +67,7 @@ pub enum Refusal {
     Unsettled {
         /// What the caller had seen, or handed in.
         seen: u64,
-        /// What stands.
+        /// What is there.
         found: u64,
     },
     #[error("the change or its inverse has too many guards")]
@@ -117,7 +117,7 @@ impl Refusal {
         }
     }
 
-    /// The name of the refusal, which is the variant's.
+    /// The name of the refusal, which is that of its variant.
     pub fn name(self) -> &'static str
         ensures { result.now ≡ name_of self }
     {
@@ -155,7 +155,7 @@ impl Refusal {
     }
 }
 
-/// Where a growth is refused, `?` answers `Refusal::Memory`.
+/// `?` turns a refused growth into `Refusal::Memory`.
 impl From<AllocError> for Refusal {
     ghost from_gives = { λ _ e. e ≡ Memory };
 
@@ -164,7 +164,7 @@ impl From<AllocError> for Refusal {
     }
 }
 
-/// Where a growth is refused, `?` drops what was to be put in and answers `Refusal::Memory`.
+/// `?` turns a refused growth into `Refusal::Memory`, and drops what was to be added.
 impl<T: Drop> From<AllocFailed<T>> for Refusal {
     ghost from_gives = { λ _ e. e ≡ Memory };
 

@@ -1,4 +1,4 @@
-//! Sets of 1 to 16 cells, kept in place.
+//! Sets of 1 to 16 cells, without memory of their own.
 
 ghost use Rattle.std.specs.Prelude.{◌≡◌, ◌+◌, ◌<◌, ◌≤◌, ◌≢◌, ◌↔◌, ◌⊎◌, [], ◌∷◌, ◌++◌, length, drop, IsTrue, IsOk, IfOk, IfErr, SomeIff, Contains};
 ghost use Rattle.poly_grid.specs.Spot.{Spot};
@@ -10,7 +10,7 @@ use std::cmp::Ordering;
 use std::hash::{Hash, Hasher};
 use std::marker::Model;
 
-/// A set of 1 to 16 cells, kept in place and in cell order (by row, then by column).
+/// A set of 1 to 16 cells, kept in cell order (by row, then by column) and without memory of its own.
 ///
 /// Two sets are compared as their lists of cells: a list that begins another comes first.
 #[derive(Clone, Copy, Debug)]
@@ -40,7 +40,7 @@ impl Model for Cells {
 impl Cells {
     ghost use Rattle.poly_shape.specs.Cells.{IsCells};
 
-    /// The set of the cells. It is a `BadShape` where there is none, where there are over 16, and where one comes twice.
+    /// The set of the cells. Fails with `BadShape` if there are none, if there are over 16, or if one is repeated.
     pub fn new(cells: &[Cell]) -> Result<Cells, Refusal>
         ensures ok { IfOk result (λ set. HasSame set cells.now) }
         ensures kept { IfOk result IsCells }
@@ -86,7 +86,7 @@ impl Cells {
         self.as_slice().contains(&cell)
     }
 
-    /// The set with one more cell, or the same set where it has the cell. It asks for a set of at most 15 cells.
+    /// The set with one more cell, or the same set if it has the cell. Requires a set of at most 15 cells.
     pub fn with(self, cell: Cell) -> Cells
         requires { length self < 16 }
         ensures adds { Adds self cell result }
@@ -101,7 +101,7 @@ impl Cells {
         }
     }
 
-    /// The set moved right and down, or `None` where a cell would leave the range of cells, 0 to 63.
+    /// The set moved right and down, or `None` if a column or row would be over 63.
     pub fn translated(&self, right: u8, down: u8) -> Option<Cells>
         ensures { SomeIff result (StaysInRange right down self.now) (moved_by right down self.now) }
     {
@@ -123,7 +123,7 @@ impl Cells {
         Cells::joined(&[], cells[0], &cells[1..])
     }
 
-    // The one place where the array is written, so that its unused tail is the same in equal sets.
+    // The only code that writes the array, so that its unused tail is the same in equal sets.
     fn joined(front: &[Cell], cell: Cell, back: &[Cell]) -> Cells
         requires few { length front.now + length back.now < 16 }
         requires ascending { IsAscending spot_cmp (front.now ++ cell ∷ back.now) }
@@ -205,7 +205,7 @@ impl Hash for Cells {
     }
 }
 
-// Writes the list over the first places.
+// Writes the list over the first elements.
 fn place(room: &mut [Cell], front: &[Cell], cell: Cell, back: &[Cell])
     requires { length front.now + 1 + length back.now ≤ length room.old }
     ensures { room.new ≡ (front.now ++ cell ∷ back.now) ++ drop (length front.now + 1 + length back.now) room.old }

@@ -1,4 +1,4 @@
-//! Whether cells are connected, by flooding from the first.
+//! Whether cells are connected, by flooding from the first cell.
 
 ghost use Rattle.std.specs.Prelude.{◌≡◌, ◌↔◌, ◌≤◌, IsTrue, IfSome, IfNone, length};
 ghost use Rattle.std.specs.List.{Contains};
@@ -18,7 +18,7 @@ pub(crate) fn is_connected(grid: Grid, cells: &Cells) -> bool
     reached == *cells
 }
 
-// A cell that is not reached and has a neighbour that is.
+// A cell that is not reached and has a reached neighbour.
 fn frontier(grid: Grid, cells: &Cells, reached: &Cells) -> Option<Cell>
     ensures some { IfSome result (λ c. Contains cells.now c × (¬ Contains reached.now c) × Touches grid reached.now c) }
     ensures none { IfNone result ((c : Spot) → Contains cells.now c → Touches grid reached.now c → Contains reached.now c) }

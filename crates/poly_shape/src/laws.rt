@@ -1,4 +1,4 @@
-//! Laws of orientations. Each stands on a function that does nothing.
+//! Laws of orientations. Each is the contract of a function that does nothing.
 
 ghost use Rattle.poly_shape.specs.Laws.{ShapesAreTheirOrientations, RotationsAreAmongAll, OrientationsAreOneList, TranslatesTellTheNormalPlace, OrientationsAreShared};
 
@@ -12,17 +12,17 @@ pub fn rotations_are_among_all()
     ensures { RotationsAreAmongAll }
 {}
 
-/// The definition of orientations leaves no choice: one list meets it.
+/// The definition of orientations leaves no choice: only one list meets it.
 pub fn orientations_are_one_list()
     ensures { OrientationsAreOneList }
 {}
 
-/// Cells at their normal place are known from any translate of them.
+/// Every translate of cells determines the cells at their normal place.
 pub fn translates_tell_the_normal_place()
     ensures { TranslatesTellTheNormalPlace }
 {}
 
-/// It does not matter in which of its orientations a shape is given: all have the same list of orientations.
+/// All orientations of a shape have the same list of orientations.
 pub fn orientations_are_shared()
     ensures { OrientationsAreShared }
 {}

@@ -1,7 +1,8 @@
 //! Sets of cells, shapes and their orientations.
 //!
-//! A `Cells` is a small set of cells, in cell order. A `Shape` is such a set that is connected on its grid and stands at its
-//! normal place. The orientations of a shape are what the grid's turns make of it, each moved to its normal place.
+//! A [`Cells`] is a small set of cells, in cell order. A [`Shape`] is such a set that is connected on its grid and at its
+//! normal place: its least column and its least row are 0. The orientations of a shape are its images under the grid's
+//! turns, each moved to its normal place.
 #![tactic(auto)]
 
 mod cells;

@@ -34,8 +34,8 @@ impl Model for Shape {
 }
 
 impl Shape {
-    /// The shape of the cells, moved to its normal place. It is a `BadShape` where `Cells::new` refuses the cells, and where they
-    /// are not connected on the grid.
+    /// The shape of the cells, moved to its normal place. Fails with `BadShape` if `Cells::new` refuses the cells or if they are
+    /// not connected on the grid.
     pub fn from_cells(grid: Grid, cells: &[Cell]) -> Result<Shape, Refusal>
         ensures ok { IfOk result (λ s. (s.grid ≡ grid) × IsImage grid 0 cells.now s.cells) }
         ensures shape { IfOk result IsShape }
@@ -68,8 +68,8 @@ impl Shape {
         self.cells
     }
 
-    /// What the grid's rotations, and with `mirror` its reflections too, make of the shape: each orientation once, at its normal
-    /// place, in ascending order. It refuses only for memory.
+    /// The images of the shape under the grid's rotations, and with `mirror` under its reflections too: each orientation once,
+    /// at its normal place, in ascending order. Fails only when out of memory.
     pub fn orientations(&self, alloc: Global, mirror: bool) -> Result<Vec<Cells>, Refusal>
         ensures ok { IfOk result (λ list. AreOrientations self.now mirror list.items) }
         ensures shapes { IfOk result (λ list. All (IsOrientation self.now) list.items) }
@@ -84,7 +84,7 @@ impl Shape {
     }
 }
 
-// Puts the cells at their place, unless they are there.
+// Inserts the cells in order, unless they are in the list.
 fn add(list: &mut Vec<Cells>, cells: Cells) -> Result<(), Refusal>
     requires { IsAscending cells_cmp list.old.items }
     ensures ascending { OnOk result (IsAscending cells_cmp list.new.items) }

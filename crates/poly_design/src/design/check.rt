@@ -1,4 +1,4 @@
-//! Whether an edit is accepted, and the change that it asks for.
+//! Checking edits: which are refused and why, and the changes that the others make.
 ghost use Rattle.std.specs.Prelude.{◌≡◌, ◌≢◌, ◌≤◌, length, ◌⊎◌, ◌↔◌, None, Err, OnOk, IfOk, IfErr, IsTrue};
 ghost use Rattle.poly_design.specs.Limits.{IsDesign};
 ghost use Rattle.poly_design.specs.Changes.{changed, set_mode};
@@ -29,8 +29,8 @@ impl Design {
     ///
     /// Fails with the first cause that holds: for a new piece `NameTaken`, `BadShape`, `TooManyPieces`, `TooManyPlacements`; for
     /// any other edit `NoSuchPiece` if no piece has the name, `NoChange` if the edit would change nothing, and then
-    /// `TooManyCells`, `TooManyPlacements` or `NotAPlacement`. Only the last two of these need memory to be found, so `Memory`
-    /// is never answered in place of another one.
+    /// `TooManyCells`, `TooManyPlacements` or `NotAPlacement`. Only `TooManyPlacements` and `NotAPlacement` need memory to be
+    /// found, so `Memory` never takes the place of another cause.
     pub fn check(&self, edit: &Edit) -> Result<Change, Refusal>
         ensures ok { IfOk result (λ change. IsAccepted self.now edit.now change) }
         ensures why { IfErr result (λ e. (e ≡ Refusal.Memory) ⊎ IsRefused self.now edit.now e) }

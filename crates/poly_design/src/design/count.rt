@@ -1,7 +1,7 @@
 //! How many placements there are after a change.
 //!
-//! A change of one piece or one cell leaves all other placements as they are. So only those of that piece, or on that
-//! cell, are listed, and the number of all placements is kept beside the design's parts.
+//! A change of one piece or one cell leaves all other placements as they are. So only the placements of that piece, or
+//! on that cell, are listed, and the design keeps the number of all placements.
 ghost use Rattle.std.specs.Prelude.{◌≡◌, ◌≢◌, ◌↔◌, ℕ, IfOk, IfErr, IsTrue};
 ghost use Rattle.std.specs.BTreeMap.{keys};
 ghost use Rattle.std.specs.List.{Contains};
@@ -24,7 +24,7 @@ use std::alloc::Global;
 use std::collections::BTreeMap;
 
 impl Design {
-    /// How many placements there are after the change. The only refusal is `Memory`.
+    /// How many placements there are after the change. Fails only when out of memory.
     pub(super) fn count_after(&self, change: &Change) -> Result<usize, Refusal>
         ensures ok { IfOk result (λ n. IsCount placement_cmp (IsPlacement (changed self.now change.now)) n) }
         ensures why { IfErr result (λ e. e ≡ Refusal.Memory) }
@@ -59,7 +59,7 @@ impl Design {
     }
 }
 
-// The placements of a piece that may be missing.
+// The placements of a piece, or none if the piece is missing.
 fn placements_of_some(
     alloc: Global,
     cells: &BTreeMap<Cell, Mode>,
@@ -75,7 +75,7 @@ fn placements_of_some(
     }
 }
 
-// Whether both modes, or neither, are blocked.
+// Whether both modes are blocked or neither is.
 fn are_alike(a: Mode, b: Mode) -> bool
     ensures { IsTrue result → ((a ≢ Mode.Blocked) ↔ (b ≢ Mode.Blocked)) }
 {
