@@ -78,14 +78,13 @@ fn copies(
 {
     let mut list = Vec::new(alloc);
     for (index, tiling) in tilings.iter().enumerate() {
-        copy_leaving(alloc, view, delta, &mut list, tiling, marks[index])?;
+        copy_leaving(view, delta, &mut list, tiling, marks[index])?;
     }
     Ok(list)
 }
 
 // Adds a copy of the tiling if it is marked or does not meet the differences. Fails only with `Memory`.
 fn copy_leaving(
-    alloc: Global,
     view: &View,
     delta: &Delta,
     list: &mut Vec<Tiling>,
@@ -98,7 +97,7 @@ fn copy_leaving(
     if !leaves(view, delta, tiling, marked) {
         return Ok(());
     }
-    list.push(tiling.copy(alloc)?)?;
+    list.push(tiling.copy()?)?;
     Ok(())
 }
 
