@@ -4,15 +4,16 @@ use Rattle.std.proofs.lemmas.Bool.{and_parts, both_ways, cases_lt, eqb-true, fal
 use Rattle.std.proofs.lemmas.List.{drop_all, drop_more, get_or-take, get_or_past, nil_from_length, take-take, take_all, take_more}
 use Rattle.std.proofs.lemmas.Option.{slice_get-get_or}
 use Rattle.std.specs.List.{list_all, list_any}
+use Rattle.poly_tiling.specs.declared.item.Item.TheVariants.{Piece}
 use Rattle.poly_tiling.specs.Lists.{mem, one, tally}
 use Rattle.poly_tiling.specs.Puzzle.{View, is_tiling}
 use Rattle.poly_tiling.proofs.Contained.{get_in, in_get}
-use Rattle.poly_tiling.proofs.Lists.{In, all_in, any_append, any_from, any_in, in_mem, mem_in, tally_append}
+use Rattle.poly_tiling.proofs.Lists.{In, all_append, all_in, any_from, any_in, in_mem, mem_in, tally_append}
 use Rattle.poly_tiling.proofs.Named.{tally_same_in}
 use Rattle.poly_place.specs.declared.delta.Delta.{Delta}
 use Rattle.poly_catalogue.specs.Listed.{AreOfEither, AreIndicesWith, Keeps}
 use Rattle.poly_catalogue.specs.Rows.{row}
-use Rattle.poly_catalogue.specs.Stays.{has_gone, meets}
+use Rattle.poly_catalogue.specs.Stays.{fits, has_gone, meets}
 use Rattle.poly_catalogue.proofs.Decided.{decides}
 
 and_swap : (a b c : Bool) → ((a && b) && c) ≡ (a && (c && b))
@@ -83,25 +84,20 @@ found_none a n indices h e = false_from_ne_true (list_any (λ T. mem T n) a) (λ
     let j = in_get indices g.0 (mem_in indices g.0 has) in
     none_last indices j.0 g.0 j.1 e)
 
-not_or : (a b : Bool) → (not a && not b) ≡ not (a || (b || false))
-not_or true b = refl
-not_or false true = refl
-not_or false false = refl
-
--- one number more
-pub keeps_more : (gone : List ℕ) (i : ℕ) (a b c : List (List ℕ)) → i < length gone → Keeps (λ T. not (list_any (λ p. mem T p) (take i gone))) a b → Keeps (λ T. not (mem T (get_or gone i 0))) b c → Keeps (λ T. not (list_any (λ p. mem T p) (take (i + 1) gone))) a c
-keeps_more gone i a b c l x y =
-    keeps_as (λ T. not (list_any (λ p. mem T p) (take i gone)) && not (mem T (get_or gone i 0))) (λ T. not (list_any (λ p. mem T p) (take (i + 1) gone))) a c
-    (keeps_on (λ T. not (list_any (λ p. mem T p) (take i gone))) (λ T. not (mem T (get_or gone i 0))) a b c x y)
+-- by one test more
+pub keeps_more : {X : Type 0} (q : X → List ℕ → Bool) (xs : List X) (i : ℕ) (d : X) (a b c : List (List ℕ)) → i < length xs → Keeps (λ T. list_all (λ x. q x T) (take i xs)) a b → Keeps (q (get_or xs i d)) b c → Keeps (λ T. list_all (λ x. q x T) (take (i + 1) xs)) a c
+keeps_more q xs i d a b c l x y =
+    keeps_as (λ T. list_all (λ z. q z T) (take i xs) && q (get_or xs i d) T) (λ T. list_all (λ z. q z T) (take (i + 1) xs)) a c
+    (keeps_on (λ T. list_all (λ z. q z T) (take i xs)) (q (get_or xs i d)) a b c x y)
     (λ T j.
-    not_or (list_any (λ p. mem T p) (take i gone)) (mem T (get_or gone i 0))
-    ∙ ap not (sym (ap (λ l. list_any (λ p. mem T p) l) (take_more gone i 0 l) ∙ any_append (λ p. mem T p) (take i gone) (get_or gone i 0 ∷ []))))
+    ap (λ z. list_all (λ w. q w T) (take i xs) && z) (and_true (q (get_or xs i d) T))
+    ∙ sym (ap (λ z. list_all (λ w. q w T) z) (take_more xs i d l) ∙ all_append (λ w. q w T) (take i xs) (get_or xs i d ∷ [])))
 
-pub keeps_first : (gone : List ℕ) (a : List (List ℕ)) → Keeps (λ T. not (list_any (λ p. mem T p) (take 0 gone))) a a
-keeps_first gone a = keeps_all (λ T. not (list_any (λ p. mem T p) (take 0 gone))) a (λ T i. refl)
+pub keeps_first : {X : Type 0} (q : X → List ℕ → Bool) (xs : List X) (a : List (List ℕ)) → Keeps (λ T. list_all (λ x. q x T) (take 0 xs)) a a
+keeps_first q xs a = keeps_all (λ T. list_all (λ x. q x T) (take 0 xs)) a (λ T i. refl)
 
-pub keeps_whole : (gone : List ℕ) (i : ℕ) (a b : List (List ℕ)) → length gone ≤ i → Keeps (λ T. not (list_any (λ p. mem T p) (take i gone))) a b → Keeps (λ T. not (list_any (λ p. mem T p) gone)) a b
-keeps_whole gone i a b l x = keeps_as (λ T. not (list_any (λ p. mem T p) (take i gone))) (λ T. not (list_any (λ p. mem T p) gone)) a b x (λ T j. ap (λ g. not (list_any (λ p. mem T p) g)) (take_all i gone l))
+pub keeps_whole : {X : Type 0} (q : X → List ℕ → Bool) (xs : List X) (i : ℕ) (a b : List (List ℕ)) → length xs ≤ i → Keeps (λ T. list_all (λ x. q x T) (take i xs)) a b → Keeps (λ T. list_all (λ x. q x T) xs) a b
+keeps_whole q xs i a b l x = keeps_as (λ T. list_all (λ z. q z T) (take i xs)) (λ T. list_all (λ z. q z T) xs) a b x (λ T j. ap (λ g. list_all (λ z. q z T) g) (take_all i xs l))
 
 -- from some index on, the tilings that fail have gone
 pub record IsSwept (p : List ℕ → Bool) (a b : List (List ℕ)) (index : ℕ) : Type 0 where
@@ -149,18 +145,9 @@ swept_all p a b index e s f =
     let g = subst (λ z. tally f b ≡ tally f (take z a) + tally (λ T. f T && p T) (drop z a)) e (s.done f) in
     omega (arith, g)
 
--- where the differences rule nothing out but by what has gone
-pub no_marks : (w : View) (x : Delta) (T : List ℕ) → (eqb (length x.pinned.items) 0 && eqb (length x.needed.items) 0 && eqb (length x.narrowed.items) 0) ≡ true → meets w x T ≡ true
-no_marks w x T h =
-    let a = eqb (length x.pinned.items) 0 in
-    let b = eqb (length x.needed.items) 0 in
-    let c = eqb (length x.narrowed.items) 0 in
-    let h2 = and_parts (a && b) c h in
-    let h1 = and_parts a b h2.0 in
-    let p = nil_from_length x.pinned.items (eqb-true (length x.pinned.items) 0 h1.0) in
-    let n = nil_from_length x.needed.items (eqb-true (length x.needed.items) 0 h1.1) in
-    let r = nil_from_length x.narrowed.items (eqb-true (length x.narrowed.items) 0 h2.1) in
-    rw (p, n, r) refl
+-- no tiling lacks one of no pins
+pub keeps_none : (pins : List ℕ) (a : List (List ℕ)) → eqb (length pins) 0 ≡ true → Keeps (λ T. list_all (λ p. mem T p) pins) a a
+keeps_none pins a h = subst (λ z. Keeps (λ T. list_all (λ p. mem T p) z) a a) (sym (nil_from_length pins (eqb-true (length pins) 0 h))) (keeps_all (λ T. true) a (λ T i. refl))
 
 either_of : (v w : View) (a : List (List ℕ)) → list_all (λ T. is_tiling v T || is_tiling w T) a ≡ true → (T : List ℕ) → In T a → (is_tiling v T || is_tiling w T) ≡ true
 either_of v w a h T i = all_in (λ U. is_tiling v U || is_tiling w U) a h T i
@@ -175,11 +162,26 @@ and_flip false false = refl
 pub stay : (w : View) (x : Delta) (a : List (List ℕ)) → AreOfEither w x a → (T : List ℕ) → In T a → is_tiling w T ≡ (not (has_gone x T) && meets w x T)
 stay w x a of T i = decides of.before w x of.leads T (either_of of.before w a of.either T i) ∙ and_flip (meets w x T) (not (has_gone x T))
 
-true_and : (a b : Bool) → b ≡ true → (a && b) ≡ a
-true_and a b h = ap (λ z. a && z) h ∙ sym (and_true a)
+not_any : {X : Type 0} (q : X → Bool) (xs : List X) → not (list_any q xs) ≡ list_all (λ x. not (q x)) xs
+not_any q [] = refl
+not_any q (x ∷ xs) = at (q x) (list_any q xs) ∙ ap (λ z. not (q x) && z) (not_any q xs)
+  where
+    at : (a b : Bool) → not (a || b) ≡ (not a && not b)
+    at true b = refl
+    at false b = refl
 
-pub kept_gone : (w : View) (x : Delta) (a b : List (List ℕ)) → AreOfEither w x a → ((T : List ℕ) → meets w x T ≡ true) → Keeps (λ T. not (has_gone x T)) a b → Keeps (is_tiling w) a b
-kept_gone w x a b of all k = keeps_as (λ T. not (has_gone x T)) (is_tiling w) a b k (λ T i. sym (stay w x a of T i ∙ true_and (not (has_gone x T)) (meets w x T) (all T)))
+and_four : (g p n r : Bool) → (((g && p) && n) && r) ≡ (g && ((p && n) && r))
+and_four true p n r = refl
+and_four false p n r = refl
 
-pub kept_both : (w : View) (x : Delta) (a b c : List (List ℕ)) → AreOfEither w x a → Keeps (λ T. not (has_gone x T)) a b → Keeps (meets w x) b c → Keeps (is_tiling w) a c
-kept_both w x a b c of k l = keeps_as (λ T. not (has_gone x T) && meets w x T) (is_tiling w) a c (keeps_on (λ T. not (has_gone x T)) (meets w x) a b c k l) (λ T i. sym (stay w x a of T i))
+-- by the gone numbers, the pins, the items and the pieces in turn
+pub kept_four : (w : View) (x : Delta) (a b c d e : List (List ℕ)) → AreOfEither w x a → Keeps (λ T. list_all (λ p. not (mem T p)) x.gone.items) a b → Keeps (λ T. list_all (λ p. mem T p) x.pinned.items) b c →
+    Keeps (λ T. list_all (λ i. fits w i T) x.needed.items) c d → Keeps (λ T. list_all (λ n. fits w (Piece n) T) x.narrowed.items) d e → Keeps (is_tiling w) a e
+kept_four w x a b c d e of k l m n =
+    let g = λ (T : List ℕ). list_all (λ p. not (mem T p)) x.gone.items in
+    let p = λ (T : List ℕ). list_all (λ q. mem T q) x.pinned.items in
+    let i = λ (T : List ℕ). list_all (λ j. fits w j T) x.needed.items in
+    let r = λ (T : List ℕ). list_all (λ j. fits w (Piece j) T) x.narrowed.items in
+    keeps_as (λ T. ((g T && p T) && i T) && r T) (is_tiling w) a e
+    (keeps_on (λ T. (g T && p T) && i T) r a d e (keeps_on (λ T. g T && p T) i a c d (keeps_on g p a b c k l) m) n)
+    (λ T j. and_four (g T) (p T) (i T) (r T) ∙ ap (λ z. z && meets w x T) (sym (not_any (λ q. mem T q) x.gone.items)) ∙ sym (stay w x a of T j))

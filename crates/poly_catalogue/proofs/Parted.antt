@@ -1,31 +1,47 @@
 -- What a list of tilings says where it has each once, and of its two parts.
-use Rattle.std.proofs.Common.{Bool, List, [], ap, arith, cond, false, filter, inl, inr, not, refl, true, ℕ, ◌&&◌, ◌++◌, ◌||◌, ◌+◌, ◌<◌, ◌∙◌, ◌∷◌, ◌≡◌}
+use Rattle.std.proofs.Common.{Bool, List, [], ap, arith, cond, false, filter, inl, inr, not, refl, subst, sym, true, ℕ, ◌&&◌, ◌++◌, ◌||◌, ◌+◌, ◌<◌, ◌∙◌, ◌∷◌, ◌≡◌, ◌≤◌}
 use Rattle.std.proofs.lemmas.Bool.{or_left, true_from_ne_false}
 use Rattle.std.specs.List.{list_all}
 use Rattle.poly_tiling.specs.Lister.{HasEachOnce}
 use Rattle.poly_tiling.specs.Lists.{one, same_list, tally}
 use Rattle.poly_tiling.specs.Puzzle.{View, is_tiling}
-use Rattle.poly_tiling.proofs.Ascending.{same_list_self}
-use Rattle.poly_tiling.proofs.Lists.{In, all_from, all_in, tally_append}
+use Rattle.poly_tiling.proofs.Ascending.{same_list_is, same_list_self}
+use Rattle.poly_tiling.proofs.Lists.{In, all_from, all_in, same_truth, tally_append}
+use Rattle.poly_tiling.proofs.Named.{tally_same_in}
 use Rattle.poly_design.specs.Layout.{Layout}
 use Rattle.poly_place.specs.declared.delta.Delta.{Delta}
 use Rattle.poly_place.specs.Delta.{IsPlanFor}
 use Rattle.poly_place.specs.Right.{IsRight}
 use Rattle.poly_catalogue.specs.Listed.{AreOfEither, AreOnce, AreSame}
 use Rattle.poly_catalogue.proofs.Planned.{plans_lead_lem}
-use Rattle.poly_catalogue.proofs.Sums.{filtered, kept_same}
-
-some_in : (f : List ℕ → Bool) (a : List (List ℕ)) (T : List ℕ) → In T a → f T ≡ true → 0 < tally f a
-some_in f [] T i h = absurd i
-some_in f (U ∷ a) T (inl e) h = omega (arith, ap one (ap f e ∙ h))
-some_in f (U ∷ a) T (inr i) h = omega (arith, some_in f a T i h)
+use Rattle.poly_catalogue.proofs.Sums.{filtered, kept_same, some_in}
 
 one_true : (b : Bool) → 0 < one b → b ≡ true
 one_true true h = refl
 one_true false h = absurd (omega arith)
 
+-- a list that has each that passes once, and no other
+pub all_pass : (p : List ℕ → Bool) (a : List (List ℕ)) → ((T : List ℕ) → tally (same_list T) a ≡ one (p T)) → list_all p a ≡ true
+all_pass p a h = all_from p a (λ T i. one_true (p T) (omega (arith, h T, some_in (same_list T) a T i (same_list_self T))))
+
+one_low : (b : Bool) → one b ≤ 1
+one_low true = omega arith
+one_low false = omega arith
+
+pub each_once : (p : List ℕ → Bool) (a : List (List ℕ)) → ((T : List ℕ) → tally (same_list T) a ≡ one (p T)) → AreOnce a
+each_once p a h T = omega (arith, h T, one_low (p T))
+
 pub each_tiling : (v : View) (a : List (List ℕ)) → HasEachOnce v a → list_all (is_tiling v) a ≡ true
-each_tiling v a h = all_from (is_tiling v) a (λ T i. one_true (is_tiling v T) (omega (arith, h T, some_in (same_list T) a T i (same_list_self T))))
+each_tiling v a h = all_pass (is_tiling v) a h
+
+turned : (T U : List ℕ) → same_list U T ≡ same_list T U
+turned T U = same_truth (same_list U T) (same_list T U)
+    (λ h. subst (λ z. same_list T z ≡ true) (sym (same_list_is U T h)) (same_list_self T))
+    (λ h. subst (λ z. same_list U z ≡ true) (sym (same_list_is T U h)) (same_list_self U))
+
+-- the two ways to count a tiling
+pub turned_tally : (T : List ℕ) (a : List (List ℕ)) → tally (same_list T) a ≡ tally (λ U. same_list U T) a
+turned_tally T a = tally_same_in (same_list T) (λ U. same_list U T) a (λ U i. sym (turned T U))
 
 not_and : (b : Bool) → one (not b && b) ≡ 0
 not_and true = refl

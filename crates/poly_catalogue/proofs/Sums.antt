@@ -1,15 +1,16 @@
 -- Counts of whole lists, and of lists without repeats.
-use Rattle.std.proofs.Common.{Bool, List, [], ap, arith, cond, eqb, false, filter, get_or, inl, inr, leb, length, not, refl, replicate, set, suc, sym, take, true, ℕ, ◌&&◌, ◌++◌, ◌||◌, ◌+◌, ◌-◌, ◌<◌, ◌∙◌, ◌∷◌, ◌≡◌, ◌≤◌}
-use Rattle.std.proofs.lemmas.Bool.{cases_eq, cases_lt, eq-eqb, le-leb, leb-true, ne_eqb, or_right}
+use Rattle.std.proofs.Common.{Bool, List, [], ap, arith, cond, eqb, false, filter, get_or, inl, inr, leb, length, not, refl, replicate, set, subst, suc, sym, take, true, ℕ, ◌&&◌, ◌++◌, ◌||◌, ◌+◌, ◌-◌, ◌<◌, ◌∙◌, ◌∷◌, ◌≡◌, ◌≤◌}
+use Rattle.std.proofs.lemmas.Bool.{cases_eq, cases_lt, eq-eqb, le-leb, leb-true, ne_eqb, or_right, true_from_ne_false}
 use Rattle.std.proofs.lemmas.List.{get_or-replicate, get_or-set_other, get_or-set_same, get_or_past, length-replicate, take_all, take_more}
 use Rattle.std.proofs.lemmas.List.Elements.{filter-append}
+use Rattle.std.specs.Prelude.{nat_lt}
 use Rattle.std.specs.List.{list_all, list_any}
 use Rattle.poly_tiling.specs.Lists.{mem, one, same_list, tally}
 use Rattle.poly_tiling.specs.Puzzle.{View, is_tiling}
-use Rattle.poly_tiling.proofs.Lists.{In, all_from, all_in, any_append, in_append_cases, same_truth, tally_append}
+use Rattle.poly_tiling.proofs.Lists.{In, all_append, all_from, all_in, any_append, in_append_cases, same_truth, tally_append, tally_none}
 use Rattle.poly_tiling.proofs.Named.{tally_same_in}
 use Rattle.poly_place.specs.declared.delta.Delta.{Delta}
-use Rattle.poly_catalogue.specs.Catalogued.{IsCatalogue}
+use Rattle.poly_catalogue.specs.Catalogued.{HasFlags, IsCatalogue}
 use Rattle.poly_catalogue.specs.Listed.{AreIndicesWith, AreMarked, AreOfEither, AreOnce, AreSame, Keeps}
 use Rattle.poly_catalogue.specs.Rows.{row}
 
@@ -35,8 +36,27 @@ kept_short p a b k = sym (tally_length b) ∙ k (λ T. true)
 pub kept_once : (p : List ℕ → Bool) (a b : List (List ℕ)) → Keeps p a b → AreOnce a → AreOnce b
 kept_once p a b k once T = omega (arith, k (same_list T), tally_less (same_list T) p a, once T)
 
-pub kept_catalogue : (p : List ℕ → Bool) (a b : List (List ℕ)) → Keeps p a b → length a ≤ 1000000 → AreOnce a → IsCatalogue b
-kept_catalogue p a b k few once = record { few = omega (arith, kept_short p a b k, tally_short p a); once = kept_once p a b k once }
+pub some_in : (f : List ℕ → Bool) (a : List (List ℕ)) (T : List ℕ) → In T a → f T ≡ true → 0 < tally f a
+some_in f [] T i h = absurd i
+some_in f (U ∷ a) T (inl e) h = omega (arith, ap one (ap f e ∙ h))
+some_in f (U ∷ a) T (inr i) h = omega (arith, some_in f a T i h)
+
+-- what holds of all holds of those that are kept
+pub kept_in : (q p : List ℕ → Bool) (a b : List (List ℕ)) → Keeps p a b → list_all q a ≡ true → list_all q b ≡ true
+kept_in q p a b k all = all_from q b (λ T i. true_from_ne_false (q T) (λ e.
+    let o = some_in (λ U. not (q U)) b T i (ap not e) in
+    let n = tally_none (λ U. not (q U)) a (λ U j. ap not (all_in q a all U j)) in
+    omega (arith, o, n, k (λ U. not (q U)), tally_less (λ U. not (q U)) p a)))
+
+pub kept_flags : (p : List ℕ → Bool) (a b : List (List ℕ)) (n m : ℕ) → Keeps p a b → m ≡ n → HasFlags a n → HasFlags b m
+kept_flags p a b n m k e h = subst (λ z. HasFlags b z) (sym e) (record { few = h.few; low = kept_in (λ T. list_all (λ q. nat_lt q n) T) p a b k h.low })
+
+-- a refused call leaves the list, with more flags perhaps
+pub same_catalogue : (a b : List (List ℕ)) (n m : ℕ) → b ≡ a → HasFlags b m → IsCatalogue a n → IsCatalogue b m
+same_catalogue a b n m e h c = record { few = omega (arith, ap length e, c.few); once = subst AreOnce (sym e) c.once; flags = h }
+
+pub kept_catalogue : (p : List ℕ → Bool) (a b : List (List ℕ)) (n m : ℕ) → Keeps p a b → m ≡ n → IsCatalogue a n → IsCatalogue b m
+kept_catalogue p a b n m k e c = record { few = omega (arith, kept_short p a b k, tally_short p a, c.few); once = kept_once p a b k c.once; flags = kept_flags p a b n m k e c.flags }
 
 filter_at : (p : List ℕ → Bool) (T : List ℕ) (a : List (List ℕ)) (b : Bool) → p T ≡ b → length (filter (λ U. not (p U)) a) + tally p a ≡ length a → length (filter (λ U. not (p U)) (T ∷ a)) + (one (p T) + tally p a) ≡ suc (length a)
 filter_at p T a true e h = rw e (omega (arith, h))

@@ -22,6 +22,7 @@ pub const MAX_TILINGS: usize = 1_000_000;
 pub struct Catalogue {
     alloc: Global,
     listing: Listing,
+    flags: Vec<bool>,
 }
 
 impl Model for Catalogue {
@@ -32,7 +33,7 @@ impl Model for Catalogue {
 
     ghost view = { λ c. c.listing };
 
-    ghost invariant = { λ c. IsCatalogue c.listing };
+    ghost invariant = { λ c. IsCatalogue c.listing (length c.flags.items) };
 }
 
 impl Catalogue {
@@ -43,6 +44,7 @@ impl Catalogue {
         Catalogue {
             alloc,
             listing: Listing::new(alloc),
+            flags: Vec::new(alloc),
         }
     }
 
@@ -80,8 +82,8 @@ impl Catalogue {
     ///
     /// Fails with `CatalogueFull` exactly if more than 1,000,000 would be listed, and otherwise only with `Memory`. If it
     /// fails, the list stays as it was.
-    pub fn list_all(&mut self, _view: &View, tilings: Vec<Tiling>) -> Result<(), Refusal>
-        requires tilings { list_all (is_tiling _view.now) tilings.items ≡ true }
+    pub fn list_all(&mut self, view: &View, tilings: Vec<Tiling>) -> Result<(), Refusal>
+        requires tilings { list_all (is_tiling view.now) tilings.items ≡ true }
         requires once { AreOnce (self.old ++ tilings.items) }
         ensures ok { OnOk result (self.new ≡ self.old ++ tilings.items) }
         ensures err { OnErr result (self.new ≡ self.old) }
@@ -91,7 +93,7 @@ impl Catalogue {
         if tilings.len() > MAX_TILINGS - self.listing.len() {
             return Err(Refusal::CatalogueFull);
         }
-        add(&mut self.listing, tilings)?;
+        add(&mut self.listing, &mut self.flags, view, tilings)?;
         Ok(())
     }
 
@@ -101,7 +103,7 @@ impl Catalogue {
         requires { AreOfEither view.now delta.now self.old }
         ensures { AreSame self.new (filter (is_tiling view.now) self.old) }
     {
-        keep(&mut self.listing, view, delta);
+        keep(&mut self.listing, &mut self.flags, view, delta);
     }
 
     /// Copies of the tilings that `keep_only` would take away, in the order of the list. Fails only with `Memory`.
@@ -133,8 +135,8 @@ impl Catalogue {
     {
         match has_room(self.alloc, &self.listing, view, delta, tilings.len()) {
             Ok(true) => {
-                add(&mut self.listing, tilings)?;
-                keep(&mut self.listing, view, delta);
+                add(&mut self.listing, &mut self.flags, view, tilings)?;
+                keep(&mut self.listing, &mut self.flags, view, delta);
                 Ok(())
             }
             Ok(false) => Err(Refusal::CatalogueFull),

@@ -1,35 +1,40 @@
 //! The removal of listed tilings that are no longer tilings.
 ghost use Rattle.std.specs.Prelude.{◌≡◌, ◌+◌, ◌&&◌, ◌<◌, ◌≤◌, Bool, IfNone, IfSome, List, false, length, not, take, true, ℕ};
-ghost use Rattle.std.specs.List.{list_any};
+ghost use Rattle.std.specs.List.{list_all, list_any};
+ghost use Rattle.poly_tiling.specs.declared.item.Item.TheVariants.{Piece as PieceItem};
 ghost use Rattle.poly_tiling.specs.Lists.{mem, one, tally};
 ghost use Rattle.poly_tiling.specs.Puzzle.{is_tiling};
+ghost use Rattle.poly_catalogue.specs.Catalogued.{HasFlags};
+ghost use Rattle.poly_catalogue.specs.Flags.{within};
 ghost use Rattle.poly_catalogue.specs.Listed.{AreOfEither, Keeps};
 ghost use Rattle.poly_catalogue.specs.Rows.{row};
-ghost use Rattle.poly_catalogue.specs.Stays.{meets};
+ghost use Rattle.poly_catalogue.specs.Stays.{fits};
 
+use crate::flags::{flag_item, is_within};
 use crate::listing::Listing;
-use crate::stays::{all_meet, meets};
+use poly_design::Name;
 use poly_place::Delta;
-use poly_tiling::View;
+use poly_tiling::{Item, View, has_all};
 
 /// Removes the tilings that are not tilings of the view, without memory.
 ///
 /// The index finds those with a placement that is gone. The others are looked at only if there are new pins, items whose
-/// least rose or pieces whose most fell.
-pub(crate) fn keep(listing: &mut Listing, view: &View, delta: &Delta)
-    requires { AreOfEither view.now delta.now listing.old }
-    ensures { Keeps (is_tiling view.now) listing.old listing.new }
+/// least rose or pieces whose most fell. The flags may be set in any way.
+pub(crate) fn keep(listing: &mut Listing, flags: &mut Vec<bool>, view: &View, delta: &Delta)
+    requires from { AreOfEither view.now delta.now listing.old }
+    requires flags { HasFlags listing.old (length flags.old.items) }
+    ensures keeps { Keeps (is_tiling view.now) listing.old listing.new }
+    ensures long { length flags.new.items ≡ length flags.old.items }
 {
     drop_gone(listing, &delta.gone);
-    if all_meet(delta) {
-        return;
-    }
-    drop_unmet(listing, view, delta);
+    drop_unpinned(listing, &delta.pinned);
+    drop_unfit_items(listing, flags, view, &delta.needed);
+    drop_unfit_pieces(listing, flags, view, &delta.narrowed);
 }
 
 // Removes the tilings that have one of the numbers.
 fn drop_gone(listing: &mut Listing, gone: &[u32])
-    ensures { Keeps (λ T. not (list_any (λ p. mem T p) gone.now)) listing.old listing.new }
+    ensures { Keeps (λ T. list_all (λ p. not (mem T p)) gone.now) listing.old listing.new }
 {
     for number in gone {
         drop_having(listing, *number);
@@ -57,26 +62,85 @@ fn one_having(listing: &Listing, number: u32) -> Option<usize>
     }
 }
 
-// Removes the tilings that new pins, items whose least rose or pieces whose most fell rule out.
+// Removes the tilings that lack one of the pins.
 //
 // It goes from the end to the front: a tiling that moves to another's index was looked at before.
-fn drop_unmet(listing: &mut Listing, view: &View, delta: &Delta)
-    ensures { Keeps (meets view.now delta.now) listing.old listing.new }
+fn drop_unpinned(listing: &mut Listing, pins: &[u32])
+    ensures { Keeps (λ T. list_all (λ p. mem T p) pins.now) listing.old listing.new }
+{
+    if pins.is_empty() {
+        return;
+    }
+    let mut index = listing.len();
+    while index > 0 {
+        index -= 1;
+        drop_if_unpinned(listing, pins, index);
+    }
+}
+
+fn drop_if_unpinned(listing: &mut Listing, pins: &[u32], index: usize)
+    requires { index < length listing.old }
+    ensures front { take index listing.new ≡ take index listing.old }
+    ensures long { index ≤ length listing.new }
+    ensures tally { (f : List ℕ → Bool) → tally f listing.new + one (f (row listing.old index) && not (list_all (λ p. mem (row listing.old index) p) pins.now)) ≡ tally f listing.old }
+{
+    if has_all(listing.all()[index].numbers(), pins) {
+        return;
+    }
+    listing.remove(index);
+}
+
+// Removes the tilings in which one of the items doesn't fit.
+fn drop_unfit_items(listing: &mut Listing, flags: &mut Vec<bool>, view: &View, items: &[Item])
+    requires { HasFlags listing.old (length flags.old.items) }
+    ensures keeps { Keeps (λ T. list_all (λ i. fits view.now i T) items.now) listing.old listing.new }
+    ensures long { length flags.new.items ≡ length flags.old.items }
+{
+    for item in items {
+        drop_unfit(listing, flags, view, item);
+    }
+}
+
+// Removes the tilings in which one of the pieces doesn't fit.
+fn drop_unfit_pieces(listing: &mut Listing, flags: &mut Vec<bool>, view: &View, names: &[Name])
+    requires { HasFlags listing.old (length flags.old.items) }
+    ensures keeps { Keeps (λ T. list_all (λ n. fits view.now (PieceItem n) T) names.now) listing.old listing.new }
+    ensures long { length flags.new.items ≡ length flags.old.items }
+{
+    for name in names {
+        drop_unfit(listing, flags, view, &Item::Piece(*name));
+    }
+}
+
+// Removes the tilings in which the item doesn't fit.
+fn drop_unfit(listing: &mut Listing, flags: &mut Vec<bool>, view: &View, item: &Item)
+    requires { HasFlags listing.old (length flags.old.items) }
+    ensures keeps { Keeps (fits view.now item.now) listing.old listing.new }
+    ensures long { length flags.new.items ≡ length flags.old.items }
+{
+    flag_item(flags, view, item);
+    let (least, most) = view.bounds(*item);
+    drop_outside(listing, flags, least as usize, most as usize);
+}
+
+// Removes the tilings in which too few or too many numbers are flagged, from the end to the front.
+fn drop_outside(listing: &mut Listing, flags: &[bool], least: usize, most: usize)
+    ensures { Keeps (within flags.now least most) listing.old listing.new }
 {
     let mut index = listing.len();
     while index > 0 {
         index -= 1;
-        drop_if_unmet(listing, view, delta, index);
+        drop_if_outside(listing, flags, least, most, index);
     }
 }
 
-fn drop_if_unmet(listing: &mut Listing, view: &View, delta: &Delta, index: usize)
+fn drop_if_outside(listing: &mut Listing, flags: &[bool], least: usize, most: usize, index: usize)
     requires { index < length listing.old }
     ensures front { take index listing.new ≡ take index listing.old }
     ensures long { index ≤ length listing.new }
-    ensures tally { (f : List ℕ → Bool) → tally f listing.new + one (f (row listing.old index) && not (meets view.now delta.now (row listing.old index))) ≡ tally f listing.old }
+    ensures tally { (f : List ℕ → Bool) → tally f listing.new + one (f (row listing.old index) && not (within flags.now least most (row listing.old index))) ≡ tally f listing.old }
 {
-    if meets(view, delta, listing.all()[index].numbers()) {
+    if is_within(flags, least, most, listing.all()[index].numbers()) {
         return;
     }
     listing.remove(index);

@@ -6,6 +6,7 @@ ghost use Rattle.poly_catalogue.specs.Listed.{AreMarked, AreOfEither};
 ghost use Rattle.poly_catalogue.specs.Stays.{has_gone, meets};
 
 use crate::listing::Listing;
+use crate::marks;
 use crate::stays::meets;
 use poly_grid::Refusal;
 use poly_place::Delta;
@@ -23,45 +24,9 @@ pub(crate) fn leaving(
     ensures ok { IfOk result (λ list. list.items ≡ filter (λ T. not (is_tiling view.now T)) listing.now) }
     ensures why { IfErr result (λ e. e ≡ Refusal.Memory) }
 {
-    let marks = gone_marks(alloc, listing, &delta.gone)?;
+    let marks = marks::having(alloc, listing, &delta.gone)?;
     let list = copies(alloc, listing.all(), view, delta, &marks)?;
     Ok(list)
-}
-
-// A mark for each tiling that has one of the numbers. Fails only with `Memory`.
-fn gone_marks(alloc: Global, listing: &Listing, gone: &[u32]) -> Result<Vec<bool>, Refusal>
-    ensures ok { IfOk result (λ marks. AreMarked listing.now gone.now marks.items) }
-    ensures why { IfErr result (λ e. e ≡ Refusal.Memory) }
-{
-    let mut marks = unset(alloc, listing.len())?;
-    for number in gone {
-        mark_all(&mut marks, listing.indices(*number));
-    }
-    Ok(marks)
-}
-
-fn unset(alloc: Global, count: usize) -> Result<Vec<bool>, Refusal>
-    ensures ok { IfOk result (λ marks. marks.items ≡ replicate count false) }
-    ensures why { IfErr result (λ e. e ≡ Refusal.Memory) }
-{
-    Ok(vec![in alloc; false; count]?)
-}
-
-fn mark_all(marks: &mut Vec<bool>, indices: &[u32])
-    requires { (t : ℕ) → mem indices.now t ≡ true → t < length marks.old.items }
-    ensures long { length marks.new.items ≡ length marks.old.items }
-    ensures marks { (t : ℕ) → slice_index_or marks.new.items t false ≡ (slice_index_or marks.old.items t false || mem indices.now t) }
-{
-    for index in indices {
-        mark(marks, *index);
-    }
-}
-
-fn mark(marks: &mut Vec<bool>, index: u32)
-    requires { index < length marks.old.items }
-    ensures { marks.new.items ≡ slice_set marks.old.items index true }
-{
-    marks[index as usize] = true;
 }
 
 // Copies of the tilings that are marked or do not meet the differences. Fails only with `Memory`.

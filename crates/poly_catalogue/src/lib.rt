@@ -8,10 +8,12 @@
 mod add;
 mod catalogue;
 mod entries;
+mod flags;
 mod keep;
 mod laws;
 mod leaving;
 mod listing;
+mod marks;
 mod row;
 mod rows;
 mod stays;

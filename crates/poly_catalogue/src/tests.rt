@@ -128,13 +128,6 @@ fn shut(design: &Design) -> Result<Design, Refusal> {
     edited(design, &Edit::Forbid { name, cells })
 }
 
-// A lies on the left column.
-fn pinned(design: &Design) -> Result<Design, Refusal> {
-    let name = Name::new(b"A")?;
-    let cells = Cells::new(&[cell(0, 0)?, cell(0, 1)?])?;
-    edited(design, &Edit::Pin { name, cells })
-}
-
 // The catalogue of all tilings of the table's design.
 fn settled(alloc: Global, table: &Table) -> Result<Catalogue, Refusal>
     ensures { IfOk result (λ c. list_all (is_tiling table.now) c ≡ true) }
@@ -228,22 +221,6 @@ fn forbid_and_back(rt: &(impl AllocGlobal + Abort)) -> Result<(), Refusal> {
 #[test]
 fn a_placement_goes_and_comes_back(rt: HostRuntime) {
     forbid_and_back(&rt).expect(&rt, "ample memory");
-}
-
-#[test]
-fn a_new_pin_is_looked_for(rt: HostRuntime) {
-    let open = laid(&rt, &SQUARE, &[], 1);
-    let pinned = pinned(&open).expect(&rt, "a design");
-    let got = counts(rt.alloc(), &open, &pinned).expect(&rt, "ample memory");
-    assert_eq!(rt; got, (4, 3, 1));
-}
-
-#[test]
-fn a_narrowed_piece_is_counted(rt: HostRuntime) {
-    let two = laid(&rt, &OBLONG, &[], 2);
-    let one = laid(&rt, &OBLONG, &[], 1);
-    let got = counts(rt.alloc(), &two, &one).expect(&rt, "ample memory");
-    assert_eq!(rt; got, (9, 9, 0));
 }
 
 #[test]

@@ -3,7 +3,7 @@ use Rattle.std.proofs.lemmas.List.{length-set}
 use Rattle.poly_tiling.proofs.Contained.{at_in}
 use Rattle.poly_tiling.proofs.Lists.{in_mem}
 use Rattle.poly_catalogue.proofs.Sums.{marks_end, marks_start, marks_step}
-use Rattle.poly_catalogue.proofs.leaving.mark_all.Goals as goal
+use Rattle.poly_catalogue.proofs.marks.mark_all.Goals as goal
 
 pub loop-index-init : goal.loop-index-init
 loop-index-init c = record { long = refl; set = marks_start c.args.indices.now c.args.marks.now.items }

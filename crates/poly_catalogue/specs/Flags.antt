@@ -1,0 +1,22 @@
+-- Flags by placement number.
+use Rattle.std.specs.Prelude.{Bool, List, false, length, nat_le, nat_lt, slice_index_or, true, ℕ, ◌&&◌, ◌<◌, ◌≡◌}
+use Rattle.std.specs.List.{list_all}
+use Rattle.poly_tiling.specs.declared.item.Item.{Item}
+use Rattle.poly_tiling.specs.Lists.{tally}
+use Rattle.poly_tiling.specs.Puzzle.{View, has_item}
+
+-- each number that has a flag is flagged exactly if its placement has the item
+abbrev pub AreFlags : View → Item → List Bool → Type 0
+AreFlags w i flags = (p : ℕ) → p < length flags → slice_index_or flags p false ≡ has_item w p i
+
+-- how many of the numbers are flagged
+abbrev pub flagged : List Bool → List ℕ → ℕ
+flagged flags T = tally (λ p. slice_index_or flags p false) T
+
+-- not too few of the numbers are flagged, and not too many
+abbrev pub within : List Bool → ℕ → ℕ → List ℕ → Bool
+within flags least most T = nat_le least (flagged flags T) && nat_le (flagged flags T) most
+
+-- the numbers of the tilings are all below n
+abbrev pub AreBelow : ℕ → List (List ℕ) → Type 0
+AreBelow n list = list_all (λ T. list_all (λ p. nat_lt p n) T) list ≡ true

@@ -1,0 +1,87 @@
+//! Flags that say which placements have an item.
+//!
+//! To ask each tiling how many of its placements have an item, the placements are asked once, and the tilings look at the
+//! flags. The memory of the flags is taken when tilings are listed, so an edit needs none.
+ghost use Rattle.std.specs.Prelude.{◌≡◌, ◌^◌, ◌<◌, ◌≤◌, IfErr, OnOk, false, length, nat_lt, slice_index_or, slice_set, true};
+ghost use Rattle.std.specs.List.{list_all};
+ghost use Rattle.poly_catalogue.specs.Flags.{AreFlags, flagged, within};
+
+use poly_grid::Refusal;
+use poly_tiling::{Item, View};
+
+/// Makes a flag for each of the numbers. Fails only with `Memory`, and then there are as many flags as before or more.
+pub(crate) fn reach_all(flags: &mut Vec<bool>, numbers: &[u32]) -> Result<(), Refusal>
+    requires few { length flags.old.items ≤ 2 ^ 32 }
+    ensures low { OnOk result (list_all (λ p. nat_lt p (length flags.new.items)) numbers.now ≡ true) }
+    ensures more { length flags.old.items ≤ length flags.new.items }
+    ensures few { length flags.new.items ≤ 2 ^ 32 }
+    ensures why { IfErr result (λ e. e ≡ Refusal.Memory) }
+{
+    for number in numbers {
+        reach(flags, *number)?;
+    }
+    Ok(())
+}
+
+// Makes flags up to that of the number. Fails only with `Memory`.
+fn reach(flags: &mut Vec<bool>, number: u32) -> Result<(), Refusal>
+    requires few { length flags.old.items ≤ 2 ^ 32 }
+    ensures low { OnOk result (number < length flags.new.items) }
+    ensures more { length flags.old.items ≤ length flags.new.items }
+    ensures few { length flags.new.items ≤ 2 ^ 32 }
+    ensures why { IfErr result (λ e. e ≡ Refusal.Memory) }
+{
+    while flags.len() <= number as usize {
+        flags.push(false)?;
+    }
+    Ok(())
+}
+
+/// Flags the numbers whose placements have the item, and no others.
+pub(crate) fn flag_item(flags: &mut Vec<bool>, view: &View, item: &Item)
+    requires { length flags.old.items ≤ 2 ^ 32 }
+    ensures long { length flags.new.items ≡ length flags.old.items }
+    ensures flags { AreFlags view.now item.now flags.new.items }
+{
+    for number in 0..flags.len() {
+        write(flags, number, view.covers(number as u32, *item));
+    }
+}
+
+fn write(flags: &mut Vec<bool>, number: usize, flag: bool)
+    requires { number < length flags.old.items }
+    ensures { flags.new.items ≡ slice_set flags.old.items number flag }
+{
+    flags[number] = flag;
+}
+
+/// Whether the flagged ones of the numbers are not too few and not too many.
+pub(crate) fn is_within(flags: &[bool], least: usize, most: usize, numbers: &[u32]) -> bool
+    ensures { result ≡ within flags.now least most numbers.now }
+{
+    let count = count(flags, numbers);
+    least <= count && count <= most
+}
+
+// How many of the numbers are flagged.
+fn count(flags: &[bool], numbers: &[u32]) -> usize
+    ensures value { result ≡ flagged flags.now numbers.now }
+    ensures most { result ≤ length numbers.now }
+{
+    let mut count = 0;
+    for number in numbers {
+        if is_flagged(flags, *number) {
+            count += 1;
+        }
+    }
+    count
+}
+
+fn is_flagged(flags: &[bool], number: u32) -> bool
+    ensures { result ≡ slice_index_or flags.now number false }
+{
+    match flags.get(number as usize) {
+        Some(flag) => *flag,
+        None => false,
+    }
+}
