@@ -1,6 +1,6 @@
 -- Which tilings a list keeps, by counts.
 use Rattle.std.proofs.Common.{Bool, List, None, Some, [], ap, arith, drop, eqb, false, get_or, inl, inr, length, not, refl, slice_get, subst, suc, sym, take, true, zero, ℕ, ◌&&◌, ◌++◌, ◌||◌, ◌+◌, ◌-◌, ◌<◌, ◌∙◌, ◌∷◌, ◌≡◌, ◌≤◌}
-use Rattle.std.proofs.lemmas.Bool.{and_parts, both_ways, cases_lt, eqb-true, false_from_ne_true}
+use Rattle.std.proofs.lemmas.Bool.{both_ways, cases_lt, eqb-true, false_from_ne_true}
 use Rattle.std.proofs.lemmas.List.{drop_all, drop_more, get_or-take, get_or_past, nil_from_length, take-take, take_all, take_more}
 use Rattle.std.proofs.lemmas.Option.{slice_get-get_or}
 use Rattle.std.specs.List.{list_all, list_any}

@@ -5,13 +5,12 @@ use Rattle.std.proofs.lemmas.List.{get_or-set_other, get_or-set_same, take_more}
 use Rattle.std.specs.List.{list_all}
 use Rattle.std.specs.Prelude.{nat_lt}
 use Rattle.poly_tiling.specs.declared.item.Item.{Item}
-use Rattle.poly_tiling.specs.Lists.{tally}
 use Rattle.poly_tiling.specs.Puzzle.{View, count, has_item, is_tiling, least, most}
-use Rattle.poly_tiling.proofs.Lists.{In, all_append, all_from, all_in, in_mem, mem_in}
+use Rattle.poly_tiling.proofs.Lists.{all_append, all_from, all_in}
 use Rattle.poly_tiling.proofs.Named.{tally_same_in}
 use Rattle.poly_tiling.proofs.Tilings.{parts}
 use Rattle.poly_catalogue.specs.Catalogued.{HasFlags}
-use Rattle.poly_catalogue.specs.Flags.{AreBelow, AreFlags, flagged, within}
+use Rattle.poly_catalogue.specs.Flags.{AreFlags, flagged, within}
 use Rattle.poly_catalogue.specs.Listed.{Keeps}
 use Rattle.poly_catalogue.specs.Stays.{fits}
 use Rattle.poly_catalogue.proofs.Counted.{keeps_as}

@@ -1,12 +1,12 @@
 -- What a list of tilings says where it has each once, and of its two parts.
-use Rattle.std.proofs.Common.{Bool, List, [], ap, arith, cond, false, filter, inl, inr, not, refl, subst, sym, true, ℕ, ◌&&◌, ◌++◌, ◌||◌, ◌+◌, ◌<◌, ◌∙◌, ◌∷◌, ◌≡◌, ◌≤◌}
+use Rattle.std.proofs.Common.{Bool, List, [], ap, arith, false, filter, not, refl, subst, sym, true, ℕ, ◌&&◌, ◌++◌, ◌||◌, ◌+◌, ◌<◌, ◌∷◌, ◌≡◌, ◌≤◌}
 use Rattle.std.proofs.lemmas.Bool.{or_left, true_from_ne_false}
 use Rattle.std.specs.List.{list_all}
 use Rattle.poly_tiling.specs.Lister.{HasEachOnce}
 use Rattle.poly_tiling.specs.Lists.{one, same_list, tally}
 use Rattle.poly_tiling.specs.Puzzle.{View, is_tiling}
 use Rattle.poly_tiling.proofs.Ascending.{same_list_is, same_list_self}
-use Rattle.poly_tiling.proofs.Lists.{In, all_from, all_in, same_truth, tally_append}
+use Rattle.poly_tiling.proofs.Lists.{all_from, all_in, same_truth, tally_append}
 use Rattle.poly_tiling.proofs.Named.{tally_same_in}
 use Rattle.poly_design.specs.Layout.{Layout}
 use Rattle.poly_place.specs.declared.delta.Delta.{Delta}

@@ -7,7 +7,7 @@ use Rattle.std.specs.Prelude.{nat_lt}
 use Rattle.std.specs.List.{list_all, list_any}
 use Rattle.poly_tiling.specs.Lists.{mem, one, same_list, tally}
 use Rattle.poly_tiling.specs.Puzzle.{View, is_tiling}
-use Rattle.poly_tiling.proofs.Lists.{In, all_append, all_from, all_in, any_append, in_append_cases, same_truth, tally_append, tally_none}
+use Rattle.poly_tiling.proofs.Lists.{In, all_from, all_in, any_append, in_append_cases, same_truth, tally_append, tally_none}
 use Rattle.poly_tiling.proofs.Named.{tally_same_in}
 use Rattle.poly_place.specs.declared.delta.Delta.{Delta}
 use Rattle.poly_catalogue.specs.Catalogued.{HasFlags, IsCatalogue}

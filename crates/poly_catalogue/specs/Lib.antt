@@ -4,5 +4,6 @@ pub mod Flags
 pub mod Leads
 pub mod Listed
 pub mod Catalogued
+pub mod Covering
 pub mod Stays
 pub mod Laws

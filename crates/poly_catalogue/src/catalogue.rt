@@ -2,15 +2,17 @@
 ghost use Rattle.std.specs.Prelude.{◌≡◌, ◌+◌, ◌++◌, ◌⊎◌, ◌↔◌, ◌<◌, ◌≤◌, [], Err, IfErr, IfOk, MatchOption, OnErr, OnOk, Some, filter, length, nat_le, not, slice_get, true};
 ghost use Rattle.std.specs.List.{list_all};
 ghost use Rattle.poly_tiling.specs.Puzzle.{is_tiling};
+ghost use Rattle.poly_catalogue.specs.Covering.{AreCovering};
 ghost use Rattle.poly_catalogue.specs.Listed.{AreOfEither, AreOnce, AreSame};
 
 use crate::add::add;
+use crate::covering::covering;
 use crate::keep::keep;
 use crate::leaving::leaving;
 use crate::listing::Listing;
 use poly_grid::Refusal;
 use poly_place::Delta;
-use poly_tiling::{Tiling, View};
+use poly_tiling::{Item, Tiling, View};
 use std::alloc::Global;
 use std::marker::Model;
 
@@ -76,6 +78,19 @@ impl Catalogue {
         ensures once { AreOnce self.now }
     {
         self.listing.all()
+    }
+
+    /// A mark for each listed tiling, in the order of the list: whether it covers the item. The listed tilings are tilings
+    /// of the view. Fails only with `Memory`.
+    ///
+    /// No index by item is kept: it would take three times the memory, and the tilings that cover an item are those that
+    /// have one of its placements.
+    pub fn covering(&self, view: &View, item: Item) -> Result<Vec<bool>, Refusal>
+        requires { list_all (is_tiling view.now) self.now ≡ true }
+        ensures ok { IfOk result (λ marks. AreCovering view.now item self.now marks.items) }
+        ensures why { IfErr result (λ e. e ≡ Refusal.Memory) }
+    {
+        covering(self.alloc, &self.listing, view, item)
     }
 
     /// Lists these tilings of the view too. Each of them is given once and is not listed yet.

@@ -7,6 +7,7 @@
 
 mod add;
 mod catalogue;
+mod covering;
 mod entries;
 mod flags;
 mod keep;
