@@ -1,6 +1,7 @@
 //! Whether a tree holds, and what it leaves: one walk over a frame tells both.
 ghost use Rattle.std.specs.Prelude.{IfErr, IfOk, MatchOption, [], false, length, true, ◌+◌, ◌++◌, ◌<◌, ◌≡◌, ◌≤◌};
 ghost use Rattle.poly_tiling.specs.Lists.{distinct};
+ghost use Rattle.poly_frame.specs.Matrices.{IsWhole};
 ghost use Rattle.poly_report.specs.Trees.{heads};
 ghost use Rattle.poly_report.specs.Shapes.{arms_list, plan_of};
 ghost use Rattle.poly_report.specs.Sizes.{arms_total, fits, total};
@@ -12,7 +13,7 @@ use crate::arms::arms_fit;
 use crate::leaf::Leaves;
 use crate::tree::{Arm, Tree};
 use poly_atom::Atom;
-use poly_frame::Frame;
+use poly_frame::{Frame, Matrix};
 use poly_grid::Refusal;
 use poly_tiling::View;
 use std::alloc::Global;
@@ -171,8 +172,7 @@ pub fn leaves(alloc: Global, view: &View, atoms: &[Atom], tree: &Tree) -> Result
     Ok(all)
 }
 
-/// The leaves of a tree, where it holds; none where it does not. One walk does what `holds` and `leaves` do.
-#[tactic(auto, using(crate::proofs::Measures::fits_total))]
+/// The leaves of a tree, if it holds, and `None` if it doesn't. One walk does what `holds` and `leaves` do.
 pub fn cut_up(
     alloc: Global,
     view: &View,
@@ -183,7 +183,26 @@ pub fn cut_up(
     ensures value { IfOk result (λ o. MatchOption o (holds view.now atoms.now (plan_of tree.now) ≡ false) (λ l. IsCutUp view.now atoms.now (plan_of tree.now) l.tilings.items (lists l.rests.items))) }
     ensures why { IfErr result (λ e. e ≡ Refusal.Memory) }
 {
-    let mut frame = Frame::new(alloc, view, atoms)?;
+    let whole = Matrix::new(alloc, view)?;
+    let cut = cut_up_over(alloc, view, &whole, atoms, tree)?;
+    Ok(cut)
+}
+
+/// What `cut_up` answers, from the view's matrix, which serves every tree that is checked against the view.
+#[tactic(auto, using(crate::proofs::Measures::fits_total))]
+pub fn cut_up_over(
+    alloc: Global,
+    view: &View,
+    whole: &Matrix,
+    atoms: &[Atom],
+    tree: &Tree,
+) -> Result<Option<Leaves>, Refusal>
+    requires small { fits (plan_of tree.now) ≡ true }
+    requires whole { IsWhole view.now whole.now }
+    ensures value { IfOk result (λ o. MatchOption o (holds view.now atoms.now (plan_of tree.now) ≡ false) (λ l. IsCutUp view.now atoms.now (plan_of tree.now) l.tilings.items (lists l.rests.items))) }
+    ensures why { IfErr result (λ e. e ≡ Refusal.Memory) }
+{
+    let mut frame = Frame::over(alloc, view, whole, atoms)?;
     let mut all = Leaves::none(alloc);
     let yes = walk(alloc, &mut frame, tree, true, &mut all)?;
     if !yes {

@@ -8,10 +8,10 @@ mod leaf;
 mod size;
 mod tree;
 
-pub use cut::{cut_up, holds, leaves};
+pub use cut::{cut_up, cut_up_over, holds, leaves};
 pub use laws::{tree_tilings_belong, trees_keep_holding, trees_share_out};
 pub use leaf::Leaves;
-pub use poly_frame::{Frame, STEPS};
+pub use poly_frame::{Frame, Matrix, STEPS};
 pub use size::{DEPTH, NODES, fits};
 pub use tree::{Arm, Report, Tree};
 

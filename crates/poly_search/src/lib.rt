@@ -6,5 +6,5 @@ mod lister;
 mod step;
 mod whole;
 
-pub use step::{Explored, explore, explore_with_leaves};
+pub use step::{Explored, explore, explore_over, explore_with_leaves};
 pub use whole::search_all;

@@ -1,5 +1,6 @@
 //! The worker's step.
 ghost use Rattle.std.specs.Prelude.{◌≡◌, ◌≤◌, true, false, IfOk, IfErr};
+ghost use Rattle.poly_frame.specs.Matrices.{IsWhole};
 ghost use Rattle.poly_report.specs.Holds.{holds};
 ghost use Rattle.poly_report.specs.Gather.{lists};
 ghost use Rattle.poly_report.specs.Leaves.{rests, tilings};
@@ -9,7 +10,7 @@ ghost use Rattle.poly_report.specs.Sizes.{all_fewer, fits, inner, is_rest};
 use crate::growth::{Growth, grow};
 use poly_atom::Atom;
 use poly_grid::Refusal;
-use poly_report::{DEPTH, Frame, Leaves, NODES, Tree};
+use poly_report::{DEPTH, Frame, Leaves, Matrix, NODES, Tree};
 use poly_tiling::View;
 use std::alloc::Global;
 
@@ -41,7 +42,32 @@ pub fn explore_with_leaves(
     ensures rests { IfOk result (λ e. lists e.leaves.rests.items ≡ rests view.now atoms.now (plan_of e.tree)) }
     ensures why { IfErr result (λ e. e ≡ Refusal.Memory) }
 {
-    let mut frame = Frame::new(alloc, view, atoms)?;
+    let whole = Matrix::new(alloc, view)?;
+    let explored = explore_over(alloc, view, &whole, atoms, nodes)?;
+    Ok(explored)
+}
+
+/// What `explore_with_leaves` answers, from the view's matrix, which serves every task of the view.
+pub fn explore_over(
+    alloc: Global,
+    view: &View,
+    whole: &Matrix,
+    atoms: &[Atom],
+    nodes: u32,
+) -> Result<Explored, Refusal>
+    requires whole { IsWhole view.now whole.now }
+    requires some { 1 ≤ nodes }
+    requires few { nodes ≤ 4096 }
+    ensures fits { IfOk result (λ e. fits (plan_of e.tree) ≡ true) }
+    ensures holds { IfOk result (λ e. holds view.now atoms.now (plan_of e.tree) ≡ true) }
+    ensures inner { IfOk result (λ e. inner (plan_of e.tree) ≤ nodes) }
+    ensures root { IfOk result (λ e. is_rest (plan_of e.tree) ≡ false) }
+    ensures smaller { IfOk result (λ e. all_fewer view.now atoms.now (rests view.now atoms.now (plan_of e.tree)) ≡ true) }
+    ensures tilings { IfOk result (λ e. e.leaves.tilings.items ≡ tilings view.now atoms.now (plan_of e.tree)) }
+    ensures rests { IfOk result (λ e. lists e.leaves.rests.items ≡ rests view.now atoms.now (plan_of e.tree)) }
+    ensures why { IfErr result (λ e. e ≡ Refusal.Memory) }
+{
+    let mut frame = Frame::over(alloc, view, whole, atoms)?;
     let mut growth = Growth {
         nodes: NODES,
         inner: nodes,

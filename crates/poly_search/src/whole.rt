@@ -5,7 +5,7 @@ ghost use Rattle.poly_search.specs.Whole.{HasMore, IsFamily};
 use crate::lister::{LIMIT, Listing, sweep};
 use poly_atom::Atom;
 use poly_grid::Refusal;
-use poly_report::{DEPTH, Frame, STEPS};
+use poly_report::{DEPTH, Frame, Matrix, STEPS};
 use poly_tiling::{Tiling, View};
 use std::alloc::Global;
 
@@ -18,6 +18,7 @@ pub fn search_all(alloc: Global, view: &View, atoms: &[Atom]) -> Result<Vec<Tili
     ensures too_many { result ≡ Err Refusal.CatalogueFull → HasMore view.now atoms.now 1000000 }
     ensures why { IfErr result (λ e. (e ≡ Refusal.CatalogueFull) ⊎ (e ≡ Refusal.Memory)) }
 {
+    let whole = Matrix::new(alloc, view)?;
     let mut list = Listing {
         found: Vec::new(alloc),
         rests: Vec::new(alloc),
@@ -25,7 +26,7 @@ pub fn search_all(alloc: Global, view: &View, atoms: &[Atom]) -> Result<Vec<Tili
     };
     list.rests.push(Vec::from_slice(alloc, atoms)?)?;
     while let Some(next) = list.rests.pop() {
-        let mut frame = Frame::new(alloc, view, &next)?;
+        let mut frame = Frame::over(alloc, view, &whole, &next)?;
         let end = frame.mark() + STEPS;
         sweep(alloc, &mut frame, &mut list, end, DEPTH)?;
         if list.found.len() > LIMIT {
