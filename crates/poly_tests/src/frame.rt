@@ -1,4 +1,5 @@
 //! Frames of small designs: what is open, due and found there is counted by hand.
+ghost use Rattle.std.specs.Prelude.{◌≡◌};
 
 use crate::designs::design_of;
 use poly_atom::Atom;
