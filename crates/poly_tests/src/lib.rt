@@ -2,7 +2,11 @@
 #![tactic(auto)]
 
 #[cfg(test)]
+mod design;
+#[cfg(test)]
 mod designs;
+#[cfg(test)]
+mod frame;
 #[cfg(test)]
 mod solvers;
 #[cfg(test)]

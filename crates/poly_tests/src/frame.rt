@@ -1,0 +1,108 @@
+//! Frames of small designs: what is open, due and found there is counted by hand.
+ghost use Rattle.std.specs.Prelude.{◌≡◌};
+
+use crate::designs::design_of;
+use poly_atom::Atom;
+use poly_design::Name;
+use poly_frame::{Frame, Matrix};
+use poly_grid::Refusal;
+use poly_tiling::{Item, View};
+use std::alloc::{AllocGlobal, Global};
+use std::process::Abort;
+
+// Two dominoes on the square of four cells. A lies on the upper row under number 0, and B on the lower row under 7.
+const SQUARE: &[u8] =
+    b"{\"format\":1,\"grid\":\"square\",\"board\":[\"##\",\"##\"],\"pieces\":[{\"name\":\"A\",\"cells\":[[0,0],[1,0]]},{\"name\":\"B\",\"cells\":[[0,0],[1,0]]}]}";
+
+// Three dominoes on six cells.
+const STRIP: &[u8] =
+    b"{\"format\":1,\"grid\":\"square\",\"board\":[\"###\",\"###\"],\"pieces\":[{\"name\":\"A\",\"cells\":[[0,0],[1,0]]},{\"name\":\"B\",\"cells\":[[0,0],[1,0]]},{\"name\":\"C\",\"cells\":[[0,0],[1,0]]}]}";
+
+fn view_of(alloc: Global, puzzle: &[u8]) -> Result<View, Refusal> {
+    let design = design_of(alloc, puzzle, &[])?;
+    View::plain(alloc, &design)
+}
+
+// How many options each item of the view has: the cells in their order, and then the pieces.
+fn counts(alloc: Global, view: &View, frame: &mut Frame<'_>) -> Result<Vec<usize>, Refusal>
+    ensures { frame.new ≡ frame.old }
+{
+    let mut counts = Vec::new(alloc);
+    for bound in view.items() {
+        counts.push(frame.options(bound.0).len())?;
+    }
+    Ok(counts)
+}
+
+// Asserts these counts.
+fn expect_counts(
+    rt: &(impl AllocGlobal + Abort),
+    view: &View,
+    frame: &mut Frame<'_>,
+    want: &[usize],
+)
+    ensures { frame.new ≡ frame.old }
+{
+    let found = counts(rt.alloc(), view, frame).expect(rt, "memory");
+    assert!(rt; found.as_slice() == want);
+}
+
+// Asserts which placement is the first that is open.
+fn expect_first(rt: &impl Abort, frame: &Frame<'_>, want: Option<u32>) {
+    assert!(rt; frame.first_open() == want);
+}
+
+#[test]
+fn a_step_leaves_one_open(rt: HostRuntime) {
+    let view = view_of(rt.alloc(), SQUARE).expect(&rt, "a view");
+    let mut frame = Frame::new(rt.alloc(), &view, &[]).expect(&rt, "memory");
+    expect_counts(&rt, &view, &mut frame, &[4, 4, 4, 4, 4, 4]);
+    frame.pick(0);
+    expect_counts(&rt, &view, &mut frame, &[0, 0, 1, 1, 0, 1]);
+    expect_first(&rt, &frame, Some(7));
+    frame.back();
+    expect_counts(&rt, &view, &mut frame, &[4, 4, 4, 4, 4, 4]);
+}
+
+// Asserts what the frame has found, and whether some item is due.
+fn expect_found(rt: &impl Abort, frame: &Frame<'_>, want: Option<&[u32]>, due: bool) {
+    assert!(rt; frame.found() == want);
+    assert!(rt; frame.next_due().is_some() == due);
+}
+
+#[test]
+fn a_frame_finds_what_fills_the_square(rt: HostRuntime) {
+    let view = view_of(rt.alloc(), SQUARE).expect(&rt, "a view");
+    let matrix = Matrix::new(rt.alloc(), &view).expect(&rt, "memory");
+    let lacks = [Atom::Lacks(1)];
+    let mut frame = Frame::over(rt.alloc(), &view, &matrix, &lacks).expect(&rt, "memory");
+    expect_found(&rt, &frame, None, true);
+    frame.pick(7);
+    frame.pick(0);
+    expect_found(&rt, &frame, Some(&[0, 7]), false);
+    frame.leave(0);
+    expect_found(&rt, &frame, None, false);
+}
+
+// Asserts which item is due next.
+fn expect_due(rt: &impl Abort, frame: &Frame<'_>, want: &Item) {
+    assert!(rt; frame.next_due() == Some(*want));
+}
+
+#[test]
+fn an_item_that_is_not_there_is_due_first(rt: HostRuntime) {
+    let view = view_of(rt.alloc(), STRIP).expect(&rt, "a view");
+    let gone = Item::Piece(Name::new(b"Z").expect(&rt, "a name"));
+    let atoms = [Atom::AtLeast(gone, 1)];
+    let frame = Frame::new(rt.alloc(), &view, &atoms).expect(&rt, "memory");
+    expect_due(&rt, &frame, &gone);
+}
+
+#[test]
+fn numbers_that_name_nothing_take_no_memory(rt: HostRuntime) {
+    let view = view_of(rt.alloc(), SQUARE).expect(&rt, "a view");
+    let atoms = [Atom::Lacks(u32::MAX), Atom::Has(u32::MAX - 1)];
+    let mut frame = Frame::new(rt.alloc(), &view, &atoms).expect(&rt, "memory");
+    expect_counts(&rt, &view, &mut frame, &[4, 4, 4, 4, 4, 4]);
+    assert!(rt; frame.dead(u32::MAX));
+}
