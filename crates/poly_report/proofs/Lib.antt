@@ -5,3 +5,4 @@ pub mod Heads
 pub mod Rows
 pub mod Measures
 pub mod Cuts
+pub mod Rests

@@ -10,6 +10,7 @@ use Rattle.poly_atom.specs.Guards.{guards}
 use Rattle.poly_report.specs.Trees.{Plan}
 use Rattle.poly_report.specs.Holds.{holds}
 use Rattle.poly_report.specs.Leaves.{rests, tilings}
+use Rattle.poly_report.specs.Opened.{as_hopeless, opened}
 
 -- Each tiling of the family is one of the tree's tilings, once, or in one rest's family; other tilings are in none.
 abbrev pub TreesShareOut : Type 0
@@ -24,3 +25,7 @@ TreeTilingsBelong = (v : View) (A : List Atom) (t : Plan) → list_all (λ T. in
 abbrev pub TreesKeepHolding : Type 0
 TreesKeepHolding = (old new : View) (A : List Atom) (t : Plan) → WellNamed old → WellNamed new → Names old new → holds old A t ≡ true →
     holds new (A ++ guards old new) t ≡ true
+
+-- Each rest of a tree that takes and leaves only open placements is hopeless exactly if the atoms are.
+abbrev pub OpenPathsAddNothingHopeless : Type 0
+OpenPathsAddNothingHopeless = (v : View) (A : List Atom) (t : Plan) → opened v A t ≡ true → as_hopeless v A (rests v A t) ≡ true

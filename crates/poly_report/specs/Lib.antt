@@ -4,4 +4,5 @@ pub mod Sizes
 pub mod Holds
 pub mod Leaves
 pub mod Gather
+pub mod Opened
 pub mod Laws

@@ -1,6 +1,6 @@
 //! Laws of the definitions, each the contract of a function that does nothing.
 ghost use Rattle.poly_frame.specs.Laws.{StepsComeBack};
-ghost use Rattle.poly_report.specs.Laws.{TreeTilingsBelong, TreesKeepHolding, TreesShareOut};
+ghost use Rattle.poly_report.specs.Laws.{OpenPathsAddNothingHopeless, TreeTilingsBelong, TreesKeepHolding, TreesShareOut};
 
 /// Each tiling of the family is one of the tree's tilings, once, or in exactly one rest's family; no other is in any.
 pub fn trees_share_out()
@@ -15,4 +15,10 @@ pub fn tree_tilings_belong()
 /// A tree that held holds in the later design for its atoms and the guards of the change.
 pub fn trees_keep_holding()
     ensures { TreesKeepHolding }
+{}
+
+/// A rest of a tree that takes and leaves only open placements is hopeless exactly if the atoms are: opening such a rest
+/// asks nothing more of it.
+pub fn open_paths_add_nothing_hopeless()
+    ensures { OpenPathsAddNothingHopeless }
 {}

@@ -9,11 +9,10 @@ mod size;
 mod tree;
 
 pub use cut::{cut_up, cut_up_over, holds, leaves};
-pub use laws::{tree_tilings_belong, trees_keep_holding, trees_share_out};
+pub use laws::{
+    open_paths_add_nothing_hopeless, tree_tilings_belong, trees_keep_holding, trees_share_out,
+};
 pub use leaf::Leaves;
 pub use poly_frame::{Frame, Matrix, STEPS};
 pub use size::{DEPTH, NODES, fits};
 pub use tree::{Arm, Report, Tree};
-
-#[cfg(test)]
-mod tests;

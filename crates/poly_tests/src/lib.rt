@@ -2,11 +2,17 @@
 #![tactic(auto)]
 
 #[cfg(test)]
+mod browse;
+#[cfg(test)]
 mod design;
 #[cfg(test)]
 mod designs;
 #[cfg(test)]
 mod frame;
+#[cfg(test)]
+mod reports;
+#[cfg(test)]
+mod searches;
 #[cfg(test)]
 mod solvers;
 #[cfg(test)]
