@@ -1,0 +1,246 @@
+-- The tasks of the fields, as tasks of the definitions.
+use Rattle.std.proofs.Common.{Bool, Global, List, Vec, [], ap, append_assoc, arith, cond, drop, false, get_or, length, map, not, refl, subst, suc, sym, take, true, zero, ℕ, ◌++◌, ◌+◌, ◌<◌, ◌∙◌, ◌∷◌, ◌≡◌, ◌≤◌}
+use Rattle.std.proofs.lemmas.Bool.{cond_both, not-true}
+use Rattle.std.proofs.lemmas.List.{append-nil, drop_all, drop_more, get_or_push, length-append, length_push, take_more}
+use Rattle.std.specs.List.{filter, items_where_true}
+use Rattle.poly_tiling.specs.Puzzle.{View}
+use Rattle.poly_atom.specs.declared.atom.Atom.{Atom}
+use Rattle.poly_atom.specs.declared.stair.Stair.{Stair}
+use Rattle.poly_atom.specs.Atoms.{negated}
+use Rattle.poly_atom.specs.Hopeless.{hopeless}
+use Rattle.poly_atom.specs.Logs.{IsStairOf, flat, stair_of}
+use Rattle.poly_atom.specs.Stairs.{stairs}
+use Rattle.poly_atom.proofs.Offsets.{flat_push}
+use Rattle.poly_atom.proofs.Walks.{is_stair_stays, length-stairs, stair_stays, stairs_at}
+use Rattle.poly_book.specs.declared.step.Ending.{Ending}
+use Rattle.poly_book.specs.declared.step.Ending.TheVariants.{Hopeless}
+use Rattle.poly_book.specs.Events.{hopeless_endings}
+use Rattle.poly_book.specs.declared.task.Own.{Own}
+use Rattle.poly_book.specs.declared.task.Own.TheVariants.{Atoms, Stair as OfStair}
+use Rattle.poly_book.specs.declared.task.Pending.{Pending}
+use Rattle.poly_report.specs.Gather.{lists}
+use Rattle.poly_book.specs.Shelves.{crossed}
+use Rattle.poly_book.specs.Tasks.{Task, hopeful, lay, tasks_from}
+use Rattle.poly_book.specs.Meaning.{AreTasks, IsOwn, IsTask, own_of, task_of, tasks_of}
+use Rattle.poly_book.specs.Opens.{Opens}
+
+flat_none : (n : ℕ) (log : List (List Atom)) → length log ≤ n → flat (drop n log) ≡ []
+flat_none zero [] h = refl
+flat_none zero (g ∷ gs) h = absurd (omega (arith, h))
+flat_none (suc n) [] h = refl
+flat_none (suc n) (g ∷ gs) h = flat_none n gs (omega (arith, h))
+
+-- one more change lays its guards behind
+since_push : (n : ℕ) (log : List (List Atom)) (g : List Atom) → n ≤ length log → flat (drop n (log ++ g ∷ [])) ≡ flat (drop n log) ++ g
+since_push zero log g h = flat_push log g
+since_push (suc n) [] g h = absurd (omega (arith, h))
+since_push (suc n) (x ∷ log) g h = since_push n log g (omega (arith, h))
+
+own_push : (log : List (List Atom)) (g : List Atom) (o : Own) → IsOwn log o → own_of (log ++ g ∷ []) o ≡ own_of log o
+own_push log g (Atoms v) h = refl
+own_push log g (OfStair s) h = stair_stays log g s h.edition_in
+
+is_own_push : (log : List (List Atom)) (g : List Atom) (o : Own) → IsOwn log o → IsOwn (log ++ g ∷ []) o
+is_own_push log g (Atoms v) h = tt
+is_own_push log g (OfStair s) h = is_stair_stays log g s h
+
+task_push : (log : List (List Atom)) (g : List Atom) (p : Pending) → IsTask log p → task_of (log ++ g ∷ []) p ≡ lay g (task_of log p)
+task_push log g p h =
+    let a = own_push log g p.own h.own in
+    let b = since_push p.made log g h.made in
+    λ i. let t : Task = record { number = p.number; own = a i; laid = b i } in t
+
+is_task_push : (log : List (List Atom)) (g : List Atom) (p : Pending) → IsTask log p → IsTask (log ++ g ∷ []) p
+is_task_push log g p h = record { own = is_own_push log g p.own h.own; made = let m = h.made in omega (arith, length_push log g) }
+
+kept_one : (log : List (List Atom)) (p : Pending) (xs : List Pending) (t : Task) (ts : List Task) (b : Bool) → task_of log p ≡ t → tasks_of log xs ≡ ts → tasks_of log (cond b (p ∷ xs) xs) ≡ cond b (t ∷ ts) ts
+kept_one log p xs t ts true e f = cc
+kept_one log p xs t ts false e f = f
+
+-- the tasks that go on, with the guards of one more change
+pub kept_tasks : (w : View) (log : List (List Atom)) (g : List Atom) (ps : List Pending) → AreTasks log ps →
+    tasks_of (log ++ g ∷ []) (filter (λ p. not (hopeless w (own_of log p.own))) ps) ≡ filter (λ t. not (hopeless w t.own)) (map (λ t. lay g t) (tasks_of log ps))
+kept_tasks w log g [] h = refl
+kept_tasks w log g (p ∷ ps) h = kept_one (log ++ g ∷ []) p _ _ _ (not (hopeless w (own_of log p.own))) (task_push log g p h.0) (kept_tasks w log g ps h.1)
+
+pub tasks_push : (log : List (List Atom)) (g : List Atom) (ps : List Pending) → AreTasks log ps → AreTasks (log ++ g ∷ []) ps
+tasks_push log g [] h = tt
+tasks_push log g (p ∷ ps) h = (is_task_push log g p h.0, tasks_push log g ps h.1)
+
+pub tasks_filter : (log : List (List Atom)) (f : Pending → Bool) (ps : List Pending) → AreTasks log ps → AreTasks log (filter f ps)
+tasks_filter log f [] h = tt
+tasks_filter log f (p ∷ ps) h = cond_both (f p) (p ∷ filter f ps) (filter f ps) (λ xs. AreTasks log xs) (λ e. (h.0, tasks_filter log f ps h.1)) (λ e. tasks_filter log f ps h.1)
+
+pub are_append : (log : List (List Atom)) (ps qs : List Pending) → AreTasks log ps → AreTasks log qs → AreTasks log (ps ++ qs)
+are_append log [] qs h k = k
+are_append log (p ∷ ps) qs h k = (h.0, are_append log ps qs h.1 k)
+
+pub tasks_append : (log : List (List Atom)) (ps qs : List Pending) → tasks_of log (ps ++ qs) ≡ tasks_of log ps ++ tasks_of log qs
+tasks_append log [] qs = refl
+tasks_append log (p ∷ ps) qs = ap (λ ts. task_of log p ∷ ts) (tasks_append log ps qs)
+
+pub task_at : (log : List (List Atom)) (ps : List Pending) (i : ℕ) (d : Pending) → AreTasks log ps → i < length ps → IsTask log (get_or ps i d)
+task_at log [] i d h l = absurd (omega (arith, l))
+task_at log (p ∷ ps) zero d h l = h.0
+task_at log (p ∷ ps) (suc i) d h l = task_at log ps i d h.1 (omega (arith, l))
+
+picked_one : {X : Type 0} (x : X) (xs ys : List X) (bs : List Bool) (b : Bool) → items_where_true bs xs ≡ ys → items_where_true (b ∷ bs) (x ∷ xs) ≡ cond b (x ∷ ys) ys
+picked_one x xs ys bs true e = ap (λ l. x ∷ l) e
+picked_one x xs ys bs false e = e
+
+pub picked_filter : {X : Type 0} (f : X → Bool) (xs : List X) → items_where_true (map f xs) xs ≡ filter f xs
+picked_filter f [] = refl
+picked_filter f (x ∷ xs) = picked_one x xs (filter f xs) (map f xs) (f x) (picked_filter f xs)
+
+length_from : (n : ℕ) (As : List (List Atom)) → length (tasks_from n As) ≡ length As
+length_from n [] = refl
+length_from n (A ∷ As) = omega (arith, length_from (n + 1) As)
+
+pub length_of : (log : List (List Atom)) (ps : List Pending) → length (tasks_of log ps) ≡ length ps
+length_of log [] = refl
+length_of log (p ∷ ps) = omega (arith, length_of log ps)
+
+pub opened_length : (log : List (List Atom)) (n : ℕ) (w : View) (all : List (List Atom)) (ps : List Pending) → Opens log n w all ps → length ps ≡ length (hopeful w all)
+opened_length log n w all ps o = sym (length_of log ps) ∙ ap length o.tasks ∙ length_from n (hopeful w all)
+
+-- the tasks so far, and what is still to be opened
+pub record Opening (log : List (List Atom)) (next n : ℕ) (w : View) (all rest : List (List Atom)) (ps : List Pending) : Type 0 where
+  pub are : AreTasks log ps
+  pub tasks : tasks_of log ps ++ tasks_from n (hopeful w rest) ≡ tasks_from next (hopeful w all)
+
+pub opening_start : (log : List (List Atom)) (next : ℕ) (w : View) (all : List (List Atom)) → Opening log next next w all all []
+opening_start log next w all = record { are = tt; tasks = refl }
+
+pub opening_skip : (log : List (List Atom)) (next n : ℕ) (w : View) (all rest : List (List Atom)) (A : List Atom) (ps : List Pending) → hopeless w A ≡ true → Opening log next n w all (A ∷ rest) ps → Opening log next n w all rest ps
+opening_skip log next n w all rest A ps h o = record {
+  are = o.are;
+  tasks = subst (λ B. tasks_of log ps ++ tasks_from n B ≡ tasks_from next (hopeful w all)) (ap (λ b. cond (not b) (A ∷ hopeful w rest) (hopeful w rest)) h) o.tasks;
+}
+
+pub opening_more : (log : List (List Atom)) (next n : ℕ) (w : View) (all rest : List (List Atom)) (A : List Atom) (ps : List Pending) (p : Pending) → hopeless w A ≡ false → p.number ≡ n → own_of log p.own ≡ A → IsOwn log p.own → p.made ≡ length log →
+    Opening log next n w all (A ∷ rest) ps → Opening log next (n + 1) w all rest (ps ++ p ∷ [])
+opening_more log next n w all rest A ps p h number own is made o =
+    let tail = tasks_from (n + 1) (hopeful w rest) in
+    let t : Task = record { number = n; own = A; laid = [] } in
+    let none : flat (drop p.made log) ≡ [] = flat_none p.made log (omega (arith, made)) in
+    let one : task_of log p ≡ t = λ i. let u : Task = record { number = number i; own = own i; laid = none i } in u in
+    let k : hopeful w (A ∷ rest) ≡ A ∷ hopeful w rest = ap (λ b. cond (not b) (A ∷ hopeful w rest) (hopeful w rest)) h in
+    let x : tasks_of log (ps ++ p ∷ []) ++ tail ≡ (tasks_of log ps ++ task_of log p ∷ []) ++ tail = ap (λ z. z ++ tail) (tasks_append log ps (p ∷ [])) in
+    let y : (tasks_of log ps ++ task_of log p ∷ []) ++ tail ≡ tasks_of log ps ++ task_of log p ∷ tail = append_assoc (tasks_of log ps) (task_of log p ∷ []) tail in
+    let z : tasks_of log ps ++ task_of log p ∷ tail ≡ tasks_of log ps ++ tasks_from n (hopeful w (A ∷ rest)) = ap (λ u. tasks_of log ps ++ u ∷ tail) one ∙ ap (λ B. tasks_of log ps ++ tasks_from n B) (sym k) in
+    record {
+      are = are_append log ps (p ∷ []) o.are (record { own = is; made = omega (arith, made) }, tt);
+      tasks = x ∙ y ∙ z ∙ o.tasks;
+    }
+
+pub opening_end : (log : List (List Atom)) (next n : ℕ) (w : View) (all rest : List (List Atom)) (ps : List Pending) → rest ≡ [] → Opening log next n w all rest ps → Opens log next w all ps
+opening_end log next n w all rest ps e o = record {
+  are = o.are;
+  tasks = sym (append-nil (tasks_of log ps)) ∙ ap (λ r. tasks_of log ps ++ tasks_from n (hopeful w r)) (sym e) ∙ o.tasks;
+}
+
+-- one more task would have a number that is too high
+pub opening_over : (log : List (List Atom)) (next n : ℕ) (w : View) (all rest : List (List Atom)) (A : List Atom) (ps : List Pending) → hopeless w A ≡ false → Opening log next n w all (A ∷ rest) ps → next + length ps ≡ n → 4294967295 < n →
+    4294967296 < next + length (hopeful w all)
+opening_over log next n w all rest A ps h o number high =
+    let k : hopeful w (A ∷ rest) ≡ A ∷ hopeful w rest = ap (λ b. cond (not b) (A ∷ hopeful w rest) (hopeful w rest)) h in
+    let tail = tasks_from n (hopeful w (A ∷ rest)) in
+    omega (
+      arith,
+      number,
+      high,
+      ap length o.tasks,
+      length-append (tasks_of log ps) tail,
+      length_of log ps,
+      length_from n (hopeful w (A ∷ rest)),
+      length_from next (hopeful w all),
+      ap length k,
+    )
+
+-- the stairs from a place on
+abbrev pub from_place : List Atom → ℕ → List (List Atom)
+from_place gs j = drop j (stairs gs)
+
+pub place_next : (gs : List Atom) (j : ℕ) (d : Atom) → j < length gs → from_place gs j ≡ (take j gs ++ negated (get_or gs j d) ∷ []) ∷ from_place gs (j + 1)
+place_next gs j d h = drop_more (stairs gs) j [] (omega (arith, length-stairs gs)) ∙ ap (λ A. A ∷ drop (j + 1) (stairs gs)) (stairs_at gs j d h)
+
+pub place_end : (gs : List Atom) (j : ℕ) → length gs ≤ j → from_place gs j ≡ []
+place_end gs j h = drop_all j (stairs gs) (omega (arith, length-stairs gs))
+
+log_last : (log : List (List Atom)) (g : List Atom) (e : ℕ) → length log ≡ e → get_or (log ++ g ∷ []) e [] ≡ g
+log_last log g e h = get_or_push log g [] e h
+
+pub stairs_skip : (log : List (List Atom)) (g : List Atom) (next n : ℕ) (w : View) (j : ℕ) (d : Atom) (A : List Atom) (ps : List Pending) → j < length g → A ≡ take j g ++ negated (get_or g j d) ∷ [] → hopeless w A ≡ true →
+    Opening (log ++ g ∷ []) next n w (stairs g) (from_place g j) ps → Opening (log ++ g ∷ []) next n w (stairs g) (from_place g (j + 1)) ps
+stairs_skip log g next n w j d A ps l e h o =
+    opening_skip (log ++ g ∷ []) next n w (stairs g) (from_place g (j + 1)) A ps h
+    (subst (λ r. Opening (log ++ g ∷ []) next n w (stairs g) r ps) (place_next g j d l ∙ ap (λ B. B ∷ from_place g (j + 1)) (sym e)) o)
+
+pub stairs_more : (log : List (List Atom)) (g : List Atom) (next n : ℕ) (w : View) (j e : ℕ) (d : Atom) (A : List Atom) (ps : List Pending) → length log ≡ e → j < length g → A ≡ take j g ++ negated (get_or g j d) ∷ [] → hopeless w A ≡ false →
+    Opening (log ++ g ∷ []) next n w (stairs g) (from_place g j) ps →
+    Opening (log ++ g ∷ []) next (n + 1) w (stairs g) (from_place g (j + 1)) (ps ++ record { number = n; own = OfStair (record { edition = e; index = j }); made = e + 1 } ∷ [])
+stairs_more log g next n w j e d A ps le l is h o =
+    let s : Stair = record { edition = e; index = j } in
+    let last = log_last log g e le in
+    let p : Pending = record { number = n; own = OfStair s; made = e + 1 } in
+    let own : stair_of (log ++ g ∷ []) s ≡ A = ap (λ x. get_or (stairs x) j []) last ∙ stairs_at g j d l ∙ sym is in
+    let there : IsStairOf (log ++ g ∷ []) s = record {
+      edition_in = omega (arith, length_push log g, le);
+      index_in = subst (λ x. j < length x) (sym last) l;
+    } in
+    opening_more (log ++ g ∷ []) next n w (stairs g) (from_place g (j + 1)) A ps p h refl own there (omega (arith, length_push log g, le))
+    (subst (λ r. Opening (log ++ g ∷ []) next n w (stairs g) r ps) (place_next g j d l ∙ ap (λ B. B ∷ from_place g (j + 1)) (sym is)) o)
+
+crossed_append : (F G S : List (List Atom)) → crossed (F ++ G) S ≡ crossed F S ++ crossed G S
+crossed_append [] G S = refl
+crossed_append (A ∷ F) G S = ap (λ L. map (λ B. A ++ B) S ++ L) (crossed_append F G S) ∙ sym (append_assoc (map (λ B. A ++ B) S) (crossed F S) (crossed G S))
+
+take_lists : (F : List (Vec Atom Global)) (i : ℕ) (x : Vec Atom Global) → i < length F → x ≡ get_or F i x → take (i + 1) (lists F) ≡ take i (lists F) ++ x.items ∷ []
+take_lists [] i x l e = absurd (omega (arith, l))
+take_lists (y ∷ F) zero x l e = ap (λ z. z.items ∷ []) (sym e)
+take_lists (y ∷ F) (suc i) x l e = let k : suc i + 1 ≡ suc (i + 1) = omega arith in ap (λ n. take n (lists (y ∷ F))) k ∙ ap (λ L. y.items ∷ L) (take_lists F i x (omega (arith, l)) e)
+
+-- one more list is crossed
+pub crossed_more : (F : List (Vec Atom Global)) (S : List (List Atom)) (i : ℕ) (x : Vec Atom Global) → i < length F → x ≡ get_or F i x →
+    crossed (take i (lists F)) S ++ map (λ B. x.items ++ B) S ≡ crossed (take (i + 1) (lists F)) S
+crossed_more F S i x l e = sym (ap (λ L. crossed L S) (take_lists F i x l e) ∙ crossed_append (take i (lists F)) (x.items ∷ []) S ∙ ap (λ L. crossed (take i (lists F)) S ++ L) (append-nil (map (λ B. x.items ++ B) S)))
+
+endings_cons : (w : View) (e : ℕ) (u : Task) (ts rs : List Task) (xs : List Ending) (b : Bool) → hopeless w u.own ≡ b → hopeless_endings w e ts ≡ hopeless_endings w e rs ++ xs → hopeless_endings w e (u ∷ ts) ≡ hopeless_endings w e (u ∷ rs) ++ xs
+endings_cons w e u ts rs xs true h ih = let f : Bool → List Task → List Ending = λ b vs. map (λ t. Hopeless t.number e) (cond b (u ∷ filter (λ t. hopeless w t.own) vs) (filter (λ t. hopeless w t.own) vs)) in ap (λ b. f b ts) h ∙ ap (λ L. Hopeless u.number e ∷ L) ih ∙ ap (λ b. f b rs ++ xs) (sym h)
+endings_cons w e u ts rs xs false h ih = let f : Bool → List Task → List Ending = λ b vs. map (λ t. Hopeless t.number e) (cond b (u ∷ filter (λ t. hopeless w t.own) vs) (filter (λ t. hopeless w t.own) vs)) in ap (λ b. f b ts) h ∙ ih ∙ ap (λ b. f b rs ++ xs) (sym h)
+
+mapped_at : {X Y : Type 0} (f : X → Y) (xs : List X) (i : ℕ) (d : X) (b : Y) → i < length xs → get_or (map f xs) i b ≡ f (get_or xs i d)
+mapped_at f [] i d b l = absurd (omega (arith, l))
+mapped_at f (x ∷ xs) zero d b l = refl
+mapped_at f (x ∷ xs) (suc i) d b l = mapped_at f xs i d b (omega (arith, l))
+
+not-false : (b : Bool) → not b ≡ false → b ≡ true
+not-false true h = refl
+not-false false h = cc
+
+endings_push : (w : View) (e : ℕ) (ts : List Task) (t : Task) (b : Bool) → hopeless w t.own ≡ b → hopeless_endings w e (ts ++ t ∷ []) ≡ hopeless_endings w e ts ++ cond b (Hopeless t.number e ∷ []) []
+endings_push w e [] t true h = ap (λ b. map (λ u. Hopeless u.number e) (cond b (t ∷ []) [])) h
+endings_push w e [] t false h = ap (λ b. map (λ u. Hopeless u.number e) (cond b (t ∷ []) [])) h
+endings_push w e (u ∷ ts) t b h = endings_cons w e u (ts ++ t ∷ []) ts (cond b (Hopeless t.number e ∷ []) []) (hopeless w u.own) refl (endings_push w e ts t b h)
+
+flag_at : (w : View) (log : List (List Atom)) (ps : List Pending) (fs : List Bool) (i : ℕ) (d : Pending) (b : Bool) → fs ≡ map (λ p. not (hopeless w (own_of log p.own))) ps → i < length ps → get_or fs i b ≡ not (hopeless w (own_of log (get_or ps i d).own))
+flag_at w log ps fs i d b e l = ap (λ xs. get_or xs i b) e ∙ mapped_at (λ p. not (hopeless w (own_of log p.own))) ps i d b l
+
+pub endings_more : (w : View) (log : List (List Atom)) (e : ℕ) (ps : List Pending) (fs : List Bool) (i : ℕ) (d : Pending) (f : Bool) (es : List Ending) → fs ≡ map (λ p. not (hopeless w (own_of log p.own))) ps → i < length ps →
+    get_or fs i f ≡ false → es ≡ hopeless_endings w e (tasks_of log (take i ps)) → es ++ Hopeless (get_or ps i d).number e ∷ [] ≡ hopeless_endings w e (tasks_of log (take (i + 1) ps))
+endings_more w log e ps fs i d f es is l h so =
+    let p = get_or ps i d in
+    let bad : hopeless w (own_of log p.own) ≡ true = not-false _ (sym (flag_at w log ps fs i d f is l) ∙ h) in
+    ap (λ x. x ++ Hopeless p.number e ∷ []) so ∙ sym (ap (λ x. hopeless_endings w e (tasks_of log x)) (take_more ps i d l) ∙ ap (λ x. hopeless_endings w e x) (tasks_append log (take i ps) (p ∷ [])) ∙ endings_push w e (tasks_of log (take i ps)) (task_of log p) true bad)
+
+pub endings_same : (w : View) (log : List (List Atom)) (e : ℕ) (ps : List Pending) (fs : List Bool) (i : ℕ) (d : Pending) (f : Bool) (es : List Ending) → fs ≡ map (λ p. not (hopeless w (own_of log p.own))) ps → i < length ps →
+    get_or fs i f ≡ true → es ≡ hopeless_endings w e (tasks_of log (take i ps)) → es ≡ hopeless_endings w e (tasks_of log (take (i + 1) ps))
+endings_same w log e ps fs i d f es is l h so =
+    let p = get_or ps i d in
+    let fine : hopeless w (own_of log p.own) ≡ false = not-true _ (sym (flag_at w log ps fs i d f is l) ∙ h) in
+    so ∙ sym (append-nil _) ∙ sym (ap (λ x. hopeless_endings w e (tasks_of log x)) (take_more ps i d l) ∙ ap (λ x. hopeless_endings w e x) (tasks_append log (take i ps) (p ∷ [])) ∙ endings_push w e (tasks_of log (take i ps)) (task_of log p) false fine)
+
+-- an element of a list that has one
+pub some_of : {X : Type 0} (xs : List X) (i : ℕ) → i < length xs → X
+some_of [] i l = absurd (omega (arith, l))
+some_of (x ∷ xs) i l = x

@@ -1,0 +1,48 @@
+-- What settling leaves as it was.
+use Rattle.std.proofs.Common.{List, [], ap, append_assoc, arith, map, refl, subst, sym, ℕ, ◌++◌, ◌+◌, ◌∙◌, ◌∷◌, ◌≡◌}
+use Rattle.std.proofs.lemmas.List.{append-nil, length-append}
+use Rattle.poly_report.specs.Trees.{Plan}
+use Rattle.poly_book.specs.declared.step.Applied.{Applied}
+use Rattle.poly_book.specs.declared.step.Ending.TheVariants.{Cut}
+use Rattle.poly_book.specs.Reports.{IsApplied}
+use Rattle.poly_book.specs.Settled.{Cuts, IsSettled}
+use Rattle.poly_book.specs.States.{State}
+use Rattle.poly_book.proofs.Taking.{step_cut}
+
+pub applied_cuts : (k made : ℕ) (tree : Plan) (s t : State) (a : Applied) → IsApplied k made tree s t a → Cuts s t 1
+applied_cuts k made tree s t a p =
+    let is = step_cut s k p.task tree p.found p.right in
+    let same = p.becomes.same in
+    record {
+      opened = ap (λ z. z.opened) same ∙ ap (λ z. z.opened) is;
+      design = ap (λ z. z.design) same ∙ ap (λ z. z.design) is;
+      view = ap (λ z. z.view) same ∙ ap (λ z. z.view) is;
+      steps = ap (λ z. z.steps) same ∙ ap (λ z. z.steps) is;
+      tasks = k ∷ [];
+      endings = ap (λ z. z.endings) same ∙ ap (λ z. z.endings) is;
+      count = refl;
+    }
+
+map_append : (js ks : List ℕ) → map (λ k. Cut k) (js ++ ks) ≡ map (λ k. Cut k) js ++ map (λ k. Cut k) ks
+map_append [] ks = refl
+map_append (j ∷ js) ks = ap (λ es. Cut j ∷ es) (map_append js ks)
+
+pub cuts_on : (s t u : State) (n : ℕ) → Cuts s t n → Cuts t u 1 → Cuts s u (n + 1)
+cuts_on s t u n a b = record {
+  opened = b.opened ∙ a.opened;
+  design = b.design ∙ a.design;
+  view = b.view ∙ a.view;
+  steps = b.steps ∙ a.steps;
+  tasks = a.tasks ++ b.tasks;
+  endings = b.endings ∙ ap (λ es. es ++ map (λ k. Cut k) b.tasks) a.endings ∙ append_assoc s.endings (map (λ k. Cut k) a.tasks) (map (λ k. Cut k) b.tasks) ∙ ap (λ es. s.endings ++ es) (sym (map_append a.tasks b.tasks));
+  count = omega (arith, length-append a.tasks b.tasks, a.count, b.count);
+}
+
+pub cuts_none : (s : State) → Cuts s s 0
+cuts_none s = record { opened = refl; design = refl; view = refl; steps = refl; tasks = []; endings = sym (append-nil s.endings); count = refl }
+
+pub cuts_end : (s t u : State) (n : ℕ) → Cuts s t n → (u ≡ t) × (t.pending ≡ []) → IsSettled s u n
+cuts_end s t u n a e = record {
+  cuts = subst (λ z. Cuts s z n) (sym e.0) a;
+  none = subst (λ z. z.pending ≡ []) (sym e.0) e.1;
+}

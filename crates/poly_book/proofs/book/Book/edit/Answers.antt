@@ -1,0 +1,6 @@
+use Rattle.std.proofs.Common.{inl, inr}
+use Rattle.std.proofs.lemmas.Result.{IfErr-weaker}
+use Rattle.poly_book.proofs.book.Book.edit.Goals as goal
+
+pub returns-clause-why : goal.returns-clause-why
+returns-clause-why c = rw (← c.self.view_is) (IfErr-weaker c.apply_change.result _ _ (λ e h. inr (inl (c.in_ok-change.change, c.in_ok-change.ensures.ok, h))) c.apply_change.ensures.why)

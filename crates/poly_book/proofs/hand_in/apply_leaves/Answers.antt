@@ -1,0 +1,86 @@
+use Rattle.std.proofs.Common.{[], ap, arith, drop, get_or, length, nat_lt, refl, rules, subst, sym, take, true, ◌++◌, ◌+◌, ◌∙◌, ◌∷◌, ◌≡◌, ◌≤◌}
+use Rattle.std.proofs.lemmas.Bool.{and_from}
+use Rattle.std.proofs.lemmas.List.{length-reverse, length_push}
+use Rattle.std.specs.Arc.{arc_value}
+use Rattle.std.specs.List.{list_all}
+use Rattle.poly_tiling.specs.Puzzle.{is_tiling}
+use Rattle.poly_catalogue.specs.Listed.{AreOnce}
+use Rattle.poly_report.specs.Gather.{lists}
+use Rattle.poly_book.specs.declared.step.Ending.TheVariants.{Cut}
+use Rattle.poly_book.specs.Keeps.{state_of}
+use Rattle.poly_book.specs.Opens.{Opens}
+use Rattle.poly_book.proofs.Cataloguing.{cut_enters}
+use Rattle.poly_book.proofs.Places.{at_below, first_at}
+use Rattle.poly_book.proofs.Taking.{took_becomes, took_from, took_keeps}
+use Rattle.poly_book.proofs.hand_in.apply_leaves.Goals as goal
+
+pub list_all-requires-clause-tilings : goal.list_all-requires-clause-tilings
+list_all-requires-clause-tilings c =
+    let a = c.args.parts.now in
+    let l = c.requires.leaves.2 in
+    let r = cut_enters (state_of a) c.requires.leaves.0 l.task c.requires.leaves.1 c.requires.keeps.whole l.there (and_from _ _ l.small l.cut.right) in
+    let at : c.deref-2.result.now ≡ arc_value a.view = c.deref-2.ensures in
+    subst (λ z. list_all (is_tiling z) c.args.leaves.tilings.items ≡ true) (sym at) (subst (λ L. list_all (is_tiling (arc_value a.view)) L ≡ true) (sym l.cut.tilings) r.tilings)
+
+pub list_all-requires-clause-once : goal.list_all-requires-clause-once
+list_all-requires-clause-once c =
+    let a = c.args.parts.now in
+    let l = c.requires.leaves.2 in
+    let r = cut_enters (state_of a) c.requires.leaves.0 l.task c.requires.leaves.1 c.requires.keeps.whole l.there (and_from _ _ l.small l.cut.right) in
+    subst (λ L. AreOnce (a.listed ++ L)) (sym l.cut.tilings) r.once
+
+pub remove-task-requires : goal.remove-task-requires
+remove-task-requires c =
+    let k = c.requires.leaves.0 in
+    let ps = c.args.parts.now.tasks.items in
+    let l = c.requires.leaves.2 in
+    omega (arith, c.in_ok-reserve.ensures.len, at_below k ps c.args.at (first_at k ps c.args.at l.first))
+
+pub returns-clause-keeps : goal.returns-clause-keeps
+returns-clause-keeps c =
+    let a = c.args.parts.now in
+    let x = c.remove-task.result in
+    let l = c.requires.leaves.2 in
+    let at : c.deref.result.now ≡ arc_value a.view = c.deref.ensures in
+    let ed : c.len-now.result ≡ length a.log = c.len-now.ensures in
+    let f0 : Opens a.log a.next c.deref.result.now (lists c.args.leaves.rests.items) c.in_ok-fresh.fresh.items = c.in_ok-fresh.ensures.ok a.log (sym ed) in
+    let opens = subst (λ z. Opens a.log a.next z (lists c.args.leaves.rests.items) c.in_ok-fresh.fresh.items) at f0 in
+    let is : x ≡ get_or a.tasks.items c.args.at x = search rules in
+    let listed : c.list_all.new.self ≡ a.listed ++ c.args.leaves.tilings.items = c.in_ok-list_all.ensures.ok in
+    let tasks : c.push_tasks.new.out.items ≡ (take c.args.at a.tasks.items ++ drop (c.args.at + 1) a.tasks.items) ++ c.in_ok-fresh.fresh.items = search rules in
+    let more : c.len-more.result ≡ length c.in_ok-fresh.fresh.items = search rules in
+    let few : a.next + length c.in_ok-fresh.fresh.items ≤ 4294967296 = c.in_ok-fresh.ensures.few in
+    let ended : c.push_reserved.new.self.items ≡ a.endings.items ++ Cut x.number ∷ [] = search rules in
+    took_keeps c.requires.keeps (took_from a c.requires.leaves.0 c.args.at c.requires.leaves.1 c.args.leaves.tilings.items (lists c.args.leaves.rests.items) x c.list_all.new.self c.push_tasks.new.out.items c.in_ok-fresh.fresh.items c.len-more.result c.push_reserved.new.self.items l is listed tasks opens more few ended)
+
+pub returns-clause-ok : goal.returns-clause-ok
+returns-clause-ok c =
+    let a = c.args.parts.now in
+    let x = c.remove-task.result in
+    let at : c.deref.result.now ≡ arc_value a.view = c.deref.ensures in
+    let ed : c.len-now.result ≡ length a.log = c.len-now.ensures in
+    let f0 : Opens a.log a.next c.deref.result.now (lists c.args.leaves.rests.items) c.in_ok-fresh.fresh.items = c.in_ok-fresh.ensures.ok a.log (sym ed) in
+    let opens = subst (λ z. Opens a.log a.next z (lists c.args.leaves.rests.items) c.in_ok-fresh.fresh.items) at f0 in
+    let is : x ≡ get_or a.tasks.items c.args.at x = search rules in
+    let listed : c.list_all.new.self ≡ a.listed ++ c.args.leaves.tilings.items = c.in_ok-list_all.ensures.ok in
+    let tasks : c.push_tasks.new.out.items ≡ (take c.args.at a.tasks.items ++ drop (c.args.at + 1) a.tasks.items) ++ c.in_ok-fresh.fresh.items = search rules in
+    let more : c.len-more.result ≡ length c.in_ok-fresh.fresh.items = search rules in
+    let few : a.next + length c.in_ok-fresh.fresh.items ≤ 4294967296 = c.in_ok-fresh.ensures.few in
+    let ended : c.push_reserved.new.self.items ≡ a.endings.items ++ Cut x.number ∷ [] = search rules in
+    let count : c.len.result ≡ length a.endings.items = search rules in
+    let found : c.len-found.result ≡ length c.args.leaves.tilings.items = search rules in
+    let long : length c.push_reserved.new.self.items ≡ length a.endings.items + 1 = ap length ended ∙ length_push a.endings.items (Cut x.number) in
+    let steps : c.len-now.result ≡ length (state_of a).steps = ed ∙ c.requires.keeps.log_length ∙ sym (length-reverse a.steps.items) in
+    λ k tree l.
+    let t = took_from a k c.args.at tree c.args.leaves.tilings.items (lists c.args.leaves.rests.items) x c.list_all.new.self c.push_tasks.new.out.items c.in_ok-fresh.fresh.items c.len-more.result c.push_reserved.new.self.items l is listed tasks opens more few ended in
+    record {
+      task = l.task;
+      found = l.there;
+      right = and_from _ _ l.small l.cut.right;
+      becomes = took_becomes c.requires.keeps t;
+      place = omega (arith, count, long);
+      listed = found ∙ ap length l.cut.tilings;
+      first = refl;
+      opened = refl;
+      late = ap (λ n. nat_lt c.args.edition n) steps;
+    }

@@ -1,0 +1,5 @@
+use Rattle.poly_book.proofs.Leading.{lead_first}
+use Rattle.poly_book.proofs.vouch.leads_to.Goals as goal
+
+pub made_by-requires : goal.made_by-requires
+made_by-requires c = lead_first c.args.first.now c.args.count c.args.steps.now c.requires

@@ -1,0 +1,96 @@
+-- How a change of a book goes: what it prepares, and what it does to the history.
+use Rattle.std.specs.Prelude.{Bool, List, None, Option, Some, [], cond, length, map, nat_le, not, true, vec_capacity, ℕ, ◌*◌, ◌++◌, ◌+◌, ◌<◌, ◌∷◌, ◌≡◌, ◌≤◌, ◌⊎◌}
+use Rattle.std.specs.Arc.{arc_value}
+use Rattle.std.specs.List.{filter}
+use Rattle.poly_grid.specs.declared.refusal.Refusal.{Refusal}
+use Rattle.poly_grid.specs.declared.refusal.Refusal.TheVariants.{Memory, Spent, TooWide}
+use Rattle.poly_design.specs.Changes.{inverse_of}
+use Rattle.poly_design.specs.Layout.{Layout}
+use Rattle.poly_design.specs.declared.change.Change.{Change}
+use Rattle.poly_tiling.specs.Puzzle.{View, is_tiling}
+use Rattle.poly_atom.specs.declared.atom.Atom.{Atom}
+use Rattle.poly_atom.specs.Atoms.{AllSmall}
+use Rattle.poly_atom.specs.Guards.{guards}
+use Rattle.poly_atom.specs.Hopeless.{hopeless}
+use Rattle.poly_atom.specs.Stairs.{stairs}
+use Rattle.poly_place.specs.declared.plan.Plan.{Plan}
+use Rattle.poly_undo.specs.declared.step.Step.{Step as Beside}
+use Rattle.poly_undo.specs.Steps.{Moves, Steps, newest, next_of}
+use Rattle.poly_book.specs.declared.shelf.Kept.{Kept}
+use Rattle.poly_book.specs.declared.step.Kind.{Kind}
+use Rattle.poly_book.specs.declared.step.Kind.TheVariants.{Edit, Redo, Undo}
+use Rattle.poly_book.specs.declared.task.Pending.{Pending}
+use Rattle.poly_book.specs.declared.prepare.Prepared.{Prepared}
+use Rattle.poly_book.specs.Events.{Event, hopeless_endings}
+use Rattle.poly_book.specs.Events as event
+use Rattle.poly_book.specs.Meaning.{own_of, stored_of, tasks_of, way_of}
+use Rattle.poly_book.specs.Opens.{Opens}
+use Rattle.poly_book.specs.Shelves.{is_kept, openings, returned}
+use Rattle.poly_book.specs.States.{Stored}
+use Rattle.poly_book.specs.Tasks.{atoms_of, hopeful}
+
+-- what is kept of what a change takes away, where the way back has so many guards
+abbrev pub shelf_by : View → List (List ℕ) → List (List Atom) → List Pending → ℕ → Option Stored
+shelf_by w listed log ps width = cond (nat_le (length ps * width) 4096) (Some (record { taken = filter (λ T. not (is_tiling w T)) listed; frozen = map (λ t. atoms_of t) (tasks_of log ps) })) None
+
+-- what is prepared for a change from one view to another
+pub record IsGathered (v : View) (listed : List (List ℕ)) (log : List (List Atom)) (ps : List Pending) (stood : Option Stored) (after : Layout) (plan : Plan) (next : ℕ) (r : Prepared) : Type 0 where
+  pub after_is : r.after ≡ after
+  pub plan_is : r.plan ≡ plan
+  pub view_is : arc_value r.view ≡ arc_value plan.view
+  pub guards_are : r.guards.items ≡ guards v (arc_value plan.view)
+  pub guards_small : AllSmall r.guards.items
+  pub fresh_are : Opens (log ++ r.guards.items ∷ []) next (arc_value plan.view) (openings stood (stairs r.guards.items)) r.fresh.items
+  pub few : next + length r.fresh.items ≤ 4294967296
+  pub flags_are : r.flags.items ≡ map (λ p. not (hopeless (arc_value plan.view) (own_of log p.own))) ps
+  pub ended_are : r.ended.items ≡ hopeless_endings (arc_value plan.view) (length log + 1) (tasks_of log ps)
+  pub returned_are : r.returned.items ≡ returned stood
+  pub shelf_is : stored_of r.shelf ≡ shelf_by (arc_value plan.view) listed log ps (length (guards (arc_value plan.view) v))
+  pub room_empty : r.room.items ≡ []
+  pub room : length ps + length r.fresh.items ≤ vec_capacity r.room
+
+-- why a change from one view to another isn't prepared: its guards, or those of its way back, are more than 20,000; or
+-- there were 100,000 changes, or a task number would be over 4,294,967,295
+abbrev pub IsNotGathered : View → View → Kind → ℕ → ℕ → Option Stored → Refusal → Type 0
+IsNotGathered v w k count next stood e =
+    ((e ≡ TooWide) × (k ≡ Edit) × ((20000 < length (guards v w)) ⊎ (20000 < length (guards w v))))
+    ⊎ ((e ≡ Spent) × ((100000 ≤ count) ⊎ (4294967296 < next + length (hopeful w (openings stood (stairs (guards v w))))))) ⊎ (e ≡ Memory)
+
+-- there is a step to undo or redo
+abbrev pub CanNote : Kind → Steps Change Kept → Type 0
+CanNote Edit h = Unit {0}
+CanNote Undo h = 0 < length h.undo
+CanNote Redo h = 0 < length h.redo
+
+-- the history after the change
+abbrev pub Noted : Kind → Steps Change Kept → Steps Change Kept → Change → Kept → Type 0
+Noted Edit old new x k = (new.undo ≡ newest (old.undo ++ (record { change = x; kept = Some k }) ∷ [])) × (new.redo ≡ [])
+Noted Undo old new x k = (stood : Option Kept) × Moves old.undo old.redo new.undo new.redo (Some k) stood
+Noted Redo old new x k = (stood : Option Kept) × Moves old.redo old.undo new.redo new.undo (Some k) stood
+
+-- the shelf beside a change
+abbrev pub shelf_at : Option (Beside Change Kept) → Option Stored
+shelf_at None = None
+shelf_at (Some s) = (way_of s).shelf
+
+-- the shelf that the change opens again
+abbrev pub stood_by : Kind → Steps Change Kept → Option Stored
+stood_by Edit h = None
+stood_by Undo h = shelf_at (next_of h.undo)
+stood_by Redo h = shelf_at (next_of h.redo)
+
+abbrev pub shelved_by : Kind → Steps Change Kept → Bool
+shelved_by Edit h = true
+shelved_by Undo h = is_kept (stood_by Undo h)
+shelved_by Redo h = is_kept (stood_by Redo h)
+
+-- the change is that of the step whose turn is next
+abbrev pub IsTop : Kind → Steps Change Kept → Change → Type 0
+IsTop Edit h x = Unit {0}
+IsTop Undo h x = (top : Beside Change Kept) × (next_of h.undo ≡ Some top) × (x ≡ inverse_of top.change)
+IsTop Redo h x = (top : Beside Change Kept) × (next_of h.redo ≡ Some top) × (x ≡ top.change)
+
+abbrev pub event_of : Kind → Change → View → Event
+event_of Edit x w = event.Edit x w
+event_of Undo x w = event.Undo w
+event_of Redo x w = event.Redo w

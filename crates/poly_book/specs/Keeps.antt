@@ -1,0 +1,39 @@
+-- What a book keeps of its fields.
+use Rattle.std.specs.Prelude.{List, length, ℕ, ◌+◌, ◌<◌, ◌≡◌, ◌≤◌}
+use Rattle.std.specs.Arc.{arc_value}
+use Rattle.poly_design.specs.Layout.{Layout}
+use Rattle.poly_design.specs.declared.change.Change.{Change}
+use Rattle.poly_tiling.specs.Names.{Grown}
+use Rattle.poly_tiling.specs.Puzzle.{View}
+use Rattle.poly_atom.specs.declared.atom.Atom.{Atom}
+use Rattle.poly_place.specs.Right.{IsRight}
+use Rattle.poly_undo.specs.Steps.{Steps}
+use Rattle.poly_book.specs.declared.parts.Parts.{Parts}
+use Rattle.poly_book.specs.declared.shelf.Kept.{Kept}
+use Rattle.poly_book.specs.declared.step.Step.{Step}
+use Rattle.poly_book.specs.declared.step.Ending.{Ending}
+use Rattle.poly_book.specs.declared.task.Pending.{Pending}
+use Rattle.poly_book.specs.Meaning.{AreTasks, shown}
+use Rattle.poly_book.specs.States.{State}
+use Rattle.poly_book.specs.Whole.{Whole}
+
+-- What the fields show is whole; the table is right for the design and has at least the view's numbers; each task was
+-- made by now; the log has the guards of each step; numbers and editions are within their limits; each task number below
+-- the next one is of a task that is pending or has ended; the history has at most 256 steps.
+pub record KeepsOf (o d : Layout) (v table : View) (ls : List (List ℕ)) (log : List (List Atom)) (ps : List Pending) (n : ℕ) (h : Steps Change Kept) (ss : List Step) (es : List Ending) : Type 0 where
+  pub whole : Whole (shown o d v ls log ps n h ss es)
+  pub right : IsRight table d
+  pub grown : Grown v table
+  pub tasks : AreTasks log ps
+  pub log_length : length log ≡ length ss
+  pub few_steps : length ss ≤ 100000
+  pub few_tasks : n ≤ 4294967296
+  pub numbered : length es + length ps < n
+  pub few_ways : length h.undo + length h.redo ≤ 256
+
+-- the state that the fields show
+abbrev pub state_of : Parts → State
+state_of p = shown p.opened p.design (arc_value p.view) p.listed p.log p.tasks.items p.next p.history p.steps.items p.endings.items
+
+abbrev pub Keeps : Parts → Type 0
+Keeps p = KeepsOf p.opened p.design (arc_value p.view) p.table p.listed p.log p.tasks.items p.next p.history p.steps.items p.endings.items

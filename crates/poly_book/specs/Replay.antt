@@ -1,0 +1,50 @@
+-- The design and the steps to undo and redo, as the stored steps give them one after the other.
+use Rattle.std.specs.Prelude.{List, [], drop, map, ◌∷◌, ◌≡◌}
+use Rattle.poly_design.specs.Changes.{HasBefore, changed, inverse_of}
+use Rattle.poly_design.specs.Layout.{Layout}
+use Rattle.poly_design.specs.Limits.{IsDesign}
+use Rattle.poly_design.specs.declared.change.Change.{Change}
+use Rattle.poly_book.specs.declared.step.Kind.{Kind}
+use Rattle.poly_book.specs.declared.step.Kind.TheVariants.{Edit, Redo, Undo}
+use Rattle.poly_book.specs.declared.step.Step.{Step}
+use Rattle.poly_book.specs.States.{State}
+use Rattle.poly_book.specs.Shelves.{newest}
+
+-- a design, the changes that can be undone and those that can be redone, the newest first
+pub record Trace : Type 0 where
+  pub design : Layout
+  pub back : List Change
+  pub forth : List Change
+
+-- a change is made: an undo makes the inverse of the change that it takes back
+abbrev pub traced : Trace → Kind → Change → Trace
+traced t Edit x = record { design = changed t.design x; back = newest 256 (x ∷ t.back); forth = [] }
+traced t Undo x = record { design = changed t.design x; back = drop 1 t.back; forth = inverse_of x ∷ t.forth }
+traced t Redo x = record { design = changed t.design x; back = newest 256 (x ∷ t.back); forth = drop 1 t.forth }
+
+-- the steps have their newest first
+abbrev pub replayed : Layout → List Step → Trace
+replayed o [] = record { design = o; back = []; forth = [] }
+replayed o (s ∷ ss) = traced (replayed o ss) s.kind s.change
+
+-- the change is that of the way that the step takes
+abbrev pub IsNext : Trace → Kind → Change → Type 0
+IsNext t Edit x = Unit {0}
+IsNext t Undo x = (rest : List Change) × (t.back ≡ inverse_of x ∷ rest)
+IsNext t Redo x = (rest : List Change) × (t.forth ≡ x ∷ rest)
+
+-- each step's change finds its before side standing
+abbrev pub AllStand : Layout → List Step → Type 0
+AllStand o [] = Unit {0}
+AllStand o (s ∷ ss) = HasBefore (replayed o ss).design s.change × IsNext (replayed o ss) s.kind s.change × AllStand o ss
+
+-- each step's change makes a design
+abbrev pub AllDesigns : Layout → List Step → Type 0
+AllDesigns o [] = Unit {0}
+AllDesigns o (s ∷ ss) = IsDesign (replayed o (s ∷ ss)).design × AllDesigns o ss
+
+-- the stored steps lead from the opening design to this state
+pub record Replay (s : State) : Type 0 where
+  pub is : replayed s.opened s.steps ≡ record { design = s.design; back = map (λ b. b.change) s.back; forth = map (λ b. b.change) s.forth }
+  pub stand : AllStand s.opened s.steps
+  pub designs : AllDesigns s.opened s.steps

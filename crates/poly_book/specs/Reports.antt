@@ -1,0 +1,38 @@
+-- A report that was applied.
+use Rattle.std.specs.List.{position_from}
+use Rattle.std.specs.Prelude.{List, Some, length, nat_lt, true, ℕ, ◌&&◌, ◌+◌, ◌==◌, ◌≡◌}
+use Rattle.poly_atom.specs.declared.atom.Atom.{Atom}
+use Rattle.poly_report.specs.Gather.{IsCutUp}
+use Rattle.poly_report.specs.Trees.{Plan}
+use Rattle.poly_report.specs.Sizes.{fits}
+use Rattle.poly_report.specs.Holds.{holds}
+use Rattle.poly_report.specs.Leaves.{tilings}
+use Rattle.poly_book.specs.declared.step.Applied.{Applied}
+use Rattle.poly_book.specs.declared.parts.Parts.{Parts}
+use Rattle.poly_book.specs.Events.{Report, step}
+use Rattle.poly_book.specs.Keeps.{state_of}
+use Rattle.poly_book.specs.Partition.{Becomes}
+use Rattle.poly_book.specs.States.{State}
+use Rattle.poly_book.specs.Tasks.{Task, atoms_of, find_task}
+
+-- The task is pending and the tree fits and holds; the state after the report is that of its event; the answer counts
+-- what it listed and opened, and whether it was made at an earlier edition.
+pub record IsApplied (k made : ℕ) (tree : Plan) (s t : State) (a : Applied) : Type 0 where
+  pub task : Task
+  pub found : find_task k s.pending ≡ Some task
+  pub right : (fits tree && holds s.view (atoms_of task) tree) ≡ true
+  pub becomes : Becomes (step s (Report k tree)) t
+  pub place : a.place ≡ length t.endings
+  pub listed : a.listed ≡ length (tilings s.view (atoms_of task) tree)
+  pub first : a.first ≡ s.next
+  pub opened : t.next ≡ a.first + a.opened
+  pub late : a.late ≡ nat_lt made (length s.steps)
+
+-- The tilings and the lists are the leaves of a tree that fits and holds for the pending task of the number, which stands
+-- at the place.
+pub record AreLeaves (p : Parts) (k place : ℕ) (tree : Plan) (found : List (List ℕ)) (left : List (List Atom)) : Type 0 where
+  pub task : Task
+  pub first : position_from (λ q. q.number == k) 0 p.tasks.items ≡ Some place
+  pub there : find_task k (state_of p).pending ≡ Some task
+  pub small : fits tree ≡ true
+  pub cut : IsCutUp (state_of p).view (atoms_of task) tree found left

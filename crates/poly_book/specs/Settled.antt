@@ -1,0 +1,36 @@
+-- What settling leaves.
+use Rattle.std.specs.Prelude.{Bool, List, [], false, length, map, true, ℕ, ◌++◌, ◌<◌, ◌≡◌, ◌⊎◌}
+use Rattle.poly_grid.specs.declared.refusal.Refusal.{Refusal}
+use Rattle.poly_grid.specs.declared.refusal.Refusal.TheVariants.{Memory, Unfinished}
+use Rattle.poly_report.specs.Trees.{Plan}
+use Rattle.poly_book.specs.declared.step.Ending.TheVariants.{Cut}
+use Rattle.poly_book.specs.Refused.{IsOver}
+use Rattle.poly_book.specs.States.{State}
+
+-- so many tasks were cut; the opening design, the design and the steps are the same
+pub record Cuts (s t : State) (n : ℕ) : Type 0 where
+  pub opened : t.opened ≡ s.opened
+  pub design : t.design ≡ s.design
+  pub view : t.view ≡ s.view
+  pub steps : t.steps ≡ s.steps
+  pub tasks : List ℕ
+  pub endings : t.endings ≡ s.endings ++ map (λ k. Cut k) tasks
+  pub count : length tasks ≡ n
+
+-- a task was cut; or nothing is pending, and nothing has happened
+abbrev pub IsTurn : State → State → Bool → Type 0
+IsTurn s t true = Cuts s t 1
+IsTurn s t false = (t ≡ s) × (s.pending ≡ [])
+
+-- memory ran out, or a limit stands against a report
+abbrev pub IsNotTurned : State → Refusal → Type 0
+IsNotTurned s e = (e ≡ Memory) ⊎ ((k : ℕ) × (tree : Plan) × IsOver k tree s e)
+
+-- nothing is pending, and so many tasks were cut
+pub record IsSettled (s t : State) (n : ℕ) : Type 0 where
+  pub cuts : Cuts s t n
+  pub none : t.pending ≡ []
+
+-- All turns cut a task, and one is pending still; or fewer did, and the next report was refused.
+abbrev pub IsNotSettled : ℕ → State → State → Refusal → Type 0
+IsNotSettled turns s t e = ((e ≡ Unfinished) × Cuts s t turns × (0 < length t.pending)) ⊎ ((n : ℕ) × (n < turns) × Cuts s t n × IsNotTurned t e)

@@ -1,0 +1,42 @@
+-- A change that was made.
+use Rattle.std.specs.Prelude.{List, length, ◌∷◌, ◌≡◌}
+use Rattle.poly_design.specs.Changes.{inverse_of}
+use Rattle.poly_design.specs.Edits.{IsAccepted}
+use Rattle.poly_design.specs.declared.change.Change.{Change}
+use Rattle.poly_design.specs.declared.edit.Edit.{Edit}
+use Rattle.poly_tiling.specs.Puzzle.{View}
+use Rattle.poly_book.specs.declared.step.Done.{Done}
+use Rattle.poly_book.specs.declared.step.Kind.{Kind}
+use Rattle.poly_book.specs.declared.step.Kind.TheVariants as kind
+use Rattle.poly_book.specs.Events.{Leads, step}
+use Rattle.poly_book.specs.Partition.{Becomes}
+use Rattle.poly_book.specs.States.{State, Way}
+use Rattle.poly_book.specs.Changing.{event_of}
+
+-- the change led to a design, and the state after it is that of its event; the answer has its place and its step
+pub record IsDone (k : Kind) (x : Change) (s t : State) (done : Done) : Type 0 where
+  pub view : View
+  pub leads : Leads s x view
+  pub becomes : Becomes (step s (event_of k x view)) t
+  pub place : done.place ≡ length t.steps
+  pub last : t.steps ≡ done.step ∷ s.steps
+
+-- the edit was accepted, and its change is an event of the state
+pub record IsEdited (e : Edit) (s t : State) (done : Done) : Type 0 where
+  pub change : Change
+  pub accepted : IsAccepted s.design e change
+  pub made : IsDone kind.Edit change s t done
+
+-- the last way back was taken
+pub record IsUndone (s t : State) (done : Done) : Type 0 where
+  pub way : Way
+  pub rest : List Way
+  pub top : s.back ≡ way ∷ rest
+  pub made : IsDone kind.Undo (inverse_of way.change) s t done
+
+-- the last way forth was taken
+pub record IsRedone (s t : State) (done : Done) : Type 0 where
+  pub way : Way
+  pub rest : List Way
+  pub top : s.forth ≡ way ∷ rest
+  pub made : IsDone kind.Redo way.change s t done

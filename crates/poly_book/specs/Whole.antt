@@ -1,0 +1,23 @@
+-- What holds of every book, and the runs of events that keep it.
+use Rattle.std.specs.Prelude.{List, [], ◌∷◌, ◌≡◌}
+use Rattle.poly_book.specs.Tasks.{Rising}
+use Rattle.poly_book.specs.States.{State}
+use Rattle.poly_book.specs.Events.{Event, Goes, step}
+use Rattle.poly_book.specs.Partition.{Becomes}
+use Rattle.poly_book.specs.Replay.{Replay}
+use Rattle.poly_book.specs.Trails.{Consistent, Trail}
+use Rattle.poly_book.specs.Quiet.{StaysQuiet}
+
+-- The tilings are shared out; the shelves are right; the steps lead to the design; what was quiet is undone to quiet;
+-- the tasks' numbers rise below the next one.
+pub record Whole (s : State) : Type 0 where
+  pub trail : Trail
+  pub consistent : Consistent s trail
+  pub stays_quiet : StaysQuiet s trail
+  pub replay : Replay s
+  pub rising : Rising 0 s.pending s.next
+
+-- the events lead from one state to another; how the listed tilings are ordered says nothing
+abbrev pub Runs : State → List Event → State → Type 0
+Runs s [] t = t ≡ s
+Runs s (e ∷ es) t = (u : State) × Goes s e × Becomes (step s e) u × Runs u es t

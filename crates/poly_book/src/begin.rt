@@ -1,0 +1,53 @@
+//! Beginning a book.
+ghost use Rattle.std.specs.Prelude.{◌≡◌, IfErr, IfOk};
+ghost use Rattle.poly_tiling.specs.Names.{WellNamed};
+ghost use Rattle.poly_tiling.specs.Shows.{Shows};
+ghost use Rattle.poly_book.specs.States.{opening};
+
+use crate::book::Book;
+use crate::parts::Parts;
+use crate::task::{Own, Pending};
+use poly_atom::GuardLog;
+use poly_catalogue::Catalogue;
+use poly_design::Design;
+use poly_grid::Refusal;
+use poly_place::Table;
+use poly_undo::History;
+use std::alloc::Global;
+use std::sync::Arc;
+
+impl Book {
+    /// The opening book of a design: no tiling is listed, and task 1 is pending without atoms. Fails only when out of
+    /// memory.
+    pub fn begin(alloc: Global, design: Design) -> Result<Book, Refusal>
+        ensures ok { IfOk result (λ b. (b ≡ opening design b.view) × WellNamed b.view × Shows b.view design) }
+        ensures why { IfErr result (λ e. e ≡ Refusal.Memory) }
+    {
+        let opened = design.copy()?;
+        let table = Table::of(alloc, &design)?;
+        let view = Arc::new(alloc, table.view()?)?;
+        let history = History::new(alloc)?;
+        let mut tasks = Vec::new(alloc);
+        tasks.push(Pending {
+            number: 1,
+            own: Own::Atoms(Vec::new(alloc)),
+            made: 0,
+        })?;
+        Ok(Book {
+            parts: Parts {
+                alloc,
+                opened,
+                design,
+                table,
+                view,
+                listed: Catalogue::new(alloc),
+                log: GuardLog::new(alloc),
+                tasks,
+                next: 2,
+                history,
+                steps: Vec::new(alloc),
+                endings: Vec::new(alloc),
+            },
+        })
+    }
+}

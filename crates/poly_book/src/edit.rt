@@ -1,0 +1,58 @@
+//! Edits, undo and redo: each is a change of the design, made in one way (`apply_change`).
+ghost use Rattle.std.specs.Prelude.{◌≡◌, IfErr, IfOk, OnErr};
+ghost use Rattle.poly_book.specs.Refused.{IsNotEdited, IsNotRedone, IsNotUndone};
+ghost use Rattle.poly_book.specs.Steps.{IsEdited, IsRedone, IsUndone};
+
+use crate::apply::apply_change;
+use crate::book::Book;
+use crate::step::{Done, Kind};
+use poly_design::Edit;
+use poly_grid::Refusal;
+
+impl Book {
+    /// Makes the change that the edit asks for. Listed tilings that are still tilings stay; what is new becomes tasks.
+    ///
+    /// Refused as `Design::check` refuses; then with `TooWide` if the change or its way back has over 20,000 guards, with
+    /// `Spent` if the edition, a task number or a placement number would pass its last value, and with `Memory`. A refused
+    /// edit leaves the book as it was.
+    pub fn edit(&mut self, edit: Edit) -> Result<Done, Refusal>
+        ensures ok { IfOk result (λ done. IsEdited edit self.old self.new done) }
+        ensures err { OnErr result (self.new ≡ self.old) }
+        ensures why { IfErr result (λ e. IsNotEdited edit self.old e) }
+    {
+        let change = self.parts.design.check(&edit)?;
+        apply_change(&mut self.parts, Kind::Edit, change)
+    }
+
+    /// Undoes the last change that isn't undone.
+    ///
+    /// Refused with `NothingToUndo` if there is none; then with `Spent` as for an edit, with `CatalogueFull` if over
+    /// 1,000,000 tilings would be listed, and with `Memory`. A refused undo leaves the book as it was.
+    pub fn undo(&mut self) -> Result<Done, Refusal>
+        ensures ok { IfOk result (λ done. IsUndone self.old self.new done) }
+        ensures err { OnErr result (self.new ≡ self.old) }
+        ensures why { IfErr result (λ e. IsNotUndone self.old e) }
+    {
+        let Some(step) = self.parts.history.last() else {
+            return Err(Refusal::NothingToUndo);
+        };
+        let change = step.change.copy()?.inverse();
+        apply_change(&mut self.parts, Kind::Undo, change)
+    }
+
+    /// Makes the last change that was undone again.
+    ///
+    /// Refused with `NothingToRedo` if there is none; then with `Spent` as for an edit, with `CatalogueFull` if over
+    /// 1,000,000 tilings would be listed, and with `Memory`. A refused redo leaves the book as it was.
+    pub fn redo(&mut self) -> Result<Done, Refusal>
+        ensures ok { IfOk result (λ done. IsRedone self.old self.new done) }
+        ensures err { OnErr result (self.new ≡ self.old) }
+        ensures why { IfErr result (λ e. IsNotRedone self.old e) }
+    {
+        let Some(step) = self.parts.history.ahead() else {
+            return Err(Refusal::NothingToRedo);
+        };
+        let change = step.change.copy()?;
+        apply_change(&mut self.parts, Kind::Redo, change)
+    }
+}

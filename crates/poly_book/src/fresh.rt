@@ -1,0 +1,190 @@
+//! New tasks: the stairs of a change, what is crossed with them, and the rests of a report. Hopeless lists get no task.
+ghost use Rattle.std.specs.Prelude.{◌≡◌, ◌≤◌, ◌<◌, ◌++◌, ◌+◌, ◌∷◌, ◌⊎◌, ℕ, [], IfErr, IfOk, OnOk, List, length, map, option_copied};
+ghost use Rattle.std.specs.List.{flat_map};
+ghost use Rattle.poly_atom.specs.declared.atom.Atom.{Atom as AtomOf};
+ghost use Rattle.poly_atom.specs.Atoms.{AllSmall, IsSmall, negated};
+ghost use Rattle.poly_atom.specs.Hopeless.{hopeless};
+ghost use Rattle.poly_atom.specs.Stairs.{stairs};
+ghost use Rattle.poly_report.specs.Gather.{lists};
+ghost use Rattle.poly_book.specs.Opens.{Opens};
+ghost use Rattle.poly_book.specs.Meaning.{stored_of};
+ghost use Rattle.poly_book.specs.Shelves.{crossed, openings};
+ghost use Rattle.poly_book.specs.Tasks.{hopeful};
+
+use crate::task::{Own, Pending};
+use poly_atom::{Atom, Stair, hopeless, staircase};
+use poly_grid::Refusal;
+use poly_tiling::View;
+use poly_undo::Shelf;
+use std::alloc::Global;
+
+/// The greatest task number.
+const LAST: u64 = 4_294_967_295;
+
+/// The lists that are opened, as tasks under the next numbers.
+pub(crate) fn opened(
+    alloc: Global,
+    view: &View,
+    all: Vec<Vec<Atom>>,
+    next: u64,
+    made: u64,
+) -> Result<Vec<Pending>, Refusal>
+    requires { next ≤ 4294967296 }
+    ensures ok { IfOk result (λ ps. (log : List (List AtomOf)) → length log ≡ made → Opens log next view.now (lists all.items) ps.items) }
+    ensures few { IfOk result (λ ps. next + length ps.items ≤ 4294967296) }
+    ensures why { IfErr result (λ e. ((e ≡ Refusal.Spent) × (4294967296 < next + length (hopeful view.now (lists all.items)))) ⊎ (e ≡ Refusal.Memory)) }
+{
+    let mut tasks = Vec::new(alloc);
+    let mut number = next;
+    for own in all {
+        if !hopeless(view, &own) {
+            if number > LAST {
+                return Err(Refusal::Spent);
+            }
+            tasks.push(Pending {
+                number: number as u32,
+                own: Own::Atoms(own),
+                made,
+            })?;
+            number += 1;
+        }
+    }
+    Ok(tasks)
+}
+
+/// The stairs of the guards that led from the edition, as tasks under the next numbers.
+pub(crate) fn opened_stairs(
+    alloc: Global,
+    view: &View,
+    guards: &[Atom],
+    next: u64,
+    edition: u64,
+) -> Result<Vec<Pending>, Refusal>
+    requires next { next ≤ 4294967296 }
+    requires edition { edition < 1000000 }
+    requires small { AllSmall guards.now }
+    ensures ok { IfOk result (λ ps. (log : List (List AtomOf)) → length log ≡ edition → Opens (log ++ guards.now ∷ []) next view.now (stairs guards.now) ps.items) }
+    ensures few { IfOk result (λ ps. next + length ps.items ≤ 4294967296) }
+    ensures why { IfErr result (λ e. ((e ≡ Refusal.Spent) × (4294967296 < next + length (hopeful view.now (stairs guards.now)))) ⊎ (e ≡ Refusal.Memory)) }
+{
+    let mut tasks = Vec::new(alloc);
+    let mut number = next;
+    let mut stair: Vec<Atom> = Vec::new(alloc);
+    for index in 0..guards.len() {
+        if next_stair(view, &mut stair, &guards[index])? {
+            continue;
+        }
+        if number > LAST {
+            return Err(Refusal::Spent);
+        }
+        tasks.push(Pending {
+            number: number as u32,
+            own: Own::Stair(Stair { edition, index }),
+            made: edition + 1,
+        })?;
+        number += 1;
+    }
+    Ok(tasks)
+}
+
+// Whether the atoms and the negation of the next one are hopeless; the next one is put behind the atoms.
+fn next_stair(view: &View, atoms: &mut Vec<Atom>, guard: &Atom) -> Result<bool, Refusal>
+    requires { IsSmall guard.now }
+    ensures ok { IfOk result (λ yes. yes ≡ hopeless view.now (atoms.old.items ++ negated guard.now ∷ [])) }
+    ensures more { IfOk result (λ yes. atoms.new.items ≡ atoms.old.items ++ guard.now ∷ []) }
+    ensures why { IfErr result (λ e. e ≡ Refusal.Memory) }
+{
+    let broken = guard.negated();
+    atoms.push(broken)?;
+    let yes = hopeless(view, atoms);
+    let _ = atoms.pop();
+    atoms.push(*guard)?;
+    Ok(yes)
+}
+
+/// Each of the first lists followed by each stair of the guards.
+pub(crate) fn crossed_lists(
+    alloc: Global,
+    frozen: &[Vec<Atom>],
+    guards: &[Atom],
+) -> Result<Vec<Vec<Atom>>, Refusal>
+    requires { AllSmall guards.now }
+    ensures ok { IfOk result (λ all. lists all.items ≡ crossed (lists frozen.now) (stairs guards.now)) }
+    ensures why { IfErr result (λ e. e ≡ Refusal.Memory) }
+{
+    let mut all = Vec::new(alloc);
+    if frozen.is_empty() {
+        return Ok(all);
+    }
+    let steps = staircase(alloc, guards)?;
+    for before in frozen {
+        add_crossed(alloc, before, &steps, &mut all)?;
+    }
+    Ok(all)
+}
+
+fn add_crossed(
+    alloc: Global,
+    before: &[Atom],
+    steps: &[Vec<Atom>],
+    all: &mut Vec<Vec<Atom>>,
+) -> Result<(), Refusal>
+    ensures ok { OnOk result (lists all.new.items ≡ lists all.old.items ++ map (λ B. before.now ++ B) (lists steps.now)) }
+    ensures why { IfErr result (λ e. e ≡ Refusal.Memory) }
+{
+    for step in steps {
+        let list = joined(alloc, before, step)?;
+        all.push(list)?;
+    }
+    Ok(())
+}
+
+fn joined(alloc: Global, before: &[Atom], after: &[Atom]) -> Result<Vec<Atom>, Refusal>
+    ensures ok { IfOk result (λ list. list.items ≡ before.now ++ after.now) }
+    ensures why { IfErr result (λ e. e ≡ Refusal.Memory) }
+{
+    let mut list = Vec::from_slice(alloc, before)?;
+    list.extend_from_slice(after)?;
+    Ok(list)
+}
+
+/// The tasks that a change from the edition opens: its stairs, or with a shelf each frozen list followed by each stair.
+pub(crate) fn fresh_tasks(
+    alloc: Global,
+    view: &View,
+    guards: &[Atom],
+    stood: Option<&Shelf>,
+    next: u64,
+    edition: u64,
+) -> Result<Vec<Pending>, Refusal>
+    requires next { next ≤ 4294967296 }
+    requires edition { edition < 1000000 }
+    requires small { AllSmall guards.now }
+    ensures ok { IfOk result (λ ps. (log : List (List AtomOf)) → length log ≡ edition → Opens (log ++ guards.now ∷ []) next view.now (openings (stored_of (option_copied stood.entry)) (stairs guards.now)) ps.items) }
+    ensures few { IfOk result (λ ps. next + length ps.items ≤ 4294967296) }
+    ensures why { IfErr result (λ e. ((e ≡ Refusal.Spent) × (4294967296 < next + length (hopeful view.now (openings (stored_of (option_copied stood.entry)) (stairs guards.now))))) ⊎ (e ≡ Refusal.Memory)) }
+{
+    match stood {
+        None => opened_stairs(alloc, view, guards, next, edition),
+        Some(shelf) => fresh_crossed(alloc, view, guards, &shelf.frozen, next, edition),
+    }
+}
+
+fn fresh_crossed(
+    alloc: Global,
+    view: &View,
+    guards: &[Atom],
+    frozen: &[Vec<Atom>],
+    next: u64,
+    edition: u64,
+) -> Result<Vec<Pending>, Refusal>
+    requires next { next ≤ 4294967296 }
+    requires edition { edition < 1000000 }
+    requires small { AllSmall guards.now }
+    ensures ok { IfOk result (λ ps. (log : List (List AtomOf)) → length log ≡ edition → Opens (log ++ guards.now ∷ []) next view.now (crossed (lists frozen.now) (stairs guards.now)) ps.items) }
+    ensures few { IfOk result (λ ps. next + length ps.items ≤ 4294967296) }
+    ensures why { IfErr result (λ e. ((e ≡ Refusal.Spent) × (4294967296 < next + length (hopeful view.now (crossed (lists frozen.now) (stairs guards.now))))) ⊎ (e ≡ Refusal.Memory)) }
+{
+    let all = crossed_lists(alloc, frozen, guards)?;
+    opened(alloc, view, all, next, edition + 1)
+}

@@ -1,0 +1,106 @@
+//! Handing a report in: its task ends, its tilings are listed, and what it leaves becomes new tasks.
+ghost use Rattle.std.specs.Prelude.{◌≡◌, ◌<◌, ◌==◌, IfErr, IfOk, OnErr, ℕ};
+ghost use Rattle.std.specs.List.{position_from};
+ghost use Rattle.poly_report.specs.Gather.{lists};
+ghost use Rattle.poly_report.specs.Shapes.{plan_of};
+ghost use Rattle.poly_report.specs.Trees.{Plan};
+ghost use Rattle.poly_book.specs.Keeps.{Keeps, state_of};
+ghost use Rattle.poly_book.specs.Refused.{IsNotApplied, IsOver};
+ghost use Rattle.poly_book.specs.Reports.{AreLeaves, IsApplied};
+
+use crate::apply::push_tasks;
+use crate::book::Book;
+use crate::fresh::opened;
+use crate::parts::Parts;
+use crate::step::{Applied, Ending};
+use crate::task::{Pending, all_atoms};
+use poly_grid::Refusal;
+use poly_report::{Leaves, Report, cut_up, fits};
+
+impl Book {
+    /// Applies the report: its task ends as `Cut`, the tree's tilings are listed, and its rests that aren't hopeless are
+    /// opened as tasks. The report's edition decides nothing.
+    ///
+    /// Refused with `Gone` if the task isn't pending, with `TooLarge` if the tree doesn't fit, with `DoesNotHold` if it
+    /// doesn't hold for the task's atoms, with `Spent` if a task number would pass its last value, with `CatalogueFull` if
+    /// over 1,000,000 tilings would be listed, and with `Memory`. A refused report leaves the book as it was.
+    pub fn hand_in(&mut self, report: Report) -> Result<Applied, Refusal>
+        ensures ok { IfOk result (λ a. IsApplied report.task report.edition (plan_of report.tree) self.old self.new a) }
+        ensures err { OnErr result (self.new ≡ self.old) }
+        ensures why { IfErr result (λ e. IsNotApplied report.task (plan_of report.tree) self.old e) }
+    {
+        apply_report(&mut self.parts, &report)
+    }
+}
+
+// Checks the report, and applies what it leaves.
+fn apply_report(parts: &mut Parts, report: &Report) -> Result<Applied, Refusal>
+    requires keeps { Keeps parts.old }
+    ensures keeps { Keeps parts.new }
+    ensures ok { IfOk result (λ a. IsApplied report.now.task report.now.edition (plan_of report.now.tree) (state_of parts.old) (state_of parts.new) a) }
+    ensures err { OnErr result (state_of parts.new ≡ state_of parts.old) }
+    ensures why { IfErr result (λ e. IsNotApplied report.now.task (plan_of report.now.tree) (state_of parts.old) e) }
+{
+    let Some(at) = place_of(&parts.tasks, report.task) else {
+        return Err(Refusal::Gone);
+    };
+    if !fits(&report.tree) {
+        return Err(Refusal::TooLarge);
+    }
+    let atoms = all_atoms(parts.alloc, &parts.log, &parts.tasks[at])?;
+    let Some(leaves) = cut_up(parts.alloc, &parts.view, &atoms, &report.tree)? else {
+        return Err(Refusal::DoesNotHold);
+    };
+    apply_leaves(parts, at, report.edition, leaves)
+}
+
+/// Ends the task at the place, lists the tilings and opens the rests: the leaves of a tree that fits and holds for it.
+pub(crate) fn apply_leaves(
+    parts: &mut Parts,
+    at: usize,
+    edition: u64,
+    leaves: Leaves,
+) -> Result<Applied, Refusal>
+    requires keeps { Keeps parts.old }
+    requires leaves { (k : ℕ) × (tree : Plan) × AreLeaves parts.old k at tree leaves.tilings.items (lists leaves.rests.items) }
+    ensures keeps { Keeps parts.new }
+    ensures ok { IfOk result (λ a. (k : ℕ) (tree : Plan) → AreLeaves parts.old k at tree leaves.tilings.items (lists leaves.rests.items) → IsApplied k edition tree (state_of parts.old) (state_of parts.new) a) }
+    ensures err { OnErr result (state_of parts.new ≡ state_of parts.old) }
+    ensures why { IfErr result (λ e. (k : ℕ) (tree : Plan) → AreLeaves parts.old k at tree leaves.tilings.items (lists leaves.rests.items) → IsOver k tree (state_of parts.old) e) }
+{
+    let Leaves { tilings, rests } = leaves;
+    let now = parts.log.len() as u64;
+    let start = parts.next;
+    let fresh = opened(parts.alloc, &parts.view, rests, start, now)?;
+    let more = fresh.len();
+    let found = tilings.len() as u64;
+    let place = parts.endings.len() as u64 + 1;
+    parts.tasks.reserve(more)?;
+    parts.endings.reserve(1)?;
+    parts.listed.list_all(&parts.view, tilings)?;
+    let task = parts.tasks.remove(at);
+    push_tasks(fresh, &mut parts.tasks);
+    parts
+        .endings
+        .push_reserved(Ending::Cut { task: task.number });
+    parts.next += more as u64;
+    Ok(Applied {
+        place,
+        listed: found,
+        opened: more as u64,
+        first: start,
+        late: edition < now,
+    })
+}
+
+/// The first place of the number.
+pub(crate) fn place_of(tasks: &[Pending], number: u32) -> Option<usize>
+    ensures { result ≡ position_from (λ p. p.number == number) 0 tasks.now }
+{
+    for (i, task) in tasks.iter().enumerate() {
+        if task.number == number {
+            return Some(i);
+        }
+    }
+    None
+}

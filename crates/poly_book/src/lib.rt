@@ -1,0 +1,39 @@
+//! The book: a design under edits with exact undo, the tilings that are listed and the tasks that are still to be searched.
+//!
+//! Whatever happens, each tiling of the design is listed once or belongs to exactly one pending task, and nothing else is
+//! listed. So with no task pending the catalogue has all tilings.
+//!
+//! - [`Book`]: `begin`; `edit`, `undo`, `redo`; `next`, `take`, `hand_in`; `quiet`, `settle`, `vouch`; and what it holds:
+//!   `numbers`, `design`, `catalogue`, `view`, `steps`, `endings`.
+//! - [`Done`], [`Step`], [`Kind`]: a change that was made. [`Applied`], [`Ending`]: how a task ended.
+//! - [`Which`], [`Job`]: a task to be worked on.
+//! - [`Quiet`]: all tilings of a design.
+//! - [`laws`]: what holds of whole runs of events.
+#![tactic(auto)]
+
+mod apply;
+mod begin;
+mod book;
+mod edit;
+mod fresh;
+mod hand_in;
+pub mod laws;
+mod parts;
+mod prepare;
+mod quiet;
+mod settle;
+mod shelf;
+mod step;
+mod take;
+mod task;
+mod vouch;
+
+pub use book::{Book, Numbers};
+pub use quiet::Quiet;
+pub use shelf::Kept;
+pub use step::{Applied, Done, Ending, Kind, Step};
+pub use take::{Job, Which};
+pub use task::{Own, Pending};
+
+#[cfg(test)]
+mod tests;

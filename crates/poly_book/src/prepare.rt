@@ -1,0 +1,271 @@
+//! What a change needs, prepared before anything is changed: whatever may be refused comes first.
+ghost use Rattle.std.specs.Prelude.{◌≡◌, ◌≤◌, ◌<◌, ◌*◌, ◌+◌, ◌++◌, ◌⊎◌, ◌∷◌, [], IfErr, IfOk, List, None, Some, cond, length, map, nat_le, not, option_copied, true};
+ghost use Rattle.std.specs.Arc.{arc_value};
+ghost use Rattle.std.specs.List.{filter};
+ghost use Rattle.poly_tiling.specs.Names.{Grown, Names};
+ghost use Rattle.poly_tiling.specs.Puzzle.{View as ViewOf, is_tiling};
+ghost use Rattle.poly_atom.specs.declared.atom.Atom.{Atom as AtomOf};
+ghost use Rattle.poly_atom.specs.Guards.{guards};
+ghost use Rattle.poly_atom.specs.Hopeless.{hopeless};
+ghost use Rattle.poly_atom.specs.Stairs.{stairs};
+ghost use Rattle.poly_catalogue.specs.Listed.{AreOfEither};
+ghost use Rattle.poly_report.specs.Gather.{lists};
+ghost use Rattle.poly_book.specs.Changing.{IsGathered, IsNotGathered, shelf_at, shelf_by, shelved_by, stood_by};
+ghost use Rattle.poly_book.specs.Events.{hopeless_endings};
+ghost use Rattle.poly_book.specs.Keeps.{Keeps};
+ghost use Rattle.poly_book.specs.Meaning.{AreTasks, own_of, stored_of, tasks_of};
+ghost use Rattle.poly_book.specs.Shelves.{openings, returned};
+ghost use Rattle.poly_book.specs.Tasks.{atoms_of, hopeful};
+
+use crate::fresh::fresh_tasks;
+use crate::parts::Parts;
+use crate::quiet::copies;
+use crate::shelf::Kept;
+use crate::step::{Ending, Kind};
+use crate::task::{Pending, all_atoms, is_hopeless};
+use poly_atom::{Atom, GuardLog, guards};
+use poly_design::{Change, Design};
+use poly_grid::Refusal;
+use poly_place::{Delta, Plan, Table};
+use poly_tiling::{Tiling, View};
+use poly_undo::{History, Shelf, Step as Beside};
+use std::alloc::Global;
+use std::sync::Arc;
+
+/// The most guards of a change, and of its way back.
+const MAX_GUARDS: usize = 20_000;
+
+/// The most changes of a book.
+const MAX_CHANGES: usize = 100_000;
+
+/// A shelf is kept if frozen tasks times guards of the way back are at most this.
+const MAX_SHELF: usize = 4096;
+
+/// What a change puts in.
+#[derive(Drop)]
+pub(crate) struct Prepared {
+    /// The design after it.
+    pub after: Design,
+    /// What it does to the table.
+    pub plan: Plan,
+    /// The design after it, by numbers.
+    pub view: Arc<View>,
+    /// Its guards.
+    pub guards: Vec<Atom>,
+    /// The tasks that it opens.
+    pub fresh: Vec<Pending>,
+    /// Which of the pending tasks go on.
+    pub flags: Vec<bool>,
+    /// The endings of the others.
+    pub ended: Vec<Ending>,
+    /// The tilings that it lists again.
+    pub returned: Vec<Tiling>,
+    /// What it stores for its way back, if that is kept.
+    pub shelf: Option<Shelf>,
+    /// Room for the tasks after it.
+    pub room: Vec<Pending>,
+}
+
+/// Prepares a change to the design after, whose plan the table made.
+pub(crate) fn gather(
+    parts: &Parts,
+    kind: Kind,
+    after: Design,
+    plan: Plan,
+) -> Result<Prepared, Refusal>
+    requires keeps { Keeps parts.now }
+    requires names { Names (arc_value parts.now.view) (arc_value plan.view) }
+    requires named { (arc_value plan.view).placements ≡ parts.now.table.placements }
+    requires either { AreOfEither (arc_value plan.view) plan.delta parts.now.listed }
+    ensures ok { IfOk result (λ r. IsGathered (arc_value parts.now.view) parts.now.listed parts.now.log parts.now.tasks.items (stood_by kind parts.now.history) after plan parts.now.next r) }
+    ensures few { IfOk result (λ r. length parts.now.steps.items < 100000) }
+    ensures why { IfErr result (λ e. IsNotGathered (arc_value parts.now.view) (arc_value plan.view) kind (length parts.now.steps.items) parts.now.next (stood_by kind parts.now.history) e) }
+{
+    let alloc = parts.alloc;
+    let view = Arc::try_clone(&plan.view)?;
+    let laid = guards(alloc, &parts.view, &view)?;
+    let back = guards_back(alloc, &parts.table, &parts.view, &view)?;
+    if is_edit(kind) && (laid.len() > MAX_GUARDS || back.len() > MAX_GUARDS) {
+        return Err(Refusal::TooWide);
+    }
+    if parts.steps.len() >= MAX_CHANGES {
+        return Err(Refusal::Spent);
+    }
+    let stood = shelf_ahead(&parts.history, kind);
+    let edition = parts.log.len() as u64;
+    let fresh = fresh_tasks(alloc, &view, &laid, stood, parts.next, edition)?;
+    let flags = surviving(alloc, &view, &parts.log, &parts.tasks)?;
+    let ended = endings_of(alloc, &parts.tasks, &flags, edition + 1)?;
+    let returned = returning(alloc, stood)?;
+    let width = back.len();
+    let shelf = shelve(parts, &view, &plan.delta, width)?;
+    let room = Vec::with_capacity(alloc, parts.tasks.len() + fresh.len())?;
+    Ok(Prepared {
+        after,
+        plan,
+        view,
+        guards: laid,
+        fresh,
+        flags,
+        ended,
+        returned,
+        shelf,
+        room,
+    })
+}
+
+// The guards of the way back from a view to the one that the table grew from.
+fn guards_back(
+    alloc: Global,
+    table: &Table,
+    before: &View,
+    after: &View,
+) -> Result<Vec<Atom>, Refusal>
+    requires grown { Grown before.now table.now }
+    requires named { after.now.placements ≡ table.now.placements }
+    ensures ok { IfOk result (λ atoms. atoms.items ≡ guards after.now before.now) }
+    ensures why { IfErr result (λ e. e ≡ Refusal.Memory) }
+{
+    let grown = table.view()?;
+    let atoms = guards(alloc, after, &grown)?;
+    Ok(atoms)
+}
+
+// Which tasks go on.
+fn surviving(
+    alloc: Global,
+    view: &View,
+    log: &GuardLog,
+    tasks: &[Pending],
+) -> Result<Vec<bool>, Refusal>
+    requires { AreTasks log.now tasks.now }
+    ensures ok { IfOk result (λ v. v.items ≡ map (λ p. not (hopeless view.now (own_of log.now p.own))) tasks.now) }
+    ensures why { IfErr result (λ e. e ≡ Refusal.Memory) }
+{
+    let mut flags = Vec::new(alloc);
+    for task in tasks {
+        let ends = is_hopeless(alloc, view, log, &task.own)?;
+        flags.push(!ends)?;
+    }
+    Ok(flags)
+}
+
+// The endings of the tasks that don't go on.
+fn endings_of(
+    alloc: Global,
+    tasks: &[Pending],
+    flags: &[bool],
+    edition: u64,
+) -> Result<Vec<Ending>, Refusal>
+    requires { length flags.now ≡ length tasks.now }
+    ensures ok { IfOk result (λ v. (log : List (List AtomOf)) (w : ViewOf) → flags.now ≡ map (λ p. not (hopeless w (own_of log p.own))) tasks.now → v.items ≡ hopeless_endings w edition (tasks_of log tasks.now)) }
+    ensures why { IfErr result (λ e. e ≡ Refusal.Memory) }
+{
+    let mut all = Vec::new(alloc);
+    for i in 0..tasks.len() {
+        if flags[i] {
+            continue;
+        }
+        all.push(Ending::Hopeless {
+            task: tasks[i].number,
+            edition,
+        })?;
+    }
+    Ok(all)
+}
+
+// What a change to the view stores for its way back, which has so many guards, if that is kept.
+fn shelve(parts: &Parts, view: &View, delta: &Delta, width: usize) -> Result<Option<Shelf>, Refusal>
+    requires tasks { AreTasks parts.now.log parts.now.tasks.items }
+    requires either { AreOfEither view.now delta.now parts.now.listed }
+    ensures ok { IfOk result (λ h. stored_of h ≡ shelf_by view.now parts.now.listed parts.now.log parts.now.tasks.items width) }
+    ensures why { IfErr result (λ e. e ≡ Refusal.Memory) }
+{
+    if !is_small(parts.tasks.len(), width) {
+        return Ok(None);
+    }
+    let tilings = parts.listed.leaving(view, delta)?;
+    let frozen = frozen_atoms(parts.alloc, &parts.log, &parts.tasks)?;
+    Ok(Some(Shelf { tilings, frozen }))
+}
+
+fn is_small(count: usize, width: usize) -> bool
+    ensures { result ≡ nat_le (count * width) 4096 }
+{
+    if count == 0 || width == 0 {
+        return true;
+    }
+    if count > MAX_SHELF || width > MAX_SHELF {
+        return false;
+    }
+    count * width <= MAX_SHELF
+}
+
+// The atoms of all tasks.
+fn frozen_atoms(alloc: Global, log: &GuardLog, tasks: &[Pending]) -> Result<Vec<Vec<Atom>>, Refusal>
+    requires { AreTasks log.now tasks.now }
+    ensures ok { IfOk result (λ v. lists v.items ≡ map (λ t. atoms_of t) (tasks_of log.now tasks.now)) }
+    ensures why { IfErr result (λ e. e ≡ Refusal.Memory) }
+{
+    let mut all = Vec::new(alloc);
+    for task in tasks {
+        let atoms = all_atoms(alloc, log, task)?;
+        all.push(atoms)?;
+    }
+    Ok(all)
+}
+
+// The tilings that a change lists again.
+fn returning(alloc: Global, stood: Option<&Shelf>) -> Result<Vec<Tiling>, Refusal>
+    ensures ok { IfOk result (λ v. v.items ≡ returned (stored_of (option_copied stood.entry))) }
+    ensures why { IfErr result (λ e. e ≡ Refusal.Memory) }
+{
+    match stood {
+        None => Ok(Vec::new(alloc)),
+        Some(shelf) => copies(alloc, &shelf.tilings),
+    }
+}
+
+// The shelf that the change opens again, if one was kept.
+fn shelf_ahead(history: &History<Change, Kept>, kind: Kind) -> Option<&Shelf>
+    ensures { stored_of (option_copied result) ≡ stood_by kind history.now }
+{
+    match kind {
+        Kind::Edit => None,
+        Kind::Undo => shelf_of_step(history.last()),
+        Kind::Redo => shelf_of_step(history.ahead()),
+    }
+}
+
+fn shelf_of_step(step: Option<&Beside<Change, Kept>>) -> Option<&Shelf>
+    ensures { stored_of (option_copied result) ≡ shelf_at (option_copied step.entry) }
+{
+    match step {
+        None => None,
+        Some(step) => match &step.kept {
+            None => None,
+            Some(kept) => kept.shelf.as_ref(),
+        },
+    }
+}
+
+/// Whether the change is an edit, or an undo or redo with a kept shelf.
+pub(crate) fn is_shelved(history: &History<Change, Kept>, kind: Kind) -> bool
+    ensures { result ≡ shelved_by kind history.now }
+{
+    match kind {
+        Kind::Edit => true,
+        Kind::Undo => shelf_of_step(history.last()).is_some(),
+        Kind::Redo => shelf_of_step(history.ahead()).is_some(),
+    }
+}
+
+fn is_edit(kind: Kind) -> bool
+    ensures { result ≡ true → kind ≡ Kind.Edit }
+{
+    match kind {
+        Kind::Edit => true,
+        Kind::Undo => false,
+        Kind::Redo => false,
+    }
+}

@@ -1,0 +1,72 @@
+//! Settling: taking tasks, exploring them and handing the results in until nothing is pending.
+ghost use Rattle.std.specs.Prelude.{◌≡◌, ◌≤◌, IfErr, IfOk, OnErr};
+ghost use Rattle.poly_book.specs.Keeps.{Keeps, state_of};
+ghost use Rattle.poly_book.specs.Settled.{IsNotSettled, IsNotTurned, IsSettled, IsTurn};
+
+use crate::book::Book;
+use crate::hand_in::apply_leaves;
+use crate::parts::Parts;
+use crate::task::all_atoms;
+use poly_grid::Refusal;
+use poly_search::explore_with_leaves;
+
+impl Book {
+    /// Takes tasks, explores each with at most `nodes` nodes and hands the result in, until nothing is pending. Returns
+    /// how many reports were applied. The design and the steps stay. `nodes` is from 1 to 4,096.
+    ///
+    /// Refused with `Unfinished` if `turns` reports were applied and a task is pending still, and as `hand_in` is refused
+    /// for a report that holds: with `Spent`, `CatalogueFull` or `Memory`. Reports that were applied before a refusal stay
+    /// applied.
+    pub fn settle(&mut self, turns: u64, nodes: u32) -> Result<u64, Refusal>
+        requires some { 1 ≤ nodes }
+        requires few { nodes ≤ 4096 }
+        ensures ok { IfOk result (λ n. IsSettled self.old self.new n) }
+        ensures why { IfErr result (λ e. IsNotSettled turns self.old self.new e) }
+    {
+        settle_all(&mut self.parts, turns, nodes)
+    }
+}
+
+fn settle_all(parts: &mut Parts, turns: u64, nodes: u32) -> Result<u64, Refusal>
+    requires some { 1 ≤ nodes }
+    requires few { nodes ≤ 4096 }
+    requires keeps { Keeps parts.old }
+    ensures keeps { Keeps parts.new }
+    ensures ok { IfOk result (λ n. IsSettled (state_of parts.old) (state_of parts.new) n) }
+    ensures why { IfErr result (λ e. IsNotSettled turns (state_of parts.old) (state_of parts.new) e) }
+{
+    for applied in 0..turns {
+        match settle_one(parts, nodes) {
+            Ok(true) => {}
+            Ok(false) => return Ok(applied),
+            Err(refusal) => return Err(refusal),
+        }
+    }
+    if parts.tasks.is_empty() {
+        return Ok(turns);
+    }
+    Err(Refusal::Unfinished)
+}
+
+// One turn: whether there was a task. The tree that is found holds, so its leaves are applied without a check.
+fn settle_one(parts: &mut Parts, nodes: u32) -> Result<bool, Refusal>
+    requires some { 1 ≤ nodes }
+    requires few { nodes ≤ 4096 }
+    requires keeps { Keeps parts.old }
+    ensures keeps { Keeps parts.new }
+    ensures ok { IfOk result (λ more. IsTurn (state_of parts.old) (state_of parts.new) more) }
+    ensures err { OnErr result (state_of parts.new ≡ state_of parts.old) }
+    ensures why { IfErr result (λ e. IsNotTurned (state_of parts.old) e) }
+{
+    if parts.tasks.is_empty() {
+        return Ok(false);
+    }
+    let at = parts.tasks.len() - 1;
+    let atoms = all_atoms(parts.alloc, &parts.log, &parts.tasks[at])?;
+    let found = explore_with_leaves(parts.alloc, &parts.view, &atoms, nodes)?;
+    let edition = parts.log.len() as u64;
+    match apply_leaves(parts, at, edition, found.leaves) {
+        Ok(_) => Ok(true),
+        Err(refusal) => Err(refusal),
+    }
+}

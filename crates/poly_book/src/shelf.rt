@@ -1,0 +1,12 @@
+//! What the history keeps beside a change.
+
+use poly_undo::Shelf;
+
+/// What the history keeps beside a change.
+#[derive(Drop)]
+pub struct Kept {
+    /// The edition after the step that put it there.
+    pub made: u64,
+    /// What the change took away, if that was small enough to be kept.
+    pub shelf: Option<Shelf>,
+}

@@ -1,0 +1,68 @@
+//! What has happened to a book: the changes that were made, and how tasks ended.
+
+use poly_design::Change;
+
+/// How a change came about.
+#[derive(Clone, Copy, Debug, PartialEq, Eq)]
+pub enum Kind {
+    /// By an edit.
+    Edit,
+    /// By undoing a change: its inverse was made.
+    Undo,
+    /// By redoing a change that was undone.
+    Redo,
+}
+
+/// A change that was made. An undo makes the inverse of the change that it undoes.
+#[derive(Drop)]
+pub struct Step {
+    /// How it came about.
+    pub kind: Kind,
+    /// What it changed.
+    pub change: Change,
+    /// The number of tasks that were pending before it.
+    pub pending: u64,
+    /// False exactly for an undo or redo without a kept shelf.
+    pub shelved: bool,
+}
+
+/// The end of a task.
+#[derive(Clone, Copy, Debug, PartialEq, Eq)]
+pub enum Ending {
+    /// A report on the task was applied.
+    Cut {
+        /// The task's number.
+        task: u32,
+    },
+    /// A change left the task without tilings, as its own atoms show.
+    Hopeless {
+        /// The task's number.
+        task: u32,
+        /// The edition after the change.
+        edition: u64,
+    },
+}
+
+/// The answer of a change that was made.
+#[derive(Drop)]
+pub struct Done {
+    /// The edition after the change.
+    pub place: u64,
+    /// The change.
+    pub step: Step,
+}
+
+/// The answer of a report that was applied.
+#[derive(Clone, Copy, Debug, PartialEq, Eq)]
+pub struct Applied {
+    /// The number of endings after it.
+    pub place: u64,
+    /// The number of tilings that it listed.
+    pub listed: u64,
+    /// The number of tasks that it opened.
+    pub opened: u64,
+    /// The number of the first task that it opened; if it opened none, the number that the next new task gets.
+    pub first: u64,
+    /// Whether the report's edition is below the book's. It decides nothing.
+    pub late: bool,
+}

@@ -1,0 +1,51 @@
+//! Vouching for a Quiet: whether the book's first steps lead to its design.
+ghost use Rattle.std.specs.Prelude.{◌≡◌, ◌≤◌, ◌↔◌, IfErr, IfOk, IsTrue, length, take};
+ghost use Rattle.poly_book.specs.Vouched.{AllLead, IsLedTo, led_to};
+
+use crate::book::Book;
+use crate::quiet::Quiet;
+use crate::step::Step;
+use poly_design::Design;
+use poly_grid::Refusal;
+
+impl Book {
+    /// Whether the opening design and the first steps, as many as the edition of the Quiet, lead to the design of the
+    /// Quiet. False if there are fewer steps. Fails only when out of memory.
+    pub fn vouch(&self, quiet: &Quiet) -> Result<bool, Refusal>
+        ensures ok { IfOk result (λ yes. IsTrue yes ↔ IsLedTo self.now quiet.now.edition quiet.now.design) }
+        ensures why { IfErr result (λ e. e ≡ Refusal.Memory) }
+    {
+        leads_to(
+            &self.parts.opened,
+            &self.parts.steps,
+            quiet.edition(),
+            quiet.design(),
+        )
+    }
+}
+
+// Whether there are so many steps and the first of them lead from one design to the other.
+fn leads_to(first: &Design, steps: &[Step], count: u64, to: &Design) -> Result<bool, Refusal>
+    requires { AllLead first.now steps.now }
+    ensures ok { IfOk result (λ yes. IsTrue yes ↔ ((count ≤ length steps.now) × (led_to first.now (take count steps.now) ≡ to.now))) }
+    ensures why { IfErr result (λ e. e ≡ Refusal.Memory) }
+{
+    if count > steps.len() as u64 {
+        return Ok(false);
+    }
+    let design = made_by(first, &steps[..count as usize])?;
+    Ok(design.is_same(to))
+}
+
+// The design that the steps lead to.
+fn made_by(first: &Design, steps: &[Step]) -> Result<Design, Refusal>
+    requires { AllLead first.now steps.now }
+    ensures ok { IfOk result (λ d. d ≡ led_to first.now steps.now) }
+    ensures why { IfErr result (λ e. e ≡ Refusal.Memory) }
+{
+    let mut design = first.copy()?;
+    for step in steps {
+        design.make(&step.change)?;
+    }
+    Ok(design)
+}
