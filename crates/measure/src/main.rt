@@ -2,6 +2,7 @@
 //! line each.
 #![tactic(auto)]
 
+mod catalogue;
 mod edits;
 mod reports;
 mod searches;
@@ -15,7 +16,10 @@ fn main(rt: HostRuntime) -> io::Result<()> {
     for line in rt.lines(rt.alloc()) {
         let line = line?;
         match &design {
-            Some(design) => edits::measure(&rt, design, line.as_str())?,
+            Some(design) => {
+                edits::measure(&rt, design, line.as_str())?;
+                catalogue::measure(&rt, design, line.as_str())?;
+            }
             None => match puzzle_of(rt.alloc(), line.as_bytes()) {
                 Ok(read) => {
                     searches::measure(&rt, &read)?;

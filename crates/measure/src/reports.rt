@@ -1,12 +1,12 @@
-//! What the reports of a worker cost, and how large they are.
+//! What the reports of a worker cost, what their check costs, and how large they are.
 use poly_atom::Atom;
 use poly_grid::Refusal;
-use poly_report::{Tree, leaves};
-use poly_search::explore;
+use poly_report::{Matrix, Tree, cut_up_over};
+use poly_search::{Explored, explore_over};
 use poly_tiling::View;
 use std::alloc::Global;
 use std::io;
-use std::time::Instant;
+use std::time::{Duration, Instant};
 
 // The nodes of a report, as a worker asks for them.
 const NODES: u32 = 256;
@@ -18,44 +18,77 @@ struct Totals {
     nodes: u64,
     tilings: u64,
     pending: usize,
+    explored: Duration,
+    checked: Duration,
 }
 
-/// Measures one worker alone, who explores the newest task first until none is pending, and reads each report's leaves.
+/// Measures one worker alone, who explores the newest task first until none is pending, and the check of each report by
+/// one who doesn't trust it.
 pub fn measure(rt: &HostRuntime, view: &View) -> io::Result<()> {
-    let begin = Instant::now(rt)?;
-    let settled = settle(rt.alloc(), view);
-    let taken = begin.elapsed(rt)?.as_millis();
-    match settled {
-        Ok(totals) => println!(rt;
-            "explore and leaves at {NODES} nodes: {} tilings, {} reports, {} nodes, at most {} tasks pending, {taken} ms",
-            totals.tilings, totals.reports, totals.nodes, totals.pending
-        ),
-        Err(refusal) => println!(rt; "a report was refused: {}", refusal.name()),
-    }
-}
-
-fn settle(alloc: Global, view: &View) -> Result<Totals, Refusal> {
-    let mut pending: Vec<Vec<Atom>> = Vec::new(alloc);
-    pending.push(Vec::new(alloc))?;
     let mut totals = Totals {
         reports: 0,
         nodes: 0,
         tilings: 0,
         pending: 1,
+        explored: Duration::ZERO,
+        checked: Duration::ZERO,
     };
+    match settle(rt, view, &mut totals)? {
+        Ok(()) => {
+            println!(rt;
+                "explore with leaves at {NODES} nodes: {} tilings, {} reports, {} nodes, at most {} tasks pending, {} ms",
+                totals.tilings,
+                totals.reports,
+                totals.nodes,
+                totals.pending,
+                totals.explored.as_millis()
+            )?;
+            println!(rt;
+                "the check of these reports: {} ms",
+                totals.checked.as_millis()
+            )
+        }
+        Err(refusal) => println!(rt; "a report was refused: {}", refusal.name()),
+    }
+}
+
+fn settle(rt: &HostRuntime, view: &View, totals: &mut Totals) -> io::Result<Result<(), Refusal>> {
+    let alloc = rt.alloc();
+    let whole = match Matrix::new(alloc, view) {
+        Ok(whole) => whole,
+        Err(refusal) => return Ok(Err(refusal)),
+    };
+    let mut pending: Vec<Vec<Atom>> = Vec::new(alloc);
+    if pending.push(Vec::new(alloc)).is_err() {
+        return Ok(Err(Refusal::Memory));
+    }
     for _ in 0..u32::MAX {
         let Some(next) = pending.pop() else {
-            return Ok(totals);
+            return Ok(Ok(()));
         };
-        let tree = explore(alloc, view, &next, NODES)?;
-        let mut more = leaves(alloc, view, &next, &tree)?;
+        let begin = Instant::now(rt)?;
+        let explored = explore_over(alloc, view, &whole, &next, NODES);
+        totals.explored = totals.explored.saturating_add(begin.elapsed(rt)?);
+        let Explored { tree, leaves } = match explored {
+            Ok(explored) => explored,
+            Err(refusal) => return Ok(Err(refusal)),
+        };
+        let begin = Instant::now(rt)?;
+        let cut = cut_up_over(alloc, view, &whole, &next, &tree);
+        totals.checked = totals.checked.saturating_add(begin.elapsed(rt)?);
+        if let Err(refusal) = cut {
+            return Ok(Err(refusal));
+        }
+        let mut leaves = leaves;
         totals.reports = totals.reports.saturating_add(1);
         totals.nodes = totals.nodes.saturating_add(inner_nodes(&tree));
-        totals.tilings = totals.tilings.saturating_add(more.tilings.len() as u64);
-        pending.append(&mut more.rests)?;
+        totals.tilings = totals.tilings.saturating_add(leaves.tilings.len() as u64);
+        if pending.append(&mut leaves.rests).is_err() {
+            return Ok(Err(Refusal::Memory));
+        }
         totals.pending = totals.pending.max(pending.len());
     }
-    Ok(totals)
+    Ok(Ok(()))
 }
 
 // The nodes that aren't Rest.
