@@ -1,0 +1,11 @@
+use Rattle.std.proofs.Common.{List, subst, true, ◌≡◌, ℕ}
+use Rattle.std.specs.List.{list_all}
+use Rattle.poly_tiling.specs.Puzzle.{View, is_tiling}
+use Rattle.measure.proofs.Found.{found_once, found_tilings}
+use Rattle.measure.proofs.catalogue.all_tilings.Goals as goal
+
+pub returns-clause-tilings : goal.returns-clause-tilings
+returns-clause-tilings c = found_tilings c.in_ok-view.view c.in_ok-tilings.tilings.items c.in_ok-tilings.ensures.all
+
+pub returns-clause-once : goal.returns-clause-once
+returns-clause-once c = found_once c.in_ok-view.view c.in_ok-tilings.tilings.items c.in_ok-tilings.ensures.all

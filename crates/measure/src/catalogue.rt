@@ -1,0 +1,133 @@
+//! What the catalogue costs: memory and time to list all tilings of a design, and the time to keep those that an edit
+//! leaves.
+ghost use Rattle.std.specs.Prelude.{◌≡◌, IfOk, List, true, ℕ};
+ghost use Rattle.std.specs.Arc.{arc_value};
+ghost use Rattle.std.specs.List.{list_all};
+ghost use Rattle.poly_tiling.specs.Puzzle.{is_tiling};
+ghost use Rattle.poly_place.specs.Right.{IsRight};
+ghost use Rattle.poly_catalogue.specs.Listed.{AreOfEither, AreOnce};
+
+use poly_catalogue::Catalogue;
+use poly_design::{Design, Edit};
+use poly_grid::Refusal;
+use poly_place::{Delta, Plan, Table};
+use poly_search::search_all;
+use poly_text::{Command, asked};
+use poly_tiling::{Tiling, View};
+use std::alloc::Global;
+use std::time::Instant;
+use std::{fs, io};
+
+/// Lists all tilings of the design, and keeps those that the edit leaves.
+pub fn measure(rt: &HostRuntime, design: &Design, line: &str) -> io::Result<()> {
+    let Ok(Some(Command::Edit(edit))) = asked(rt.alloc(), design.grid(), line.as_bytes()) else {
+        return Ok(());
+    };
+    let Ok(mut table) = Table::of(rt.alloc(), design) else {
+        return println!(rt; "a table was refused");
+    };
+    let before = resident_bytes(rt)?;
+    let Ok((view, tilings)) = all_tilings(rt.alloc(), &table) else {
+        return println!(rt; "a search was refused");
+    };
+    let mut catalogue = Catalogue::new(rt.alloc());
+    let begin = Instant::now(rt)?;
+    let listed = catalogue.list_all(&view, tilings);
+    let taken = begin.elapsed(rt)?.as_millis();
+    match listed {
+        Ok(()) => {
+            let more = resident_bytes(rt)?.saturating_sub(before);
+            let each = more.checked_div(catalogue.len() as u64).unwrap_or(0);
+            println!(rt;
+                "list_all: {} tilings, {taken} ms, {each} bytes of resident memory a tiling",
+                catalogue.len()
+            )?;
+            measure_edit(rt, design, &mut table, &mut catalogue, &edit)
+        }
+        Err(refusal) => println!(rt; "list_all: {}", refusal.name()),
+    }
+}
+
+// All tilings of the table's design, with its view.
+fn all_tilings(alloc: Global, table: &Table) -> Result<(View, Vec<Tiling>), Refusal>
+    ensures tilings { IfOk result (λ r. list_all (is_tiling r.0) r.1.items ≡ true) }
+    ensures once { IfOk result (λ r. AreOnce r.1.items) }
+{
+    let view = table.view()?;
+    let tilings = search_all(alloc, &view, &[])?;
+    Ok((view, tilings))
+}
+
+fn measure_edit(
+    rt: &HostRuntime,
+    design: &Design,
+    table: &mut Table,
+    catalogue: &mut Catalogue,
+    edit: &Edit,
+) -> io::Result<()>
+    requires { IsRight table.old design.now }
+{
+    match plan_of(design, table, catalogue.all(), edit) {
+        Ok(plan) => measure_plan(rt, catalogue, &plan.view, &plan.delta),
+        Err(refusal) => println!(rt; "the edit was refused: {}", refusal.name()),
+    }
+}
+
+fn measure_plan(
+    rt: &HostRuntime,
+    catalogue: &mut Catalogue,
+    view: &View,
+    delta: &Delta,
+) -> io::Result<()>
+    requires { AreOfEither view.now delta.now catalogue.old }
+{
+    let begin = Instant::now(rt)?;
+    let leaving = catalogue.leaving(view, delta);
+    let taken = begin.elapsed(rt)?.as_micros();
+    if let Ok(gone) = leaving {
+        println!(rt; "leaving: {} tilings, {taken} us", gone.len())?;
+    }
+    let begin = Instant::now(rt)?;
+    catalogue.keep_only(view, delta);
+    let taken = begin.elapsed(rt)?.as_micros();
+    println!(rt; "keep_only: {} tilings stay, {taken} us", catalogue.len())
+}
+
+// The plan of the edit, if the listed tilings are tilings of the table.
+fn plan_of(
+    design: &Design,
+    table: &mut Table,
+    listed: &[Tiling],
+    edit: &Edit,
+) -> Result<Plan, Refusal>
+    requires { IsRight table.old design.now }
+    ensures { IfOk result (λ p. AreOfEither (arc_value p.view) p.delta listed.now) }
+{
+    let view = table.view()?;
+    if !are_tilings(&view, listed) {
+        return Err(Refusal::DoesNotHold);
+    }
+    let change = design.check(edit)?;
+    match table.plan(design, &change) {
+        Ok(plan) => Ok(plan),
+        Err(refusal) => Err(refusal),
+    }
+}
+
+fn are_tilings(view: &View, tilings: &[Tiling]) -> bool
+    ensures { result ≡ list_all (λ T. is_tiling view.now T) tilings.now }
+{
+    tilings.iter().all(|t| view.is_tiling(t.numbers()))
+}
+
+// The memory that the program holds now.
+fn resident_bytes(rt: &HostRuntime) -> io::Result<u64> {
+    let text = fs::read_to_string(rt, "/proc/self/statm")?;
+    let Some(pages) = text.as_str().split_whitespace().nth(1) else {
+        return Ok(0);
+    };
+    match pages.parse::<u64>() {
+        Ok(pages) => Ok(pages.saturating_mul(4096)),
+        Err(_) => Ok(0),
+    }
+}
