@@ -1,0 +1,296 @@
+//! Books of whole designs: late and hostile reports, wide changes, and runs of events.
+use crate::designs::{DOMINOES, design_of};
+use poly_book::laws::{Event, Ran, Reply, run};
+use poly_book::{Applied, Book};
+use poly_design::Edit;
+use poly_grid::{Cell, Refusal};
+use poly_report::{Arm, Report, Tree};
+use poly_search::search_all;
+use poly_text::{Command, asked};
+use poly_tiling::{Item, View};
+use std::alloc::Global;
+use std::process::Abort;
+
+const WIDE: &[u8] =
+    b"{\"format\":1,\"grid\":\"square\",\"board\":[\"++++++++++++++++\",\"++++++++++++++++\",\"++++++++++++++++\",\"++++++++++++++++\",\"++++++++++++++++\",\"++++++++++++++++\",\"++++++++++++++++\",\"++++++++++++++++\",\"++++++++++++++++\",\"++++++++++++++++\",\"++++++++++++++++\",\"++++++++++++++++\",\"++++++++++++++++\",\"++++++++++++++++\",\"++++++++++++++++\",\"++++++++++++++++\"],\"pieces\":[]}";
+
+fn book_of(rt: &impl Abort, alloc: Global, puzzle: &[u8]) -> Book {
+    let design = design_of(alloc, puzzle, &[]).expect(rt, "a puzzle line");
+    Book::begin(alloc, design).expect(rt, "memory")
+}
+
+// The edit of a command line.
+fn edit_of(rt: &impl Abort, alloc: Global, book: &Book, line: &[u8]) -> Edit {
+    match asked(alloc, book.design().grid(), line).expect(rt, "a command line") {
+        Some(Command::Edit(edit)) => edit,
+        _ => abort(rt),
+    }
+}
+
+fn abort<T>(rt: &impl Abort) -> T {
+    let none: Option<T> = None;
+    none.expect(rt, "an edit")
+}
+
+fn edit(rt: &impl Abort, alloc: Global, book: &mut Book, line: &[u8]) {
+    let edit = edit_of(rt, alloc, book, line);
+    let _ = book.edit(edit).expect(rt, "an edit that is accepted");
+}
+
+fn undo(rt: &impl Abort, book: &mut Book) {
+    let _ = book.undo().expect(rt, "a change to undo");
+}
+
+// Asserts the edition and the numbers of listed tilings and pending tasks.
+fn expect_status(rt: &impl Abort, book: &Book, want: (u64, u64, u64)) {
+    let numbers = book.numbers();
+    assert!(rt; (numbers.edition, numbers.listed, numbers.pending) == want);
+}
+
+// Settles the book and asserts how many tilings its Quiet has, and that it vouches for it.
+fn expect_quiet(rt: &impl Abort, book: &mut Book, want: usize) {
+    let _ = book.settle(10_000, 256).expect(rt, "it settles");
+    let quiet = book.quiet().expect(rt, "nothing is pending");
+    assert!(rt; quiet.tilings().len() == want);
+    assert!(rt; book.vouch(&quiet).expect(rt, "memory"));
+}
+
+fn cell_item(rt: &impl Abort, x: u64, y: u64) -> Item {
+    Item::Cell(Cell::new(x, y).expect(rt, "a coordinate below 64"))
+}
+
+// The numbers of the placements that cover the item.
+fn covering(rt: &impl Abort, alloc: Global, view: &View, item: &Item) -> Vec<u32> {
+    let mut numbers = Vec::new(alloc);
+    for number in view.live() {
+        if view.covers(*number, *item) {
+            numbers.push(*number).expect(rt, "memory");
+        }
+    }
+    numbers
+}
+
+// A Branch on the item whose arms are the placements that cover it, all but so many of the last ones, each with Rest.
+fn branch_on(rt: &impl Abort, alloc: Global, view: &View, item: Item, less: usize) -> Tree {
+    let mut numbers = covering(rt, alloc, view, &item);
+    for _ in 0..less {
+        let _ = numbers.pop();
+    }
+    let mut arms = Vec::new(alloc);
+    for placement in numbers {
+        let tree = Tree::Rest;
+        arms.push(Arm { placement, tree }).expect(rt, "memory");
+    }
+    Tree::Branch { item, arms }
+}
+
+// A report on task 1: a Branch on the cell with all its arms, but so many.
+fn report_on(rt: &impl Abort, alloc: Global, book: &Book, cell: (u64, u64), less: usize) -> Report {
+    Report {
+        task: 1,
+        edition: book.numbers().edition,
+        tree: branch_on(rt, alloc, book.view(), cell_item(rt, cell.0, cell.1), less),
+    }
+}
+
+fn report(task: u32, tree: Tree) -> Report {
+    Report {
+        task,
+        edition: 0,
+        tree,
+    }
+}
+
+// Asserts what a report listed and opened, its first number and whether it was late.
+fn expect_applied(rt: &impl Abort, applied: Result<Applied, Refusal>, want: (u64, u64, u64, bool)) {
+    let a = applied.expect(rt, "a report that is applied");
+    assert!(rt; (a.listed, a.opened, a.first, a.late) == want);
+}
+
+fn expect_refused(rt: &impl Abort, applied: Result<Applied, Refusal>, want: Refusal) {
+    match applied {
+        Ok(_) => assert!(rt; false),
+        Err(refusal) => assert!(rt; refusal == want),
+    }
+}
+
+#[test]
+fn late_report_after_a_forbid(rt: HostRuntime) {
+    let alloc = rt.alloc();
+    let mut book = book_of(&rt, alloc, DOMINOES);
+    let first = report_on(&rt, alloc, &book, (0, 0), 0);
+    let again = report_on(&rt, alloc, &book, (0, 0), 0);
+    edit(&rt, alloc, &mut book, b"forbid A 0,0 1,0");
+    expect_applied(&rt, book.hand_in(first), (0, 3, 2, true));
+    expect_refused(&rt, book.hand_in(again), Refusal::Gone);
+    expect_quiet(&rt, &mut book, 3);
+}
+
+#[test]
+fn late_report_after_a_new_cell(rt: HostRuntime) {
+    let alloc = rt.alloc();
+    let mut book = book_of(&rt, alloc, DOMINOES);
+    let late = report_on(&rt, alloc, &book, (1, 0), 0);
+    edit(&rt, alloc, &mut book, b"cell 2,0 optional");
+    expect_status(&rt, &book, (1, 0, 3));
+    expect_applied(&rt, book.hand_in(late), (0, 4, 4, true));
+    expect_quiet(&rt, &mut book, 4);
+}
+
+#[test]
+fn missing_arm(rt: HostRuntime) {
+    let alloc = rt.alloc();
+    let mut book = book_of(&rt, alloc, DOMINOES);
+    let short = report_on(&rt, alloc, &book, (0, 0), 1);
+    expect_refused(&rt, book.hand_in(short), Refusal::DoesNotHold);
+    assert!(rt; book.numbers().endings == 0);
+    expect_status(&rt, &book, (0, 0, 1));
+    let full = report_on(&rt, alloc, &book, (0, 0), 0);
+    expect_applied(&rt, book.hand_in(full), (0, 4, 2, false));
+}
+
+fn expect_unfinished(rt: &impl Abort, book: &mut Book, turns: u64) {
+    match book.settle(turns, 1) {
+        Ok(_) => assert!(rt; false),
+        Err(refusal) => assert!(rt; refusal == Refusal::Unfinished),
+    }
+}
+
+#[test]
+fn turns_used_up(rt: HostRuntime) {
+    let mut book = book_of(&rt, rt.alloc(), DOMINOES);
+    expect_unfinished(&rt, &mut book, 0);
+    expect_unfinished(&rt, &mut book, 1);
+    let numbers = book.numbers();
+    assert!(rt; numbers.listed == 0 && numbers.endings >= 1 && numbers.pending >= 1);
+    expect_quiet(&rt, &mut book, 4);
+}
+
+// A chain of Splits on one placement, each in the `left` of the one before.
+fn chain(rt: &impl Abort, alloc: Global, splits: usize, placement: u32) -> Tree {
+    let mut tree = Tree::Rest;
+    for _ in 0..splits {
+        tree = Tree::Split {
+            placement,
+            taken: Box::new(alloc, Tree::Rest).expect(rt, "memory"),
+            left: Box::new(alloc, tree).expect(rt, "memory"),
+        };
+    }
+    tree
+}
+
+// A Branch with so many arms on the first placement.
+fn wide_branch(rt: &impl Abort, alloc: Global, arms: usize) -> Tree {
+    let item = cell_item(rt, 0, 0);
+    let mut all = Vec::new(alloc);
+    for _ in 0..arms {
+        let arm = Arm {
+            placement: 0,
+            tree: Tree::Rest,
+        };
+        all.push(arm).expect(rt, "memory");
+    }
+    Tree::Branch { item, arms: all }
+}
+
+#[test]
+fn hostile_reports(rt: HostRuntime) {
+    let alloc = rt.alloc();
+    let mut book = book_of(&rt, alloc, DOMINOES);
+    expect_refused(&rt, book.hand_in(report(0, Tree::Rest)), Refusal::Gone);
+    expect_refused(&rt, book.hand_in(report(9, Tree::Rest)), Refusal::Gone);
+    let wide = report(1, wide_branch(&rt, alloc, 4096));
+    expect_refused(&rt, book.hand_in(wide), Refusal::TooLarge);
+    let deep = report(1, chain(&rt, alloc, 512, 0));
+    expect_refused(&rt, book.hand_in(deep), Refusal::TooLarge);
+    let fits = report(1, chain(&rt, alloc, 511, 0));
+    expect_applied(&rt, book.hand_in(fits), (0, 2, 2, false));
+    expect_quiet(&rt, &mut book, 4);
+}
+
+#[test]
+fn reports_on_no_placement_and_of_no_edition(rt: HostRuntime) {
+    let alloc = rt.alloc();
+    let mut book = book_of(&rt, alloc, DOMINOES);
+    let none = report(1, chain(&rt, alloc, 1, 4_294_967_295));
+    expect_applied(&rt, book.hand_in(none), (0, 1, 2, false));
+    let mut other = book_of(&rt, alloc, DOMINOES);
+    let mut full = report_on(&rt, alloc, &other, (0, 0), 0);
+    full.edition = 99;
+    expect_applied(&rt, other.hand_in(full), (0, 4, 2, false));
+}
+
+#[test]
+fn wide_change(rt: HostRuntime) {
+    let alloc = rt.alloc();
+    let mut book = book_of(&rt, alloc, WIDE);
+    edit(
+        &rt,
+        alloc,
+        &mut book,
+        b"add F optional on 1,0 2,0 0,1 1,1 1,2",
+    );
+    expect_status(&rt, &book, (1, 0, 1569));
+    expect_quiet(&rt, &mut book, 1569);
+}
+
+#[test]
+fn wide_change_and_a_hole(rt: HostRuntime) {
+    let alloc = rt.alloc();
+    let mut book = book_of(&rt, alloc, WIDE);
+    edit(
+        &rt,
+        alloc,
+        &mut book,
+        b"add F optional on 1,0 2,0 0,1 1,1 1,2",
+    );
+    edit(&rt, alloc, &mut book, b"cell 5,5 blocked");
+    expect_status(&rt, &book, (2, 0, 1529));
+    undo(&rt, &mut book);
+    expect_status(&rt, &book, (3, 0, 1569));
+}
+
+// The events of the laws test: an edit, the late report, an undo and a redo.
+fn events(rt: &impl Abort, alloc: Global, book: &Book) -> Vec<Event> {
+    let mut all = Vec::new(alloc);
+    let forbid = edit_of(rt, alloc, book, b"forbid A 0,0 1,0");
+    all.push(Event::Edit(forbid)).expect(rt, "memory");
+    let late = report_on(rt, alloc, book, (0, 0), 0);
+    all.push(Event::HandIn(late)).expect(rt, "memory");
+    all.push(Event::Undo).expect(rt, "memory");
+    all.push(Event::Redo).expect(rt, "memory");
+    all
+}
+
+// Asserts that no reply is a refusal.
+fn expect_all_done(rt: &impl Abort, replies: &[Reply]) {
+    for reply in replies {
+        match reply {
+            Reply::Refused(_) => assert!(rt; false),
+            _ => {}
+        }
+    }
+}
+
+// Asserts that the solver gives as many tilings without atoms.
+fn expect_found(rt: &impl Abort, alloc: Global, book: &Book, want: usize) {
+    let found = search_all(alloc, book.view(), &[]).expect(rt, "memory");
+    assert!(rt; found.len() == want);
+}
+
+#[test]
+fn the_laws(rt: HostRuntime) {
+    let alloc = rt.alloc();
+    let book = book_of(&rt, alloc, DOMINOES);
+    let all = events(&rt, alloc, &book);
+    let Ran { book, replies } = match run(alloc, book, all) {
+        Ok(ran) => ran,
+        Err(_) => abort(&rt),
+    };
+    assert!(rt; replies.len() == 4 && book.numbers().endings == 2);
+    expect_all_done(&rt, &replies);
+    expect_status(&rt, &book, (3, 0, 3));
+    let mut book = book;
+    expect_quiet(&rt, &mut book, 3);
+    expect_found(&rt, alloc, &book, 3);
+}
