@@ -16,7 +16,7 @@ use Rattle.poly_tiling.specs.declared.item.Item.{Item}
 use Rattle.poly_atom.specs.Guards.{guards}
 
 -- The change from the first design to the second has n guards: one for each placement that is new, each item whose least
--- fell, each piece of both designs whose most rose, and each pin that is no longer set.
+-- fell, each piece of both designs whose most rose, and each pin that was taken away.
 pub record HasWidth (d e : Layout) (n : ℕ) : Type 0 where
   pub fresh : List Placement
   pub unneeded : List Item

@@ -127,8 +127,8 @@ fn most_of(view: &View, item: &Item) -> usize
     }
 }
 
-// Whether of the placements that each tiling of the family has more than so many have the item. It stops at the first one
-// too many, so that what is asked for again and again is looked for again only so often.
+// Whether more than `most` members of the base have the item. Stops at the first one too many, which bounds how often a
+// placement that is asked for repeatedly is looked up again.
 fn has_more(view: &View, atoms: &[Atom], item: &Item, most: usize) -> bool
     ensures { result ≡ nat_lt most (count view.now (base view.now atoms.now) item.now) }
 {

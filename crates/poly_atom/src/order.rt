@@ -59,7 +59,7 @@ pub fn skip_numbers(view: &View, numbers: &[u32], from: usize, number: u32) -> u
     numbers.len()
 }
 
-/// The next place, if the number stands at this one, and else this one.
+/// The index after `at` if the number is at that index, and `at` otherwise.
 pub fn past(numbers: &[u32], at: usize, number: u32) -> usize
     requires { at ≤ length numbers.now }
     ensures rest { drop result numbers.now ≡ past (λ p. p == number) (drop at numbers.now) }
