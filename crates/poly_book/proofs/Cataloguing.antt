@@ -4,11 +4,12 @@ use Rattle.std.proofs.lemmas.Bool.{and_parts, false_from_ne_true, true≢false}
 use Rattle.std.specs.List.{filter, list_all}
 use Rattle.poly_design.specs.Layout.{Layout}
 use Rattle.poly_design.specs.declared.change.Change.{Change}
-use Rattle.poly_tiling.specs.Lists.{same_list, tally}
+use Rattle.poly_tiling.specs.Lists.{one, same_list, tally}
 use Rattle.poly_tiling.specs.Puzzle.{View, is_tiling}
 use Rattle.poly_tiling.specs.Names.{Grown, WellNamed}
 use Rattle.poly_tiling.proofs.Ascending.{same_list_is}
 use Rattle.poly_tiling.proofs.Grown.{numbers_may_grow_lem}
+use Rattle.poly_tiling.proofs.Listings.{one_most}
 use Rattle.poly_tiling.proofs.Lists.{all_append, all_from, all_in, tally_append, tally_none}
 use Rattle.poly_report.specs.Trees.{Plan}
 use Rattle.poly_report.specs.Holds.{holds}
@@ -48,13 +49,17 @@ flipped_tally T ls = tally_same_in (same_list T) (λ U. same_list U T) ls (λ U 
 absent : (w : View) (ls : List (List ℕ)) (T : List ℕ) → list_all (is_tiling w) ls ≡ true → is_tiling w T ≡ false → tally (same_list T) ls ≡ 0
 absent w ls T h e = tally_none (same_list T) ls (λ U i. false_from_ne_true (same_list T U) (λ g. true≢false (sym (all_in (is_tiling w) ls h U i) ∙ ap (λ V. is_tiling w V) (sym (same_list_is T U g)) ∙ e)))
 
-once_at : (s : State) → Partition s → (T : List ℕ) → (b : Bool) → is_tiling s.view T ≡ b → tally (same_list T) s.listed ≤ 1
+once_at : (s : State) → Partition s → (T : List ℕ) → (b : Bool) → is_tiling s.view T ≡ b → tally (same_list T) s.listed ≤ one b
 once_at s p T true h = omega (arith, flipped_tally T s.listed, p.shared T h)
 once_at s p T false h = omega (arith, absent s.view s.listed T p.only h)
 
+-- each tiling is listed once at most, and nothing else
+pub listed_once : (s : State) → Partition s → (T : List ℕ) → tally (same_list T) s.listed ≤ one (is_tiling s.view T)
+listed_once s p T = once_at s p T (is_tiling s.view T) refl
+
 -- no tiling is listed twice
 pub partition_once : (s : State) → Partition s → AreOnce s.listed
-partition_once s p T = once_at s p T (is_tiling s.view T) refl
+partition_once s p T = omega (arith, listed_once s p T, one_most (is_tiling s.view T))
 
 beside_at : (w : View) (ls more : List (List ℕ)) → AreOnce ls → AreOnce (filter (λ T. is_tiling w T) ls ++ more) → list_all (is_tiling w) more ≡ true → (T : List ℕ) → (b : Bool) → is_tiling w T ≡ b → tally (same_list T) (ls ++ more) ≤ 1
 beside_at w ls more a c m T true h =
@@ -67,7 +72,7 @@ beside w ls more a c m =
     let n = (and_parts (list_all (is_tiling w) (filter (λ T. is_tiling w T) ls)) (list_all (is_tiling w) more) (sym (all_append (is_tiling w) (filter (λ T. is_tiling w T) ls) more) ∙ m)).1 in
     record { tilings = n; once = λ T. beside_at w ls more a c n T (is_tiling w T) refl }
 
-becomes_itself : (s : State) → Becomes s s
+pub becomes_itself : (s : State) → Becomes s s
 becomes_itself s = record { same = refl; order = λ f. refl }
 
 pub record Lists (s z : State) (w : View) (more : List (List ℕ)) : Type 0 where

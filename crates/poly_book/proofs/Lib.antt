@@ -18,4 +18,5 @@ pub mod Settles
 pub mod Nexting
 pub mod Leading
 pub mod Cataloguing
+pub mod Amounts
 pub mod Refusing

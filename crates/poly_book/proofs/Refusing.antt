@@ -1,20 +1,23 @@
 -- Why a change isn't made.
-use Rattle.std.proofs.Common.{ap, arith, inl, inr, length, refl, sym, ℕ, ◌+◌, ◌<◌, ◌∙◌, ◌∷◌, ◌≡◌}
+use Rattle.std.proofs.Common.{ap, arith, inl, inr, length, refl, sym, ℕ, ◌+◌, ◌<◌, ◌∙◌, ◌∷◌, ◌≡◌, ◌⊎◌}
 use Rattle.std.proofs.lemmas.List.{length-append}
 use Rattle.std.specs.List.{filter}
 use Rattle.poly_grid.specs.declared.refusal.Refusal.{Refusal}
 use Rattle.poly_grid.specs.declared.refusal.Refusal.TheVariants.{CatalogueFull, Memory, Spent}
 use Rattle.poly_design.specs.Changes.{changed}
+use Rattle.poly_design.specs.Layout.{Layout}
 use Rattle.poly_design.specs.declared.change.Change.{Change}
 use Rattle.poly_tiling.specs.Names.{Grown}
 use Rattle.poly_tiling.specs.Puzzle.{View, is_tiling}
 use Rattle.poly_atom.specs.Guards.{guards}
 use Rattle.poly_atom.specs.Stairs.{stairs}
+use Rattle.poly_atom.specs.Width.{HasWidth}
 use Rattle.poly_place.specs.Spent.{IsSpent as NumbersAreSpent}
 use Rattle.poly_undo.specs.Steps.{Steps}
 use Rattle.poly_book.specs.declared.shelf.Kept.{Kept}
 use Rattle.poly_book.specs.declared.step.Kind.{Kind}
 use Rattle.poly_book.specs.declared.step.Kind.TheVariants as kind
+use Rattle.poly_book.specs.Amounts.{IsWide}
 use Rattle.poly_book.specs.Changing.{IsNotGathered, IsTop, event_of, shelf_at, stood_by}
 use Rattle.poly_book.specs.Events.{Leads, redone, step, undone}
 use Rattle.poly_book.specs.Meaning.{way_of, ways_of}
@@ -50,30 +53,35 @@ spent_not_made kind.Edit x s t e is g n = inr (inl (is, inr (inr (t, g, n))))
 spent_not_made kind.Undo x s t e is g n = inl (is, inr (inr (t, g, n)))
 spent_not_made kind.Redo x s t e is g n = inl (is, inr (inr (t, g, n)))
 
+-- of two designs
+is_wide : {d e : Layout} {m n : ℕ} → HasWidth d e m → HasWidth e d n → (20000 < m) ⊎ (20000 < n) → IsWide d e
+is_wide {d} {e} {m} {n} there back (inl l) = (m, l, inl there)
+is_wide {d} {e} {m} {n} there back (inr l) = (n, l, inr back)
+
 module _ (s : State) (h : Steps Change Kept) (x : Change) (w : View) (eb : s.back ≡ ways_of h.undo) (ef : s.forth ≡ ways_of h.redo) (l : Leads s x w) where
   over : (k : Kind) → IsTop k h x → 4294967296 < s.next + length (hopeful w (openings (stood_by k h) (stairs (guards s.view w)))) → 4294967296 < (step s (event_of k x w)).next
   over k t o = omega (arith, o, next_after k s h x w eb ef t)
 
   -- what isn't prepared isn't made
-  pub gather_not_made : (n : ℕ) → n ≡ length s.steps → (k : Kind) → IsTop k h x → (e : Refusal) → IsNotGathered s.view w k n s.next (stood_by k h) e → IsNotMade k x s e
-  gather_not_made n b kind.Edit t e (inl r) = inl (r.0, (w, l, r.2))
-  gather_not_made n b kind.Edit t e (inr (inl (is, inl m))) = inr (inl (is, inl (omega (arith, m, b))))
-  gather_not_made n b kind.Edit t e (inr (inl (is, inr o))) = inr (inl (is, inr (inl (w, l, over kind.Edit t o))))
-  gather_not_made n b kind.Edit t e (inr (inr m)) = inr (inr m)
-  gather_not_made n b kind.Undo t e (inl r) = absurd (no_edit r.1)
+  pub gather_not_made : HasWidth s.design (changed s.design x) (length (guards s.view w)) × HasWidth (changed s.design x) s.design (length (guards w s.view)) → (n : ℕ) → n ≡ length s.steps → (k : Kind) → IsTop k h x → (e : Refusal) → IsNotGathered s.view w k n s.next (stood_by k h) e → IsNotMade k x s e
+  gather_not_made g n b kind.Edit t e (inl r) = inl (r.0, (is_wide g.0 g.1 r.2, (w, l, r.2)))
+  gather_not_made g n b kind.Edit t e (inr (inl (is, inl m))) = inr (inl (is, inl (omega (arith, m, b))))
+  gather_not_made g n b kind.Edit t e (inr (inl (is, inr o))) = inr (inl (is, inr (inl (w, l, over kind.Edit t o))))
+  gather_not_made g n b kind.Edit t e (inr (inr m)) = inr (inr m)
+  gather_not_made g n b kind.Undo t e (inl r) = absurd (no_edit r.1)
     where
       no_edit : kind.Undo ≡ kind.Edit → ⊥
       no_edit q = cc
-  gather_not_made n b kind.Undo t e (inr (inl (is, inl m))) = inl (is, inl (omega (arith, m, b)))
-  gather_not_made n b kind.Undo t e (inr (inl (is, inr o))) = inl (is, inr (inl (w, l, over kind.Undo t o)))
-  gather_not_made n b kind.Undo t e (inr (inr m)) = inr (inr m)
-  gather_not_made n b kind.Redo t e (inl r) = absurd (no_edit r.1)
+  gather_not_made g n b kind.Undo t e (inr (inl (is, inl m))) = inl (is, inl (omega (arith, m, b)))
+  gather_not_made g n b kind.Undo t e (inr (inl (is, inr o))) = inl (is, inr (inl (w, l, over kind.Undo t o)))
+  gather_not_made g n b kind.Undo t e (inr (inr m)) = inr (inr m)
+  gather_not_made g n b kind.Redo t e (inl r) = absurd (no_edit r.1)
     where
       no_edit : kind.Redo ≡ kind.Edit → ⊥
       no_edit q = cc
-  gather_not_made n b kind.Redo t e (inr (inl (is, inl m))) = inl (is, inl (omega (arith, m, b)))
-  gather_not_made n b kind.Redo t e (inr (inl (is, inr o))) = inl (is, inr (inl (w, l, over kind.Redo t o)))
-  gather_not_made n b kind.Redo t e (inr (inr m)) = inr (inr m)
+  gather_not_made g n b kind.Redo t e (inr (inl (is, inl m))) = inl (is, inl (omega (arith, m, b)))
+  gather_not_made g n b kind.Redo t e (inr (inl (is, inr o))) = inl (is, inr (inl (w, l, over kind.Redo t o)))
+  gather_not_made g n b kind.Redo t e (inr (inr m)) = inr (inr m)
 
   full : (k : Kind) → IsTop k h x → 1000000 < length (filter (λ T. is_tiling w T) s.listed) + length (returned (stood_by k h)) → 1000000 < length (step s (event_of k x w)).listed
   full k t n = omega (arith, n, ap length (listed_after k s h x w eb ef t).listed, length-append (filter (λ T. is_tiling w T) s.listed) (returned (stood_by k h)))

@@ -1,5 +1,6 @@
 pub mod Tasks
 pub mod States
+pub mod Amounts
 pub mod Shelves
 pub mod Events
 pub mod Partition

@@ -15,6 +15,7 @@ use Rattle.poly_report.specs.Sizes.{fits}
 use Rattle.poly_report.specs.Holds.{holds}
 use Rattle.poly_book.specs.declared.step.Kind.{Kind}
 use Rattle.poly_book.specs.declared.step.Kind.TheVariants as kind
+use Rattle.poly_book.specs.Amounts.{IsWide}
 use Rattle.poly_book.specs.Changing.{event_of}
 use Rattle.poly_book.specs.Events.{Leads, Report, step}
 use Rattle.poly_book.specs.States.{State, Way}
@@ -24,9 +25,9 @@ use Rattle.poly_book.specs.Tasks.{Task, atoms_of, find_task}
 abbrev pub LeadsTo : State → Change → (View → Type 0) → Type 0
 LeadsTo s x P = (w : View) × Leads s x w × P w
 
--- the guards of the change, or of its way back, are more than 20,000
+-- the guards of the change, or of its way back, are more than 20,000: as its designs say, and as views of them show
 abbrev pub IsTooWide : Change → State → Type 0
-IsTooWide x s = LeadsTo s x (λ w. (20000 < length (guards s.view w)) ⊎ (20000 < length (guards w s.view)))
+IsTooWide x s = IsWide s.design (changed s.design x) × LeadsTo s x (λ w. (20000 < length (guards s.view w)) ⊎ (20000 < length (guards w s.view)))
 
 -- There were 100,000 changes, or a new task would get a number over 4,294,967,295, or there are more placements than
 -- placement numbers: those of the view, and further ones that refused changes gave out.

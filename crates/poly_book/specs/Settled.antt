@@ -2,8 +2,10 @@
 use Rattle.std.specs.Prelude.{Bool, List, [], false, length, map, true, ℕ, ◌++◌, ◌<◌, ◌≡◌, ◌⊎◌}
 use Rattle.poly_grid.specs.declared.refusal.Refusal.{Refusal}
 use Rattle.poly_grid.specs.declared.refusal.Refusal.TheVariants.{Memory, Unfinished}
+use Rattle.poly_report.specs.Sizes.{fits}
 use Rattle.poly_report.specs.Trees.{Plan}
 use Rattle.poly_book.specs.declared.step.Ending.TheVariants.{Cut}
+use Rattle.poly_book.specs.Happenings.{HoldsNow}
 use Rattle.poly_book.specs.Refused.{IsOver}
 use Rattle.poly_book.specs.States.{State}
 
@@ -22,9 +24,9 @@ abbrev pub IsTurn : State → State → Bool → Type 0
 IsTurn s t true = Cuts s t 1
 IsTurn s t false = (t ≡ s) × (s.pending ≡ [])
 
--- memory ran out, or a limit stands against a report
+-- memory ran out, or a limit stands against a report that fits and holds for its pending task
 abbrev pub IsNotTurned : State → Refusal → Type 0
-IsNotTurned s e = (e ≡ Memory) ⊎ ((k : ℕ) × (tree : Plan) × IsOver k tree s e)
+IsNotTurned s e = (e ≡ Memory) ⊎ ((k : ℕ) × (tree : Plan) × (fits tree ≡ true) × HoldsNow s k tree × IsOver k tree s e)
 
 -- nothing is pending, and so many tasks were cut
 pub record IsSettled (s t : State) (n : ℕ) : Type 0 where

@@ -12,6 +12,7 @@ ghost use Rattle.poly_place.specs.Right.{IsRight};
 ghost use Rattle.poly_place.specs.Spent.{IsSpent as NumbersAreSpent};
 ghost use Rattle.poly_atom.specs.Atoms.{AllSmall};
 ghost use Rattle.poly_catalogue.specs.Listed.{AreOfEither, AreOnce, AreSame};
+ghost use Rattle.poly_book.specs.Amounts.{IsNarrow};
 ghost use Rattle.poly_book.specs.Changing.{CanNote, IsTop, Noted, shelved_by};
 ghost use Rattle.poly_book.specs.Keeps.{Keeps, state_of};
 ghost use Rattle.poly_book.specs.Refused.{IsNotMade};
@@ -39,6 +40,7 @@ pub(crate) fn apply_change(parts: &mut Parts, kind: Kind, change: Change) -> Res
     requires top { IsTop kind parts.old.history change }
     ensures keeps { Keeps parts.new }
     ensures ok { IfOk result (λ done. IsDone kind change (state_of parts.old) (state_of parts.new) done) }
+    ensures narrow { OnOk result (kind ≡ Kind.Edit → IsNarrow parts.old.design parts.new.design) }
     ensures err { OnErr result (state_of parts.new ≡ state_of parts.old) }
     ensures why { IfErr result (λ e. IsNotMade kind change (state_of parts.old) e) }
 {

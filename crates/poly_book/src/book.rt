@@ -2,6 +2,7 @@
 //! listed once or belongs to exactly one pending task.
 ghost use Rattle.std.specs.Prelude.{◌≡◌, ◌≤◌, ◌<◌, length, reverse};
 ghost use Rattle.std.specs.Arc.{arc_value};
+ghost use Rattle.poly_book.specs.Amounts.{AreAllTilingsOf, AreTilingsOf};
 ghost use Rattle.poly_book.specs.Whole.{Whole};
 
 use crate::parts::Parts;
@@ -51,12 +52,15 @@ impl Book {
         self.parts.next > 0
     }
 
-    /// The numbers of steps, endings, listed tilings and pending tasks. Never allocates.
+    /// The numbers of steps, endings, listed tilings and pending tasks. As many tilings are listed as the design has if no
+    /// task is pending, and never more. Never allocates.
     pub fn numbers(&self) -> Numbers
         ensures edition { result.edition ≡ length self.now.steps }
         ensures endings { result.endings ≡ length self.now.endings }
         ensures listed { result.listed ≡ length self.now.listed }
         ensures pending { result.pending ≡ length self.now.pending }
+        ensures tilings { AreTilingsOf result.listed self.now.design }
+        ensures all { result.pending ≡ 0 → AreAllTilingsOf result.listed self.now.design }
         ensures few_changes { result.edition ≤ 100000 }
         ensures few_endings { result.endings < 4294967296 }
         ensures few_tasks { result.pending < 4294967296 }

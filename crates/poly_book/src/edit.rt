@@ -1,5 +1,6 @@
 //! Edits, undo and redo: each is a change of the design, made in one way (`apply_change`).
-ghost use Rattle.std.specs.Prelude.{◌≡◌, IfErr, IfOk, OnErr};
+ghost use Rattle.std.specs.Prelude.{◌≡◌, IfErr, IfOk, OnErr, OnOk};
+ghost use Rattle.poly_book.specs.Amounts.{IsNarrow, RedoIsFull, UndoIsFull};
 ghost use Rattle.poly_book.specs.Refused.{IsNotEdited, IsNotRedone, IsNotUndone};
 ghost use Rattle.poly_book.specs.Steps.{IsEdited, IsRedone, IsUndone};
 
@@ -17,6 +18,7 @@ impl Book {
     /// edit leaves the book as it was.
     pub fn edit(&mut self, edit: Edit) -> Result<Done, Refusal>
         ensures ok { IfOk result (λ done. IsEdited edit self.old self.new done) }
+        ensures narrow { OnOk result (IsNarrow self.old.design self.new.design) }
         ensures err { OnErr result (self.new ≡ self.old) }
         ensures why { IfErr result (λ e. IsNotEdited edit self.old e) }
     {
@@ -32,6 +34,7 @@ impl Book {
         ensures ok { IfOk result (λ done. IsUndone self.old self.new done) }
         ensures err { OnErr result (self.new ≡ self.old) }
         ensures why { IfErr result (λ e. IsNotUndone self.old e) }
+        ensures full { IfErr result (λ e. e ≡ Refusal.CatalogueFull → UndoIsFull self.old) }
     {
         let Some(step) = self.parts.history.last() else {
             return Err(Refusal::NothingToUndo);
@@ -48,6 +51,7 @@ impl Book {
         ensures ok { IfOk result (λ done. IsRedone self.old self.new done) }
         ensures err { OnErr result (self.new ≡ self.old) }
         ensures why { IfErr result (λ e. IsNotRedone self.old e) }
+        ensures full { IfErr result (λ e. e ≡ Refusal.CatalogueFull → RedoIsFull self.old) }
     {
         let Some(step) = self.parts.history.ahead() else {
             return Err(Refusal::NothingToRedo);

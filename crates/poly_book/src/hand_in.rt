@@ -4,6 +4,7 @@ ghost use Rattle.std.specs.List.{position_from};
 ghost use Rattle.poly_report.specs.Gather.{lists};
 ghost use Rattle.poly_report.specs.Shapes.{plan_of};
 ghost use Rattle.poly_report.specs.Trees.{Plan};
+ghost use Rattle.poly_tiling.specs.Listings.{HasOverTilings};
 ghost use Rattle.poly_book.specs.Keeps.{Keeps, state_of};
 ghost use Rattle.poly_book.specs.Refused.{IsNotApplied, IsOver};
 ghost use Rattle.poly_book.specs.Reports.{AreLeaves, IsApplied};
@@ -28,6 +29,7 @@ impl Book {
         ensures ok { IfOk result (λ a. IsApplied report.task report.edition (plan_of report.tree) self.old self.new a) }
         ensures err { OnErr result (self.new ≡ self.old) }
         ensures why { IfErr result (λ e. IsNotApplied report.task (plan_of report.tree) self.old e) }
+        ensures full { IfErr result (λ e. e ≡ Refusal.CatalogueFull → HasOverTilings 1000000 self.old.design) }
     {
         apply_report(&mut self.parts, &report)
     }

@@ -1,14 +1,14 @@
 //! What a change needs, prepared before anything is changed: whatever may be refused comes first.
-ghost use Rattle.std.specs.Prelude.{◌≡◌, ◌≤◌, ◌<◌, ◌*◌, ◌+◌, ◌++◌, ◌⊎◌, ◌∷◌, [], IfErr, IfOk, List, None, Some, cond, length, map, nat_le, not, option_copied, true};
+ghost use Rattle.std.specs.Prelude.{◌≡◌, ◌↔◌, ◌≤◌, ◌<◌, ◌*◌, ◌+◌, ◌++◌, ◌⊎◌, ◌∷◌, [], IfErr, IfOk, OnOk, List, None, Some, cond, length, map, nat_le, not, option_copied, true};
 ghost use Rattle.std.specs.Arc.{arc_value};
 ghost use Rattle.std.specs.List.{filter};
-ghost use Rattle.poly_tiling.specs.Names.{Grown, Names};
 ghost use Rattle.poly_tiling.specs.Puzzle.{View as ViewOf, is_tiling};
 ghost use Rattle.poly_atom.specs.declared.atom.Atom.{Atom as AtomOf};
 ghost use Rattle.poly_atom.specs.Guards.{guards};
 ghost use Rattle.poly_atom.specs.Hopeless.{hopeless};
 ghost use Rattle.poly_atom.specs.Stairs.{stairs};
 ghost use Rattle.poly_catalogue.specs.Listed.{AreOfEither};
+ghost use Rattle.poly_place.specs.Between.{IsChangeOf};
 ghost use Rattle.poly_report.specs.Gather.{lists};
 ghost use Rattle.poly_book.specs.Changing.{IsGathered, IsNotGathered, shelf_at, shelf_by, shelved_by, stood_by};
 ghost use Rattle.poly_book.specs.Events.{hopeless_endings};
@@ -23,10 +23,10 @@ use crate::quiet::copies;
 use crate::shelf::Kept;
 use crate::step::{Ending, Kind};
 use crate::task::{Pending, all_atoms, is_hopeless};
-use poly_atom::{Atom, GuardLog, guards};
+use poly_atom::{Atom, BothGuards, GuardLog, both_guards};
 use poly_design::{Change, Design};
 use poly_grid::Refusal;
-use poly_place::{Delta, Plan, Table};
+use poly_place::{Delta, Plan};
 use poly_tiling::{Tiling, View};
 use poly_undo::{History, Shelf, Step as Beside};
 use std::alloc::Global;
@@ -74,20 +74,19 @@ pub(crate) fn gather(
     plan: Plan,
 ) -> Result<Prepared, Refusal>
     requires keeps { Keeps parts.now }
-    requires names { Names (arc_value parts.now.view) (arc_value plan.view) }
-    requires named { (arc_value plan.view).placements ≡ parts.now.table.placements }
+    requires change { IsChangeOf (arc_value parts.now.view) (arc_value plan.view) plan.delta }
     requires either { AreOfEither (arc_value plan.view) plan.delta parts.now.listed }
     ensures ok { IfOk result (λ r. IsGathered (arc_value parts.now.view) parts.now.listed parts.now.log parts.now.tasks.items (stood_by kind parts.now.history) after plan parts.now.next r) }
     ensures few { IfOk result (λ r. length parts.now.steps.items < 100000) }
+    ensures narrow { OnOk result (kind ≡ Kind.Edit → (length (guards (arc_value parts.now.view) (arc_value plan.view)) ≤ 20000) × (length (guards (arc_value plan.view) (arc_value parts.now.view)) ≤ 20000)) }
     ensures why { IfErr result (λ e. IsNotGathered (arc_value parts.now.view) (arc_value plan.view) kind (length parts.now.steps.items) parts.now.next (stood_by kind parts.now.history) e) }
 {
     let alloc = parts.alloc;
     let view = Arc::try_clone(&plan.view)?;
-    let laid = guards(alloc, &parts.view, &view)?;
-    let back = guards_back(alloc, &parts.table, &parts.view, &view)?;
-    if is_edit(kind) && (laid.len() > MAX_GUARDS || back.len() > MAX_GUARDS) {
-        return Err(Refusal::TooWide);
-    }
+    let both = both_guards(alloc, &parts.view, &view, &plan.delta)?;
+    let BothGuards { forth: laid, back } = both;
+    let width = back.len();
+    check_width(kind, laid.len(), width)?;
     if parts.steps.len() >= MAX_CHANGES {
         return Err(Refusal::Spent);
     }
@@ -97,7 +96,6 @@ pub(crate) fn gather(
     let flags = surviving(alloc, &view, &parts.log, &parts.tasks)?;
     let ended = endings_of(alloc, &parts.tasks, &flags, edition + 1)?;
     let returned = returning(alloc, stood)?;
-    let width = back.len();
     let shelf = shelve(parts, &view, &plan.delta, width)?;
     let room = Vec::with_capacity(alloc, parts.tasks.len() + fresh.len())?;
     Ok(Prepared {
@@ -114,21 +112,15 @@ pub(crate) fn gather(
     })
 }
 
-// The guards of the way back from a view to the one that the table grew from.
-fn guards_back(
-    alloc: Global,
-    table: &Table,
-    before: &View,
-    after: &View,
-) -> Result<Vec<Atom>, Refusal>
-    requires grown { Grown before.now table.now }
-    requires named { after.now.placements ≡ table.now.placements }
-    ensures ok { IfOk result (λ atoms. atoms.items ≡ guards after.now before.now) }
-    ensures why { IfErr result (λ e. e ≡ Refusal.Memory) }
+// Refuses an edit with too many guards there or back.
+fn check_width(kind: Kind, forth: usize, back: usize) -> Result<(), Refusal>
+    ensures ok { OnOk result (kind ≡ Kind.Edit → (forth ≤ 20000) × (back ≤ 20000)) }
+    ensures why { IfErr result (λ e. (e ≡ Refusal.TooWide) × (kind ≡ Kind.Edit) × ((20000 < forth) ⊎ (20000 < back))) }
 {
-    let grown = table.view()?;
-    let atoms = guards(alloc, after, &grown)?;
-    Ok(atoms)
+    if is_edit(kind) && (forth > MAX_GUARDS || back > MAX_GUARDS) {
+        return Err(Refusal::TooWide);
+    }
+    Ok(())
 }
 
 // Which tasks go on.
@@ -261,7 +253,7 @@ pub(crate) fn is_shelved(history: &History<Change, Kept>, kind: Kind) -> bool
 }
 
 fn is_edit(kind: Kind) -> bool
-    ensures { result ≡ true → kind ≡ Kind.Edit }
+    ensures { (result ≡ true) ↔ (kind ≡ Kind.Edit) }
 {
     match kind {
         Kind::Edit => true,

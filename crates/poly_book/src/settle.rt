@@ -1,5 +1,6 @@
 //! Settling: taking tasks, exploring them and handing the results in until nothing is pending.
 ghost use Rattle.std.specs.Prelude.{◌≡◌, ◌≤◌, IfErr, IfOk, OnErr};
+ghost use Rattle.poly_tiling.specs.Listings.{HasOverTilings};
 ghost use Rattle.poly_book.specs.Keeps.{Keeps, state_of};
 ghost use Rattle.poly_book.specs.Settled.{IsNotSettled, IsNotTurned, IsSettled, IsTurn};
 
@@ -22,6 +23,7 @@ impl Book {
         requires few { nodes ≤ 4096 }
         ensures ok { IfOk result (λ n. IsSettled self.old self.new n) }
         ensures why { IfErr result (λ e. IsNotSettled turns self.old self.new e) }
+        ensures full { IfErr result (λ e. e ≡ Refusal.CatalogueFull → HasOverTilings 1000000 self.old.design) }
     {
         settle_all(&mut self.parts, turns, nodes)
     }

@@ -9,14 +9,19 @@ use Rattle.poly_design.specs.Limits.{IsDesign}
 use Rattle.poly_design.specs.declared.change.Change.{Change}
 use Rattle.poly_tiling.specs.Puzzle.{View, is_tiling}
 use Rattle.poly_tiling.proofs.Grown.{names_on}
+use Rattle.poly_atom.specs.Guards.{guards}
 use Rattle.poly_atom.specs.Stairs.{stairs}
+use Rattle.poly_atom.specs.Width.{HasWidth}
+use Rattle.poly_atom.proofs.Widths.{widths_show_lem}
 use Rattle.poly_catalogue.specs.Listed.{AreOfEither, AreOnce, AreSame}
+use Rattle.poly_place.specs.Between.{IsChangeOf}
 use Rattle.poly_place.specs.Delta.{IsPlanFor}
 use Rattle.poly_place.specs.Right.{IsRight}
 use Rattle.poly_place.specs.declared.plan.Plan.{Plan}
 use Rattle.poly_book.specs.declared.parts.Parts.{Parts}
 use Rattle.poly_book.specs.declared.shelf.Kept.{Kept}
 use Rattle.poly_book.specs.declared.step.Kind.{Kind}
+use Rattle.poly_book.specs.Amounts.{IsNarrow}
 use Rattle.poly_book.specs.Changing.{IsTop, Noted, event_of, shelved_by, stood_by}
 use Rattle.poly_book.specs.Events.{Leads, step}
 use Rattle.poly_book.specs.Keeps.{Keeps, KeepsOf, state_of}
@@ -47,6 +52,26 @@ either_by p x r k q = listed_either (arc_value p.view) p.table (arc_value r.view
 enters_by : (p : Parts) (k : Kind) (x : Change) (w : View) → Keeps p → IsTop k p.history x → Leads (state_of p) x w → Enters w p.listed (returned (stood_by k p.history))
 enters_by p k x w keeps top l = change_enters k (state_of p) p.history x w refl refl top keeps.whole l
 
+-- the plan's differences are those of the change
+abbrev change_by : (p : Parts) (x : Change) (r : Plan) → Keeps p → IsDesign (changed p.design x) → IsPlanFor p.table p.design (changed p.design x) (arc_value r.view) r.delta → IsChangeOf (arc_value p.view) (arc_value r.view) r.delta
+change_by p x r k is q = record {
+  before = p.design;
+  after = changed p.design x;
+  shown = record { well = k.whole.consistent.well; shows = k.whole.consistent.shows };
+  turned = q.right;
+  first = k.whole.consistent.design;
+  second = is;
+  names = names_on (arc_value p.view) p.table (arc_value r.view) k.grown.0 q.names;
+  delta = q.delta;
+}
+
+widths_by : (p : Parts) (x : Change) (r : Plan) → Keeps p → IsDesign (changed p.design x) → IsPlanFor p.table p.design (changed p.design x) (arc_value r.view) r.delta →
+    HasWidth p.design (changed p.design x) (length (guards (arc_value p.view) (arc_value r.view))) × HasWidth (changed p.design x) p.design (length (guards (arc_value r.view) (arc_value p.view)))
+widths_by p x r k is q = widths_show_lem (arc_value p.view) (arc_value r.view) r.delta (change_by p x r k is q)
+
+pub gather-requires-clause-change : goal.gather-requires-clause-change
+gather-requires-clause-change c = change_by c.args.parts.now c.args.change c.in_ok-plan.plan c.requires.keeps c.requires.design c.in_ok-plan.ensures.ok
+
 pub gather-requires-clause-either : goal.gather-requires-clause-either
 gather-requires-clause-either c = either_by c.args.parts.now c.args.change c.in_ok-plan.plan c.requires.keeps c.in_ok-plan.ensures.ok
 
@@ -55,8 +80,9 @@ returns-in_err-ready-clause-why c =
     let p = err_from_is_err_and c.from_residual-in_err-ready.result c.from_residual-in_err-ready.ensures.1 in
     let s = state_of c.args.parts.now in
     let l = leads_by c.args.parts.now c.args.change c.in_ok-plan.plan c.requires.keeps c.requires.before c.requires.design c.in_ok-plan.ensures.ok in
+    let g = widths_by c.args.parts.now c.args.change c.in_ok-plan.plan c.requires.keeps c.requires.design c.in_ok-plan.ensures.ok in
     let n : length c.reserve.new.self.items ≡ length s.steps = ap length c.reserve.ensures.items ∙ sym (length-reverse c.args.parts.now.steps.items) in
-    rw (p.1, p.2) (gather_not_made s c.args.parts.now.history c.args.change (arc_value c.in_ok-plan.plan.view) refl refl l (length c.reserve.new.self.items) n c.args.kind c.requires.top _ c.in_err-ready.ensures.why)
+    rw (p.1, p.2) (gather_not_made s c.args.parts.now.history c.args.change (arc_value c.in_ok-plan.plan.view) refl refl l g (length c.reserve.new.self.items) n c.args.kind c.requires.top _ c.in_err-ready.ensures.why)
 
 pub returns-in_err-reserve-2-clause-keeps : goal.returns-in_err-reserve-2-clause-keeps
 returns-in_err-reserve-2-clause-keeps c = rw (c.reserve.ensures.items, c.reserve-2.ensures.items) (still_keeps c.requires.keeps c.in_ok-plan.ensures.grown c.in_ok-plan.ensures.right)
@@ -185,6 +211,22 @@ pub returns-clause-keeps : goal.returns-clause-keeps
 returns-clause-keeps c =
     let k = did_keeps c.args.kind c.requires.keeps (did c) c.requires.before c.requires.design c.requires.top in
     subst (λ z. KeepsOf c.args.parts.now.opened c.in_ok-ready.ready.after z c.make.new.self c.enter.new.listed c.enter.new.log c.replace_tasks.new.tasks.items (c.args.parts.now.next + c.len-more.result) c.note.new.history c.push_reserved.new.self.items c.push_endings.new.out.items) (sym c.in_ok-ready.ensures.ok.view_is) k
+
+pub returns-clause-narrow : goal.returns-clause-narrow
+returns-clause-narrow c = λ edit.
+    let a = c.args.parts.now in
+    let x = c.args.change in
+    let widths = widths_by a x c.in_ok-plan.plan c.requires.keeps c.requires.design c.in_ok-plan.ensures.ok in
+    let few = c.in_ok-ready.ensures.narrow edit in
+    let narrow : IsNarrow a.design (changed a.design x) = record {
+      forth = _;
+      back = _;
+      forth_width = widths.0;
+      back_width = widths.1;
+      few_forth = few.0;
+      few_back = few.1;
+    } in
+    subst (λ d. IsNarrow a.design d) (sym (did c).design_is) narrow
 
 pub returns-clause-ok : goal.returns-clause-ok
 returns-clause-ok c =

@@ -82,4 +82,4 @@ returns-clause-why c =
     let found : c.in_ok-found.found.leaves.tilings.items ≡ tilings v (atoms_of u) tree = c.in_ok-found.ensures.tilings ∙ ap (λ z. tilings z c.deref-2.result.now tree) at1 ∙ ap (λ A. tilings v A tree) at2 in
     let left : lists c.in_ok-found.found.leaves.rests.items ≡ rests v (atoms_of u) tree = c.in_ok-found.ensures.rests ∙ ap (λ z. rests z c.deref-2.result.now tree) at1 ∙ ap (λ A. rests v A tree) at2 in
     let l = leaves_at a x (c.len-at.result - 1) tree c.in_ok-found.found.leaves.tilings.items (lists c.in_ok-found.found.leaves.rests.items) c.requires.keeps low is c.in_ok-found.ensures.fits right found left in
-    inr (x.number, tree, c.in-Err.ensures.why x.number tree l)
+    inr (x.number, tree, l.small, (l.task, l.there, l.cut.right), c.in-Err.ensures.why x.number tree l)

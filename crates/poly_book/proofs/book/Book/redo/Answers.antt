@@ -1,12 +1,15 @@
 use Rattle.std.proofs.Common.{Some, inr, refl, rules, subst, sym, ◌≡◌}
 use Rattle.std.specs.Prelude.{IfErr}
 use Rattle.std.proofs.lemmas.Result.{IfErr-weaker, IfOk-weaker, err_from_is_err_and}
+use Rattle.poly_grid.specs.declared.refusal.Refusal.TheVariants.{CatalogueFull}
 use Rattle.poly_design.specs.Changes.{HasBefore, changed}
 use Rattle.poly_design.specs.Limits.{IsDesign}
 use Rattle.poly_undo.specs.Steps.{next_of}
 use Rattle.poly_book.specs.Keeps.{state_of}
 use Rattle.poly_book.specs.declared.step.Kind.TheVariants.{Redo}
 use Rattle.poly_book.specs.Refused.{IsNotMade, IsNotRedone}
+use Rattle.poly_book.specs.Amounts.{RedoIsFull}
+use Rattle.poly_book.proofs.Amounts.{redone_full}
 use Rattle.poly_book.proofs.Tops.{can_redo, not_redone_from, redone_from}
 use Rattle.poly_book.proofs.book.Book.redo.Goals as goal
 
@@ -38,6 +41,16 @@ returns-clause-why c =
     let e : next_of h.redo ≡ Some top = search rules in
     let x : c.in_ok-change.change ≡ top.change = c.in_ok-change.ensures.ok in
     subst (λ z. IfErr c.apply_change.result (λ r. IsNotRedone z r)) c.self.view_is (IfErr-weaker c.apply_change.result (λ r. IsNotMade Redo c.in_ok-change.change s r) (λ r. IsNotRedone s r) (λ r made. not_redone_from {s = s} h top c.in_ok-change.change r refl e x made) c.apply_change.ensures.why)
+
+pub returns-clause-full : goal.returns-clause-full
+returns-clause-full c =
+    let top = c.in-Some.step.now in
+    let h = c.self.inside.parts.history in
+    let s = state_of c.self.inside.parts in
+    let e : next_of h.redo ≡ Some top = search rules in
+    let x : c.in_ok-change.change ≡ top.change = c.in_ok-change.ensures.ok in
+    subst (λ z. IfErr c.apply_change.result (λ r. r ≡ CatalogueFull → RedoIsFull z)) c.self.view_is (IfErr-weaker c.apply_change.result (λ r. IsNotMade Redo c.in_ok-change.change s r) (λ r. r ≡ CatalogueFull → RedoIsFull s)
+    (λ r made q. redone_full s r c.self.invariant.whole (not_redone_from {s = s} h top c.in_ok-change.change r refl e x made) q) c.apply_change.ensures.why)
 
 pub returns-in_err-change-clause-why : goal.returns-in_err-change-clause-why
 returns-in_err-change-clause-why c =

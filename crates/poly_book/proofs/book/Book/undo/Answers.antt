@@ -1,12 +1,15 @@
 use Rattle.std.proofs.Common.{Some, ap, inr, refl, rules, subst, sym, ◌∙◌, ◌≡◌}
 use Rattle.std.specs.Prelude.{IfErr}
 use Rattle.std.proofs.lemmas.Result.{IfErr-weaker, IfOk-weaker, err_from_is_err_and}
+use Rattle.poly_grid.specs.declared.refusal.Refusal.TheVariants.{CatalogueFull}
 use Rattle.poly_design.specs.Changes.{HasBefore, changed, inverse_of}
 use Rattle.poly_design.specs.Limits.{IsDesign}
 use Rattle.poly_undo.specs.Steps.{next_of}
 use Rattle.poly_book.specs.Keeps.{state_of}
 use Rattle.poly_book.specs.declared.step.Kind.TheVariants.{Undo}
 use Rattle.poly_book.specs.Refused.{IsNotMade, IsNotUndone}
+use Rattle.poly_book.specs.Amounts.{UndoIsFull}
+use Rattle.poly_book.proofs.Amounts.{undone_full}
 use Rattle.poly_book.proofs.Tops.{can_undo, not_undone_from, undone_from}
 use Rattle.poly_book.proofs.book.Book.undo.Goals as goal
 
@@ -38,6 +41,16 @@ returns-clause-why c =
     let e : next_of h.undo ≡ Some top = search rules in
     let x : c.inverse-change.result ≡ inverse_of top.change = c.inverse-change.ensures.value ∙ ap inverse_of c.in_ok-copy.ensures.ok in
     subst (λ z. IfErr c.apply_change.result (λ r. IsNotUndone z r)) c.self.view_is (IfErr-weaker c.apply_change.result (λ r. IsNotMade Undo c.inverse-change.result s r) (λ r. IsNotUndone s r) (λ r made. not_undone_from {s = s} h top c.inverse-change.result r refl e x made) c.apply_change.ensures.why)
+
+pub returns-clause-full : goal.returns-clause-full
+returns-clause-full c =
+    let top = c.in-Some.step.now in
+    let h = c.self.inside.parts.history in
+    let s = state_of c.self.inside.parts in
+    let e : next_of h.undo ≡ Some top = search rules in
+    let x : c.inverse-change.result ≡ inverse_of top.change = c.inverse-change.ensures.value ∙ ap inverse_of c.in_ok-copy.ensures.ok in
+    subst (λ z. IfErr c.apply_change.result (λ r. r ≡ CatalogueFull → UndoIsFull z)) c.self.view_is (IfErr-weaker c.apply_change.result (λ r. IsNotMade Undo c.inverse-change.result s r) (λ r. r ≡ CatalogueFull → UndoIsFull s)
+    (λ r made q. undone_full s r c.self.invariant.whole (not_undone_from {s = s} h top c.inverse-change.result r refl e x made) q) c.apply_change.ensures.why)
 
 pub returns-in_err-copy-clause-why : goal.returns-in_err-copy-clause-why
 returns-in_err-copy-clause-why c =
