@@ -32,6 +32,10 @@ open_lives v A p m o =
     let named = (or_parts (list_any (λ a. lacks a p) A) (list_any (λ q. clash v p q) (base v A)) apart).0 in
     ap (λ b. not b || list_any (λ a. lacks a p) A) m ∙ named
 
+-- an open placement of the design is not ruled out
+pub open_right : (v : View) (A : List Atom) (p : ℕ) → mem v.live p ≡ true → open_in v A p ≡ true → (mem v.live p && not (ruled_out v A p)) ≡ true
+open_right v A p m o = and_from _ _ m (and_parts (not (mem (base v A) p)) (not (ruled_out v A p)) o).1
+
 -- a base that is short is no tiling that meets the atoms
 pub short_none : (v : View) (A : List Atom) (T : List ℕ) (i : Item) → ltb (count v T i) (asks v A i) ≡ true → in_family v A T ≡ false
 short_none v A T i h = false_from_ne_true (in_family v A T) (λ f.

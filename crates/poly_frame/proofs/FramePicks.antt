@@ -166,7 +166,7 @@ low_in n [] b l i = absurd i
 low_in n (x ∷ xs) b l (inl e) = let h = ltb-true x n (and_parts (ltb x n) (list_all (λ b. ltb b n) xs) l).0 in subst (λ y. y < n) e h
 low_in n (x ∷ xs) b l (inr i) = low_in n xs b (and_parts (ltb x n) (list_all (λ b. ltb b n) xs) l).1 i
 
-limit_cases : (i : Item) (u h : ℕ) → leb (limit_at i u) h ≡ (not (is_piece i) || leb u h)
+pub limit_cases : (i : Item) (u h : ℕ) → leb (limit_at i u) h ≡ (not (is_piece i) || leb u h)
 limit_cases (Cell c) u h = le-leb 0 h (omega arith)
 limit_cases (Piece n) u h = refl
 

@@ -44,7 +44,7 @@ none_and false b e = refl
 abbrev pub is_own : List ℕ → ℕ → ℕ → Bool
 is_own ns p j = eqb p (get_or ns j 0)
 
-asks_pick : (v : View) (A : List Atom) (p : ℕ) (i : Item) → asks v (A ++ Has p ∷ []) i ≡ asks v A i
+pub asks_pick : (v : View) (A : List Atom) (p : ℕ) (i : Item) → asks v (A ++ Has p ∷ []) i ≡ asks v A i
 asks_pick v [] p i = refl
 asks_pick v (Has q ∷ A) p i = asks_pick v A p i
 asks_pick v (Lacks q ∷ A) p i = asks_pick v A p i

@@ -16,3 +16,4 @@ pub mod FrameLooks
 pub mod FrameMembers
 pub mod FrameArms
 pub mod FrameSound
+pub mod Starved

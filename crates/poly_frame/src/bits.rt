@@ -39,7 +39,8 @@ pub(crate) fn take_out(words: &mut Vec<u64>, at: usize, j: usize)
     words[k] = word & !(1 << (j % 64));
 }
 
-fn less(word: u64, row: u64) -> u64
+/// What a word has and a second one hasn't.
+pub(crate) fn less(word: u64, row: u64) -> u64
     ensures { (t : ℕ) → t < 64 → (bit_at result t == 1) ≡ ((bit_at word t == 1) && not (bit_at row t == 1)) }
 {
     word & !row
@@ -75,7 +76,8 @@ pub(crate) fn copy_last(words: &mut Vec<u64>, width: usize)
     }
 }
 
-fn both(word: u64, row: u64) -> u64
+/// What both words have.
+pub(crate) fn both(word: u64, row: u64) -> u64
     ensures { (t : ℕ) → (bit_at result t == 1) ≡ ((bit_at word t == 1) && (bit_at row t == 1)) }
 {
     word & row

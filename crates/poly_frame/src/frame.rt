@@ -1,14 +1,14 @@
 //! A place in a search, kept as bits: rows of words for the placements that were open at the start. A step copies the
 //! last row and takes out what it closes, so nothing is searched and no memory is taken after the start. Bits in place of
 //! the linked lists of Knuth's dancing links (The Art of Computer Programming, volume 4B, section 7.2.2.1).
-ghost use Rattle.std.specs.Prelude.{IfErr, IfOk, MatchOption, false, length, not, true, ℕ, ◌&&◌, ◌+◌, ◌-◌, ◌<◌, ◌≡◌, ◌≤◌};
+ghost use Rattle.std.specs.Prelude.{IfErr, IfOk, MatchOption, [], false, length, not, true, ℕ, ◌&&◌, ◌++◌, ◌+◌, ◌-◌, ◌<◌, ◌∷◌, ◌≡◌, ◌≤◌};
 ghost use Rattle.std.specs.List.{list_all};
 ghost use Rattle.poly_tiling.specs.Lists.{distinct, mem, tally};
 ghost use Rattle.poly_tiling.specs.Names.{WellNamed};
 ghost use Rattle.poly_tiling.specs.Puzzle.{has_item};
 ghost use Rattle.poly_atom.specs.Atoms.{in_family};
 ghost use Rattle.poly_atom.specs.Hopeless.{base};
-ghost use Rattle.poly_frame.specs.Open.{dead, lower, ruled_out};
+ghost use Rattle.poly_frame.specs.Open.{arms_fit, dead, lower, ruled_out};
 ghost use Rattle.poly_frame.specs.Matrices.{IsWhole};
 ghost use Rattle.poly_frame.specs.Walk.{back_to, is_due, is_open, is_option, step_back, with_step};
 
@@ -20,10 +20,12 @@ mod matrix;
 mod members;
 mod opened;
 mod sound;
+mod starved;
 mod steps;
 mod table;
 
 pub use crate::frame::matrix::Matrix;
+use crate::frame::starved::is_starved;
 use crate::frame::steps::{Steps, start};
 use crate::frame::table::{Table, counts_of, table_of, uppers_of};
 use crate::plain;
@@ -294,9 +296,13 @@ impl<'a> Frame<'a> {
 
     /// Whether the placement is one of the design and is not ruled out: it is open, or it is in the base and could be
     /// taken if it were not.
+    #[tactic(auto, using(crate::proofs::FrameArms::open_right))]
     pub fn allows(&self, placement: u32) -> bool
         ensures { result ≡ (mem self.now.scene.live placement && not (ruled_out self.now.scene self.now.atoms placement)) }
     {
+        if self.stands_open(placement) {
+            return true;
+        }
         sound::is_right(self.view, &self.path, &self.members, placement)
     }
 
@@ -329,6 +335,22 @@ impl<'a> Frame<'a> {
             &self.members,
             &item,
         )
+    }
+
+    /// Whether too few placements that have the item are left once the placement is taken: no tiling that meets the atoms
+    /// has the placement. The frame stays as it was.
+    pub fn starves(&mut self, placement: u32, item: Item) -> bool
+        requires { length self.old.atoms < self.old.given + 4096 }
+        ensures same { self.new ≡ self.old }
+        ensures value { result ≡ arms_fit self.old.scene (self.old.atoms ++ Atom.Has placement ∷ []) item [] }
+    {
+        if is_starved(self.view, &self.table, &self.steps, placement, &item) {
+            return true;
+        }
+        self.pick(placement);
+        let few = self.count_allowed(item) < self.least(item);
+        self.back();
+        few
     }
 
     /// The base, ascending, where it is a tiling that meets the atoms: all that a Found stands for.

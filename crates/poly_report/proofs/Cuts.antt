@@ -1,7 +1,7 @@
 -- One node of a tree, as the walk meets it.
 use Rattle.std.proofs.Common.{Bool, List, [], ap, append_assoc, arith, cond, drop, eqb, false, get_or, inl, length, length-append, length-take, map, not, refl, subst, sym, take, true, ℕ, ◌&&◌, ◌+◌, ◌++◌, ◌<◌, ◌≤◌, ◌||◌, ◌∙◌, ◌∷◌, ◌≡◌}
 use Rattle.std.proofs.lemmas.Bool.{and_parts, ne_eqb}
-use Rattle.std.proofs.lemmas.List.{at_drop_more, length-map, map-append, take-append-drop, take_more}
+use Rattle.std.proofs.lemmas.List.{append-nil, at_drop_more, length-map, map-append, take-append-drop, take_more}
 use Rattle.std.specs.List.{list_any}
 use Rattle.poly_tiling.specs.Lists.{distinct, mem}
 use Rattle.poly_tiling.specs.declared.item.Item.{Item}
@@ -14,7 +14,7 @@ use Rattle.poly_atom.specs.Hopeless.{lacks}
 use Rattle.poly_report.specs.declared.tree.Arm.{Arm}
 use Rattle.poly_report.specs.Shapes.{arms_list, plan_of}
 use Rattle.poly_frame.specs.Walk.{Walk, with_step}
-use Rattle.poly_report.specs.Trees.{Arms, Branches, OneArm, Plan, heads}
+use Rattle.poly_report.specs.Trees.{Arms, Branches, NoArms, OneArm, Plan, heads}
 use Rattle.poly_frame.specs.Open.{arms_fit, dead}
 use Rattle.poly_report.specs.Holds.{arm_atoms, arms_hold, holds}
 use Rattle.poly_report.specs.Leaves.{arms_rests, arms_tilings, rests, tilings}
@@ -154,3 +154,23 @@ length_at A arms k =
     let d = length-map (take k arms) (λ (x : Arm). x.placement) in
     let e = length-take k arms in
     omega arith
+
+-- a placement that is not dead, with a Branch without arms: nothing but the count is asked, and it leaves nothing
+bare : (x : Bool) → x ≡ (x && true)
+bare true = refl
+bare false = refl
+
+pub bare_says : (v : View) (A : List Atom) (p : ℕ) (i : Item) (t : Plan) (b : Bool) → t ≡ Branches i NoArms → dead v A p ≡ false → b ≡ arms_fit v (A ++ Has p ∷ []) i [] → b ≡ taken_holds v A p t
+bare_says v A p i t b e d h =
+    h ∙ bare (arms_fit v (A ++ Has p ∷ []) i []) ∙ sym (ap (λ x. x || holds v (A ++ Has p ∷ []) (Branches i NoArms)) d)
+    ∙ ap (λ x. taken_holds v A p x) (sym e)
+
+pub bare_tilings : (v : View) (A : List Atom) (p : ℕ) (i : Item) (t : Plan) (found : List (List ℕ)) → t ≡ Branches i NoArms → dead v A p ≡ false → found ≡ found ++ taken_tilings v A p t
+bare_tilings v A p i t found e d = sym (append-nil found) ∙ ap (λ x. found ++ x) (sym (ap (λ x. cond x [] []) d) ∙ ap (λ x. taken_tilings v A p x) (sym e))
+
+pub bare_rests : (v : View) (A : List Atom) (p : ℕ) (i : Item) (t : Plan) (left : List (List Atom)) → t ≡ Branches i NoArms → dead v A p ≡ false → left ≡ left ++ taken_rests v A p t
+bare_rests v A p i t left e d = sym (append-nil left) ∙ ap (λ x. left ++ x) (sym (ap (λ x. cond x [] []) d) ∙ ap (λ x. taken_rests v A p x) (sym e))
+
+pub no_arms : (arms : List Arm) → length arms ≡ 0 → arms_list arms ≡ NoArms
+no_arms [] h = refl
+no_arms (a ∷ arms) h = absurd (omega (arith, h))

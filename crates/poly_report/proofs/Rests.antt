@@ -1,5 +1,5 @@
 -- What a tree's path adds to the atoms of its task, and that a path of open placements adds nothing hopeless.
-use Rattle.std.proofs.Common.{Bool, List, [], ap, append_assoc, arith, cond, eqb, false, inl, inr, leb, map, not, refl, subst, sym, true, ℕ, ◌&&◌, ◌++◌, ◌≤◌, ◌||◌, ◌∙◌, ◌∷◌, ◌≡◌, ◌⊎◌}
+use Rattle.std.proofs.Common.{Bool, List, [], ap, append_assoc, arith, cond, eqb, false, inl, inr, leb, map, not, subst, sym, true, ℕ, ◌&&◌, ◌++◌, ◌≤◌, ◌||◌, ◌∙◌, ◌∷◌, ◌≡◌, ◌⊎◌}
 use Rattle.std.specs.List.{list_any}
 use Rattle.std.proofs.lemmas.Bool.{and_from, and_parts, both_ways, cases_lt, le-leb, leb-true, ne_eqb, not-true, not_from_false, or_parts}
 use Rattle.std.proofs.lemmas.List.{append-nil, map-append}
@@ -19,7 +19,7 @@ use Rattle.poly_frame.proofs.Later.{upper_le_most}
 use Rattle.poly_report.specs.Trees.{Arms, Branches, Finds, NoArms, OneArm, Plan, Rests, Splits}
 use Rattle.poly_report.specs.Holds.{arm_atoms}
 use Rattle.poly_report.specs.Leaves.{arms_rests, rests}
-use Rattle.poly_report.specs.Opened.{arms_opened, as_hopeless, can_take, opened}
+use Rattle.poly_report.specs.Opened.{arms_opened, can_take, opened}
 use Rattle.poly_report.specs.Laws.{OpenPathsAddNothingHopeless}
 
 under : (d : Bool) (xs ys : List (List Atom)) (B : List Atom) → In B (cond d [] xs ++ ys) → In B xs ⊎ In B ys

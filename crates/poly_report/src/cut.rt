@@ -108,7 +108,8 @@ fn walk_arms(
     Ok(true)
 }
 
-// Walks the tree that hangs under a placement to take; what hangs under a dead one is not looked at.
+// Walks the tree that hangs under a placement to take; what hangs under a dead one is not looked at. A Branch without arms
+// is judged without taking the placement.
 #[cycle(walk)]
 fn walk_taken(
     alloc: Global,
@@ -134,6 +135,11 @@ fn walk_taken(
             out.push_rest_with(alloc, frame, Atom::Has(placement))?;
         }
         return Ok(true);
+    }
+    if let Tree::Branch { item, arms } = tree {
+        if arms.is_empty() {
+            return Ok(frame.starves(placement, *item));
+        }
     }
     frame.pick(placement);
     let yes = walk(alloc, frame, tree, keep, out)?;

@@ -1,5 +1,5 @@
 //! Frames of small designs: what is open, due and found there is counted by hand.
-ghost use Rattle.std.specs.Prelude.{◌≡◌};
+ghost use Rattle.std.specs.Prelude.{length, ◌+◌, ◌<◌, ◌≡◌};
 
 use crate::designs::design_of;
 use poly_atom::Atom;
@@ -87,6 +87,26 @@ fn a_frame_finds_what_fills_the_square(rt: HostRuntime) {
 // Asserts which item is due next.
 fn expect_due(rt: &impl Abort, frame: &Frame<'_>, want: &Item) {
     assert!(rt; frame.next_due() == Some(*want));
+}
+
+// Asserts whether taking the placement leaves too little for the last cell of the square.
+fn expect_starved(rt: &impl Abort, view: &View, frame: &mut Frame<'_>, placement: u32, want: bool)
+    requires { length frame.old.atoms < frame.old.given + 4096 }
+    ensures { frame.new ≡ frame.old }
+{
+    let cell = view.items().get(3).expect(rt, "four cells").0;
+    assert!(rt; frame.starves(placement, cell) == want);
+}
+
+#[test]
+fn a_placement_starves_a_cell_that_it_leaves_without_options(rt: HostRuntime) {
+    let view = view_of(rt.alloc(), SQUARE).expect(&rt, "a view");
+    let mut frame = Frame::new(rt.alloc(), &view, &[]).expect(&rt, "memory");
+    expect_starved(&rt, &view, &mut frame, 0, false);
+    expect_starved(&rt, &view, &mut frame, 7, false);
+    frame.leave(7);
+    expect_starved(&rt, &view, &mut frame, 0, true);
+    expect_counts(&rt, &view, &mut frame, &[4, 4, 3, 3, 4, 3]);
 }
 
 #[test]

@@ -1,4 +1,5 @@
 use Rattle.std.proofs.Common.{List, [], ap, arith, false, length, rules, sym, true, ◌&&◌, ◌++◌, ◌∙◌}
+use Rattle.std.proofs.lemmas.Bool.{eqb-true}
 use Rattle.poly_report.specs.declared.tree.Arm.{Arm}
 use Rattle.poly_report.specs.declared.tree.Tree.{the_lemmas}
 use Rattle.poly_report.specs.Trees.{Branches, heads}
@@ -11,7 +12,7 @@ use Rattle.poly_report.specs.Gather.{lists}
 use Rattle.poly_frame.specs.Walk.{Walk}
 use Rattle.poly_report.proofs.Rows.{plan_of-Branch}
 use Rattle.poly_report.proofs.Measures.{total_some}
-use Rattle.poly_report.proofs.Cuts.{branch_says, fit_once, leave_at, length_at, rests_at, says_at, tilings_at, unwalked_at}
+use Rattle.poly_report.proofs.Cuts.{bare_rests, bare_says, bare_tilings, branch_says, fit_once, leave_at, length_at, no_arms, rests_at, says_at, tilings_at, unwalked_at}
 use Rattle.poly_report.proofs.cut.+walk.Goals as goal
 
 pub walk-returns-then-not-arms_fit-clause-says : goal.walk-returns-then-not-arms_fit-clause-says
@@ -110,4 +111,21 @@ walk_arms-loop-arm-preserved t c =
       says = inv.says ∙ says_at v A g arms k a lt c.arm-item.is c.requires.once c.loop-arm.frame inv.frame true says;
       tilings = λ y. tilings_at v A g arms k a lt c.arm-item.is c.requires.once c.loop-arm.frame inv.frame c.loop-arm.out.tilings.items c.walk_taken.new.out.tilings.items (c.in_ok-yes.ensures.tilings passed y) ∙ inv.tilings y;
       rests = λ y. rests_at v A g arms k a lt c.arm-item.is c.requires.once c.loop-arm.frame inv.frame (lists c.loop-arm.out.rests.items) (lists c.walk_taken.new.out.rests.items) (c.in_ok-yes.ensures.rests passed y) ∙ inv.rests y;
+    }
+
+pub walk_taken-returns-then-is_empty : goal.walk_taken-returns-then-is_empty
+walk_taken-returns-then-is_empty t c =
+    let v = c.args.frame.now.scene in
+    let A = c.args.frame.now.atoms in
+    let p = c.args.placement in
+    let i = c.in-Branch.item in
+    let arms = c.in-Branch.arms in
+    let plan = ap plan_of c.in-Branch.is ∙ plan_of-Branch i arms ∙ ap (Branches i) (no_arms arms.items (omega (arith, eqb-true _ _ (sym c.is_empty.ensures ∙ c.if-is_empty.true), arms.ok.0))) in
+    let alive = sym c.dead.ensures ∙ c.if-dead.false in
+    record {
+      same = λ y. c.starves.ensures.same;
+      says = bare_says v A p i (plan_of c.args.tree.now) c.starves.result plan alive c.starves.ensures.value;
+      tilings = λ y k. bare_tilings v A p i (plan_of c.args.tree.now) c.args.out.now.tilings.items plan alive;
+      rests = λ y k. bare_rests v A p i (plan_of c.args.tree.now) (lists c.args.out.now.rests.items) plan alive;
+      why = tt;
     }

@@ -1,5 +1,5 @@
 use Rattle.std.proofs.lemmas.List.{length-replicate}
-use Rattle.std.proofs.Common.{◌*◌, List, ap, arith, eqb, get_or, length, ltb, replicate, rules, subst, ℕ, ◌∙◌, ◌≡◌, ◌||◌}
+use Rattle.std.proofs.Common.{◌*◌, List, ap, arith, eqb, get_or, length, ltb, rules, subst, ℕ, ◌∙◌, ◌≡◌, ◌||◌}
 use Rattle.std.specs.List.{list_all, list_any}
 use Rattle.poly_tiling.specs.Puzzle.{has_item}
 use Rattle.poly_frame.specs.Bits.{has_bit}
