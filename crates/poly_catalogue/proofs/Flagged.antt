@@ -6,7 +6,7 @@ use Rattle.std.specs.List.{list_all}
 use Rattle.std.specs.Prelude.{nat_lt}
 use Rattle.poly_tiling.specs.declared.item.Item.{Item}
 use Rattle.poly_tiling.specs.Puzzle.{View, count, has_item, is_tiling, least, most}
-use Rattle.poly_tiling.proofs.Lists.{all_append, all_from, all_in}
+use Rattle.poly_tiling.proofs.Lists.{In, all_append, all_from, all_in}
 use Rattle.poly_tiling.proofs.Named.{tally_same_in}
 use Rattle.poly_tiling.proofs.Tilings.{parts}
 use Rattle.poly_catalogue.specs.Catalogued.{HasFlags}
@@ -56,8 +56,11 @@ flagged_count w i flags T exact low = tally_same_in (λ p. get_or flags p false)
     (λ p j. exact p (ltb-true p (length flags) (all_in (λ q. nat_lt q (length flags)) T low p j)))
 
 -- flags tell where an item fits
-pub kept_fits : (w : View) (i : Item) (flags : List Bool) (l m n : ℕ) (a b : List (List ℕ)) → AreFlags w i flags → l ≡ least w i → m ≡ most w i → n ≡ length flags → HasFlags a n → Keeps (within flags l m) a b → Keeps (fits w i) a b
-kept_fits w i flags l m n a b exact el em en h k = keeps_as (within flags l m) (fits w i) a b k (λ T j.
+pub within_fits : (w : View) (i : Item) (flags : List Bool) (l m n : ℕ) (a : List (List ℕ)) (T : List ℕ) → AreFlags w i flags → l ≡ least w i → m ≡ most w i → n ≡ length flags → HasFlags a n → In T a → within flags l m T ≡ fits w i T
+within_fits w i flags l m n a T exact el em en h j =
     let low = subst (λ z. list_all (λ p. nat_lt p z) T ≡ true) en (all_in (λ U. list_all (λ p. nat_lt p n) U) a h.low T j) in
     let e = flagged_count w i flags T exact low in
-    ap (λ z. leb z (flagged flags T) && leb (flagged flags T) m) el ∙ ap (λ z. leb (least w i) (flagged flags T) && leb (flagged flags T) z) em ∙ ap (λ z. leb (least w i) z && leb z (most w i)) e)
+    ap (λ z. leb z (flagged flags T) && leb (flagged flags T) m) el ∙ ap (λ z. leb (least w i) (flagged flags T) && leb (flagged flags T) z) em ∙ ap (λ z. leb (least w i) z && leb z (most w i)) e
+
+pub kept_fits : (w : View) (i : Item) (flags : List Bool) (l m n : ℕ) (a b : List (List ℕ)) → AreFlags w i flags → l ≡ least w i → m ≡ most w i → n ≡ length flags → HasFlags a n → Keeps (within flags l m) a b → Keeps (fits w i) a b
+kept_fits w i flags l m n a b exact el em en h k = keeps_as (within flags l m) (fits w i) a b k (λ T j. within_fits w i flags l m n a T exact el em en h j)

@@ -2,7 +2,6 @@
 use Rattle.std.proofs.Common.{Bool, List, [], ap, arith, cond, eqb, false, filter, get_or, inl, inr, leb, length, not, refl, replicate, set, subst, suc, sym, take, true, ℕ, ◌&&◌, ◌++◌, ◌||◌, ◌+◌, ◌-◌, ◌<◌, ◌∙◌, ◌∷◌, ◌≡◌, ◌≤◌}
 use Rattle.std.proofs.lemmas.Bool.{cases_eq, cases_lt, eq-eqb, le-leb, leb-true, ne_eqb, or_right, true_from_ne_false}
 use Rattle.std.proofs.lemmas.List.{get_or-replicate, get_or-set_other, get_or-set_same, get_or_past, length-replicate, take_all, take_more}
-use Rattle.std.proofs.lemmas.List.Elements.{filter-append}
 use Rattle.std.specs.Prelude.{nat_lt}
 use Rattle.std.specs.List.{list_all, list_any}
 use Rattle.poly_tiling.specs.Lists.{mem, one, same_list, tally}
@@ -132,16 +131,6 @@ pub same_room : (t more n : ℕ) → t ≤ n → leb more (n - t) ≡ leb (t + m
 same_room t more n l = same_truth (leb more (n - t)) (leb (t + more) n)
     (λ h. le-leb (t + more) n (let k = leb-true more (n - t) h in omega arith))
     (λ h. le-leb more (n - t) (let k = leb-true (t + more) n h in omega arith))
-
--- one more tiling looked at
-pub filter_more : (p q : List ℕ → Bool) (xs : List (List ℕ)) (i : ℕ) (old new : List (List ℕ)) (T : List ℕ) → i < length xs → T ≡ row xs i → p (row xs i) ≡ q (row xs i) → old ≡ filter p (take i xs) → new ≡ old ++ filter q (T ∷ []) → new ≡ filter p (take (i + 1) xs)
-filter_more p q xs i old new T l is same a b =
-    b ∙ ap (λ z. old ++ filter q (z ∷ [])) is ∙ ap (λ z. old ++ cond z (row xs i ∷ []) []) (sym same) ∙ ap (λ z. z ++ filter p (row xs i ∷ [])) a
-    ∙ sym (filter-append p (take i xs) (row xs i ∷ [])) ∙ ap (λ z. filter p z) (sym (take_more xs i [] l))
-
-pub filter_whole : (p q : List ℕ → Bool) (xs : List (List ℕ)) → ((T : List ℕ) → In T xs → p T ≡ q T) → filter p xs ≡ filter q xs
-filter_whole p q [] h = refl
-filter_whole p q (T ∷ xs) h = ap (λ z. cond z (T ∷ filter p xs) (filter p xs)) (h T (inl refl)) ∙ ap (λ z. cond (q T) (T ∷ z) z) (filter_whole p q xs (λ U i. h U (inr i)))
 
 or_none : (a : Bool) → a ≡ (a || false)
 or_none true = refl

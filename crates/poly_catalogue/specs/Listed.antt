@@ -1,5 +1,5 @@
 -- What a list of tilings says of the tilings in it.
-use Rattle.std.specs.Prelude.{Bool, List, false, length, slice_index_or, true, ℕ, ◌&&◌, ◌||◌, ◌≡◌, ◌≤◌}
+use Rattle.std.specs.Prelude.{Bool, List, false, length, slice_index_or, true, ℕ, ◌&&◌, ◌||◌, ◌<◌, ◌≡◌, ◌≤◌}
 use Rattle.std.specs.List.{list_all, list_any}
 use Rattle.poly_tiling.specs.Lists.{mem, same_list, tally}
 use Rattle.poly_tiling.specs.Puzzle.{View, is_tiling}
@@ -33,3 +33,13 @@ pub record AreIndicesWith (list : List (List ℕ)) (number : ℕ) (indices : Lis
 pub record AreMarked (list : List (List ℕ)) (numbers : List ℕ) (marks : List Bool) : Type 0 where
   pub long : length marks ≡ length list
   pub exact : (t : ℕ) → slice_index_or marks t false ≡ list_any (λ p. mem (row list t) p) numbers
+
+-- the marked tilings of the list are those that pass
+pub record AreMarkedBy (p : List ℕ → Bool) (list : List (List ℕ)) (marks : List Bool) : Type 0 where
+  pub long : length marks ≡ length list
+  pub exact : (t : ℕ) → t < length list → slice_index_or marks t false ≡ p (row list t)
+
+-- the tilings of the list that pass are marked too
+pub record AddsMarks (p : List ℕ → Bool) (list : List (List ℕ)) (old new : List Bool) : Type 0 where
+  pub long : length new ≡ length list
+  pub exact : (t : ℕ) → t < length list → slice_index_or new t false ≡ (slice_index_or old t false || p (row list t))

@@ -2,6 +2,7 @@
 ghost use Rattle.std.specs.Prelude.{◌≡◌, ◌+◌, ◌++◌, ◌⊎◌, ◌↔◌, ◌<◌, ◌≤◌, [], Err, IfErr, IfOk, MatchOption, OnErr, OnOk, Some, filter, length, nat_le, not, slice_get, true};
 ghost use Rattle.std.specs.List.{list_all};
 ghost use Rattle.poly_tiling.specs.Puzzle.{is_tiling};
+ghost use Rattle.poly_catalogue.specs.Catalogued.{HasFlags};
 ghost use Rattle.poly_catalogue.specs.Covering.{AreCovering};
 ghost use Rattle.poly_catalogue.specs.Listed.{AreOfEither, AreOnce, AreSame};
 
@@ -127,7 +128,7 @@ impl Catalogue {
         ensures ok { IfOk result (λ list. list.items ≡ filter (λ T. not (is_tiling view.now T)) self.now) }
         ensures why { IfErr result (λ e. e ≡ Refusal.Memory) }
     {
-        leaving(self.alloc, &self.listing, view, delta)
+        leaving(self.alloc, &self.listing, self.flags.len(), view, delta)
     }
 
     /// `keep_only` and then `list_all`, under the conditions of both, all or none.
@@ -148,7 +149,14 @@ impl Catalogue {
         ensures full { result ≡ Err Refusal.CatalogueFull → 1000000 < length (filter (is_tiling view.now) self.old) + length tilings.items }
         ensures why { IfErr result (λ e. (e ≡ Refusal.CatalogueFull) ⊎ (e ≡ Refusal.Memory)) }
     {
-        match has_room(self.alloc, &self.listing, view, delta, tilings.len()) {
+        match has_room(
+            self.alloc,
+            &self.listing,
+            self.flags.len(),
+            view,
+            delta,
+            tilings.len(),
+        ) {
             Ok(true) => {
                 add(&mut self.listing, &mut self.flags, view, tilings)?;
                 keep(&mut self.listing, &mut self.flags, view, delta);
@@ -164,12 +172,14 @@ impl Catalogue {
 fn has_room(
     alloc: Global,
     listing: &Listing,
+    flag_count: usize,
     view: &View,
     delta: &Delta,
     more: usize,
 ) -> Result<bool, Refusal>
     requires from { AreOfEither view.now delta.now listing.now }
     requires few { length listing.now ≤ 1000000 }
+    requires flags { HasFlags listing.now flag_count }
     ensures ok { IfOk result (λ room. room ≡ nat_le (length (filter (is_tiling view.now) listing.now) + more) 1000000) }
     ensures why { IfErr result (λ e. e ≡ Refusal.Memory) }
 {
@@ -177,6 +187,6 @@ fn has_room(
     if more <= MAX_TILINGS - count {
         return Ok(true);
     }
-    let left = leaving(alloc, listing, view, delta)?;
+    let left = leaving(alloc, listing, flag_count, view, delta)?;
     Ok(more <= MAX_TILINGS - (count - left.len()))
 }

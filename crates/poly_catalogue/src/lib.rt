@@ -17,7 +17,6 @@ mod listing;
 mod marks;
 mod row;
 mod rows;
-mod stays;
 
 pub use catalogue::{Catalogue, MAX_TILINGS};
 pub use laws::plans_lead;

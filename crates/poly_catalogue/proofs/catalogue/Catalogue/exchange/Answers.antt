@@ -17,10 +17,10 @@ invariant_of-self-in-Ok-true c =
     let more : List (List ℕ) = c.args.tilings.items in
     let is : c.add.new.listing ≡ old ++ more = c.in_ok-add-in-Ok-true.ensures.ok ∙ ap (λ (l : List (List ℕ)). l ++ more) c.self.view_is in
     let k = subst (λ (l : List (List ℕ)). Keeps (is_tiling w) l c.keep.new.listing) is c.keep.ensures.keeps in
-    let room = leb-true (length (filter (is_tiling w) c.self.inside.listing) + c.len.result) 1000000 (sym c.in-Ok-true.ensures.ok ∙ c.in-Ok-true.field-0-test) in
+    let room = leb-true (length (filter (is_tiling w) c.self.inside.listing) + c.len-2.result) 1000000 (sym c.in-Ok-true.ensures.ok ∙ c.in-Ok-true.field-0-test) in
     let same : length (filter (is_tiling w) c.self.inside.listing) ≡ length (filter (is_tiling w) old) = ap (λ (l : List (List ℕ)). length (filter (is_tiling w) l)) c.self.view_is in
     record {
-      few = room_after (is_tiling w) old more c.keep.new.listing c.requires.tilings k (omega (arith, room, same, c.len.ensures, c.args.tilings.ok.0));
+      few = room_after (is_tiling w) old more c.keep.new.listing c.requires.tilings k (omega (arith, room, same, c.len-2.ensures, c.args.tilings.ok.0));
       once = kept_once (is_tiling w) (old ++ more) c.keep.new.listing k c.requires.once;
       flags = kept_flags (is_tiling w) c.add.new.listing c.keep.new.listing (length c.add.new.flags.items) (length c.keep.new.flags.items) c.keep.ensures.keeps c.keep.ensures.long c.add.ensures.flags;
     }
