@@ -1,6 +1,5 @@
 -- A change sets and takes back few pins.
-use Rattle.std.proofs.Common.{List, arith, length, ℕ, ◌≡◌, ◌≤◌}
-use Rattle.std.specs.List.{Contains}
+use Rattle.std.proofs.Common.{List, arith, length, ℕ, ◌≤◌}
 use Rattle.poly_shape.proofs.Ascending.{length-part}
 use Rattle.poly_design.specs.Layout.{Layout}
 use Rattle.poly_design.specs.Limits.{IsDesign}

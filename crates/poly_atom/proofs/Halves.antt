@@ -25,9 +25,6 @@ sorted_places lt (x ∷ xs) (suc i) (suc j) d h l m = sorted_places lt xs i j d 
 pub record IsWithin {X : Type 0} (eq : X → X → Bool) (xs : List X) (x : X) (low high : ℕ) : Type 0 where
   pub at : (k : ℕ) → k < length xs → eq (get_or xs k x) x ≡ true → (low ≤ k) × (k < high)
 
-pub within_all : {X : Type 0} (eq : X → X → Bool) (xs : List X) (x : X) → IsWithin eq xs x 0 (length xs)
-within_all eq xs x = record { at = λ k h e. (omega arith, h) }
-
 module _ {X : Type 0} (lt eq : X → X → Bool) (o : IsOrder lt eq) (xs : List X) (up : sorted lt xs ≡ true) where
   pub within_low : (x here : X) (low high middle : ℕ) → IsWithin eq xs x low high → middle < length xs → here ≡ get_or xs middle x → lt here x ≡ true → IsWithin eq xs x (middle + 1) high
   within_low x here low high middle w inside is below = record {

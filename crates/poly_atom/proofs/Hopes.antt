@@ -1,10 +1,10 @@
 -- A list stays as hopeful as it was with an open placement asked for, and with one ruled out that nobody has to have.
-use Rattle.std.proofs.Common.{Bool, List, None, Option, Some, [], ap, arith, eqb, false, inl, inr, map, nat_lt, not, refl, slice_get, subst, sym, true, ℕ, ◌&&◌, ◌++◌, ◌+◌, ◌<◌, ◌||◌, ◌∙◌, ◌∷◌, ◌≡◌, ◌≤◌, ◌⊎◌}
+use Rattle.std.proofs.Common.{Bool, List, None, Option, Some, [], ap, arith, eqb, false, inl, inr, nat_lt, not, refl, slice_get, subst, sym, true, ℕ, ◌&&◌, ◌++◌, ◌+◌, ◌<◌, ◌||◌, ◌∙◌, ◌∷◌, ◌≡◌, ◌≤◌, ◌⊎◌}
 use Rattle.std.proofs.lemmas.Bool.{and_from, and_parts, both_ways, cases_Bool, eq-eqb, eqb-true, false_from_ne_true, le-leb, lt-ltb, ltb-false, ltb-true, not-true, not_from_false, or_cases, or_left, or_right, true≢false}
 use Rattle.std.specs.List.{list_any}
 use Rattle.std.specs.Prelude.{nat_le}
 use Rattle.poly_design.specs.declared.placement.Placement.{Placement}
-use Rattle.poly_tiling.specs.Lists.{distinct, mem, one, put_all, tally}
+use Rattle.poly_tiling.specs.Lists.{mem, one, put_all}
 use Rattle.poly_tiling.specs.Puzzle.{View, clash, count, has_item, is_piece, items, most, same_item, share_cell}
 use Rattle.poly_tiling.specs.declared.item.Item.{Item}
 use Rattle.poly_tiling.proofs.Counts.{ascending_distinct, tally_within}
@@ -42,9 +42,6 @@ lacked_by A b q h =
 
 same_has : (p q : ℕ) → Has p ≡ Has q → p ≡ q
 same_has p q e = cc
-
-not_has : (p q : ℕ) → Lacks p ≡ Has q → ⊥
-not_has p q e = cc
 
 module _ (v : View) (A : List Atom) (p : ℕ) (o : IsOpenFor v A p) where
   joined : (q : ℕ) → In q (base v (A ++ Has p ∷ [])) → In q (p ∷ base v A)

@@ -2,9 +2,7 @@
 use Rattle.std.proofs.Common.{Bool, List, [], ap, arith, cond, false, filter, inl, inr, length, length-append, map, not, nat_lt, refl, subst, sym, true, ℕ, ◌++◌, ◌+◌, ◌<◌, ◌∙◌, ◌∷◌, ◌≡◌, ◌≤◌, ◌≢◌}
 use Rattle.std.proofs.lemmas.Bool.{lt-ltb, ltb-true}
 use Rattle.std.proofs.lemmas.List.{length-map}
-use Rattle.std.specs.Cmp.Lexicographic.{nat_list_cmp_total}
-use Rattle.std.specs.List.{Contains, list_any}
-use Rattle.std.specs.Map.{keys_of}
+use Rattle.std.specs.List.{list_any}
 use Rattle.std.specs.declared.cmp.Ordering.TheVariants.{Less}
 use Rattle.poly_grid.specs.Spot.{Spot}
 use Rattle.poly_shape.specs.Order.{IsAscending}
@@ -13,27 +11,24 @@ use Rattle.poly_design.specs.Layout.{Layout, mode_of}
 use Rattle.poly_design.specs.Limits.{IsDesign}
 use Rattle.poly_design.specs.Listed.{IsListOf}
 use Rattle.poly_design.specs.Name.{name_cmp}
-use Rattle.poly_design.specs.PlacementOrder.{placement_cmp, placement_total}
 use Rattle.poly_design.specs.declared.mode.Mode.{Mode}
 use Rattle.poly_design.specs.declared.mode.Mode.TheVariants.{Blocked, Optional, Required}
-use Rattle.poly_design.specs.declared.spec.Spec.{Spec}
 use Rattle.poly_place.specs.Between.{IsChangeOf}
 use Rattle.poly_place.specs.Delta.{LeastRises, MostFalls}
 use Rattle.poly_place.specs.declared.delta.Delta.{Delta}
 use Rattle.poly_place.proofs.Between.{fresh_is, gone_is, pinned_is, unpinned_is}
 use Rattle.poly_place.proofs.Differences.{bound_of_in, key_piece, listed_item, piece_key, risen_up}
 use Rattle.poly_tiling.specs.Lists.{mem}
-use Rattle.poly_tiling.specs.Names.{WellNamed, item_cmp, items_ascend}
+use Rattle.poly_tiling.specs.Names.{WellNamed, item_cmp}
 use Rattle.poly_tiling.specs.Puzzle.{Bound, View, least, most, same_item}
 use Rattle.poly_tiling.specs.Shows.{Shows, cell_bound, item_bounds, piece_bound}
-use Rattle.poly_tiling.specs.Tilings.{bounds_of, bounds_of_mode}
+use Rattle.poly_tiling.specs.Tilings.{bounds_of_mode}
 use Rattle.poly_tiling.specs.declared.item.Item.{Item}
 use Rattle.poly_tiling.specs.declared.item.Item.TheVariants.{Cell, Piece}
 use Rattle.poly_tiling.proofs.Contained.{contains_in, in_contains, pairs_cons, pairs_head, pairs_none, pairs_rest}
 use Rattle.poly_tiling.proofs.Lists.{In, filter_in, in_append_cases, in_filter, in_map, map_in}
 use Rattle.poly_tiling.proofs.Searched.{item_total}
 use Rattle.poly_tiling.proofs.Shown.{shown_least, shown_most}
-use Rattle.poly_atom.specs.declared.atom.Atom.{Atom}
 use Rattle.poly_atom.specs.declared.atom.Atom.TheVariants.{AtLeast, AtMost, Has, Lacks}
 use Rattle.poly_atom.specs.Guards.{guards, guards_by, guards_fresh, guards_least, guards_most, guards_pins}
 

@@ -16,3 +16,4 @@ pub mod Widths
 pub mod Newly
 pub mod Hopes
 pub mod Few
+pub mod Asked

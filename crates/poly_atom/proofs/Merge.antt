@@ -1,22 +1,16 @@
 -- What a walk over two lists in one order finds.
-use Rattle.std.proofs.Common.{Bool, List, None, Option, Some, [], ap, append_assoc, cond, drop, eqb, false, get_or, inl, inr, length, map, nat_lt, not, refl, slice_get, suc, sym, true, zero, ℕ, ◌&&◌, ◌++◌, ◌+◌, ◌<◌, ◌||◌, ◌∙◌, ◌∷◌, ◌≡◌, ◌≤◌}
-use Rattle.std.proofs.lemmas.Bool.{and_from, and_parts, both_ways, cond-false, cond-true, eqb-true, false_from_ne_true, ltb-true, true≢false}
+use Rattle.std.proofs.Common.{Bool, List, None, Option, Some, [], ap, append_assoc, cond, drop, eqb, false, get_or, inl, inr, length, map, nat_lt, not, refl, suc, sym, true, zero, ℕ, ◌&&◌, ◌++◌, ◌+◌, ◌<◌, ◌||◌, ◌∙◌, ◌∷◌, ◌≡◌, ◌≤◌}
+use Rattle.std.proofs.lemmas.Bool.{and_from, and_parts, both_ways, cond-false, cond-true, eqb-true, false_from_ne_true}
 use Rattle.std.proofs.lemmas.List.{append-nil, at_drop_more, drop_all}
 use Rattle.std.specs.Cmp.{tied_itself}
-use Rattle.std.specs.Cmp.Lexicographic.{nat_list_cmp_total}
 use Rattle.std.specs.List.{filter, find, list_all}
 use Rattle.std.specs.Option.{is_some}
 use Rattle.std.specs.Ordering.{is_lt}
-use Rattle.std.specs.declared.cmp.Ordering.{Ordering}
-use Rattle.std.specs.declared.cmp.Ordering.TheVariants.{Equal, Greater, Less}
-use Rattle.poly_shape.specs.Order.{spot_total}
-use Rattle.poly_design.specs.declared.placement.Placement.{Placement}
 use Rattle.poly_tiling.specs.Lists.{mem}
 use Rattle.poly_tiling.specs.declared.item.Item.{Item}
-use Rattle.poly_tiling.specs.declared.item.Item.TheVariants.{Cell, Piece}
-use Rattle.poly_tiling.specs.Names.{Names, WellNamed, below, in_order, item_cmp, items_ascend, placed_below}
+use Rattle.poly_tiling.specs.Names.{WellNamed, below, in_order, item_cmp, items_ascend}
 use Rattle.poly_tiling.specs.Puzzle.{Bound, View, bound_in, found_or, least, most, same_item}
-use Rattle.poly_tiling.proofs.Lists.{In, all_from, all_in, filter_in, slice_get_front}
+use Rattle.poly_tiling.proofs.Lists.{In, all_in, filter_in}
 use Rattle.poly_tiling.proofs.Searched.{item_total}
 use Rattle.poly_tiling.proofs.Ranks.{lt_less}
 pub use Rattle.poly_tiling.proofs.Below.{below-trans, below_self, order_kept, slot_same}

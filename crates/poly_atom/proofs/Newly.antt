@@ -1,8 +1,7 @@
 -- What a change makes hopeless has an atom about what it touches.
-use Rattle.std.proofs.Common.{Bool, List, None, Option, Some, [], ap, arith, eqb, false, filter, inl, inr, length, map, nat_lt, not, refl, slice_get, subst, sym, true, ℕ, ◌&&◌, ◌++◌, ◌<◌, ◌||◌, ◌∙◌, ◌∷◌, ◌≡◌, ◌≤◌}
+use Rattle.std.proofs.Common.{List, None, Option, Some, ap, arith, eqb, false, inl, inr, length, nat_lt, not, slice_get, subst, sym, true, ℕ, ◌&&◌, ◌<◌, ◌||◌, ◌∙◌, ◌≡◌, ◌≤◌}
 use Rattle.std.proofs.lemmas.Bool.{and_from, and_parts, both_ways, cases_Bool, cases_lt, false_from_ne_true, lt-ltb, ltb-false, ltb-true, not-true, not_from_false, or_cases, or_left, or_right, true≢false}
-use Rattle.std.specs.List.{Contains, list_any}
-use Rattle.std.specs.Map.{keys_of}
+use Rattle.std.specs.List.{list_any}
 use Rattle.poly_design.specs.Changes.{changed}
 use Rattle.poly_design.specs.declared.change.Change.{Change}
 use Rattle.poly_design.specs.declared.placement.Placement.{Placement}
@@ -12,9 +11,8 @@ use Rattle.poly_place.specs.Index.{item_of}
 use Rattle.poly_place.specs.declared.delta.Delta.{Delta}
 use Rattle.poly_place.proofs.Arrives.{arrives}
 use Rattle.poly_place.proofs.Between.{gone_is, pinned_is}
-use Rattle.poly_tiling.specs.Lists.{mem, one, tally}
-use Rattle.poly_tiling.specs.Names.{Names, WellNamed}
-use Rattle.poly_tiling.specs.Puzzle.{Bound, View, clash, count, has_item, is_piece, items, items_of, least, most, same_item, share_cell}
+use Rattle.poly_tiling.specs.Lists.{mem}
+use Rattle.poly_tiling.specs.Puzzle.{View, clash, count, has_item, is_piece, items, items_of, least, most, same_item, share_cell}
 use Rattle.poly_tiling.specs.Shows.{item_bounds}
 use Rattle.poly_tiling.specs.declared.item.Item.{Item}
 use Rattle.poly_tiling.specs.declared.item.Item.TheVariants.{Cell, Piece}
@@ -22,7 +20,7 @@ use Rattle.poly_tiling.proofs.Contained.{contains_in}
 use Rattle.poly_tiling.proofs.Counts.{ascending_distinct, tally_within}
 use Rattle.poly_tiling.proofs.Lists.{In, any_from, any_in, in_filter, in_map, in_mem, mem_in}
 use Rattle.poly_tiling.proofs.Named.{listed_item}
-use Rattle.poly_tiling.proofs.Shown.{cell_shared, shown_least, shown_most}
+use Rattle.poly_tiling.proofs.Shown.{cell_shared, shown_least}
 use Rattle.poly_tiling.proofs.Tilings.{same_item_is, same_item_self}
 use Rattle.poly_atom.specs.declared.atom.Atom.{Atom}
 use Rattle.poly_atom.specs.declared.atom.Atom.TheVariants.{AtLeast, AtMost, Has, Lacks}

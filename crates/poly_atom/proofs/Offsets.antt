@@ -14,19 +14,6 @@ flat-append (g ∷ L) M = ap (λ x. g ++ x) (flat-append L M) ∙ sym (append_as
 pub flat_push : (L : List (List Atom)) (g : List Atom) → flat (L ++ g ∷ []) ≡ flat L ++ g
 flat_push L g = flat-append L (g ∷ []) ∙ ap (λ x. flat L ++ x) (append-nil g)
 
--- past the last list there is nothing
-pub flat_none : (n : ℕ) (log : List (List Atom)) → length log ≤ n → flat (drop n log) ≡ []
-flat_none zero [] h = refl
-flat_none zero (g ∷ gs) h = absurd (omega (arith, h))
-flat_none (suc n) [] h = refl
-flat_none (suc n) (g ∷ gs) h = flat_none n gs (omega (arith, h))
-
--- one more change lays its guards behind
-pub since_push : (n : ℕ) (log : List (List Atom)) (g : List Atom) → n ≤ length log → flat (drop n (log ++ g ∷ [])) ≡ flat (drop n log) ++ g
-since_push zero log g h = flat_push log g
-since_push (suc n) [] g h = absurd (omega (arith, h))
-since_push (suc n) (x ∷ log) g h = since_push n log g (omega (arith, h))
-
 pub offsets_push : (n : ℕ) (L : List (List Atom)) (g : List Atom) → offsets n (L ++ g ∷ []) ≡ offsets n L ++ (n + length (flat L)) ∷ []
 offsets_push n [] g = let e : n ≡ n + 0 = omega arith in ap (λ m. m ∷ []) e
 offsets_push n (h ∷ L) g =

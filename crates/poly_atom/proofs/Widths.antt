@@ -1,5 +1,5 @@
 -- How many guards a change has, by the two designs.
-use Rattle.std.proofs.Common.{List, Some, [], ap, arith, filter, inl, length, nat_lt, refl, slice_get, subst, suc, true, ℕ, ◌+◌, ◌∙◌, ◌∷◌, ◌≡◌}
+use Rattle.std.proofs.Common.{List, [], ap, arith, filter, inl, length, nat_lt, refl, subst, suc, true, ℕ, ◌∙◌, ◌∷◌, ◌≡◌}
 use Rattle.std.proofs.lemmas.Bool.{and_parts}
 use Rattle.std.specs.Cmp.{IsTotalOrder}
 use Rattle.std.specs.Cmp.Lexicographic.{nat_list_cmp_total}
@@ -7,7 +7,6 @@ use Rattle.std.specs.List.{cons_option, list_all}
 use Rattle.std.specs.declared.cmp.Ordering.{Ordering}
 use Rattle.poly_shape.specs.Order.{IsAscending}
 use Rattle.poly_shape.proofs.Ascending.{same_ascending}
-use Rattle.poly_design.specs.Layout.{Layout}
 use Rattle.poly_design.specs.Listed.{IsListOf}
 use Rattle.poly_design.specs.PlacementOrder.{placement_cmp, placement_total}
 use Rattle.poly_design.specs.declared.placement.Placement.{Placement}
@@ -18,7 +17,6 @@ use Rattle.poly_tiling.specs.Puzzle.{View}
 use Rattle.poly_tiling.specs.Shows.{given, names}
 use Rattle.poly_tiling.proofs.Contained.{contains_in, in_contains}
 use Rattle.poly_tiling.proofs.Listings.{names_ascend}
-use Rattle.poly_tiling.proofs.Lists.{In}
 use Rattle.poly_tiling.proofs.Searched.{item_total}
 use Rattle.poly_tiling.proofs.Shown.{in_names, is_given, named_of, names_in}
 use Rattle.poly_atom.specs.Guards.{guards}

@@ -1,6 +1,6 @@
 -- Lists of atoms that no tiling can meet.
 use Rattle.std.specs.List.{list_any}
-use Rattle.std.specs.Prelude.{Bool, List, [], false, nat_lt, not, ℕ, ◌&&◌, ◌==◌, ◌||◌, ◌∷◌}
+use Rattle.std.specs.Prelude.{Bool, List, [], false, nat_lt, not, ℕ, ◌&&◌, ◌==◌, ◌||◌, ◌∷◌, ◌≡◌}
 use Rattle.poly_tiling.specs.Lists.{mem, put_all}
 use Rattle.poly_tiling.specs.Puzzle.{View, is_piece, clash, count, items, least, most, same_item}
 use Rattle.poly_atom.specs.declared.atom.Atom.{Atom}
@@ -35,3 +35,23 @@ bad v A (AtMost i n) = nat_lt n (least v i)
 
 abbrev pub hopeless : View → List Atom → Bool
 hopeless v A = list_any (λ a. bad v A a) A
+
+-- both lists ask for the same placements
+abbrev pub AskTheSame : List Atom → List Atom → Type 0
+AskTheSame D A = (p : ℕ) → mem (asked D) p ≡ mem (asked A) p
+
+-- an atom of D asks for a placement that isn't there, that is in conflict with the base, or whose piece is over its most
+abbrev pub lost : View → List Atom → Atom → Bool
+lost v D (Has p) =
+    not (mem v.live p) || list_any (λ q. clash v p q) (base v D)
+    || list_any (λ i. is_piece i && nat_lt (most v i) (count v (base v D) i)) (items v p)
+lost v D (Lacks p) = false
+lost v D (AtLeast i n) = false
+lost v D (AtMost i n) = false
+
+-- an atom rules out a pin or a placement that D asks for, or its bound is beyond that of its item
+abbrev pub beyond : View → List Atom → Atom → Bool
+beyond v D (Has p) = false
+beyond v D (Lacks p) = mem v.pins p || mem (asked D) p
+beyond v D (AtLeast i n) = bad v D (AtLeast i n)
+beyond v D (AtMost i n) = bad v D (AtMost i n)

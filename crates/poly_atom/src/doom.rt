@@ -1,9 +1,13 @@
 //! Lists of atoms that no tiling can meet, found without the search. What each tiling of a family has is the placements
-//! that the list asks for and the pins, each counted once; the list is gone through in place of building that set.
-ghost use Rattle.std.specs.Prelude.{[], nat_lt, ◌&&◌, ◌∷◌, ◌≡◌};
-ghost use Rattle.std.specs.List.{list_any};
+//! that the list asks for and the pins, each counted once.
+//!
+//! A list may be long, and may ask for one placement many times. So the placements that it asks for are gathered first,
+//! each once, and are then compared with one another and with the atoms that rule placements out. There are few of them
+//! in any list that can be met, since no two of them share a cell.
+ghost use Rattle.std.specs.Prelude.{[], IfSome, nat_lt, take, ◌&&◌, ◌||◌, ◌∷◌, ◌≡◌, ◌≤◌, length, ℕ};
+ghost use Rattle.std.specs.List.{list_all, list_any};
 ghost use Rattle.poly_atom.specs.Counted.{adds};
-ghost use Rattle.poly_atom.specs.Hopeless.{asked, bad, base, hopeless, lacks};
+ghost use Rattle.poly_atom.specs.Hopeless.{AskTheSame, asked, bad, base, beyond, hopeless, lost};
 ghost use Rattle.poly_tiling.specs.Lists.{mem};
 ghost use Rattle.poly_tiling.specs.Puzzle.{clash, count, is_piece, items, most};
 ghost use Rattle.poly_tiling.specs.declared.item.Item.TheVariants.{Piece as PieceItem};
@@ -13,33 +17,117 @@ use crate::order::stands_in;
 use poly_design::Name;
 use poly_tiling::{Item, View, find_bound, has_number};
 
+// As many placements as lie beside one another on the largest board.
+const MOST_ASKED: usize = 256;
+
 /// Whether the atoms show by themselves that no tiling meets all of them: one asks for a placement that isn't there, that
 /// another rules out, or that is in conflict with a pin or with another that is asked for; or for one placement of a
 /// piece among too many; or it rules out a pin; or its bound is beyond that of its item. No memory.
+///
+/// The time is in proportion to the number of atoms if they ask for at most 256 different placements.
 pub fn hopeless(view: &View, atoms: &[Atom]) -> bool
     ensures { result ≡ hopeless view.now atoms.now }
 {
-    atoms.iter().any(|atom| is_bad(view, atoms, *atom))
-}
-
-fn is_bad(view: &View, atoms: &[Atom], atom: Atom) -> bool
-    ensures { result ≡ bad view.now atoms.now atom }
-{
-    match atom {
-        Atom::Has(p) => is_lost(view, atoms, p),
-        Atom::Lacks(p) => has_number(view.pins(), p),
-        Atom::AtLeast(item, n) => is_too_many(view, &item, n),
-        Atom::AtMost(item, n) => is_too_few(view, &item, n),
+    let mut list = [Atom::Has(0); MOST_ASKED];
+    match gather(&mut list, atoms) {
+        Some(count) => any_bad(view, atoms, &list[..count]),
+        None => any_bad(view, atoms, atoms),
     }
 }
 
-fn is_lost(view: &View, atoms: &[Atom], p: u32) -> bool
-    ensures { result ≡ bad view.now atoms.now (Atom.Has p) }
+// Writes an atom for each placement that is asked for to the front of the list, and returns how many there are; `None` if
+// the list is too short.
+fn gather(list: &mut [Atom], atoms: &[Atom]) -> Option<usize>
+    ensures fits { IfSome result (λ n. n ≤ length list.new) }
+    ensures same { IfSome result (λ n. AskTheSame (take n list.new) atoms.now) }
+{
+    let mut count = 0;
+    for atom in atoms {
+        match gather_one(list, count, *atom) {
+            Some(next) => count = next,
+            None => return None,
+        }
+    }
+    Some(count)
+}
+
+// Writes the atom behind the first `count` if it asks for a placement that none of them does.
+fn gather_one(list: &mut [Atom], count: usize, atom: Atom) -> Option<usize>
+    requires { count ≤ length list.old }
+    ensures long { length list.new ≡ length list.old }
+    ensures fits { IfSome result (λ n. n ≤ length list.new) }
+    ensures same { IfSome result (λ n. (p : ℕ) → mem (asked (take n list.new)) p ≡ (mem (asked (take count list.old)) p || mem (asked (atom ∷ [])) p)) }
+{
+    if is_gathered(&list[..count], &atom) {
+        return Some(count);
+    }
+    if count == list.len() {
+        return None;
+    }
+    list[count] = atom;
+    Some(count + 1)
+}
+
+// Whether the list asks for all that the atom asks for.
+fn is_gathered(list: &[Atom], atom: &Atom) -> bool
+    ensures { result ≡ list_all (λ p. mem (asked list.now) p) (asked (atom.now ∷ [])) }
+{
+    match atom {
+        Atom::Has(p) => is_asked(list, *p),
+        Atom::Lacks(_) => true,
+        Atom::AtLeast(_, _) => true,
+        Atom::AtMost(_, _) => true,
+    }
+}
+
+// Whether an atom is bad. `gathered` asks for the placements that the atoms ask for.
+fn any_bad(view: &View, atoms: &[Atom], gathered: &[Atom]) -> bool
+    requires { AskTheSame gathered.now atoms.now }
+    ensures { result ≡ hopeless view.now atoms.now }
+{
+    any_lost(view, gathered) || any_beyond(view, atoms, gathered)
+}
+
+fn any_lost(view: &View, gathered: &[Atom]) -> bool
+    ensures { result ≡ list_any (λ a. lost view.now gathered.now a) gathered.now }
+{
+    gathered.iter().any(|atom| is_lost(view, gathered, *atom))
+}
+
+fn is_lost(view: &View, gathered: &[Atom], atom: Atom) -> bool
+    ensures { result ≡ lost view.now gathered.now atom }
+{
+    match atom {
+        Atom::Has(p) => is_impossible(view, gathered, p),
+        Atom::Lacks(_) => false,
+        Atom::AtLeast(_, _) => false,
+        Atom::AtMost(_, _) => false,
+    }
+}
+
+fn is_impossible(view: &View, gathered: &[Atom], p: u32) -> bool
+    ensures { result ≡ lost view.now gathered.now (Atom.Has p) }
 {
     !stands_in(view, view.live(), p)
-        || is_lacked(atoms, p)
-        || clashes_base(view, atoms, p)
-        || is_over(view, atoms, p)
+        || clashes_base(view, gathered, p)
+        || is_over(view, gathered, p)
+}
+
+fn any_beyond(view: &View, atoms: &[Atom], gathered: &[Atom]) -> bool
+    ensures { result ≡ list_any (λ a. beyond view.now gathered.now a) atoms.now }
+{
+    atoms.iter().any(|atom| is_beyond(view, gathered, *atom))
+}
+
+fn is_beyond(view: &View, gathered: &[Atom], atom: Atom) -> bool
+    ensures { result ≡ beyond view.now gathered.now atom }
+{
+    match atom {
+        Atom::Has(_) => false,
+        Atom::Lacks(p) => has_number(view.pins(), p) || is_asked(gathered, p),
+        Atom::AtLeast(item, n) => is_too_many(view, &item, n),
+        Atom::AtMost(item, n) => is_too_few(view, &item, n),
+    }
 }
 
 fn is_too_many(view: &View, item: &Item, n: u8) -> bool
@@ -57,23 +145,6 @@ fn is_too_few(view: &View, item: &Item, n: u8) -> bool
     match find_bound(view.items(), item) {
         None => false,
         Some(bound) => n < bound.1,
-    }
-}
-
-fn is_lacked(atoms: &[Atom], p: u32) -> bool
-    ensures { result ≡ list_any (λ a. lacks a p) atoms.now }
-{
-    atoms.iter().any(|atom| rules_out(*atom, p))
-}
-
-fn rules_out(atom: Atom, p: u32) -> bool
-    ensures { result ≡ lacks atom p }
-{
-    match atom {
-        Atom::Has(_) => false,
-        Atom::Lacks(q) => q == p,
-        Atom::AtLeast(_, _) => false,
-        Atom::AtMost(_, _) => false,
     }
 }
 

@@ -161,12 +161,12 @@ piece_recounted d name before after n m old new is count gone come sum =
     sum
 
 -- ---- a cell that is changed
-mode_elsewhere : (cells : List (Spot × Mode)) (c x : Spot) (mode : Mode) → (x ≡ c → ⊥) → mode_at (set_mode cells c mode) x ≡ mode_at cells x
+pub mode_elsewhere : (cells : List (Spot × Mode)) (c x : Spot) (mode : Mode) → (x ≡ c → ⊥) → mode_at (set_mode cells c mode) x ≡ mode_at cells x
 mode_elsewhere cells c x Required other = ap (λ r. unwrap_or r Blocked) (put_elsewhere same_spot cells c x Required other)
 mode_elsewhere cells c x Optional other = ap (λ r. unwrap_or r Blocked) (put_elsewhere same_spot cells c x Optional other)
 mode_elsewhere cells c x Blocked other = ap (λ r. unwrap_or r Blocked) (taken_elsewhere same_spot cells c x other)
 
-place_freed : (F G : Spot → Type 0) (spec : Spec) (k : List Spot) → ((c : Spot) → Contains k c → F c → G c) → IsPlace F spec k → IsPlace G spec k
+pub place_freed : (F G : Spot → Type 0) (spec : Spec) (k : List Spot) → ((c : Spot) → Contains k c → F c → G c) → IsPlace F spec k → IsPlace G spec k
 place_freed F G spec k freed p = record {
   turn = p.turn;
   image = p.image;

@@ -120,22 +120,6 @@ impl Design {
         &self.pieces
     }
 
-    /// How many cells are not blocked.
-    pub fn cell_count(&self) -> usize
-        ensures value { result ≡ length self.now.cells }
-        ensures few { result ≤ 256 }
-    {
-        self.cells.len()
-    }
-
-    /// How many pieces there are.
-    pub fn piece_count(&self) -> usize
-        ensures value { result ≡ length self.now.pieces }
-        ensures few { result ≤ 64 }
-    {
-        self.pieces.len()
-    }
-
     /// The mode of the cell. A cell that is not listed in `cells()` is blocked.
     pub fn mode(&self, cell: Cell) -> Mode
         ensures { result ≡ mode_of self.now cell }

@@ -1,5 +1,5 @@
 -- The differences between two designs, by their lists.
-use Rattle.std.proofs.Common.{Bool, List, None, Option, Some, [], ap, arith, cond, false, if◌then◌else◌, inl, inr, length, map, not, refl, slice_get, subst, sym, true, ℕ, ◌&&◌, ◌<◌, ◌∙◌, ◌∷◌, ◌≡◌, ◌≢◌, ◌≤◌, ◌↔◌}
+use Rattle.std.proofs.Common.{Bool, List, None, Option, Some, [], ap, arith, cond, false, if◌then◌else◌, inl, inr, length, map, not, refl, slice_get, subst, sym, true, ℕ, ◌&&◌, ◌<◌, ◌∙◌, ◌∷◌, ◌≡◌, ◌≢◌, ◌↔◌}
 use Rattle.std.specs.Prelude.{filter, nat_lt}
 use Rattle.std.specs.List.{AllPairs, Contains, cons_option, filter_map, list_all, list_any}
 use Rattle.std.specs.Map.{keys_of}
@@ -7,7 +7,7 @@ use Rattle.std.specs.Ordering.{is_lt}
 use Rattle.std.specs.declared.cmp.Ordering.{Ordering}
 use Rattle.std.specs.declared.cmp.Ordering.TheVariants.{Equal, Greater, Less}
 use Rattle.std.specs.Cmp.{tied_itself}
-use Rattle.std.proofs.lemmas.Bool.{and_from, and_parts, both_ways, false_from_ne_true, lt-ltb, ltb-true, not-true, not_from_false}
+use Rattle.std.proofs.lemmas.Bool.{and_from, and_parts, both_ways, lt-ltb, ltb-true, not-true, not_from_false}
 use Rattle.poly_shape.specs.Order.{IsAscending}
 use Rattle.poly_design.specs.Layout.{Layout}
 use Rattle.poly_design.specs.Listed.{IsListOf}
@@ -179,15 +179,6 @@ falls_some to i m y f =
 falls_at_false : (y : List ℕ) (a b : Bool) → b ≡ false → (if (a && b) then Some y else None) ≡ None
 falls_at_false y true b e = ap (λ t. if t then Some y else None) e
 falls_at_false y false b e = refl
-
-pub falls_high : (to : List Bound) (i : Item) (m : ℕ) (y : List ℕ) → i ≡ Piece y → m ≤ bound_in to (Piece y) (λ b. b.2) → falls_at to i m ≡ None
-falls_high to i m y p high =
-    let most = bound_in to (Piece y) (λ b. b.2) in
-    ap (λ j. falls_at to j m) p
-    ∙ falls_at_false y (list_any (λ b. same_item b.0 (Piece y)) to) (nat_lt most m) (false_from_ne_true (nat_lt most m) (λ h. let low = ltb-true most m h in absurd (omega arith)))
-
-pub falls_absent : (to : List Bound) (i : Item) (m : ℕ) (y : List ℕ) → i ≡ Piece y → list_any (λ b. same_item b.0 (Piece y)) to ≡ false → falls_at to i m ≡ None
-falls_absent to i m y p none = ap (λ j. falls_at to j m) p ∙ ap (λ t. if (t && nat_lt (bound_in to (Piece y) (λ b. b.2)) m) then Some y else None) none
 
 fallen_at : (h : Bound → Option (List ℕ)) → ((b : Bound) (y : List ℕ) → h b ≡ Some y → b.0 ≡ Piece y) → (b : Bound) (bs : List Bound) → items_ascend (b ∷ bs) ≡ true → IsAscending name_cmp (filter_map h bs) →
     (o : Option (List ℕ)) → h b ≡ o → IsAscending name_cmp (cons_option o (filter_map h bs))

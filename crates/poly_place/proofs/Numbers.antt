@@ -51,10 +51,6 @@ numbered_push ks p ok lacks low = record {
   few = omega (arith, length-append ks (p ∷ []));
 }
 
-pub at_end : (ks : List Placement) (p : Placement) → slice_get (ks ++ p ∷ []) (length ks) ≡ Some p
-at_end [] p = refl
-at_end (k ∷ ks) p = at_end ks p
-
 -- ---- numbers and the placements that they name
 
 pub first_named : (all ps : List Placement) (n : ℕ) (ns : List ℕ) (p : Placement) → AreNumbersOf all (n ∷ ns) (p ∷ ps) → slice_get all n ≡ Some p
@@ -174,10 +170,6 @@ all_given old ps now i ns w le =
 pub take_front : {X : Type 0} (xs ys : List X) → take (length xs) (xs ++ ys) ≡ xs
 take_front [] ys = refl
 take_front (x ∷ xs) ys = ap (λ l. x ∷ l) (take_front xs ys)
-
--- taken back
-pub taken_back : (old ps now : List Placement) (i n : ℕ) (ns : List ℕ) → IsPartWay old ps now i ns → n ≡ length old → take n now ≡ old
-taken_back old ps now i n ns w e = ap (λ l. take n l) w.appended ∙ ap (λ k. take k (old ++ w.more)) e ∙ take_front old w.more
 
 pub too_many : (old ps now : List Placement) (i : ℕ) (ns : List ℕ) (p : Placement) → AreNumbered now → IsPartWay old ps now i ns → i < length ps → p ≡ get_or ps i p →
     length now ≡ 2 ^ 32 → (Contains now p → ⊥) → AreTooMany old ps

@@ -1,6 +1,6 @@
 -- What a change does not touch stays a placement, or stays none.
 use Rattle.std.proofs.Common.{Bool, List, None, Option, Some, [], ap, cond, false, inl, inr, refl, subst, sym, true, ℕ, ◌∙◌, ◌∷◌, ◌≡◌, ◌≢◌}
-use Rattle.std.specs.Prelude.{nat_eq, unwrap_or}
+use Rattle.std.specs.Prelude.{nat_eq}
 use Rattle.std.specs.List.{Contains, list_any}
 use Rattle.std.specs.Map.{lookup, remove_entry}
 use Rattle.std.specs.BTreeMap.{insert_entry, is_at}
@@ -13,18 +13,15 @@ use Rattle.std.specs.declared.cmp.Ordering.TheVariants.{Equal, Greater, Less}
 use Rattle.std.proofs.lemmas.Bool.{both_ways}
 use Rattle.poly_grid.specs.Spot.{Spot}
 use Rattle.poly_shape.specs.Order.{spot_eq, spot_equiv}
-use Rattle.poly_shape.proofs.Ascending.{same_spot}
-use Rattle.poly_design.proofs.Outside.{put_elsewhere, taken_elsewhere}
-use Rattle.poly_design.specs.Changes.{changed, set_mode, set_spec}
-use Rattle.poly_design.specs.Layout.{Layout, mode_at, spec_of}
+use Rattle.poly_design.proofs.Outside.{mode_elsewhere, place_freed}
+use Rattle.poly_design.specs.Changes.{changed, set_spec}
+use Rattle.poly_design.specs.Layout.{Layout, spec_of}
 use Rattle.poly_design.specs.Listed.{IsListOf}
 use Rattle.poly_design.specs.PlacementOrder.{placement_cmp}
 use Rattle.poly_design.specs.Name.{name_cmp}
-use Rattle.poly_design.specs.Placements.{IsPlace, IsPlacement, IsUnblocked}
+use Rattle.poly_design.specs.Placements.{IsPlacement, IsUnblocked}
 use Rattle.poly_design.specs.declared.change.Change.{Change}
 use Rattle.poly_design.specs.declared.change.Change.TheVariants.{Cell, Piece}
-use Rattle.poly_design.specs.declared.mode.Mode.{Mode}
-use Rattle.poly_design.specs.declared.mode.Mode.TheVariants.{Blocked, Optional, Required}
 use Rattle.poly_design.specs.declared.placement.Placement.{Placement}
 use Rattle.poly_design.specs.declared.spec.Spec.{Spec}
 use Rattle.poly_tiling.proofs.Contained.{contains_in, in_contains, pairs_none}
@@ -84,22 +81,6 @@ module _ {K X : Type 0} {R : K → K → Ordering} (exact : (x y : K) → R x y 
 
 -- ---- cells
 
-mode_other : (cells : List (Spot × Mode)) (c : Spot) (m : Mode) (k : Spot) → k ≢ c → mode_at (set_mode cells c m) k ≡ mode_at cells k
-mode_other cells c Required k d = ap (λ r. unwrap_or r Blocked) (put_elsewhere same_spot cells c k Required d)
-mode_other cells c Optional k d = ap (λ r. unwrap_or r Blocked) (put_elsewhere same_spot cells c k Optional d)
-mode_other cells c Blocked k d = ap (λ r. unwrap_or r Blocked) (taken_elsewhere same_spot cells c k d)
-
-place_along : (F G : Spot → Type 0) (spec : Spec) (cells : List Spot) → ((c : Spot) → Contains cells c → F c → G c) → IsPlace F spec cells → IsPlace G spec cells
-place_along F G spec cells to p = record {
-  turn = p.turn;
-  image = p.image;
-  right = p.right;
-  down = p.down;
-  known = p.known;
-  turned = p.turned;
-  lies = record { in_range = p.lies.in_range; moved = p.lies.moved; free = λ c h. to c h (p.lies.free c h); allowed = p.lies.allowed };
-}
-
 apart_cell : (c : Spot) (p : Placement) → list_any (λ k. spot_eq k c) p.cells ≡ false → (k : Spot) → Contains p.cells k → k ≢ c
 apart_cell c p h k i e = both_ways (list_any (λ k. spot_eq k c) p.cells) h (any_from (λ k. spot_eq k c) p.cells k (contains_in p.cells k i) (subst (λ z. spot_eq k z ≡ true) e (spot_equiv.refl k)))
 
@@ -123,7 +104,7 @@ pub untouched_stays : (d : Layout) (x : Change) (p : Placement) → touches x p 
 untouched_stays d (Cell c before after) p h is = record {
   spec = is.spec;
   has = is.has;
-  place = place_along (IsUnblocked d) (IsUnblocked (changed d (Cell c before after))) is.spec p.cells (λ k i free e. free (sym (mode_other d.cells c after k (apart_cell c p h k i)) ∙ e)) is.place;
+  place = place_freed (IsUnblocked d) (IsUnblocked (changed d (Cell c before after))) is.spec p.cells (λ k i free e. free (sym (mode_elsewhere d.cells c k after (apart_cell c p h k i)) ∙ e)) is.place;
 }
 untouched_stays d (Piece name before after) p h is = record {
   spec = is.spec;
@@ -135,7 +116,7 @@ pub untouched_was : (d : Layout) (x : Change) (p : Placement) → touches x p �
 untouched_was d (Cell c before after) p h is = record {
   spec = is.spec;
   has = is.has;
-  place = place_along (IsUnblocked (changed d (Cell c before after))) (IsUnblocked d) is.spec p.cells (λ k i free e. free (mode_other d.cells c after k (apart_cell c p h k i) ∙ e)) is.place;
+  place = place_freed (IsUnblocked (changed d (Cell c before after))) (IsUnblocked d) is.spec p.cells (λ k i free e. free (mode_elsewhere d.cells c k after (apart_cell c p h k i) ∙ e)) is.place;
 }
 untouched_was d (Piece name before after) p h is = record {
   spec = is.spec;

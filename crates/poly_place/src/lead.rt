@@ -14,7 +14,6 @@ ghost use Rattle.poly_place.specs.Spent.{IsSpent};
 use crate::delta::differences;
 use crate::index::Index;
 use crate::interner::Interner;
-use crate::parts::Parts;
 use crate::plan::Plan;
 use crate::sides::Sides;
 use crate::turn::turned;
@@ -24,33 +23,10 @@ use poly_tiling::View;
 use std::alloc::Global;
 use std::sync::Arc;
 
-/// The plan that leads from the sides to the design after.
-///
-/// Refused with `Spent` where there are more placements than numbers, and else only with `Memory`.
-pub(crate) fn lead(
-    alloc: Global,
-    names: &mut Interner,
-    sides: &Sides,
-    after: &Design,
-) -> Result<Plan, Refusal>
-    requires { WellNamed (by_sides names.old sides.now) }
-    ensures grows { GoesOn names.old names.new }
-    ensures ok { (before : Layout) → Shows (by_sides names.old sides.now) before → IfOk result (λ p. IsPlanFor (by_sides names.old sides.now) before after.now (arc_value p.view) p.delta) }
-    ensures given { IfOk result (λ p. (arc_value p.view).placements ≡ names.new) }
-    ensures spent { result ≡ Err Refusal.Spent → IsSpent names.old after.now }
-    ensures why { IfErr result (λ e. (e ≡ Refusal.Spent) ⊎ (e ≡ Refusal.Memory)) }
-{
-    let parts = Parts::of(alloc, after)?;
-    let next = Sides::of(names, parts)?;
-    let index = Index::of(alloc, names, &next)?;
-    let plan = plan_between(alloc, names, sides, next, index)?;
-    Ok(plan)
-}
-
 /// The plan of a change of the design that the sides show. After is the design after it.
 ///
 /// Refused with `Spent` where there are more placements than numbers, and else only with `Memory`.
-pub(crate) fn lead_by(
+pub(crate) fn lead(
     alloc: Global,
     names: &mut Interner,
     sides: &Sides,

@@ -12,7 +12,7 @@ ghost use Rattle.poly_place.specs.Spent.{IsSpent};
 
 use crate::index::Index;
 use crate::interner::Interner;
-use crate::lead::{lead, lead_by, view_of};
+use crate::lead::{lead, view_of};
 use crate::parts::Parts;
 use crate::plan::Plan;
 use crate::sides::Sides;
@@ -82,21 +82,6 @@ impl Table {
         self.index.numbers(item)
     }
 
-    /// The plan that leads from the design that the table is right for to the design after.
-    ///
-    /// Refused with `Spent` where there are more placements than numbers, and else only with `Memory`. Used or not, and
-    /// also where it is refused, the table shows what it showed; numbers that were given out stay given out.
-    pub fn plan_to(&mut self, after: &Design) -> Result<Plan, Refusal>
-        ensures ok { (before : Layout) → IsRight self.old before → IfOk result (λ p. IsPlanFor self.old before after.now (arc_value p.view) p.delta) }
-        ensures last { IfOk result (λ p. (arc_value p.view).placements ≡ self.new.placements) }
-        ensures stays { Grown self.old self.new }
-        ensures right { (before : Layout) → IsRight self.old before → IsRight self.new before }
-        ensures spent { result ≡ Err Refusal.Spent → IsSpent self.old.placements after.now }
-        ensures why { IfErr result (λ e. (e ≡ Refusal.Spent) ⊎ (e ≡ Refusal.Memory)) }
-    {
-        lead(self.alloc, &mut self.names, &self.sides, after)
-    }
-
     /// The plan of a change of the design that the table is right for.
     ///
     /// Refused with `Spent` where there are more placements than numbers, and else only with `Memory`. Used or not, and
@@ -134,7 +119,7 @@ impl Table {
         ensures spent { result ≡ Err Refusal.Spent → IsSpent self.old.placements after.now }
         ensures why { IfErr result (λ e. (e ≡ Refusal.Spent) ⊎ (e ≡ Refusal.Memory)) }
     {
-        lead_by(
+        lead(
             self.alloc,
             &mut self.names,
             &self.sides,

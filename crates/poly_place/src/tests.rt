@@ -1,5 +1,6 @@
 ghost use Rattle.std.specs.Prelude.{◌≡◌, ◌≢◌, IfOk, OnOk};
 ghost use Rattle.poly_design.specs.Limits.{AreOfGrid, NoneBlocked};
+ghost use Rattle.poly_place.specs.Right.{IsRight};
 
 use crate::{Delta, Interner, Table};
 use poly_design::{CellsSet, Copies, Design, Edit, Mode, Name, Placement, Spec};
@@ -179,55 +180,90 @@ fn a_blocked_cell_has_no_numbers(rt: HostRuntime) {
     expect_sizes(&rt, &table, [0, 2, 2, 4], b"A", 2);
 }
 
-// Leads the table to a design and asserts how long the delta's lists are. It answers gone and fresh.
+// Makes the edit on the design and its table and asserts how long the delta's lists are. It answers gone and fresh.
 fn led(
     rt: &(impl AllocGlobal + Abort),
     table: &mut Table,
-    design: &Design,
+    design: &mut Design,
+    edit: &Edit,
     lengths: [usize; 8],
-) -> (Vec<u32>, Vec<u32>) {
-    let plan = table.plan_to(design).expect(rt, "a plan");
+) -> (Vec<u32>, Vec<u32>)
+    requires { IsRight table.old design.old }
+    ensures { IsRight table.new design.new }
+{
+    let change = design.check(edit).expect(rt, "a change");
+    let plan = table.plan(design, &change).expect(rt, "a plan");
     expect_lengths(rt, &plan.delta, lengths);
     let gone = plan.delta.gone.to_vec(rt.alloc()).expect(rt, "memory");
     let fresh = plan.delta.fresh.to_vec(rt.alloc()).expect(rt, "memory");
     table.make(plan);
+    design.make(&change).expect(rt, "memory");
     (gone, fresh)
+}
+
+// The edit of one cell of the upper row.
+fn cell_edit(rt: &impl Abort, x: u64, mode: Mode) -> Edit {
+    let cell = cell(x, 0).expect(rt, "a cell");
+    Edit::Cell { cell, mode }
 }
 
 #[test]
 fn numbers_come_back(rt: HostRuntime) {
-    let wide = laid(&rt, &SQUARE, &[(2, 0)], 1);
-    let holed = laid(&rt, &[(0, 0), (0, 1), (1, 1)], &[(2, 0)], 1);
-    let mut table = square_table(&rt);
-    let first = led(&rt, &mut table, &wide, [0, 2, 0, 0, 0, 0, 0, 0]);
-    expect_numbers(&rt, &first.1, &[8, 9]);
-    let second = led(&rt, &mut table, &holed, [6, 0, 0, 1, 0, 0, 0, 0]);
-    let third = led(&rt, &mut table, &wide, [0, 6, 1, 0, 0, 0, 0, 0]);
-    expect_numbers(&rt, &third.1, &second.0);
+    let mut design = laid(&rt, &SQUARE, &[], 1);
+    let mut table = Table::of(rt.alloc(), &design).expect(&rt, "a table");
+    let widen = cell_edit(&rt, 2, Mode::Optional);
+    let (_, first) = led(
+        &rt,
+        &mut table,
+        &mut design,
+        &widen,
+        [0, 2, 0, 0, 0, 0, 0, 0],
+    );
+    expect_numbers(&rt, &first, &[8, 9]);
+    let block = cell_edit(&rt, 1, Mode::Blocked);
+    let (second, _) = led(
+        &rt,
+        &mut table,
+        &mut design,
+        &block,
+        [6, 0, 0, 1, 0, 0, 0, 0],
+    );
+    let require = cell_edit(&rt, 1, Mode::Required);
+    let (_, third) = led(
+        &rt,
+        &mut table,
+        &mut design,
+        &require,
+        [0, 6, 1, 0, 0, 0, 0, 0],
+    );
+    expect_numbers(&rt, &third, &second);
     let view = table.view().expect(&rt, "memory");
     expect_counts(&rt, &view, 10, 7, 0);
     assert!(rt; view.placement(9).is_some());
     assert!(rt; view.placement(10).is_none());
 }
 
-// Asserts that a list has this name alone.
-fn expect_name(rt: &impl Abort, names: &[Name], want: Name) {
-    assert_eq!(rt; names, [want].as_slice());
+// The edit of A's copies.
+fn copies_edit(rt: &impl Abort, most: u64) -> Edit {
+    let name = Name::new(b"A").expect(rt, "a name");
+    let copies = Copies::new(1, most).expect(rt, "copies");
+    Edit::Copies { name, copies }
 }
 
 #[test]
 fn copies_up_and_down(rt: HostRuntime) {
-    let a = Name::new(b"A").expect(&rt, "a name");
-    let mut table = square_table(&rt);
-    let three = laid(&rt, &SQUARE, &[], 3);
-    let two = laid(&rt, &SQUARE, &[], 2);
-    let up = table.plan_to(&three).expect(&rt, "a plan");
-    expect_lengths(&rt, &up.delta, [0, 0, 0, 0, 0, 1, 0, 0]);
-    expect_name(&rt, &up.delta.widened, a);
-    table.make(up);
-    let down = table.plan_to(&two).expect(&rt, "a plan");
-    expect_lengths(&rt, &down.delta, [0, 0, 0, 0, 1, 0, 0, 0]);
-    expect_name(&rt, &down.delta.narrowed, a);
+    let mut design = laid(&rt, &SQUARE, &[], 1);
+    let mut table = Table::of(rt.alloc(), &design).expect(&rt, "a table");
+    let up = copies_edit(&rt, 3);
+    let _ = led(&rt, &mut table, &mut design, &up, [0, 0, 0, 0, 0, 1, 0, 0]);
+    let down = copies_edit(&rt, 2);
+    let _ = led(
+        &rt,
+        &mut table,
+        &mut design,
+        &down,
+        [0, 0, 0, 0, 1, 0, 0, 0],
+    );
 }
 
 // A placement of a piece on one cell.
@@ -287,12 +323,20 @@ fn tilings(alloc: Global) -> Result<Vec<Tiling>, Refusal> {
 
 #[test]
 fn sorted_by_placement(rt: HostRuntime) {
-    let mut table = square_table(&rt);
-    let wide = laid(&rt, &SQUARE, &[(2, 0)], 1);
-    let plan = table.plan_to(&wide).expect(&rt, "a plan");
-    expect_numbers(&rt, plan.view.live(), &[0, 1, 8, 2, 3, 4, 5, 9, 6, 7]);
+    let mut design = laid(&rt, &SQUARE, &[], 1);
+    let mut table = Table::of(rt.alloc(), &design).expect(&rt, "a table");
+    let widen = cell_edit(&rt, 2, Mode::Optional);
+    let _ = led(
+        &rt,
+        &mut table,
+        &mut design,
+        &widen,
+        [0, 2, 0, 0, 0, 0, 0, 0],
+    );
+    let view = table.view().expect(&rt, "memory");
+    expect_numbers(&rt, view.live(), &[0, 1, 8, 2, 3, 4, 5, 9, 6, 7]);
     let mut list = tilings(rt.alloc()).expect(&rt, "memory");
-    sort_tilings(rt.alloc(), &plan.view, &mut list).expect(&rt, "memory");
+    sort_tilings(rt.alloc(), &view, &mut list).expect(&rt, "memory");
     assert_eq!(rt; list.len(), 4);
     expect_numbers(&rt, list[0].numbers(), &[1, 9]);
     expect_numbers(&rt, list[1].numbers(), &[5, 8]);

@@ -3,8 +3,8 @@ use Rattle.std.proofs.Common.{Bool, List, [], ap, arith, cond, drop, eqb, false,
 use Rattle.std.proofs.lemmas.List.{at_drop_more}
 use Rattle.std.proofs.lemmas.Bool.{and_from, and_parts, eq-eqb, eqb-false, eqb-true, false_from_ne_true, lt-ltb, ltb-false, ltb-true, true≢false}
 use Rattle.std.specs.List.{list_all}
-use Rattle.poly_tiling.specs.Lists.{ascending, distinct, one, put, put_all, same_list, tally}
-use Rattle.poly_tiling.proofs.Lists.{In, all_from, all_in, same_truth, tally_none}
+use Rattle.poly_tiling.specs.Lists.{ascending, distinct, one, put, put_all, same_list}
+use Rattle.poly_tiling.proofs.Lists.{In, all_from, all_in, same_truth}
 
 put_in_at : (p q : ℕ) (qs : List ℕ) (x : ℕ) → (In x (put p qs) → (p ≡ x) ⊎ In x qs) → (b c : Bool) →
     In x (cond b (q ∷ qs) (cond c (p ∷ (q ∷ qs)) (q ∷ put p qs))) → (p ≡ x) ⊎ In x (q ∷ qs)
@@ -124,18 +124,6 @@ not_head x xs d i =
 pub distinct_rest : (x : ℕ) (xs : List ℕ) → distinct (x ∷ xs) ≡ true → distinct xs ≡ true
 distinct_rest x xs d = (and_parts (list_all (λ y. cond (eqb x y) false true) xs) (distinct xs) d).1
 
--- one element of a list without repeats passes, and no other
-pub tally_one : (f : ℕ → Bool) (ps : List ℕ) (p : ℕ) → distinct ps ≡ true → In p ps → f p ≡ true → ((q : ℕ) → In q ps → f q ≡ true → q ≡ p) → tally f ps ≡ 1
-tally_one f [] p d i h only = absurd i
-tally_one f (x ∷ ps) p d (inl e) h only =
-    let here = ap one (ap f e ∙ h) in
-    let none = tally_none f ps (λ q j. false_from_ne_true (f q) (λ t. not_head x ps d (subst (λ z. In z ps) (only q (inr j) t ∙ sym e) j))) in
-    omega arith
-tally_one f (x ∷ ps) p d (inr i) h only =
-    let here = ap one (false_from_ne_true (f x) (λ t. not_head x ps d (subst (λ z. In z ps) (sym (only x (inl refl) t)) i))) in
-    let rest = tally_one f ps p (distinct_rest x ps d) i h (λ q j t. only q (inr j) t) in
-    omega arith
-
 ascending_next : (x y : ℕ) (ys : List ℕ) → x < y → ascending (x ∷ (y ∷ ys)) ≡ ascending (y ∷ ys)
 ascending_next x y ys l = same_truth _ _ (λ h. ascending_rest x (y ∷ ys) h) (λ h. ascending_from x (y ∷ ys) (λ z i. above z i h) h)
   where
@@ -161,9 +149,6 @@ ascends_more xs i low high l =
     ∙ ascending_next (get_or xs (i - 1) 0) (get_or xs i 0) (drop (i + 1) xs) l
     ∙ sym (at_drop_more ascending xs i 0 high)
     ∙ ap (λ n. ascending (drop n xs)) back
-
-pub ascends_no_more : (xs : List ℕ) (i : ℕ) → 1 ≤ i → i < length xs → get_or xs i 0 ≤ get_or xs (i - 1) 0 → ascending (drop (i - 1) xs) ≡ false
-ascends_no_more xs i low high l = two_at xs i low high ∙ ascending_broken (get_or xs (i - 1) 0) (get_or xs i 0) (drop (i + 1) xs) l
 
 -- one number and none ascend
 pub ascends_last : (xs : List ℕ) (n : ℕ) → length xs ≤ n + 1 → ascending (drop n xs) ≡ true

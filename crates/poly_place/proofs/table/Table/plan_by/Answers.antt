@@ -12,20 +12,20 @@ use Rattle.poly_place.proofs.table.Table.plan_by.Goals as goal
 
 pub invariant_of-self : goal.invariant_of-self
 invariant_of-self c = record {
-  well = grown_well (by_sides c.self.inside.names c.self.inside.sides) c.lead_by.new.names c.self.invariant.well c.lead_by.ensures.grows;
-  index = grown_index (by_sides c.self.inside.names c.self.inside.sides) c.lead_by.new.names c.self.inside.index.rows.items c.self.invariant.well c.lead_by.ensures.grows c.self.invariant.index;
+  well = grown_well (by_sides c.self.inside.names c.self.inside.sides) c.lead.new.names c.self.invariant.well c.lead.ensures.grows;
+  index = grown_index (by_sides c.self.inside.names c.self.inside.sides) c.lead.new.names c.self.inside.index.rows.items c.self.invariant.well c.lead.ensures.grows c.self.invariant.index;
 }
 
 pub returns-clause-ok : goal.returns-clause-ok
 returns-clause-ok c =
-    subst (λ (t : View). IfOk c.lead_by.result (λ (p : Plan). IsPlanFor t c.args.design.now c.args.after.now (arc_value p.view) p.delta)) c.self.view_is c.lead_by.ensures.ok
+    subst (λ (t : View). IfOk c.lead.result (λ (p : Plan). IsPlanFor t c.args.design.now c.args.after.now (arc_value p.view) p.delta)) c.self.view_is c.lead.ensures.ok
 
 pub returns-clause-stays : goal.returns-clause-stays
-returns-clause-stays c = subst (λ (t : View). Grown t (by_sides c.lead_by.new.names c.self.inside.sides)) c.self.view_is (grows_on (by_sides c.self.inside.names c.self.inside.sides) c.lead_by.new.names c.lead_by.ensures.grows)
+returns-clause-stays c = subst (λ (t : View). Grown t (by_sides c.lead.new.names c.self.inside.sides)) c.self.view_is (grows_on (by_sides c.self.inside.names c.self.inside.sides) c.lead.new.names c.lead.ensures.grows)
 
 pub returns-clause-right : goal.returns-clause-right
 returns-clause-right c = record {
-  well = grown_well (by_sides c.self.inside.names c.self.inside.sides) c.lead_by.new.names c.self.invariant.well c.lead_by.ensures.grows;
-  shows = grown_shows (by_sides c.self.inside.names c.self.inside.sides) c.lead_by.new.names c.args.design.now c.self.invariant.well c.lead_by.ensures.grows
+  well = grown_well (by_sides c.self.inside.names c.self.inside.sides) c.lead.new.names c.self.invariant.well c.lead.ensures.grows;
+  shows = grown_shows (by_sides c.self.inside.names c.self.inside.sides) c.lead.new.names c.args.design.now c.self.invariant.well c.lead.ensures.grows
       (subst (λ (t : View). Shows t c.args.design.now) (sym c.self.view_is) c.requires.standing.shows);
 }

@@ -1,0 +1,10 @@
+use Rattle.std.proofs.Common.{length, take, ℕ, ◌≡◌, ◌≤◌}
+use Rattle.poly_tiling.specs.Lists.{mem}
+use Rattle.poly_atom.specs.Hopeless.{asked}
+use Rattle.poly_atom.proofs.doom.gather.Given as goal
+
+abbrev pub invariant-loop-atom : goal.invariant-loop-atom
+invariant-loop-atom l = record {
+  fits : l.count ≤ length l.list;
+  same : (p : ℕ) → mem (asked (take l.count l.list)) p ≡ mem (asked (take l.atom-index l.atoms)) p;
+}
