@@ -13,12 +13,9 @@ use crate::leaving::leaving;
 use crate::listing::Listing;
 use poly_grid::Refusal;
 use poly_place::Delta;
-use poly_tiling::{Item, Tiling, View};
+use poly_tiling::{Item, MAX_TILINGS, Tiling, View};
 use std::alloc::Global;
 use std::marker::Model;
-
-/// The most tilings that a catalogue lists.
-pub const MAX_TILINGS: usize = 1_000_000;
 
 /// The listed tilings of a design, each once and at most 1,000,000, in no particular order.
 #[derive(Drop)]

@@ -18,7 +18,7 @@ mod marks;
 mod row;
 mod rows;
 
-pub use catalogue::{Catalogue, MAX_TILINGS};
+pub use catalogue::Catalogue;
 pub use laws::plans_lead;
 
 #[cfg(test)]

@@ -27,6 +27,12 @@ use std::alloc::Global;
 use std::collections::BTreeMap;
 use std::marker::Model;
 
+/// The most cells of a design that are not blocked.
+pub const MAX_CELLS: usize = 256;
+
+/// The most pieces of a design.
+pub const MAX_PIECES: usize = 64;
+
 /// The design of a puzzle. It has at most 256 cells that are not blocked, 64 pieces and 20,000 placements, and all of
 /// its shapes are shapes of its grid.
 #[derive(Drop)]

@@ -27,7 +27,7 @@ mod spec;
 pub use cells_set::CellsSet;
 pub use change::Change;
 pub use copies::Copies;
-pub use design::Design;
+pub use design::{Design, MAX_CELLS, MAX_PIECES};
 pub use edit::Edit;
 pub use mode::Mode;
 pub use name::Name;

@@ -2,6 +2,8 @@
 #![tactic(auto)]
 
 #[cfg(test)]
+mod atoms;
+#[cfg(test)]
 mod book;
 #[cfg(test)]
 mod browse;

@@ -5,7 +5,7 @@ ghost use Rattle.poly_design.specs.Changes.{changed, set_mode};
 ghost use Rattle.poly_design.specs.Placements.{FewPlacements, IsPlacement};
 ghost use Rattle.poly_design.specs.Edits.{IsAccepted, IsRefused, NoneEarly, RefusesEarly, causes};
 
-use super::Design;
+use super::{Design, MAX_CELLS, MAX_PIECES};
 use crate::cells_set::CellsSet;
 use crate::change::Change;
 use crate::copies::Copies;
@@ -19,10 +19,6 @@ use crate::placement::Placement;
 use crate::spec::Spec;
 use poly_grid::{Cell, Grid, Refusal};
 use poly_shape::{Cells, Shape};
-
-const MAX_CELLS: usize = 256;
-
-const MAX_PIECES: usize = 64;
 
 impl Design {
     /// The change that the edit asks for; its before side is what the design holds.
