@@ -307,3 +307,11 @@ sound_back v A first sound low S some h l =
 
 pub sound_top : (v : View) (A : List Atom) (first sound : ℕ) → SoundShows v A first sound → first ≤ length A → length A - first < sound → is_sound v A ≡ true
 sound_top v A first sound S low h = ap (λ (B : List Atom). is_sound v B) (sym (take_all (first + (length A - first)) A (omega (arith, low)))) ∙ S.levels (length A - first) h
+
+-- what is in a part of the design is in the design
+pub all_kept : (ns live : List ℕ) (f : ℕ → Bool) → ((q : ℕ) → mem ns q ≡ true → mem live q ≡ true) → (xs : List ℕ) → list_all (λ p. mem ns p && f p) xs ≡ true → list_all (λ p. mem live p && f p) xs ≡ true
+all_kept ns live f among [] h = refl
+all_kept ns live f among (x ∷ xs) h =
+    let hs = and_parts (mem ns x && f x) (list_all (λ p. mem ns p && f p) xs) h in
+    let here = and_parts (mem ns x) (f x) hs.0 in
+    and_from _ _ (and_from _ _ (among x here.0) here.1) (all_kept ns live f among xs hs.1)

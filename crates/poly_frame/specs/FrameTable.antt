@@ -10,6 +10,7 @@ use Rattle.poly_frame.specs.Open.{asks, open_in, upper}
 use Rattle.poly_frame.specs.Plain.{of_asked}
 use Rattle.poly_frame.specs.FrameItems.{item_of}
 use Rattle.poly_frame.specs.Matrices.{IsMatrix}
+use Rattle.poly_frame.specs.declared.frame.matrix.Matrix.{Matrix}
 use Rattle.poly_frame.specs.declared.frame.table.Table.{Table}
 
 abbrev pub HaveShows : View → List ℕ → List ℕ → Type 0
@@ -28,6 +29,10 @@ shut_at i most have = nat_le most have || (not (is_piece i) && nat_lt 0 have)
 -- how often the base may have an item and, with one more member that has it, leave others open: none for a cell
 abbrev pub limit_at : Item → ℕ → ℕ
 limit_at i most = cond (is_piece i) most 0
+
+-- each placement that is open at the atoms has a column
+abbrev pub HasOpen : View → List Atom → Matrix → Type 0
+HasOpen v A m = (q : ℕ) → mem v.live q ≡ true → open_in v A q ≡ true → mem m.numbers.items q ≡ true
 
 -- the parts of a frame that stay while it moves, at the atoms that were given
 pub record TableShows (v : View) (A : List Atom) (t : Table) : Type 0 where

@@ -1,7 +1,7 @@
 //! A place in a search, kept as bits: rows of words for the placements that were open at the start. A step copies the
 //! last row and takes out what it closes, so nothing is searched and no memory is taken after the start. Bits in place of
 //! the linked lists of Knuth's dancing links (The Art of Computer Programming, volume 4B, section 7.2.2.1).
-ghost use Rattle.std.specs.Prelude.{IfErr, IfOk, MatchOption, [], false, length, not, true, ℕ, ◌&&◌, ◌++◌, ◌+◌, ◌-◌, ◌<◌, ◌∷◌, ◌≡◌, ◌≤◌};
+ghost use Rattle.std.specs.Prelude.{IfErr, IfOk, IfSome, MatchOption, [], false, length, not, true, ℕ, ◌&&◌, ◌++◌, ◌+◌, ◌-◌, ◌<◌, ◌∷◌, ◌≡◌, ◌≤◌};
 ghost use Rattle.std.specs.List.{list_all};
 ghost use Rattle.poly_tiling.specs.Lists.{distinct, mem, tally};
 ghost use Rattle.poly_tiling.specs.Names.{WellNamed};
@@ -9,7 +9,9 @@ ghost use Rattle.poly_tiling.specs.Puzzle.{has_item};
 ghost use Rattle.poly_atom.specs.Atoms.{in_family};
 ghost use Rattle.poly_atom.specs.Hopeless.{base};
 ghost use Rattle.poly_frame.specs.Open.{arms_fit, dead, lower, ruled_out};
-ghost use Rattle.poly_frame.specs.Matrices.{IsWhole};
+ghost use Rattle.poly_frame.specs.FrameSound.{is_sound};
+ghost use Rattle.poly_frame.specs.FrameTable.{HasOpen};
+ghost use Rattle.poly_frame.specs.Matrices.{IsMatrix, IsWhole};
 ghost use Rattle.poly_frame.specs.Walk.{back_to, is_due, is_open, is_option, step_back, with_step};
 
 mod allowed;
@@ -81,7 +83,6 @@ impl<'a> Frame<'a> {
 
     /// A frame of the view with these atoms and no step, from the view's matrix. It takes memory by the items, the atoms
     /// and the placements that are open at the atoms alone.
-    #[tactic(auto, using(poly_tiling::proofs::Orders::live_once))]
     pub fn over(
         alloc: Global,
         view: &'a View,
@@ -89,6 +90,42 @@ impl<'a> Frame<'a> {
         atoms: &[Atom],
     ) -> Result<Frame<'a>, Refusal>
         requires { IsWhole view.now whole.now }
+        ensures made { IfOk result (λ f. f ≡ record { scene = view.now; atoms = atoms.now; given = length atoms.now }) }
+        ensures why { IfErr result (λ e. e ≡ Refusal.Memory) }
+        ensures well { WellNamed view.now }
+        ensures once { distinct view.now.live ≡ true }
+    {
+        let frame = Frame::begin(alloc, view, whole, atoms, false)?;
+        Ok(frame)
+    }
+
+    /// A frame at the same place that begins there, if it would be much smaller than this one: fewer than a third of the
+    /// placements that this one was made for are open, and they were many.
+    pub fn narrower(&self, alloc: Global) -> Result<Option<Frame<'a>>, Refusal>
+        ensures made { IfOk result (λ o. IfSome o (λ f. f ≡ record { scene = self.now.scene; atoms = self.now.atoms; given = length self.now.atoms })) }
+        ensures why { IfErr result (λ e. e ≡ Refusal.Memory) }
+    {
+        if !looks::is_sparse(&self.table, &self.steps) {
+            return Ok(None);
+        }
+        let sure = self.sound > self.path.len() - self.given;
+        let frame = Frame::begin(alloc, self.view, &self.table.matrix, &self.path, sure)?;
+        Ok(Some(frame))
+    }
+
+    // A frame at the atoms, from a matrix with a column for each placement that is open there. The base may be known to be
+    // sound.
+    #[tactic(auto, using(poly_tiling::proofs::Orders::live_once))]
+    fn begin(
+        alloc: Global,
+        view: &'a View,
+        part: &Matrix,
+        atoms: &[Atom],
+        sure: bool,
+    ) -> Result<Frame<'a>, Refusal>
+        requires part { IsMatrix view.now part.now }
+        requires all { HasOpen view.now atoms.now part.now }
+        requires sure { sure ≡ true → is_sound view.now atoms.now ≡ true }
         ensures made { IfOk result (λ f. f ≡ record { scene = view.now; atoms = atoms.now; given = length atoms.now }) }
         ensures why { IfErr result (λ e. e ≡ Refusal.Memory) }
         ensures well { WellNamed view.now }
@@ -104,10 +141,10 @@ impl<'a> Frame<'a> {
         let sizes = Vec::with_capacity(alloc, STEPS)?;
         let options = Vec::with_capacity(alloc, live)?;
         let mut raised = Vec::with_capacity(alloc, STEPS * 17)?;
-        let have = counts_of(alloc, view, &members, &whole.cells, &mut raised)?;
-        let uppers = uppers_of(alloc, view, atoms, &whole.cells)?;
-        let sound = sound::begin(view, whole, atoms, &members, &uppers, &have);
-        let table = table_of(alloc, view, whole, atoms, &members, &uppers, &have)?;
+        let have = counts_of(alloc, view, &members, &part.cells, &mut raised)?;
+        let uppers = uppers_of(alloc, view, atoms, &part.cells)?;
+        let sound = sound::begin(view, part, atoms, &members, &uppers, &have, sure);
+        let table = table_of(alloc, view, part, atoms, &members, &uppers, &have)?;
         let steps = start(alloc, view, atoms, &table, have, raised)?;
         Ok(Frame {
             view,

@@ -14,7 +14,7 @@ ghost use Rattle.poly_search.specs.Sweeps.{IsLighter, Partly, Swept};
 
 use poly_atom::Atom;
 use poly_grid::Refusal;
-use poly_report::Frame;
+use poly_report::{Frame, STEPS};
 use poly_tiling::{Item, Tiling};
 use std::alloc::Global;
 
@@ -227,7 +227,8 @@ fn sweep_arm(
     Ok(whole)
 }
 
-// Sweeps the place, or keeps it where that would go too far.
+// Sweeps the place, or keeps it where that would go too far. Where little of a wide frame is open, a smaller frame takes
+// over from here.
 #[cycle(sweep)]
 fn sweep_below(
     alloc: Global,
@@ -251,5 +252,12 @@ fn sweep_below(
         push_rest(alloc, frame, list)?;
         return Ok(false);
     }
-    sweep(alloc, frame, list, end, depth - 1)
+    match frame.narrower(alloc)? {
+        None => sweep(alloc, frame, list, end, depth - 1),
+        Some(inner) => {
+            let mut inner = inner;
+            let end = inner.mark() + STEPS;
+            sweep(alloc, &mut inner, list, end, depth - 1)
+        }
+    }
 }

@@ -16,6 +16,11 @@ const SEVEN: &[u8] =
 const EIGHT: &[u8] =
     b"{\"format\":1,\"grid\":\"square\",\"board\":[\"++++++++\"],\"pieces\":[{\"name\":\"A\",\"cells\":[[0,0]],\"need\":\"optional\"},{\"name\":\"B\",\"cells\":[[0,0]],\"need\":\"optional\"},{\"name\":\"C\",\"cells\":[[0,0]],\"need\":\"optional\"},{\"name\":\"D\",\"cells\":[[0,0]],\"need\":\"optional\"},{\"name\":\"E\",\"cells\":[[0,0]],\"need\":\"optional\"},{\"name\":\"F\",\"cells\":[[0,0]],\"need\":\"optional\"},{\"name\":\"G\",\"cells\":[[0,0]],\"need\":\"optional\"},{\"name\":\"H\",\"cells\":[[0,0]],\"need\":\"optional\"}]}";
 
+// The rectangle of three by twenty cells and the twelve pentominoes: 8 tilings. It has enough placements for the solver to
+// go on in smaller frames.
+const NARROW: &[u8] =
+    b"{\"format\":1,\"grid\":\"square\",\"board\":[\"####################\",\"####################\",\"####################\"],\"pieces\":[{\"name\":\"F\",\"cells\":[[1,0],[2,0],[0,1],[1,1],[1,2]]},{\"name\":\"I\",\"cells\":[[0,0],[1,0],[2,0],[3,0],[4,0]]},{\"name\":\"L\",\"cells\":[[0,0],[0,1],[0,2],[0,3],[1,3]]},{\"name\":\"N\",\"cells\":[[1,0],[1,1],[0,2],[1,2],[0,3]]},{\"name\":\"P\",\"cells\":[[0,0],[1,0],[0,1],[1,1],[0,2]]},{\"name\":\"T\",\"cells\":[[0,0],[1,0],[2,0],[1,1],[1,2]]},{\"name\":\"U\",\"cells\":[[0,0],[2,0],[0,1],[1,1],[2,1]]},{\"name\":\"V\",\"cells\":[[0,0],[0,1],[0,2],[1,2],[2,2]]},{\"name\":\"W\",\"cells\":[[0,0],[0,1],[1,1],[1,2],[2,2]]},{\"name\":\"X\",\"cells\":[[1,0],[0,1],[1,1],[2,1],[1,2]]},{\"name\":\"Y\",\"cells\":[[1,0],[0,1],[1,1],[1,2],[1,3]]},{\"name\":\"Z\",\"cells\":[[0,0],[1,0],[1,1],[1,2],[2,2]]}]}";
+
 fn family(
     rt: &(impl AllocGlobal + Abort),
     puzzle: &[u8],
@@ -45,6 +50,12 @@ fn those_that_meet_atoms(rt: HostRuntime) {
 fn seven_optional_pieces(rt: HostRuntime) {
     let found = family(&rt, SEVEN, &[]).expect(&rt, "memory");
     assert!(rt; found.len() == 130_922);
+}
+
+#[test]
+fn the_rectangle_of_three_by_twenty(rt: HostRuntime) {
+    let found = family(&rt, NARROW, &[]).expect(&rt, "memory");
+    assert!(rt; found.len() == 8);
 }
 
 #[test]

@@ -48,6 +48,15 @@ pub(crate) fn busy_rows(
     Ok(all)
 }
 
+/// How many bits the words have.
+pub(crate) fn count_bits(row: &[u64]) -> usize {
+    let mut all = 0usize;
+    for word in row {
+        all = all.saturating_add(word.count_ones() as usize);
+    }
+    all
+}
+
 // How many numbers both rows have in those words of 64 from `first` on that are in the mask; at `most` it stops.
 fn count_in(some: &[u64], others: &[u64], first: usize, mask: u64, most: usize) -> usize
     requires { first < 320 }
@@ -75,8 +84,11 @@ pub(crate) fn common(
     filled: &Busy,
     most: usize,
 ) -> usize {
-    let mut all = 0usize;
-    for c in 0..5usize {
+    let mut all = count_in(some, others, 0, busy.0[0] & filled.0[0], most);
+    if some.len() <= 64 {
+        return all;
+    }
+    for c in 1..5usize {
         let mask = busy.0[c] & filled.0[c];
         if mask != 0 && all < most {
             all = all.saturating_add(count_in(some, others, 64 * c, mask, most - all));

@@ -12,7 +12,7 @@ ghost use Rattle.poly_frame.specs.FrameItems.{item_of};
 ghost use Rattle.poly_frame.specs.FrameSound.{SoundShows};
 ghost use Rattle.poly_frame.specs.FrameSteps.{StepsKeep};
 
-use crate::frame::busy::{Busy, busy_words, common};
+use crate::frame::busy::{Busy, busy_words, common, count_bits};
 use crate::frame::items::{guess_item, index_of};
 use crate::frame::steps::Steps;
 use crate::frame::table::Table;
@@ -98,6 +98,16 @@ pub(crate) fn first_open(view: &View, path: &[Atom], table: &Table, steps: &Step
     } else {
         None
     }
+}
+
+/// Whether few of many placements are open: a frame that begins here would be much smaller.
+pub(crate) fn is_sparse(table: &Table, steps: &Steps) -> bool {
+    let width = table.matrix.width;
+    if width <= 12 || steps.live.len() < width {
+        return false;
+    }
+    let open = count_bits(&steps.live[steps.live.len() - width..]);
+    open < table.matrix.numbers.len() / 3
 }
 
 /// Whether the number's placement is known to be open.

@@ -8,7 +8,7 @@ ghost use Rattle.poly_tiling.specs.Puzzle.{is_piece};
 ghost use Rattle.poly_frame.specs.Open.{open_in, ruled_out};
 ghost use Rattle.poly_frame.specs.FrameSound.{AllFit, SoundShows, fits_at, is_sound};
 ghost use Rattle.poly_frame.specs.FrameTable.{HaveShows, UppersShow};
-ghost use Rattle.poly_frame.specs.Matrices.{IsWhole, StandsShow};
+ghost use Rattle.poly_frame.specs.Matrices.{IsMatrix, StandsShow};
 
 use crate::frame::matrix::Matrix;
 use crate::plain;
@@ -75,17 +75,19 @@ fn are_kept(whole: &Matrix, atoms: &[Atom], members: &[u32]) -> bool
     true
 }
 
-/// For the given atoms alone: 1 where their base is known to be sound, and else 0. `uppers` and `have` are what each item
-/// may have at most, and how many members have it.
+/// For the given atoms alone: 1 where their base is known to be sound, and else 0. It may be known before. `uppers` and
+/// `have` are what each item may have at most, and how many members have it.
 pub(crate) fn begin(
     view: &View,
-    whole: &Matrix,
+    part: &Matrix,
     atoms: &[Atom],
     members: &[u32],
     uppers: &[u8],
     have: &[u64],
+    sure: bool,
 ) -> usize
-    requires whole { IsWhole view.now whole.now }
+    requires sure { sure ≡ true → is_sound view.now atoms.now ≡ true }
+    requires part { IsMatrix view.now part.now }
     requires base { members.now ≡ base view.now atoms.now }
     requires uppers_len { length uppers.now ≡ length view.now.bounds }
     requires have_len { length have.now ≡ length view.now.bounds }
@@ -93,7 +95,10 @@ pub(crate) fn begin(
     requires have { HaveShows view.now members.now have.now }
     ensures { SoundShows view.now atoms.now (length atoms.now) result }
 {
-    if all_fit(view.items(), uppers, have) && are_kept(whole, atoms, members) {
+    if sure {
+        return 1;
+    }
+    if all_fit(view.items(), uppers, have) && are_kept(part, atoms, members) {
         1
     } else {
         0

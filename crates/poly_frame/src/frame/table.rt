@@ -27,8 +27,8 @@ pub(crate) struct Table {
     pub(crate) listed: bool,
 }
 
-ghost use Rattle.poly_frame.specs.Matrices.{IsWhole};
-ghost use Rattle.poly_frame.specs.FrameTable.{AskedShow, HaveShows, TableShows, UppersShow, limit_at};
+ghost use Rattle.poly_frame.specs.Matrices.{IsMatrix};
+ghost use Rattle.poly_frame.specs.FrameTable.{AskedShow, HasOpen, HaveShows, TableShows, UppersShow, limit_at};
 
 // Lowers the most of the item that an atom speaks of.
 fn allow(bounds: &[(Item, u8, u8)], cells: &[usize], atom: &Atom, uppers: &mut Vec<u8>)
@@ -184,18 +184,19 @@ fn all_listed(bounds: &[(Item, u8, u8)], atoms: &[Atom]) -> bool
     atoms.iter().all(|a| asks_listed(bounds, a))
 }
 
-/// The table of what is open at the atoms; `members` is their base, `uppers` and `have` are what each item may have at most
-/// and has there.
+/// The table of what is open at the atoms, from a matrix with a column for each placement that is open there. `members` is
+/// their base, `uppers` and `have` are what each item may have at most and has there.
 pub(crate) fn table_of(
     alloc: Global,
     view: &View,
-    whole: &Matrix,
+    part: &Matrix,
     atoms: &[Atom],
     members: &[u32],
     uppers: &[u8],
     have: &[u64],
 ) -> Result<Table, Refusal>
-    requires whole { IsWhole view.now whole.now }
+    requires part { IsMatrix view.now part.now }
+    requires all { HasOpen view.now atoms.now part.now }
     requires base { members.now ≡ base view.now atoms.now }
     requires few { length members.now < 2 ^ 63 }
     requires have_len { length have.now ≡ length view.now.bounds }
@@ -206,11 +207,11 @@ pub(crate) fn table_of(
     ensures why { IfErr result (λ e. e ≡ Refusal.Memory) }
 {
     let bounds = view.items();
-    let row = open_row(alloc, view, whole, atoms, members, uppers, have)?;
-    let matrix = narrowed(alloc, view, whole, &row)?;
+    let row = open_row(alloc, view, part, atoms, members, uppers, have)?;
+    let matrix = narrowed(alloc, view, part, &row)?;
     let busy = busy_rows(alloc, &matrix.rows, matrix.width, bounds.len())?;
     let limits = limits_of(alloc, bounds, uppers)?;
-    let asked = asked_of(alloc, view, atoms, &whole.cells)?;
+    let asked = asked_of(alloc, view, atoms, &part.cells)?;
     let listed = all_listed(bounds, atoms);
     Ok(Table {
         matrix,

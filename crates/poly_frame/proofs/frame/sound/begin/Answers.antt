@@ -5,7 +5,7 @@ use Rattle.poly_tiling.specs.Puzzle.{Bound}
 use Rattle.poly_atom.specs.Hopeless.{base, lacks}
 use Rattle.poly_frame.specs.FrameSound.{AllFit}
 use Rattle.poly_frame.specs.FrameTable.{HaveShows}
-use Rattle.poly_frame.proofs.FrameSound.{sound_fits, sound_one}
+use Rattle.poly_frame.proofs.FrameSound.{all_kept, sound_fits, sound_one}
 use Rattle.poly_frame.proofs.frame.sound.begin.Goals as goal
 
 pub returns-then-are_kept : goal.returns-then-are_kept
@@ -15,5 +15,8 @@ returns-then-are_kept c =
     let kept = λ (ns : List ℕ) (p : ℕ). mem ns p && not (list_any (λ a. lacks a p) A) in
     let fit = subst (λ (bs : List Bound). AllFit bs c.args.uppers.now c.args.have.now) c.items.ensures.value (c.all_fit.ensures c.if-all_fit.true) in
     let have = subst (λ (xs : List ℕ). HaveShows v xs c.args.have.now) c.requires.base c.requires.have in
-    let all : list_all (kept v.live) (base v A) ≡ true = ap (λ xs. list_all (kept v.live) xs) (sym c.requires.base) ∙ ap (λ ns. list_all (kept ns) c.args.members.now) (sym c.requires.whole.all) ∙ sym c.are_kept.ensures ∙ c.if-are_kept.true in
+    let all : list_all (kept v.live) (base v A) ≡ true = ap (λ xs. list_all (kept v.live) xs) (sym c.requires.base) ∙ all_kept c.args.part.now.numbers.items v.live (λ p. not (list_any (λ a. lacks a p) A)) c.requires.part.live c.args.members.now (sym c.are_kept.ensures ∙ c.if-are_kept.true) in
     sound_one v A (sound_fits v A c.args.uppers.now c.args.have.now c.items.ensures.well c.requires.uppers have fit all)
+
+pub returns-then-sure : goal.returns-then-sure
+returns-then-sure c = sound_one c.args.view.now c.args.atoms.now (c.requires.sure c.if-sure.true)

@@ -1,5 +1,5 @@
 use Rattle.std.proofs.Common.{List, ap, arith, get_or, subst, sym, true, length, ℕ, ◌∙◌, ◌≡◌}
-use Rattle.std.specs.List.{filter, list_all, list_any}
+use Rattle.std.specs.List.{list_all, list_any}
 use Rattle.std.proofs.lemmas.Bool.{and_from, and_parts}
 use Rattle.poly_tiling.specs.Lists.{mem}
 use Rattle.poly_tiling.specs.Puzzle.{Bound, count, same_item}
@@ -16,15 +16,16 @@ pub returns-clause-value : goal.returns-clause-value
 returns-clause-value c =
     let v = c.args.view.now in
     let A = c.args.atoms.now in
-    let whole = c.args.whole.now in
+    let ns = c.args.part.now.numbers.items in
     let f = λ (p : ℕ). open_in v A p in
     let row = c.deref.ensures.value in
     let e = c.in_ok-matrix.ensures.numbers f (λ j h. sym (c.in_ok-row.ensures.value j h) ∙ ap (λ ws. has_bit ws j) (sym row)) in
-    let m = e ∙ ap (λ xs. filter f xs) c.requires.whole.all in
     record {
       matrix = c.in_ok-matrix.ensures.made;
-      begun = λ q m'. and_parts (mem v.live q) (f q) (sym (mem_filter f v.live q) ∙ ap (λ xs. mem xs q) (sym m) ∙ m');
-      all = λ q m' o. ap (λ xs. mem xs q) m ∙ mem_filter f v.live q ∙ and_from _ _ m' o;
+      begun = λ q m'.
+          let both = and_parts (mem ns q) (f q) (sym (mem_filter f ns q) ∙ ap (λ xs. mem xs q) (sym e) ∙ m') in
+          (c.requires.part.live q both.0, both.1);
+      all = λ q m' o. ap (λ xs. mem xs q) e ∙ mem_filter f ns q ∙ and_from _ _ (c.requires.all q m' o) o;
       limits = λ b h. c.in_ok-limits.ensures.value b (omega (arith, ap length c.items-bounds.ensures.value)) ∙ ap (λ (bs : List Bound). limit_at (item_at bs b) (get_or c.args.uppers.now b 0)) c.items-bounds.ensures.value
           ∙ ap (λ n. limit_at (item_of v b) n) (c.requires.uppers b h);
       limits_len = c.in_ok-limits.ensures.len ∙ ap length c.items-bounds.ensures.value;
