@@ -1,0 +1,9 @@
+pub mod Calls
+pub mod Changes
+pub mod Floors
+pub mod Noted
+pub mod Opened
+pub mod Receipts
+pub mod Seen
+pub mod Settling
+pub mod Ticks

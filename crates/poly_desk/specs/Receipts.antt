@@ -1,0 +1,59 @@
+-- Receipts and the book that they are of.
+use Rattle.std.specs.Global.{Global}
+use Rattle.std.specs.List.{All, flat_map, list_any}
+use Rattle.std.specs.Prelude.{Bool, List, Some, Vec, false, length, reverse, slice_get, slice_index_or, take, true, ℕ, ◌++◌, ◌+◌, ◌<◌, ◌==◌, ◌∷◌, ◌≡◌, ◌⊎◌}
+use Rattle.poly_grid.specs.declared.refusal.Refusal.{Refusal}
+use Rattle.poly_grid.specs.declared.refusal.Refusal.TheVariants.{Unsettled}
+use Rattle.poly_book.specs.declared.step.Ending.{Ending}
+use Rattle.poly_book.specs.declared.step.Ending.TheVariants as ending
+use Rattle.poly_book.specs.States.{State}
+use Rattle.poly_desk.specs.declared.receipt.Receipt.{Receipt}
+use Rattle.poly_desk.specs.declared.receipt.Receipt.TheVariants.{Changed, Cut}
+
+-- the entry stands at the place, counted from 1
+abbrev pub IsAt : {X : Type 0} → List X → ℕ → X → Type 0
+IsAt xs place x = (i : ℕ) × (place ≡ i + 1) × (slice_get xs i ≡ Some x)
+
+-- the receipt stands at its place: among the steps, the oldest first, or among the endings
+abbrev pub Stands : State → Receipt → Type 0
+Stands b (Changed place step) = IsAt (reverse b.steps) place step
+Stands b (Cut place task) = IsAt b.endings place (ending.Cut task)
+
+abbrev pub place_of : Receipt → ℕ
+place_of (Changed place step) = place
+place_of (Cut place task) = place
+
+-- how many entries of its kind there are
+abbrev pub entries : State → Receipt → ℕ
+entries b (Changed place step) = length b.steps
+entries b (Cut place task) = length b.endings
+
+-- the receipts are of one kind and have one place
+abbrev pub same_place : Receipt → Receipt → Bool
+same_place (Changed place step) (Changed other s) = place == other
+same_place (Changed place step) (Cut other t) = false
+same_place (Cut place task) (Changed other s) = false
+same_place (Cut place task) (Cut other t) = place == other
+
+-- one of the receipts has the kind and the place of the other one
+abbrev pub is_taken : List Receipt → Receipt → Bool
+is_taken rs r = list_any (λ q. same_place q r) rs
+
+-- no two of them are of one kind at one place: none has the kind and the place of one before it
+abbrev pub AreApart : List Receipt → Type 0
+AreApart rs = (k : ℕ) (d : Receipt) → k < length rs → is_taken (take k rs) (slice_index_or rs k d) ≡ false
+
+-- each receipt stands at its place, and no two of one kind at one place
+pub record AreReceipts (b : State) (rs : List Receipt) : Type 0 where
+  pub stand : All (Stands b) rs
+  pub apart : AreApart rs
+
+-- one of the receipts doesn't stand at its place; or it does, and is the second of its kind there
+abbrev pub IsBadReceipt : State → List Receipt → Refusal → Type 0
+IsBadReceipt b rs e = (before : List Receipt) × (r : Receipt) × (after : List Receipt) × (rs ≡ before ++ r ∷ after) ×
+    (((e ≡ Unsettled (place_of r) (entries b r)) × (¬ Stands b r))
+    ⊎ ((e ≡ Unsettled (place_of r) 2) × Stands b r × (is_taken before r ≡ true)))
+
+-- the receipts of all lists, in their order
+abbrev pub all_of : List (Vec Receipt Global) → List Receipt
+all_of lists = flat_map (λ v. v.items) lists

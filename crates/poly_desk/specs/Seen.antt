@@ -1,0 +1,54 @@
+-- What a locked call tells of its pass.
+use Rattle.std.specs.Prelude.{Bool, false, true, ℕ, ◌+◌, ◌<◌, ◌≡◌, ◌≤◌, ◌⊎◌}
+use Rattle.poly_grid.specs.declared.refusal.Refusal.{Refusal}
+use Rattle.poly_grid.specs.declared.refusal.Refusal.TheVariants.{Unsettled}
+use Rattle.poly_design.specs.Edits.{IsAccepted}
+use Rattle.poly_board.specs.declared.posted.Posted.{Posted}
+use Rattle.poly_design.specs.Layout.{Layout}
+use Rattle.poly_design.specs.declared.edit.Edit.{Edit}
+use Rattle.poly_book.specs.declared.step.Kind.{Kind}
+use Rattle.poly_desk.specs.Noted.{Held}
+use Rattle.poly_desk.specs.declared.receipt.Receipt.{Receipt}
+use Rattle.poly_desk.specs.declared.receipt.Receipt.TheVariants as receipt
+
+-- by edition, and then by endings
+abbrev pub IsUpTo : Posted → Posted → Type 0
+IsUpTo p q = (p.edition < q.edition) ⊎ ((p.edition ≡ q.edition) × (p.endings ≤ q.endings))
+
+-- one of the two, and below neither
+pub record IsLaterOf (noted given later : Posted) : Type 0 where
+  pub one : (later ≡ noted) ⊎ (later ≡ given)
+  pub noted_up_to : IsUpTo noted later
+  pub given_up_to : IsUpTo given later
+
+-- the pass has noted an edition that isn't below the earlier one, and so many more changes and cuts are its own
+pub record Later (p q : Held) (changes cuts : ℕ) : Type 0 where
+  pub edition : p.noted.edition ≤ q.noted.edition
+  pub changes_are : q.changes ≡ p.changes + changes
+  pub cuts_are : q.cuts ≡ p.cuts + cuts
+  pub posts : q.posts ≡ p.posts
+
+-- an edition was found that is below the pass's, and the pass stays as it was
+pub record IsUnsettled (p q : Held) (e : Refusal) : Type 0 where
+  pub found : ℕ
+  pub why : e ≡ Unsettled p.noted.edition found
+  pub behind : found < p.noted.edition
+  pub pass : q ≡ p
+
+abbrev pub is_unsettled : Refusal → Bool
+is_unsettled (Unsettled seen found) = true
+is_unsettled _ = false
+
+-- the call was refused for the edition; or it wasn't, and neither a change nor a cut was made
+abbrev pub IsTurnedDown : Held → Held → Refusal → Type 0
+IsTurnedDown p q e = IsUnsettled p q e ⊎ (Later p q 0 0 × (is_unsettled e ≡ false))
+
+-- the change was made after what the pass had seen, and by what it has noted since
+abbrev pub IsMade : Kind → Held → Held → Receipt → Type 0
+IsMade k p q (receipt.Changed place step) = (step.kind ≡ k) × (p.noted.edition < place) × (place ≤ q.noted.edition)
+IsMade k p q (receipt.Cut place task) = ⊥
+
+-- its change is one that the edit asks for on some design
+abbrev pub IsAskedFor : Edit → Receipt → Type 0
+IsAskedFor e (receipt.Changed place step) = (d : Layout) × IsAccepted d e step.change
+IsAskedFor e (receipt.Cut place task) = ⊥

@@ -1,0 +1,33 @@
+-- Why a desk isn't settled up.
+use Rattle.std.specs.List.{flat_map}
+use Rattle.std.specs.Prelude.{List, min, ℕ, ◌≡◌, ◌⊎◌}
+use Rattle.poly_grid.specs.declared.refusal.Refusal.{Refusal}
+use Rattle.poly_grid.specs.declared.refusal.Refusal.TheVariants.{Unsettled}
+use Rattle.poly_design.specs.Layout.{Layout}
+use Rattle.poly_book.specs.declared.step.Step.{Step}
+use Rattle.poly_book.specs.States.{State}
+use Rattle.poly_desk.specs.Floors.{Counts}
+use Rattle.poly_desk.specs.Receipts.{IsBadReceipt}
+use Rattle.poly_desk.specs.declared.receipt.Receipt.{Receipt}
+
+-- a sum as it is named: one over 2^64 - 1 is named as that
+abbrev pub named : ℕ → ℕ
+named sum = min sum 18446744073709551615
+
+-- the sum of the shares isn't the total
+abbrev pub IsMismatch : ℕ → ℕ → Refusal → Type 0
+IsMismatch sum total e = (e ≡ Unsettled (named sum) total) × (¬ (sum ≡ total))
+
+-- a sum of shares isn't the total, of changes first and then of cuts; or both are, and a receipt is bad
+abbrev pub IsUneven : State → ℕ → ℕ → ℕ → ℕ → List Receipt → Refusal → Type 0
+IsUneven b changes cuts changes_given cuts_given rs e =
+    IsMismatch changes_given changes e
+    ⊎ ((changes_given ≡ changes) × (IsMismatch cuts_given cuts e ⊎ ((cuts_given ≡ cuts) × IsBadReceipt b rs e)))
+
+-- so it is for a book that opened so and has had so many changes and cuts since
+pub record IsNotSettled (o : Layout) (ss : List Step) (k changes_given cuts_given : ℕ) (rs : List Receipt) (e : Refusal) : Type 0 where
+  pub book : State
+  pub changes : ℕ
+  pub cuts : ℕ
+  pub counts : Counts o ss k book changes cuts
+  pub uneven : IsUneven book changes cuts changes_given cuts_given rs e

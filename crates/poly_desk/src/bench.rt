@@ -1,0 +1,72 @@
+//! A desk as a worker sees it.
+ghost use Rattle.std.specs.Prelude.{◌≡◌, ◌+◌, ℕ, IfOk, OnErr, OnOk};
+
+use crate::desk::Desk;
+use crate::opening::Opening;
+use crate::pass::Pass;
+use crate::receipt::Receipt;
+use poly_book::{Applied, Job, Which};
+use poly_grid::Refusal;
+use poly_report::Report;
+use std::sync::Wait;
+use std::sync::ledger::Ledger;
+
+/// Where a worker takes tasks and hands reports in. A [`Desk`] is one; tests have others.
+pub trait Bench {
+    /// The right to use it.
+    type Pass: Drop;
+
+    /// How many changes a pass has made.
+    ghost changes: { Self.Pass → ℕ };
+
+    /// How many cuts a pass has made.
+    ghost cuts: { Self.Pass → ℕ };
+
+    /// A pending task, or that of a number. None only if no task is pending, or that one isn't.
+    fn take<R: Wait>(
+        &self,
+        rt: &R,
+        pass: &mut Self::Pass,
+        which: Which,
+    ) -> Result<Option<Job>, Refusal>
+        ensures changes { changes pass.new ≡ changes pass.old }
+        ensures cuts { cuts pass.new ≡ cuts pass.old };
+
+    /// Hands the report in. Its receipt counts as a cut of the pass.
+    fn hand_in<R: Wait>(
+        &self,
+        rt: &R,
+        pass: &mut Self::Pass,
+        report: Report,
+    ) -> Result<(Applied, Receipt), Refusal>
+        ensures changes { changes pass.new ≡ changes pass.old }
+        ensures cut { OnOk result (cuts pass.new ≡ cuts pass.old + 1) }
+        ensures no_cut { OnErr result (cuts pass.new ≡ cuts pass.old) }
+        ensures receipt { IfOk result (λ r. r.1 ≡ Receipt.Cut r.0.place report.task) };
+}
+
+impl<C: Ledger, K: Ledger, O: Opening> Bench for Desk<C, K, O> {
+    type Pass = Pass<C, K, O>;
+
+    ghost changes = { λ p. p.changes };
+
+    ghost cuts = { λ p. p.cuts };
+
+    fn take<R: Wait>(
+        &self,
+        rt: &R,
+        pass: &mut Pass<C, K, O>,
+        which: Which,
+    ) -> Result<Option<Job>, Refusal> {
+        self.take(rt, pass, which)
+    }
+
+    fn hand_in<R: Wait>(
+        &self,
+        rt: &R,
+        pass: &mut Pass<C, K, O>,
+        report: Report,
+    ) -> Result<(Applied, Receipt), Refusal> {
+        self.hand_in(rt, pass, report)
+    }
+}

@@ -1,0 +1,260 @@
+//! The desk: a floor under one lock. Each call locks, runs the floor's call of its name and unlocks.
+//!
+//! What a lock protects can't be named after it is unlocked. So these contracts say what is known of the pass: what it has
+//! noted and what it has counted.
+ghost use Rattle.std.specs.Prelude.{◌≡◌, ◌≤◌, ◌∷◌, [], IfErr, IfOk, IfSome, OnOk};
+ghost use Rattle.poly_grid.specs.declared.refusal.Refusal.TheVariants.{Memory};
+ghost use Rattle.poly_board.specs.Posts.{IsRising, NoneFalls, StartsWith, last_of};
+ghost use Rattle.poly_book.specs.declared.step.Kind.TheVariants as kind;
+ghost use Rattle.poly_desk.specs.Changes.{cut_count};
+ghost use Rattle.poly_desk.specs.Noted.{held, numbers_of};
+ghost use Rattle.poly_desk.specs.Seen.{IsAskedFor, IsLaterOf, IsMade, IsTurnedDown, IsUnsettled, Later};
+
+use crate::floor::{Floor, NotBegun};
+use crate::opening::Opening;
+use crate::pass::Pass;
+use crate::receipt::Receipt;
+use poly_board::Posted;
+use poly_book::{Applied, Book, Job, Quiet, Which};
+use poly_browse::{Answer, Query};
+use poly_design::Edit;
+use poly_grid::Refusal;
+use poly_report::Report;
+use std::alloc::Global;
+use std::sync::ledger::{Blank, Ledger};
+use std::sync::{Mutex, Wait};
+
+/// A floor under one lock.
+#[derive(Drop)]
+pub struct Desk<C: Ledger, K: Ledger, O: Opening> {
+    pub(crate) floor: Mutex<Floor<C, K, O>>,
+}
+
+/// A desk that wasn't settled up, with all that was handed in.
+#[derive(Drop)]
+pub struct NotSettled<C: Ledger, K: Ledger, O: Opening> {
+    /// The desk, with the book as it was.
+    pub desk: Desk<C, K, O>,
+    /// The passes.
+    pub passes: Vec<Pass<C, K, O>>,
+    /// The receipts.
+    pub receipts: Vec<Vec<Receipt>>,
+    /// Why it wasn't settled up.
+    pub why: Refusal,
+}
+
+impl<C: Ledger, K: Ledger, O: Opening> Desk<C, K, O> {
+    /// A desk with the book, and a first pass, which has noted the book's numbers. The book has what the opening names.
+    /// Fails only when out of memory, and then hands the book back.
+    pub fn begin(
+        alloc: Global,
+        changes: Blank,
+        cuts: Blank,
+        book: Book,
+    ) -> Result<(Desk<C, K, O>, Pass<C, K, O>), NotBegun>
+        requires changes { (changes.name ≡ C.name) × (changes.parts ≡ C.parts) × (changes.parts ≡ 10001) }
+        requires cuts { (cuts.name ≡ K.name) × (cuts.parts ≡ K.parts) × (cuts.parts ≡ 10001) }
+        requires design { book.opened ≡ O.design }
+        requires steps { book.steps ≡ O.steps }
+        requires endings { cut_count book.endings ≡ O.cuts }
+        ensures pass { IfOk result (λ r. r.1 ≡ held (numbers_of book) 0 0 (numbers_of book ∷ [])) }
+        ensures stays { IfErr result (λ n. n.book ≡ book) }
+        ensures why { IfErr result (λ n. n.why ≡ Refusal.Memory) }
+    {
+        match Floor::begin(alloc, changes, cuts, book) {
+            Ok((floor, pass)) => {
+                let desk = Desk {
+                    floor: Mutex::new(floor),
+                };
+                Ok((desk, pass))
+            }
+            Err(not_begun) => Err(not_begun),
+        }
+    }
+
+    /// The floor's `pass`: a further pass, which has noted the same numbers as the given one then has.
+    #[tactic(auto, using(crate::proofs::Told::met_later, crate::proofs::Told::pass_down))]
+    pub fn pass<R: Wait>(
+        &self,
+        rt: &R,
+        alloc: Global,
+        pass: &mut Pass<C, K, O>,
+    ) -> Result<Pass<C, K, O>, Refusal>
+        ensures later { OnOk result (Later pass.old pass.new 0 0) }
+        ensures ok { IfOk result (λ p. p ≡ held pass.new.noted 0 0 pass.new.posts) }
+        ensures why { IfErr result (λ e. IsTurnedDown pass.old pass.new e) }
+    {
+        let mut floor = self.floor.lock(rt);
+        match floor.pass(alloc, pass) {
+            Ok(further) => Ok(further),
+            Err(refusal) => Err(refusal),
+        }
+    }
+
+    /// The floor's `edit`.
+    #[tactic(auto, using(crate::proofs::Told::edited_later, crate::proofs::Told::edited_made, crate::proofs::Told::edited_asked, crate::proofs::Told::edit_down))]
+    pub fn edit<R: Wait>(
+        &self,
+        rt: &R,
+        pass: &mut Pass<C, K, O>,
+        edit: Edit,
+    ) -> Result<Receipt, Refusal>
+        ensures later { OnOk result (Later pass.old pass.new 1 0) }
+        ensures made { IfOk result (λ r. IsMade kind.Edit pass.old pass.new r) }
+        ensures asked { IfOk result (λ r. IsAskedFor edit r) }
+        ensures why { IfErr result (λ e. IsTurnedDown pass.old pass.new e) }
+    {
+        let mut floor = self.floor.lock(rt);
+        match floor.edit(pass, edit) {
+            Ok(receipt) => Ok(receipt),
+            Err(refusal) => Err(refusal),
+        }
+    }
+
+    /// The floor's `undo`.
+    #[tactic(auto, using(crate::proofs::Told::undone_later, crate::proofs::Told::undone_made, crate::proofs::Told::undo_down))]
+    pub fn undo<R: Wait>(&self, rt: &R, pass: &mut Pass<C, K, O>) -> Result<Receipt, Refusal>
+        ensures later { OnOk result (Later pass.old pass.new 1 0) }
+        ensures made { IfOk result (λ r. IsMade kind.Undo pass.old pass.new r) }
+        ensures why { IfErr result (λ e. IsTurnedDown pass.old pass.new e) }
+    {
+        let mut floor = self.floor.lock(rt);
+        match floor.undo(pass) {
+            Ok(receipt) => Ok(receipt),
+            Err(refusal) => Err(refusal),
+        }
+    }
+
+    /// The floor's `redo`.
+    #[tactic(auto, using(crate::proofs::Told::redone_later, crate::proofs::Told::redone_made, crate::proofs::Told::redo_down))]
+    pub fn redo<R: Wait>(&self, rt: &R, pass: &mut Pass<C, K, O>) -> Result<Receipt, Refusal>
+        ensures later { OnOk result (Later pass.old pass.new 1 0) }
+        ensures made { IfOk result (λ r. IsMade kind.Redo pass.old pass.new r) }
+        ensures why { IfErr result (λ e. IsTurnedDown pass.old pass.new e) }
+    {
+        let mut floor = self.floor.lock(rt);
+        match floor.redo(pass) {
+            Ok(receipt) => Ok(receipt),
+            Err(refusal) => Err(refusal),
+        }
+    }
+
+    /// The floor's `hand_in`.
+    #[tactic(auto, using(crate::proofs::Told::applied_later, crate::proofs::Told::report_down))]
+    pub fn hand_in<R: Wait>(
+        &self,
+        rt: &R,
+        pass: &mut Pass<C, K, O>,
+        report: Report,
+    ) -> Result<(Applied, Receipt), Refusal>
+        ensures later { OnOk result (Later pass.old pass.new 0 1) }
+        ensures receipt { IfOk result (λ r. r.1 ≡ Receipt.Cut r.0.place report.task) }
+        ensures why { IfErr result (λ e. IsTurnedDown pass.old pass.new e) }
+    {
+        let mut floor = self.floor.lock(rt);
+        match floor.hand_in(pass, report) {
+            Ok(both) => Ok(both),
+            Err(refusal) => Err(refusal),
+        }
+    }
+
+    /// The floor's `next`. Refused only with `Unsettled`. Never allocates.
+    #[tactic(auto, using(crate::proofs::Told::met_later, crate::proofs::Told::behind_unsettled))]
+    pub fn next<R: Wait>(
+        &self,
+        rt: &R,
+        pass: &mut Pass<C, K, O>,
+        from: u32,
+    ) -> Result<Option<u32>, Refusal>
+        ensures later { OnOk result (Later pass.old pass.new 0 0) }
+        ensures from { IfOk result (λ o. IfSome o (λ n. from ≤ n)) }
+        ensures why { IfErr result (λ e. IsUnsettled pass.old pass.new e) }
+    {
+        let floor = self.floor.lock(rt);
+        match floor.next(pass, from) {
+            Ok(task) => Ok(task),
+            Err(refusal) => Err(refusal),
+        }
+    }
+
+    /// The floor's `take`. The job's edition isn't below the one that the pass had noted.
+    #[tactic(auto, using(crate::proofs::Told::met_later, crate::proofs::Told::taken_later, crate::proofs::Told::memory_down))]
+    pub fn take<R: Wait>(
+        &self,
+        rt: &R,
+        pass: &mut Pass<C, K, O>,
+        which: Which,
+    ) -> Result<Option<Job>, Refusal>
+        ensures later { OnOk result (Later pass.old pass.new 0 0) }
+        ensures edition { IfOk result (λ o. IfSome o (λ j. pass.old.noted.edition ≤ j.edition)) }
+        ensures why { IfErr result (λ e. IsTurnedDown pass.old pass.new e) }
+    {
+        let floor = self.floor.lock(rt);
+        match floor.take(pass, which) {
+            Ok(taken) => Ok(taken),
+            Err(refusal) => Err(refusal),
+        }
+    }
+
+    /// The floor's `browse`: what those of the tilings listed at that moment that meet the query have in common.
+    #[tactic(auto, using(crate::proofs::Told::met_later, crate::proofs::Told::memory_down))]
+    pub fn browse<R: Wait>(
+        &self,
+        rt: &R,
+        alloc: Global,
+        pass: &mut Pass<C, K, O>,
+        query: &Query,
+    ) -> Result<Answer, Refusal>
+        ensures later { OnOk result (Later pass.old pass.new 0 0) }
+        ensures why { IfErr result (λ e. IsTurnedDown pass.old pass.new e) }
+    {
+        let floor = self.floor.lock(rt);
+        match floor.browse(alloc, pass, query) {
+            Ok(answer) => Ok(answer),
+            Err(refusal) => Err(refusal),
+        }
+    }
+
+    /// The floor's `quiet`. Its edition isn't below the one that the pass had noted.
+    #[tactic(auto, using(crate::proofs::Told::met_later, crate::proofs::Told::quiet_later, crate::proofs::Told::quiet_down))]
+    pub fn quiet<R: Wait>(&self, rt: &R, pass: &mut Pass<C, K, O>) -> Result<Quiet, Refusal>
+        ensures later { OnOk result (Later pass.old pass.new 0 0) }
+        ensures edition { IfOk result (λ q. pass.old.noted.edition ≤ q.edition) }
+        ensures why { IfErr result (λ e. IsTurnedDown pass.old pass.new e) }
+    {
+        let floor = self.floor.lock(rt);
+        match floor.quiet(pass) {
+            Ok(quiet) => Ok(quiet),
+            Err(refusal) => Err(refusal),
+        }
+    }
+
+    /// The later of the last post and of what the pass has noted, by edition and then endings. Never allocates or waits.
+    pub fn look(&self, pass: &mut Pass<C, K, O>) -> Posted
+        ensures edition { pass.old.noted.edition ≤ result.edition }
+        ensures value { IsLaterOf pass.old.noted (last_of pass.new.posts) result }
+        ensures known { StartsWith pass.new.posts pass.old.posts }
+        ensures rising { IsRising pass.new.posts }
+        ensures after { NoneFalls (last_of pass.old.posts) (last_of pass.new.posts) }
+        ensures stays { pass.new ≡ held pass.old.noted pass.old.changes pass.old.cuts pass.new.posts }
+    {
+        let given = pass.look.look();
+        later(pass.noted, given)
+    }
+}
+
+// The later of the two, by edition and then endings.
+fn later(noted: Posted, given: Posted) -> Posted
+    ensures value { IsLaterOf noted given result }
+    ensures edition { noted.edition ≤ result.edition }
+{
+    if given.edition < noted.edition {
+        noted
+    } else if noted.edition < given.edition {
+        given
+    } else if given.endings < noted.endings {
+        noted
+    } else {
+        given
+    }
+}

@@ -1,0 +1,211 @@
+//! The floor of a desk, and its events: the calls that change its book.
+ghost use Rattle.std.specs.Prelude.{◌≡◌, ◌≤◌, ◌+◌, ◌⊎◌, ◌∷◌, [], IfErr, IfOk, OnErr, OnOk};
+ghost use Rattle.poly_grid.specs.declared.refusal.Refusal.TheVariants.{Memory, Spent};
+ghost use Rattle.poly_report.specs.Shapes.{plan_of};
+ghost use Rattle.poly_book.specs.Refused.{IsNotApplied, IsNotEdited, IsNotRedone, IsNotUndone};
+ghost use Rattle.poly_book.specs.Reports.{IsApplied};
+ghost use Rattle.poly_book.specs.Steps.{IsEdited, IsRedone, IsUndone};
+ghost use Rattle.poly_desk.specs.Calls.{IsRefused, Met};
+ghost use Rattle.poly_desk.specs.Changes.{IsChanged, cut_count};
+ghost use Rattle.poly_desk.specs.Floors.{on_floor};
+ghost use Rattle.poly_desk.specs.Noted.{held, numbers_of};
+
+use crate::call::{make_room, meet, note_change, note_cut, numbers_of_book};
+use crate::ledgers::{MOST_PASSES, Spare, Totals, open};
+use crate::marks::Marks;
+use crate::opening::Opening;
+use crate::pass::Pass;
+use crate::receipt::Receipt;
+use poly_board::{Board, Poster};
+use poly_book::{Applied, Book};
+use poly_design::Edit;
+use poly_grid::Refusal;
+use poly_report::Report;
+use std::alloc::Global;
+use std::marker::{Model, PhantomData};
+use std::sync::ledger::{Blank, Ledger};
+
+/// A book, with its poster, the totals of all passes, what no pass has, and flags for settling up. Contracts see the book
+/// and the number of passes.
+#[derive(Drop)]
+pub struct Floor<C: Ledger, K: Ledger, O: Opening> {
+    pub(crate) book: Book,
+    pub(crate) poster: Poster,
+    pub(crate) totals: Totals<C, K>,
+    pub(crate) spare: Spare<C, K>,
+    pub(crate) marks: Marks,
+    pub(crate) opening: PhantomData<O>,
+}
+
+impl<C: Ledger, K: Ledger, O: Opening> Model for Floor<C, K, O> {
+    ghost use Rattle.std.specs.Prelude.{◌≤◌, vec_len};
+    ghost use Rattle.poly_desk.specs.Floors.{Counts, OnFloor, Shows, on_floor};
+
+    ghost Value = { OnFloor };
+
+    ghost view = { λ f. on_floor f.book f.spare.passes };
+
+    ghost invariant = { λ f. Counts O.design O.steps O.cuts f.book f.totals.changes f.totals.cuts × Shows f.book f.poster.posts (vec_len f.marks.steps) (vec_len f.marks.endings) × (f.spare.passes ≤ 10000) };
+}
+
+/// A book on which no floor or desk was begun.
+#[derive(Drop)]
+pub struct NotBegun {
+    /// The book as it was.
+    pub book: Book,
+    /// `Memory`.
+    pub why: Refusal,
+}
+
+impl<C: Ledger, K: Ledger, O: Opening> Floor<C, K, O> {
+    /// A floor with the book, and a first pass, which has noted the book's numbers. The book has what the opening names.
+    /// Fails only when out of memory, and then hands the book back.
+    pub fn begin(
+        alloc: Global,
+        changes: Blank,
+        cuts: Blank,
+        book: Book,
+    ) -> Result<(Floor<C, K, O>, Pass<C, K, O>), NotBegun>
+        requires changes { (changes.name ≡ C.name) × (changes.parts ≡ C.parts) × (changes.parts ≡ 10001) }
+        requires cuts { (cuts.name ≡ K.name) × (cuts.parts ≡ K.parts) × (cuts.parts ≡ 10001) }
+        requires design { book.opened ≡ O.design }
+        requires steps { book.steps ≡ O.steps }
+        requires endings { cut_count book.endings ≡ O.cuts }
+        ensures floor { IfOk result (λ r. r.0 ≡ on_floor book 1) }
+        ensures pass { IfOk result (λ r. r.1 ≡ held (numbers_of book) 0 0 (numbers_of book ∷ [])) }
+        ensures stays { IfErr result (λ n. n.book ≡ book) }
+        ensures why { IfErr result (λ n. n.why ≡ Refusal.Memory) }
+    {
+        let numbers = numbers_of_book(&book);
+        let steps = numbers.edition as usize;
+        let endings = numbers.endings as usize;
+        let marks = match Marks::new(alloc, steps, endings) {
+            Ok(marks) => marks,
+            Err(why) => return Err(NotBegun { book, why }),
+        };
+        let (poster, look) = match Board::new(alloc, numbers) {
+            Ok(both) => both,
+            Err(why) => return Err(NotBegun { book, why }),
+        };
+        let (totals, mut spare) = open(changes, cuts);
+        let shares = spare.split_off();
+        let floor = Floor {
+            book,
+            poster,
+            totals,
+            spare,
+            marks,
+            opening: PhantomData,
+        };
+        let pass = Pass {
+            noted: numbers,
+            shares,
+            look,
+            opening: PhantomData,
+        };
+        Ok((floor, pass))
+    }
+
+    /// A further pass, which has noted the same numbers as the given one then has.
+    ///
+    /// Refused with `Unsettled` as every call; then with `Spent` if there are 10,000 passes, and with `Memory`.
+    pub fn pass(
+        &mut self,
+        alloc: Global,
+        pass: &mut Pass<C, K, O>,
+    ) -> Result<Pass<C, K, O>, Refusal>
+        ensures met { OnOk result (Met self.old.book self.new.book pass.old pass.new 0 0) }
+        ensures floor { OnOk result (self.new ≡ on_floor self.old.book (self.old.passes + 1)) }
+        ensures ok { IfOk result (λ p. p ≡ held pass.new.noted 0 0 pass.new.posts) }
+        ensures stays { OnErr result (self.new ≡ self.old) }
+        ensures why { IfErr result (λ e. IsRefused self.old.book pass.old pass.new e (((e ≡ Refusal.Spent) × (self.old.passes ≡ 10000)) ⊎ (e ≡ Refusal.Memory))) }
+    {
+        meet(&self.book, pass)?;
+        if self.spare.passes >= MOST_PASSES {
+            return Err(Refusal::Spent);
+        }
+        let look = pass.look.split(alloc)?;
+        let shares = self.spare.split_off();
+        Ok(Pass {
+            noted: pass.noted,
+            shares,
+            look,
+            opening: PhantomData,
+        })
+    }
+
+    /// The book's `edit`. Refused with `Unsettled` as every call, then as the book's.
+    pub fn edit(&mut self, pass: &mut Pass<C, K, O>, edit: Edit) -> Result<Receipt, Refusal>
+        ensures met { OnOk result (Met self.old.book self.new.book pass.old pass.new 1 0) }
+        ensures ok { IfOk result (λ r. IsChanged (λ done. IsEdited edit self.old.book self.new.book done) r) }
+        ensures passes { self.new.passes ≡ self.old.passes }
+        ensures stays { OnErr result (self.new ≡ self.old) }
+        ensures why { IfErr result (λ e. IsRefused self.old.book pass.old pass.new e (IsNotEdited edit self.old.book e)) }
+    {
+        meet(&self.book, pass)?;
+        make_room(&self.book, &mut self.marks)?;
+        match self.book.edit(edit) {
+            Ok(done) => Ok(note_change(&self.book, &mut self.poster, &mut self.totals, pass, done)),
+            Err(refusal) => Err(refusal),
+        }
+    }
+
+    /// The book's `undo`. Refused with `Unsettled` as every call, then as the book's. `Memory` may come before any other
+    /// refusal of the book.
+    pub fn undo(&mut self, pass: &mut Pass<C, K, O>) -> Result<Receipt, Refusal>
+        ensures met { OnOk result (Met self.old.book self.new.book pass.old pass.new 1 0) }
+        ensures ok { IfOk result (λ r. IsChanged (λ done. IsUndone self.old.book self.new.book done) r) }
+        ensures passes { self.new.passes ≡ self.old.passes }
+        ensures stays { OnErr result (self.new ≡ self.old) }
+        ensures why { IfErr result (λ e. IsRefused self.old.book pass.old pass.new e (IsNotUndone self.old.book e ⊎ (e ≡ Refusal.Memory))) }
+    {
+        meet(&self.book, pass)?;
+        make_room(&self.book, &mut self.marks)?;
+        match self.book.undo() {
+            Ok(done) => Ok(note_change(&self.book, &mut self.poster, &mut self.totals, pass, done)),
+            Err(refusal) => Err(refusal),
+        }
+    }
+
+    /// The book's `redo`. Refused with `Unsettled` as every call, then as the book's. `Memory` may come before any other
+    /// refusal of the book.
+    pub fn redo(&mut self, pass: &mut Pass<C, K, O>) -> Result<Receipt, Refusal>
+        ensures met { OnOk result (Met self.old.book self.new.book pass.old pass.new 1 0) }
+        ensures ok { IfOk result (λ r. IsChanged (λ done. IsRedone self.old.book self.new.book done) r) }
+        ensures passes { self.new.passes ≡ self.old.passes }
+        ensures stays { OnErr result (self.new ≡ self.old) }
+        ensures why { IfErr result (λ e. IsRefused self.old.book pass.old pass.new e (IsNotRedone self.old.book e ⊎ (e ≡ Refusal.Memory))) }
+    {
+        meet(&self.book, pass)?;
+        make_room(&self.book, &mut self.marks)?;
+        match self.book.redo() {
+            Ok(done) => Ok(note_change(&self.book, &mut self.poster, &mut self.totals, pass, done)),
+            Err(refusal) => Err(refusal),
+        }
+    }
+
+    /// The book's `hand_in`. Refused with `Unsettled` as every call, then as the book's.
+    pub fn hand_in(
+        &mut self,
+        pass: &mut Pass<C, K, O>,
+        report: Report,
+    ) -> Result<(Applied, Receipt), Refusal>
+        ensures met { OnOk result (Met self.old.book self.new.book pass.old pass.new 0 1) }
+        ensures ok { IfOk result (λ r. IsApplied report.task report.edition (plan_of report.tree) self.old.book self.new.book r.0) }
+        ensures receipt { IfOk result (λ r. r.1 ≡ Receipt.Cut r.0.place report.task) }
+        ensures passes { self.new.passes ≡ self.old.passes }
+        ensures stays { OnErr result (self.new ≡ self.old) }
+        ensures why { IfErr result (λ e. IsRefused self.old.book pass.old pass.new e (IsNotApplied report.task (plan_of report.tree) self.old.book e)) }
+    {
+        meet(&self.book, pass)?;
+        make_room(&self.book, &mut self.marks)?;
+        let task = report.task;
+        let applied = self.book.hand_in(report)?;
+        note_cut(&self.book, &mut self.poster, &mut self.totals, pass);
+        let receipt = Receipt::Cut {
+            place: applied.place,
+            task,
+        };
+        Ok((applied, receipt))
+    }
+}

@@ -1,0 +1,121 @@
+//! The totals of changes and cuts, and the shares of them that passes have. The ledgers keep that each total is the sum of
+//! all shares.
+ghost use Rattle.std.specs.Prelude.{◌≡◌, ◌≤◌, ◌<◌, ◌+◌};
+
+use std::sync::ledger::{Blank, Book, Ledger, Share};
+
+/// The number of passes that a desk can have.
+pub(crate) const MOST_PASSES: u64 = 10_000;
+
+/// How many changes and cuts all passes have made.
+#[derive(Drop)]
+pub(crate) struct Totals<C: Ledger, K: Ledger> {
+    pub changes: u64,
+    pub cuts: u64,
+    book_of_changes: Book<C>,
+    book_of_cuts: Book<K>,
+    ghost changes_are: { book_of_changes.total ≡ changes },
+    ghost cuts_are: { book_of_cuts.total ≡ cuts },
+    ghost few_changes: { changes ≤ 4294967297 },
+    ghost few_cuts: { cuts ≤ 4294967297 },
+}
+
+/// How many changes and cuts one pass has made.
+#[derive(Drop)]
+pub(crate) struct Shares<C: Ledger, K: Ledger> {
+    pub changes: u64,
+    pub cuts: u64,
+    share_of_changes: Share<C>,
+    share_of_cuts: Share<K>,
+    ghost changes_are: { share_of_changes.amount ≡ changes },
+    ghost cuts_are: { share_of_cuts.amount ≡ cuts },
+    ghost changes_backed: { 0 < share_of_changes.parts },
+    ghost cuts_backed: { 0 < share_of_cuts.parts },
+}
+
+/// The parts of both totals that no pass has.
+#[derive(Drop)]
+pub(crate) struct Spare<C: Ledger, K: Ledger> {
+    /// How many passes there are.
+    pub passes: u64,
+    spare_changes: Share<C>,
+    spare_cuts: Share<K>,
+    ghost changes_left: { spare_changes.parts + passes ≡ 10001 },
+    ghost cuts_left: { spare_cuts.parts + passes ≡ 10001 },
+    ghost no_changes: { spare_changes.amount ≡ 0 },
+    ghost no_cuts: { spare_cuts.amount ≡ 0 },
+}
+
+/// Two totals of nothing, and the parts of both.
+pub(crate) fn open<C: Ledger, K: Ledger>(changes: Blank, cuts: Blank) -> (Totals<C, K>, Spare<C, K>)
+    requires changes { (changes.name ≡ C.name) × (changes.parts ≡ C.parts) × (changes.parts ≡ 10001) }
+    requires cuts { (cuts.name ≡ K.name) × (cuts.parts ≡ K.parts) × (cuts.parts ≡ 10001) }
+    ensures changes { result.0.changes ≡ 0 }
+    ensures cuts { result.0.cuts ≡ 0 }
+    ensures passes { result.1.passes ≡ 0 }
+{
+    let (book_of_changes, spare_changes) = changes.open::<C>();
+    let (book_of_cuts, spare_cuts) = cuts.open::<K>();
+    let totals = Totals {
+        changes: 0,
+        cuts: 0,
+        book_of_changes,
+        book_of_cuts,
+    };
+    let spare = Spare {
+        passes: 0,
+        spare_changes,
+        spare_cuts,
+    };
+    (totals, spare)
+}
+
+impl<C: Ledger, K: Ledger> Spare<C, K> {
+    /// The shares of a further pass, of nothing yet.
+    pub fn split_off(&mut self) -> Shares<C, K>
+        requires { self.old.passes < 10000 }
+        ensures passes { self.new.passes ≡ self.old.passes + 1 }
+        ensures changes { result.changes ≡ 0 }
+        ensures cuts { result.cuts ≡ 0 }
+    {
+        self.passes += 1;
+        let share_of_changes = self.spare_changes.split_off(1, 0);
+        let share_of_cuts = self.spare_cuts.split_off(1, 0);
+        Shares {
+            changes: 0,
+            cuts: 0,
+            share_of_changes,
+            share_of_cuts,
+        }
+    }
+}
+
+impl<C: Ledger, K: Ledger> Totals<C, K> {
+    /// Counts one more change as made by the pass with these shares.
+    pub fn add_change(&mut self, shares: &mut Shares<C, K>)
+        requires few { self.old.changes ≤ 4294967296 }
+        ensures total { self.new.changes ≡ self.old.changes + 1 }
+        ensures cuts { self.new.cuts ≡ self.old.cuts }
+        ensures share { shares.new.changes ≡ shares.old.changes + 1 }
+        ensures share_of_cuts { shares.new.cuts ≡ shares.old.cuts }
+    {
+        self.book_of_changes.audit(&mut shares.share_of_changes);
+        self.book_of_changes.add(&mut shares.share_of_changes, 1);
+        self.changes += 1;
+        shares.changes += 1;
+    }
+
+    /// Counts one more cut as made by the pass with these shares.
+    pub fn add_cut(&mut self, shares: &mut Shares<C, K>)
+        requires few { self.old.cuts ≤ 4294967296 }
+        ensures total { self.new.cuts ≡ self.old.cuts + 1 }
+        ensures changes { self.new.changes ≡ self.old.changes }
+        ensures share { shares.new.cuts ≡ shares.old.cuts + 1 }
+        ensures share_of_changes { shares.new.changes ≡ shares.old.changes }
+    {
+        self.book_of_cuts.audit(&mut shares.share_of_cuts);
+        self.book_of_cuts.add(&mut shares.share_of_cuts, 1);
+        self.cuts += 1;
+        shares.cuts += 1;
+    }
+}

@@ -1,0 +1,35 @@
+//! A desk: a book that several workers share under one lock. Each of them has a pass, which knows what it has seen and
+//! counts what it has done.
+//!
+//! - [`Opening`]: a type that names what a desk began with.
+//! - [`Desk`]: `begin`, `pass`; `edit`, `undo`, `redo`, `hand_in`; `next`, `take`, `browse`, `quiet`; `look`; `settle_up`.
+//! - [`Pass`]: the right to use a desk. [`Receipt`]: says where a change or a report stands in the desk's book.
+//! - [`Floor`]: what the lock protects. It does the whole work of a desk and never waits.
+//! - [`Bench`]: a desk as a worker sees it.
+//! - [`NotBegun`], [`NotSettled`]: hand back what a refused call was given.
+#![tactic(auto)]
+
+mod bench;
+mod call;
+mod desk;
+mod floor;
+mod ledgers;
+mod marks;
+mod opening;
+mod pass;
+mod reading;
+mod receipt;
+mod settle;
+mod shares;
+mod stands;
+mod tick;
+
+pub use bench::Bench;
+pub use desk::{Desk, NotSettled};
+pub use floor::{Floor, NotBegun};
+pub use opening::Opening;
+pub use pass::Pass;
+pub use receipt::Receipt;
+
+#[cfg(test)]
+mod tests;

@@ -1,0 +1,22 @@
+//! What a desk gives for a change or a report.
+
+use poly_book::Step;
+
+/// One change or one cut, and its place among the steps or the endings of the book, counted from 1.
+#[derive(Drop)]
+pub enum Receipt {
+    /// A change was made.
+    Changed {
+        /// The edition after it.
+        place: u64,
+        /// What was changed.
+        step: Step,
+    },
+    /// A report was applied.
+    Cut {
+        /// The number of endings after it.
+        place: u64,
+        /// The task that it ended.
+        task: u32,
+    },
+}

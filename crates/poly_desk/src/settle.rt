@@ -1,0 +1,77 @@
+//! Settling a desk up.
+ghost use Rattle.std.specs.Prelude.{◌≡◌, IfErr, IfOk, OnOk, sum_by};
+ghost use Rattle.poly_desk.specs.Floors.{Counts};
+ghost use Rattle.poly_desk.specs.Receipts.{AreReceipts, all_of};
+ghost use Rattle.poly_desk.specs.Settling.{IsNotSettled};
+
+use crate::desk::{Desk, NotSettled};
+use crate::floor::Floor;
+use crate::opening::Opening;
+use crate::pass::Pass;
+use crate::receipt::Receipt;
+use crate::shares::check_shares;
+use crate::tick::check_receipts;
+use poly_book::Book;
+use poly_grid::Refusal;
+use std::sync::Mutex;
+use std::sync::ledger::Ledger;
+
+impl<C: Ledger, K: Ledger, O: Opening> Desk<C, K, O> {
+    /// The book, if the passes made all changes and cuts since the desk began, and each receipt stands at its place, no two
+    /// of one kind at one place. Never allocates or waits.
+    ///
+    /// Refused only with `Unsettled`, and then hands everything back: if the sum of the passes' changes (seen) isn't the
+    /// total (found); if not, for cuts likewise; then if a receipt (seen: its place) doesn't stand at its place (found: the
+    /// number of entries), or is the second of its kind there (found: 2). A sum over 2^64 - 1 is named as that.
+    pub fn settle_up(
+        self,
+        passes: Vec<Pass<C, K, O>>,
+        receipts: Vec<Vec<Receipt>>,
+    ) -> Result<Book, NotSettled<C, K, O>>
+        ensures ok { IfOk result (λ b. Counts O.design O.steps O.cuts b (sum_by (λ p. p.changes) passes.items) (sum_by (λ p. p.cuts) passes.items)) }
+        ensures stand { IfOk result (λ b. AreReceipts b (all_of receipts.items)) }
+        ensures passes { IfErr result (λ n. n.passes.items ≡ passes.items) }
+        ensures receipts { IfErr result (λ n. n.receipts.items ≡ receipts.items) }
+        ensures why { IfErr result (λ n. IsNotSettled O.design O.steps O.cuts (sum_by (λ p. p.changes) passes.items) (sum_by (λ p. p.cuts) passes.items) (all_of receipts.items) n.why) }
+    {
+        let Desk { floor } = self;
+        let mut floor = floor.into_inner();
+        match floor.check_all(&passes, &receipts) {
+            Ok(()) => Ok(floor.into_book()),
+            Err(why) => Err(NotSettled {
+                desk: Desk {
+                    floor: Mutex::new(floor),
+                },
+                passes,
+                receipts,
+                why,
+            }),
+        }
+    }
+}
+
+impl<C: Ledger, K: Ledger, O: Opening> Floor<C, K, O> {
+    /// Whether the passes made all changes and cuts, and the receipts are right.
+    fn check_all(
+        &mut self,
+        passes: &[Pass<C, K, O>],
+        receipts: &[Vec<Receipt>],
+    ) -> Result<(), Refusal>
+        ensures stays { self.new ≡ self.old }
+        ensures ok { OnOk result (Counts O.design O.steps O.cuts self.new.book (sum_by (λ p. p.changes) passes.now) (sum_by (λ p. p.cuts) passes.now)) }
+        ensures stand { OnOk result (AreReceipts self.new.book (all_of receipts.now)) }
+        ensures why { IfErr result (λ e. IsNotSettled O.design O.steps O.cuts (sum_by (λ p. p.changes) passes.now) (sum_by (λ p. p.cuts) passes.now) (all_of receipts.now) e) }
+    {
+        check_shares(passes, self.totals.changes, self.totals.cuts)?;
+        self.marks.clear();
+        check_receipts(&self.book, &mut self.marks, receipts)
+    }
+
+    // The book.
+    fn into_book(self) -> Book
+        ensures { result ≡ self.book }
+    {
+        let Floor { book, .. } = self;
+        book
+    }
+}

@@ -1,0 +1,5 @@
+//! Tests of whole desks. What single calls answer is in their contracts.
+
+mod kit;
+mod limits;
+mod threads;

@@ -1,0 +1,102 @@
+//! Going through receipts: each has to stand at its place, and its flag, which is put up for it, has to be down before.
+ghost use Rattle.std.specs.Prelude.{◌≡◌, ◌<◌, ◌≤◌, ◌++◌, ◌||◌, ◌==◌, ◌⊎◌, ℕ, Bool, List, All, IfErr, OnOk, false, length, true};
+ghost use Rattle.poly_grid.specs.declared.refusal.Refusal.TheVariants.{Unsettled};
+ghost use Rattle.poly_desk.specs.Receipts.{AreReceipts, IsBadReceipt, Stands, all_of, entries, place_of, same_place};
+ghost use Rattle.poly_desk.specs.Ticks.{HasFlags, Taken, flag_at, flag_of};
+ghost use Rattle.poly_desk.specs.declared.receipt.Receipt.{Receipt};
+
+use crate::marks::Marks;
+use crate::receipt::Receipt;
+use poly_book::Book;
+use poly_grid::Refusal;
+
+/// Whether each receipt stands at its place, and no two of one kind at one place. If not, names one of them. All flags are
+/// down before.
+pub(crate) fn check_receipts(
+    book: &Book,
+    marks: &mut Marks,
+    receipts: &[Vec<Receipt>],
+) -> Result<(), Refusal>
+    requires flags { HasFlags book.now marks.old }
+    requires down { (All (λ flag. flag ≡ false) marks.old.steps.items) × (All (λ flag. flag ≡ false) marks.old.endings.items) }
+    ensures flags { HasFlags book.now marks.new }
+    ensures ok { OnOk result (AreReceipts book.now (all_of receipts.now)) }
+    ensures why { IfErr result (λ e. IsBadReceipt book.now (all_of receipts.now) e) }
+{
+    for list in receipts {
+        match tick_list(book, marks, list) {
+            Ok(()) => {}
+            Err(refusal) => return Err(refusal),
+        }
+    }
+    Ok(())
+}
+
+// Ticks the receipts of a list off, after those for which flags are up.
+fn tick_list(book: &Book, marks: &mut Marks, receipts: &[Receipt]) -> Result<(), Refusal>
+    requires flags { HasFlags book.now marks.old }
+    ensures flags { HasFlags book.now marks.new }
+    ensures ok { OnOk result ((rs : List Receipt) → Taken book.now marks.old rs → Taken book.now marks.new (rs ++ receipts.now)) }
+    ensures why { IfErr result (λ e. (rs : List Receipt) (more : List Receipt) → Taken book.now marks.old rs → IsBadReceipt book.now ((rs ++ receipts.now) ++ more) e) }
+{
+    for receipt in receipts {
+        match tick_off(book, marks, receipt) {
+            Ok(()) => {}
+            Err(refusal) => return Err(refusal),
+        }
+    }
+    Ok(())
+}
+
+// Ticks one receipt off, if it stands at its place and its flag is down.
+fn tick_off(book: &Book, marks: &mut Marks, receipt: &Receipt) -> Result<(), Refusal>
+    requires flags { HasFlags book.now marks.old }
+    ensures flags { HasFlags book.now marks.new }
+    ensures stands { OnOk result (Stands book.now receipt.now) }
+    ensures first { OnOk result (flag_of marks.old receipt.now ≡ false) }
+    ensures ticked { OnOk result ((q : Receipt) → flag_of marks.new q ≡ (flag_of marks.old q || same_place receipt.now q)) }
+    ensures why { IfErr result (λ e. ((e ≡ Refusal.Unsettled (place_of receipt.now) (entries book.now receipt.now)) × (¬ Stands book.now receipt.now)) ⊎ ((e ≡ Refusal.Unsettled (place_of receipt.now) 2) × Stands book.now receipt.now × (flag_of marks.old receipt.now ≡ true))) }
+{
+    let place = receipt.place();
+    if !receipt.stands(book) {
+        return Err(Refusal::Unsettled {
+            seen: place,
+            found: receipt.entries(book),
+        });
+    }
+    if raise(marks, receipt) {
+        return Err(Refusal::Unsettled {
+            seen: place,
+            found: 2,
+        });
+    }
+    Ok(())
+}
+
+// Puts the flag of the receipt's kind and place up, and returns whether it was.
+fn raise(marks: &mut Marks, receipt: &Receipt) -> bool
+    requires place { 0 < place_of receipt.now }
+    requires step { (place : ℕ) (step : _) → receipt.now ≡ Receipt.Changed place step → place ≤ length marks.old.steps.items }
+    requires ending { (place : ℕ) (task : _) → receipt.now ≡ Receipt.Cut place task → place ≤ length marks.old.endings.items }
+    ensures lengths { (length marks.new.steps.items ≡ length marks.old.steps.items) × (length marks.new.endings.items ≡ length marks.old.endings.items) }
+    ensures was { result ≡ flag_of marks.old receipt.now }
+    ensures ticked { (q : Receipt) → flag_of marks.new q ≡ (flag_of marks.old q || same_place receipt.now q) }
+{
+    match receipt {
+        Receipt::Changed { place, .. } => raise_at(&mut marks.steps, *place),
+        Receipt::Cut { place, .. } => raise_at(&mut marks.endings, *place),
+    }
+}
+
+// Puts the flag of the place up, and returns whether it was.
+fn raise_at(flags: &mut [bool], place: u64) -> bool
+    requires { (0 < place) × (place ≤ length flags.old) }
+    ensures length { length flags.new ≡ length flags.old }
+    ensures was { result ≡ flag_at flags.old place }
+    ensures up { (p : ℕ) → flag_at flags.new p ≡ (flag_at flags.old p || (place == p)) }
+{
+    let at = (place - 1) as usize;
+    let was = flags[at];
+    flags[at] = true;
+    was
+}
