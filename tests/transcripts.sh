@@ -4,7 +4,7 @@
 #
 # In a transcript a line that begins with `> ` is typed, and the lines after it are what the program answers; a line
 # that begins with `#` is for the reader, but `# status N` says that the program has to end with status N, not 0. The
-# blocks of a document between ```text and ``` are one transcript together.
+# blocks of a document between ```text and ``` are one transcript together, up to the next puzzle line.
 . "$(dirname "${BASH_SOURCE[0]}")/setup.bash"
 
 # Plays the transcript in the file under the name.
@@ -30,6 +30,10 @@ for transcript in examples/*.txt; do
 done
 for document in README.md docs/GUIDE.md; do
     sed -n '/^```text$/,/^```$/p' "$document" | grep -v '^```' >"$room/transcript"
-    play "the transcript in $document" "$room/transcript"
+    awk -v session="$room/session" '/^> \{/ { number++ } { print > (session number) }' "$room/transcript"
+    for transcript in "$room"/session*; do
+        play "${transcript##*/} in $document" "$transcript"
+        rm "$transcript"
+    done
 done
 close
