@@ -44,7 +44,7 @@ is_right() {
 # Plays the transcript with each allocation refused in turn.
 play() {
     local name=$1 at=0 before=$failed status
-    sed -n 's/^> //p' "examples/$name.txt" | grep -v '^ *$' >"$room/input"
+    sed -n 's/^> //p' "tests/transcripts/$name.txt" | grep -v '^ *$' >"$room/input"
     "$program" <"$room/input" >"$room/output" 2>/dev/null
     replies "$room/output" >"$room/wanted"
     while :; do

@@ -1,6 +1,6 @@
 #!/usr/bin/env bash
-# Plays the transcripts examples/*.txt, and those that README.md and docs/GUIDE.md show, on the built program, and
-# compares what it answers.
+# Plays the transcripts tests/transcripts/*.txt, those that README.md and docs/GUIDE.md show, and the sessions
+# examples/*.txt on the built program, and compares what it answers.
 #
 # In a transcript a line that begins with `> ` is typed, and the lines after it are what the program answers; a line
 # that begins with `#` is for the reader, but `# status N` says that the program has to end with status N, not 0. The
@@ -25,8 +25,12 @@ play() {
     fi
 }
 
-for transcript in examples/*.txt; do
+for transcript in tests/transcripts/*.txt; do
     play "$transcript" "$transcript"
+done
+for session in examples/*.txt; do
+    sed 's/^/> /' "$session" | cat - "${session%.txt}.out" >"$room/transcript"
+    play "$session" "$room/transcript"
 done
 for document in README.md docs/GUIDE.md; do
     sed -n '/^```text$/,/^```$/p' "$document" | grep -v '^```' >"$room/transcript"
