@@ -1,41 +1,43 @@
--- Cells that a loop reads from words, one after another, and keeps while there is room.
+-- What a loop reads from words, one after another, and cells that it keeps while there is room.
 use Rattle.std.proofs.Common.{◌≡◌, ◌+◌, ◌<◌, ◌≤◌, ℕ, Bor, List, [], ◌∷◌, ◌++◌, length, map, min, take, drop, get_or, set, Result, Ok, Err, refl, sym, ap, ◌∙◌, arith, append_assoc, append-nil, length-append}
 use Rattle.std.proofs.lemmas.List.{at_drop_all, at_drop_more, take-append-le, take_all, take_more_set}
 use Rattle.poly_grid.specs.Spot.{Spot}
 use Rattle.poly_grid.specs.declared.refusal.Refusal.{Refusal}
 use Rattle.poly_text.specs.Gives.{◌>>=◌}
-use Rattle.poly_text.specs.Words.{cell_of, cells_of}
+use Rattle.poly_text.specs.Words.{read_each}
 
 abbrev pub texts : List (Bor (List ℕ)) → List (List ℕ)
 texts words = map (λ w. w.now) words
 
--- the cells done, and then those of the rest
-abbrev pub onto : List Spot → Result (List Spot) Refusal → Result (List Spot) Refusal
-onto done rest = rest >>= λ cells. Ok (done ++ cells)
+-- what was read, and then what the rest is read as
+abbrev pub onto : {A : Type 0} → List A → Result (List A) Refusal → Result (List A) Refusal
+onto done rest = rest >>= λ xs. Ok (done ++ xs)
 
-regroup : (done : List Spot) (c : Spot) (rest : Result (List Spot) Refusal) → onto done (rest >>= λ cells. Ok (c ∷ cells)) ≡ onto (done ++ c ∷ []) rest
-regroup done c (Err e) = refl
-regroup done c (Ok cells) = ap Ok (sym (append_assoc done (c ∷ []) cells))
+regroup : {A : Type 0} (done : List A) (x : A) (rest : Result (List A) Refusal) → onto done (rest >>= λ xs. Ok (x ∷ xs)) ≡ onto (done ++ x ∷ []) rest
+regroup done x (Err e) = refl
+regroup done x (Ok xs) = ap Ok (sym (append_assoc done (x ∷ []) xs))
 
-pub begins : (rest : Result (List Spot) Refusal) → onto [] rest ≡ rest
-begins (Err e) = refl
-begins (Ok cells) = refl
+-- one word more
+pub each_step : {A : Type 0} (f : List ℕ → Result A Refusal) (words : List (Bor (List ℕ))) (i : ℕ) (d : Bor (List ℕ)) (done : List A) (x : A) (total : Result (List A) Refusal) → i < length words
+    → f (get_or words i d).now ≡ Ok x → onto done (read_each f (texts (drop i words))) ≡ total → onto (done ++ x ∷ []) (read_each f (texts (drop (i + 1) words))) ≡ total
+each_step f words i d done x total lt is so_far =
+    let here : read_each f (texts (drop i words)) ≡ (read_each f (texts (drop (i + 1) words)) >>= λ xs. Ok (x ∷ xs)) = ap (read_each f) (at_drop_more texts words i d lt) ∙ rw is refl in
+    sym (regroup done x (read_each f (texts (drop (i + 1) words)))) ∙ ap (onto done) (sym here) ∙ so_far
 
--- one cell more
-pub cells_step : (words : List (Bor (List ℕ))) (i : ℕ) (d : Bor (List ℕ)) (done : List Spot) (c : Spot) (total : Result (List Spot) Refusal) → i < length words
-    → cell_of (get_or words i d).now ≡ Ok c → onto done (cells_of (texts (drop i words))) ≡ total → onto (done ++ c ∷ []) (cells_of (texts (drop (i + 1) words))) ≡ total
-cells_step words i d done c total lt is so_far =
-    let here : cells_of (texts (drop i words)) ≡ (cells_of (texts (drop (i + 1) words)) >>= λ cells. Ok (c ∷ cells)) = ap cells_of (at_drop_more texts words i d lt) ∙ rw is refl in
-    sym (regroup done c (cells_of (texts (drop (i + 1) words)))) ∙ ap (onto done) (sym here) ∙ so_far
-
-pub cells_stop : (words : List (Bor (List ℕ))) (i : ℕ) (d : Bor (List ℕ)) (done : List Spot) (e : Refusal) (total : Result (List Spot) Refusal) → i < length words
-    → cell_of (get_or words i d).now ≡ Err e → onto done (cells_of (texts (drop i words))) ≡ total → total ≡ Err e
-cells_stop words i d done e total lt is so_far =
-    let here : cells_of (texts (drop i words)) ≡ Err e = ap cells_of (at_drop_more texts words i d lt) ∙ rw is refl in
+pub each_stop : {A : Type 0} (f : List ℕ → Result A Refusal) (words : List (Bor (List ℕ))) (i : ℕ) (d : Bor (List ℕ)) (done : List A) (e : Refusal) (total : Result (List A) Refusal) → i < length words
+    → f (get_or words i d).now ≡ Err e → onto done (read_each f (texts (drop i words))) ≡ total → total ≡ Err e
+each_stop f words i d done e total lt is so_far =
+    let here : read_each f (texts (drop i words)) ≡ Err e = ap (read_each f) (at_drop_more texts words i d lt) ∙ rw is refl in
     sym so_far ∙ ap (onto done) here
 
-pub cells_end : (words : List (Bor (List ℕ))) (i : ℕ) (done : List Spot) (total : Result (List Spot) Refusal) → length words ≤ i → onto done (cells_of (texts (drop i words))) ≡ total → total ≡ Ok done
-cells_end words i done total le so_far = sym so_far ∙ at_drop_all (λ ws. onto done (cells_of (texts ws))) words i le ∙ ap Ok (append-nil done)
+pub each_end : {A : Type 0} (f : List ℕ → Result A Refusal) (words : List (Bor (List ℕ))) (i : ℕ) (done : List A) (total : Result (List A) Refusal) → length words ≤ i
+    → onto done (read_each f (texts (drop i words))) ≡ total → total ≡ Ok done
+each_end f words i done total le so_far = sym so_far ∙ at_drop_all (λ ws. onto done (read_each f (texts ws))) words i le ∙ ap Ok (append-nil done)
+
+-- what a loop begins with
+pub each_begin : {A : Type 0} (rest : Result (List A) Refusal) → onto [] rest ≡ rest
+each_begin (Err e) = refl
+each_begin (Ok xs) = refl
 
 -- there is room for one cell more
 pub kept_more : (room new done : List Spot) (count : ℕ) (c : Spot) → count < length room → new ≡ set room count c → length new ≡ length room → count ≡ min (length done) (length room)

@@ -5,6 +5,9 @@ pub mod Boards
 pub mod Naming
 pub mod CellsRead
 pub mod CellWords
+pub mod Listing
+pub mod Asking
+pub mod Browses
 pub mod Numbers
 pub mod FewCells
 pub mod CopiesWords

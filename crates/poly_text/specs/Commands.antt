@@ -4,10 +4,8 @@ use Rattle.std.specs.Str.{bytes_eq}
 use Rattle.poly_grid.specs.Spot.{Spot}
 use Rattle.poly_grid.specs.declared.grid.Grid.{Grid}
 use Rattle.poly_grid.specs.declared.refusal.Refusal.{Refusal}
-use Rattle.poly_grid.specs.declared.refusal.Refusal.TheVariants.{BadCommand, BadName, BadShape}
-use Rattle.poly_shape.specs.Cells.{IsCells}
+use Rattle.poly_grid.specs.declared.refusal.Refusal.TheVariants.{BadCommand, BadName}
 use Rattle.poly_shape.specs.Figure.{Figure}
-use Rattle.poly_shape.specs.Order.{AreFewDistinct, HasSame}
 use Rattle.poly_design.specs.Bounds.{Bounds}
 use Rattle.poly_design.specs.declared.need.Need.{Need}
 use Rattle.poly_design.specs.declared.mode.Mode.{Mode}
@@ -15,11 +13,14 @@ use Rattle.poly_design.specs.declared.edit.Edit.{Edit}
 use Rattle.poly_design.specs.declared.edit.Edit.TheVariants as edit
 use Rattle.poly_text.specs.declared.command.Command.{Command}
 use Rattle.poly_text.specs.declared.command.Command.TheVariants as command
+use Rattle.poly_text.specs.Asked.{Asked}
 use Rattle.poly_text.specs.Fields.{copies_of}
 use Rattle.poly_text.specs.Gives.{◌>>=◌, ok_or, check, Follows}
 use Rattle.poly_text.specs.Names.{name_of}
 use Rattle.poly_text.specs.Piece.{ShapeSays}
-use Rattle.poly_text.specs.Words.{words_of, need_of, switch_of, mode_of, number_of, cell_of, cells_of}
+use Rattle.poly_text.specs.Queries.{Query, query_of, QuestionSays}
+use Rattle.poly_text.specs.Sets.{SetSays}
+use Rattle.poly_text.specs.Words.{words_of, need_of, switch_of, mode_of, number_of, cell_of, cells_of, read_each}
 
 -- what may stand at a place of a command
 pub data Kind : Type 0 where
@@ -75,11 +76,13 @@ pub data Outcome : Type 0 where
   of_copies : ℕ → ℕ → (Bounds → Edit) → Outcome
   of_set : List Spot → (List Spot → Edit) → Outcome
   of_shape : List Spot → (Figure → Edit) → Outcome
+  of_question : List Query → Outcome
 
--- a command by its first word and the places after it; one or more cells may follow them
+-- a command by its first word and the places after it; one or more cells may follow them, or any number of queries the first word
 pub data Form : Type 0 where
   form : List ℕ → (kinds : List Kind) → Takes kinds Outcome → Form
   form_with_cells : List ℕ → (kinds : List Kind) → Takes kinds (List Spot → Outcome) → Form
+  form_of_queries : List ℕ → Form
 
 abbrev pub forms : List Form
 forms =
@@ -97,11 +100,15 @@ forms =
     ∷ form (codes "redo") [] (just command.Redo)
     ∷ form (codes "count") [] (just command.Count)
     ∷ form (codes "list") [] (just command.ListAll)
+    ∷ form (codes "classes") [] (just command.Classes)
+    ∷ form (codes "status") [] (just command.Status)
+    ∷ form_of_queries (codes "browse")
     ∷ []
 
 abbrev pub first_word : Form → List ℕ
 first_word (form first kinds f) = first
 first_word (form_with_cells first kinds f) = first
+first_word (form_of_queries first) = first
 
 -- the words after the first: their number and the keywords are judged first, and then each word from the left
 abbrev pub read : Form → List (List ℕ) → Result Outcome Refusal
@@ -111,16 +118,12 @@ read (form_with_cells first kinds f) words = do
   made ← from_left kinds f (take (length kinds) words)
   cells ← cells_of (drop (length kinds) words)
   Ok (made cells)
+read (form_of_queries first) words = read_each query_of words >>= λ queries. Ok (of_question queries)
 
 -- the words after the first by the form of that first word
 abbrev pub read_by : List Form → List ℕ → List (List ℕ) → Result Outcome Refusal
 read_by [] first words = Err BadCommand
 read_by (f ∷ fs) first words = if bytes_eq first (first_word f) then read f words else read_by fs first words
-
--- the set of the cells, or a refusal where there are over 16 or one comes twice
-abbrev pub SetSays : List Spot → Result (List Spot) Refusal → Type 0
-SetSays cells (Ok set) = AreFewDistinct cells × IsCells set × HasSame set cells
-SetSays cells (Err e) = (e ≡ BadShape) × (AreFewDistinct cells → ⊥)
 
 abbrev pub edit_by : {A : Type 0} → (A → Edit) → Result A Refusal → Result Command Refusal
 edit_by f made = made >>= λ x. Ok (command.Edit (f x))
@@ -130,6 +133,7 @@ ComesTo g (just c) r = r ≡ Ok c
 ComesTo g (of_copies least most f) r = r ≡ edit_by f (ok_or (copies_of least most) BadCommand)
 ComesTo g (of_set cells f) r = (set : Result (List Spot) Refusal) × SetSays cells set × (r ≡ edit_by f set)
 ComesTo g (of_shape cells f) r = (shape : Result Figure Refusal) × ShapeSays g cells shape × (r ≡ edit_by f shape)
+ComesTo g (of_question queries) r = (q : Result Asked Refusal) × QuestionSays queries q × (r ≡ (q >>= λ asked. Ok (command.Browse asked)))
 
 -- the command of a form with the words after its first one
 abbrev pub FormSays : Grid → Form → List (List ℕ) → Result Command Refusal → Type 0

@@ -7,6 +7,10 @@ pub mod Board
 pub mod Head
 pub mod Names
 pub mod Words
+pub mod Asked
+pub mod Sets
+pub mod Queries
+pub mod Read
 pub mod Commands
 pub mod Fields
 pub mod Piece

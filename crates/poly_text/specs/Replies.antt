@@ -6,6 +6,8 @@ use Rattle.poly_grid.specs.Spot.{Spot}
 use Rattle.poly_grid.specs.Refusal.{code_of, name_of}
 use Rattle.poly_grid.specs.declared.refusal.Refusal.{Refusal}
 use Rattle.poly_design.specs.declared.placement.Placement.{Placement}
+use Rattle.poly_tiling.specs.declared.item.Item.{Item}
+use Rattle.poly_tiling.specs.declared.item.Item.TheVariants.{Cell, Piece}
 
 abbrev pub refusal_text : Refusal → List ℕ
 refusal_text e = codes "no " ++ decimal (code_of e) ++ 32 ∷ name_of e ++ 10 ∷ []
@@ -40,6 +42,30 @@ placements_text (p ∷ ps) = flat_map (λ q. 32 ∷ placement_text q) (p ∷ ps)
 
 abbrev pub tiling_text : List Placement → List ℕ
 tiling_text ps = codes "tiling" ++ placements_text ps ++ 10 ∷ []
+
+-- placements in all of some tilings
+abbrev pub forced_text : List Placement → List ℕ
+forced_text ps = codes "forced" ++ placements_text ps ++ 10 ∷ []
+
+-- a cell, or the name of a piece
+abbrev pub item_name : Item → List ℕ
+item_name (Cell c) = cell_text c
+item_name (Piece n) = n
+
+-- an item with how many placements cover it
+abbrev pub item_text : Item → ℕ → List ℕ
+item_text i n = codes "item " ++ item_name i ++ 32 ∷ decimal n ++ 10 ∷ []
+
+abbrev pub matches_text : ℕ → List ℕ
+matches_text n = codes "matches " ++ decimal n ++ 10 ∷ []
+
+abbrev pub classes_text : ℕ → List ℕ
+classes_text n = codes "classes " ++ decimal n ++ 10 ∷ []
+
+-- the edition, how many tilings are listed and how many tasks are pending
+abbrev pub status_text : ℕ → ℕ → ℕ → List ℕ
+status_text edition listed pending =
+    codes "status edition " ++ decimal edition ++ codes " listed " ++ decimal listed ++ codes " pending " ++ decimal pending ++ 10 ∷ []
 
 -- how many cells the placements cover, each counted for each placement
 abbrev pub covered : List Placement → ℕ

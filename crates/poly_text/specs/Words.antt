@@ -2,6 +2,7 @@
 use Rattle.std.specs.Prelude.{ℕ, ◌+◌, ◌==◌, ◌&&◌, Bool, true, false, not, length, List, [], ◌∷◌, codes, filter, take, drop, nat_lt, nat_le, if◌then◌else◌, Option, Some, None, Result, Ok}
 use Rattle.std.specs.Char.{is_digit}
 use Rattle.std.specs.List.{slice_split, list_all, position}
+use Rattle.std.specs.Result.{is_ok}
 use Rattle.std.specs.Str.{bytes_eq}
 use Rattle.std.specs.Str.Parse.{digits_value}
 use Rattle.poly_grid.specs.Spot.{Spot}
@@ -11,7 +12,7 @@ use Rattle.poly_design.specs.declared.need.Need.{Need}
 use Rattle.poly_design.specs.declared.need.Need.TheVariants as need
 use Rattle.poly_design.specs.declared.mode.Mode.{Mode}
 use Rattle.poly_design.specs.declared.mode.Mode.TheVariants as mode
-use Rattle.poly_text.specs.Gives.{◌>>=◌, ok_or}
+use Rattle.poly_text.specs.Gives.{◌>>=◌, ok_or, check}
 use Rattle.poly_text.specs.Json.{when}
 
 abbrev pub has_byte : List ℕ → Bool
@@ -44,18 +45,39 @@ number_of word = when (is_number word) (digits_value 10 word)
 abbrev pub coordinate_of : List ℕ → Option ℕ
 coordinate_of word = when (is_number word && nat_le (length word) 9) (digits_value 10 word)
 
--- two coordinates with a comma between them
-unfoldable pub cell_of : List ℕ → Result Spot Refusal
-cell_of word = do
+-- two coordinates with a comma between them: the column and the row
+unfoldable pub coordinates_of : List ℕ → Result (ℕ × ℕ) Refusal
+coordinates_of word = do
   comma ← ok_or (position (λ b. b == 44) word) BadCommand
   column ← ok_or (coordinate_of (take comma word)) BadCommand
   row ← ok_or (coordinate_of (drop (comma + 1) word)) BadCommand
-  ok_or (when (nat_lt column 64 && nat_lt row 64) (record { x = column; y = row })) BadCell
+  Ok (column, row)
+
+-- the cell of two coordinates
+abbrev pub cell_at : ℕ × ℕ → Result Spot Refusal
+cell_at at = ok_or (when (nat_lt at.0 64 && nat_lt at.1 64) (record { x = at.0; y = at.1 })) BadCell
+
+abbrev pub cell_of : List ℕ → Result Spot Refusal
+cell_of word = coordinates_of word >>= cell_at
+
+-- what each word is read as, or the refusal of the leftmost word that is refused
+abbrev pub read_each : {A : Type 0} → (List ℕ → Result A Refusal) → List (List ℕ) → Result (List A) Refusal
+read_each f [] = Ok []
+read_each f (word ∷ words) = do
+  x ← f word
+  xs ← read_each f words
+  Ok (x ∷ xs)
 
 -- the cells that the words name, or the refusal of the leftmost word that names none
 abbrev pub cells_of : List (List ℕ) → Result (List Spot) Refusal
-cells_of [] = Ok []
-cells_of (word ∷ words) = do
-  cell ← cell_of word
-  cells ← cells_of words
-  Ok (cell ∷ cells)
+cells_of words = read_each cell_of words
+
+-- the parts between slashes
+abbrev pub parts_of : List ℕ → List (List ℕ)
+parts_of text = slice_split (λ b. b == 47) text
+
+-- cells with a slash between each two: each part has to have the form of a cell before any number is judged
+abbrev pub listed_cells : List ℕ → Result (List Spot) Refusal
+listed_cells text = do
+  formed ← check (list_all (λ part. is_ok (coordinates_of part)) (parts_of text)) BadCommand
+  cells_of (parts_of text)

@@ -14,7 +14,7 @@ mod words;
 pub use puzzle::puzzle_of;
 
 // Each later line asks for something.
-pub use command::{Command, asked};
+pub use command::{Command, Question, asked};
 
 // Replies: one line at a time, in memory that is taken once.
 pub use replies::{ReplyLine, refusal_line};

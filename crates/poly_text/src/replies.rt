@@ -1,11 +1,12 @@
 //! The text of replies: one line at a time, in memory that is taken once.
 ghost use Rattle.std.specs.Prelude.{◌≡◌, ◌+◌, ◌*◌, ◌≤◌, ◌^◌, ◌<◌, ◌++◌, ◌∷◌, [], length, IfOk, IfErr, codes, decimal, sum_by};
 ghost use Rattle.std.specs.List.{flat_map, join_by};
-ghost use Rattle.poly_text.specs.Replies.{refusal_text, ok_text, tilings_text, cell_text, cells_text, placement_text, placements_text, tiling_text, covered};
+ghost use Rattle.poly_text.specs.Replies.{refusal_text, ok_text, tilings_text, cell_text, cells_text, placement_text, placements_text, tiling_text, forced_text, item_name, item_text, matches_text, classes_text, status_text, covered};
 
 use itoa::Buffer;
 use poly_design::{Name, Placement};
 use poly_grid::{Cell, Refusal};
+use poly_tiling::Item;
 use std::alloc::Global;
 use std::marker::Model;
 
@@ -118,6 +119,68 @@ impl ReplyLine {
         self.put(b"\n");
     }
 
+    /// Makes this the `forced` line of the placements, in the order given; `forced -` if there is none. Asks that they cover at most 256
+    /// cells in all.
+    pub fn forced(&mut self, placements: &[Placement])
+        requires { covered placements.now ≤ 256 }
+        ensures { self.new ≡ forced_text placements.now }
+    {
+        self.clear();
+        self.put(b"forced");
+        self.put_placements(placements);
+        self.put(b"\n");
+    }
+
+    /// Makes this the line `item <item> <count>`: a cell by its column and its row, a piece by its name.
+    #[tactic(auto, using(crate::proofs::Digits::number_short))]
+    pub fn item(&mut self, item: &Item, count: u64)
+        ensures { self.new ≡ item_text item.now count }
+    {
+        self.clear();
+        self.put(b"item ");
+        self.put_item(item);
+        self.put(b" ");
+        self.put_number(count);
+        self.put(b"\n");
+    }
+
+    /// Makes this the line `matches <count>`.
+    #[tactic(auto, using(crate::proofs::Digits::number_short))]
+    pub fn matches(&mut self, count: u64)
+        ensures { self.new ≡ matches_text count }
+    {
+        self.clear();
+        self.put(b"matches ");
+        self.put_number(count);
+        self.put(b"\n");
+    }
+
+    /// Makes this the line `classes <count>`.
+    #[tactic(auto, using(crate::proofs::Digits::number_short))]
+    pub fn classes(&mut self, count: u64)
+        ensures { self.new ≡ classes_text count }
+    {
+        self.clear();
+        self.put(b"classes ");
+        self.put_number(count);
+        self.put(b"\n");
+    }
+
+    /// Makes this the line `status edition <edition> listed <listed> pending <pending>`.
+    #[tactic(auto, using(crate::proofs::Digits::number_short))]
+    pub fn status(&mut self, edition: u64, listed: u64, pending: u64)
+        ensures { self.new ≡ status_text edition listed pending }
+    {
+        self.clear();
+        self.put(b"status edition ");
+        self.put_number(edition);
+        self.put(b" listed ");
+        self.put_number(listed);
+        self.put(b" pending ");
+        self.put_number(pending);
+        self.put(b"\n");
+    }
+
     fn clear(&mut self)
         ensures { self.new ≡ [] }
     {
@@ -160,6 +223,17 @@ impl ReplyLine {
         self.put(name.as_bytes());
         self.put(b"=");
         self.put_cells(cells);
+    }
+
+    fn put_item(&mut self, item: &Item)
+        requires { length self.old + 16 ≤ 8192 }
+        ensures text { self.new ≡ self.old ++ item_name item.now }
+        ensures short { length self.new ≤ length self.old + 16 }
+    {
+        match item {
+            Item::Cell(cell) => self.put_cell(*cell),
+            Item::Piece(name) => self.put(name.as_bytes()),
+        }
     }
 
     fn put_cells(&mut self, cells: &[Cell])

@@ -1,9 +1,10 @@
 //! Each public call once, on values that a reader of the formats can check by hand.
 
-use crate::{Command, ReplyLine, asked, puzzle_of, refusal_line};
+use crate::{Command, Question, ReplyLine, asked, puzzle_of, refusal_line};
 use poly_design::{Edit, Mode, Name, Placement};
 use poly_grid::{Cell, Grid, Refusal};
 use poly_shape::Cells;
+use poly_tiling::Item;
 use std::alloc::AllocGlobal;
 use std::process::Abort;
 
@@ -47,6 +48,60 @@ fn a_command_line(rt: HostRuntime) {
     expect_pin(&rt, b" pin A_9  3,0 02,0 ", b"A_9");
 }
 
+// Whether these are the lengths of the three lists of the question.
+fn has_lengths(question: &Question, has: usize, lacks: usize, covers: usize) -> bool {
+    question.has.len() == has && question.lacks.len() == lacks && question.covers.len() == covers
+}
+
+// Whether the command browses by a question with lists of these lengths.
+fn browses(command: &Option<Command>, has: usize, lacks: usize, covers: usize) -> bool {
+    match command {
+        Some(Command::Browse(question)) => has_lengths(question, has, lacks, covers),
+        _ => false,
+    }
+}
+
+#[test]
+fn a_question(rt: HostRuntime) {
+    let line = b"browse +A=1,0/0,0 @Z -A_2=3,4 @63,0 -B=7,7".as_slice();
+    let command = asked(rt.alloc(), Grid::Hex, line).expect(&rt, "a command");
+    assert!(rt; browses(&command, 1, 2, 2), "{command:?}");
+}
+
+// Whether the line is refused for that cause.
+fn is_refused(rt: &(impl AllocGlobal + Abort), line: &[u8], cause: Refusal) -> bool {
+    match asked(rt.alloc(), Grid::Square, line) {
+        Ok(_) => false,
+        Err(refusal) => refusal == cause,
+    }
+}
+
+#[test]
+fn refused_questions(rt: HostRuntime) {
+    assert!(rt; is_refused(&rt, b"browse +A=0,0/0,0 @64,0", Refusal::BadCell));
+    assert!(rt; is_refused(&rt, b"browse +A=0,0/0,0 @63,0", Refusal::BadShape));
+    assert!(rt; is_refused(&rt, b"browse +A=64,0/x", Refusal::BadCommand));
+    assert!(rt; is_refused(&rt, b"browse +=x", Refusal::BadName));
+    assert!(rt; is_refused(&rt, b"browse -A", Refusal::BadCommand));
+    assert!(rt; is_refused(&rt, b"browse -A=", Refusal::BadCommand));
+    assert!(rt; is_refused(&rt, b"browse @", Refusal::BadName));
+    assert!(rt; is_refused(&rt, b"browse A=0,0", Refusal::BadCommand));
+}
+
+#[test]
+fn odd_lines(rt: HostRuntime) {
+    assert!(rt; is_refused(&rt, b"cell 1, optional", Refusal::BadCommand));
+    assert!(rt; is_refused(&rt, b"cell 1234567890,0 optional", Refusal::BadCommand));
+    assert!(rt; is_refused(&rt, b"cell 64,0 blue", Refusal::BadCommand));
+    assert!(rt; is_refused(&rt, b"cell 64,0 optional", Refusal::BadCell));
+    assert!(rt; is_refused(&rt, b"pin A", Refusal::BadCommand));
+    assert!(rt; is_refused(&rt, b"drop \xff", Refusal::BadName));
+    assert!(rt; is_refused(&rt, b"pin A 0,0 0,0", Refusal::BadShape));
+    assert!(rt; is_refused(&rt, b"pin A 64,0 x", Refusal::BadCell));
+    assert!(rt; is_refused(&rt, b"status 1", Refusal::BadCommand));
+    assert!(rt; is_refused(&rt, b"classes all", Refusal::BadCommand));
+}
+
 // A domino named A in the upper left corner.
 fn domino() -> Option<Placement> {
     let cells = [Cell::new(1, 0)?, Cell::new(0, 0)?];
@@ -68,6 +123,25 @@ fn reply_lines(rt: HostRuntime) {
     let _cells = domino.cells.as_slice();
     reply.tiling(&[domino]);
     assert!(rt; reply.as_bytes() == b"tiling A=0,0/1,0\n".as_slice());
+}
+
+#[test]
+fn replies_to_a_question(rt: HostRuntime) {
+    let mut reply = ReplyLine::new(rt.alloc()).expect(&rt, "memory");
+    reply.forced(&[]);
+    assert!(rt; reply.as_bytes() == b"forced -\n".as_slice());
+    let corner = Cell::new(3, 0).expect(&rt, "a cell");
+    reply.item(&Item::Cell(corner), 5);
+    assert!(rt; reply.as_bytes() == b"item 3,0 5\n".as_slice());
+    let name = Name::new(b"A").expect(&rt, "a name");
+    reply.item(&Item::Piece(name), 5);
+    assert!(rt; reply.as_bytes() == b"item A 5\n".as_slice());
+    reply.matches(4);
+    assert!(rt; reply.as_bytes() == b"matches 4\n".as_slice());
+    reply.classes(2);
+    assert!(rt; reply.as_bytes() == b"classes 2\n".as_slice());
+    reply.status(1, 0, 1569);
+    assert!(rt; reply.as_bytes() == b"status edition 1 listed 0 pending 1569\n".as_slice());
 }
 
 #[test]

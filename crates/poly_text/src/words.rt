@@ -1,12 +1,15 @@
 //! The words of a line, and what a word may be.
-ghost use Rattle.std.specs.Prelude.{◌≡◌, ◌==◌, ◌^◌, ◌-◌, ◌≤◌, ◌<◌, List, map, min, take, length, option_map, IfOk, IfErr, IfSome, filter, Ok, Err};
+ghost use Rattle.std.specs.Prelude.{◌≡◌, ◌⊎◌, ◌==◌, ◌^◌, ◌-◌, ◌≤◌, ◌<◌, List, map, min, take, length, option_map, IfOk, IfErr, IfSome, filter, Ok, Err};
 ghost use Rattle.std.specs.List.{slice_split, list_all, position};
+ghost use Rattle.std.specs.Result.{is_ok};
 ghost use Rattle.poly_grid.specs.Spot.{Spot};
 ghost use Rattle.poly_text.specs.Names.{name_of};
-ghost use Rattle.poly_text.specs.Words.{words_of, has_byte, need_of, switch_of, mode_of, number_of, coordinate_of, cell_of, cells_of};
+ghost use Rattle.poly_text.specs.Sets.{MakesSet};
+ghost use Rattle.poly_text.specs.Words.{words_of, has_byte, need_of, switch_of, mode_of, number_of, coordinate_of, coordinates_of, cell_of, cells_of, parts_of, listed_cells};
 
 use poly_design::{Mode, Name, Need};
 use poly_grid::{Cell, Refusal};
+use poly_shape::Cells;
 use std::alloc::Global;
 
 /// The words of a line: the parts between spaces that have a byte. Fails only with `Memory`.
@@ -106,24 +109,36 @@ fn coordinate_of(word: &[u8]) -> Option<u64>
     number_of(word)
 }
 
-fn comma_of(word: &[u8]) -> Option<usize>
-    ensures is { result ≡ position (λ b. b == 44) word.now }
+/// The first place of the byte in the word.
+pub fn index_of(word: &[u8], byte: u8) -> Option<usize>
+    ensures is { result ≡ position (λ b. b == byte) word.now }
     ensures within { IfSome result (λ i. i < length word.now) }
 {
-    word.iter().position(|byte| *byte == b',')
+    word.iter().position(|b| *b == byte)
+}
+
+// The column and the row that the word names, each 1 to 9 decimal digits, with a comma between them.
+#[tactic(auto, unfolding(crate::specs::Words::coordinates_of))]
+fn coordinates_of(word: &[u8]) -> Result<(u64, u64), Refusal>
+    ensures { result ≡ coordinates_of word.now }
+{
+    let comma = index_of(word, b',').ok_or(Refusal::BadCommand)?;
+    let column = coordinate_of(&word[..comma]).ok_or(Refusal::BadCommand)?;
+    let row = coordinate_of(&word[comma + 1..]).ok_or(Refusal::BadCommand)?;
+    Ok((column, row))
 }
 
 /// The cell that the word names by its column and its row, each 1 to 9 decimal digits, with a comma between them. A word of another
 /// form is a `BadCommand`, a column or a row over 63 a `BadCell`.
-#[tactic(auto, unfolding(crate::specs::Words::cell_of))]
 pub fn cell_of(word: &[u8]) -> Result<Cell, Refusal>
     ensures { result ≡ cell_of word.now }
 {
-    let comma = comma_of(word).ok_or(Refusal::BadCommand)?;
-    let column = coordinate_of(&word[..comma]).ok_or(Refusal::BadCommand)?;
-    let row = coordinate_of(&word[comma + 1..]).ok_or(Refusal::BadCommand)?;
+    let (column, row) = coordinates_of(word)?;
     Cell::new(column, row).ok_or(Refusal::BadCell)
 }
+
+/// One cell more than a set can have: a longer list of cells is refused whatever follows.
+pub const ROOM: usize = 17;
 
 /// Reads the cells that the words name into the room, as many as fit, and returns how many those are. The leftmost word that names no
 /// cell decides the refusal, even past the room.
@@ -141,4 +156,47 @@ pub fn cells_of(words: &[&[u8]], room: &mut [Cell]) -> Result<usize, Refusal>
         }
     }
     Ok(count)
+}
+
+fn parts_of(alloc: Global, text: &[u8]) -> Result<Vec<&[u8]>, Refusal>
+    ensures ok { IfOk result (λ parts. map (λ w. w.now) parts.items ≡ parts_of text.now) }
+    ensures why { IfErr result (λ e. e ≡ Refusal.Memory) }
+{
+    let parts: Vec<&[u8]> = text.split(|byte| *byte == b'/').collect(alloc)?;
+    Ok(parts)
+}
+
+fn are_formed(parts: &[&[u8]]) -> bool
+    ensures { result ≡ list_all (λ part. is_ok (coordinates_of part.now)) parts.now }
+{
+    parts.iter().all(|part| coordinates_of(part).is_ok())
+}
+
+/// The set of the cells that the words name, or none if there are over 16 or one comes twice. The leftmost word that names no cell
+/// decides the refusal.
+pub fn read_set(words: &[&[u8]]) -> Result<Option<Cells>, Refusal>
+    ensures ok { IfOk result (λ set. (cells : List Spot) × (cells_of (map (λ w. w.now) words.now) ≡ Ok cells) × MakesSet cells set) }
+    ensures why { IfErr result (λ e. cells_of (map (λ w. w.now) words.now) ≡ Err e) }
+{
+    let mut room = [Cell::ORIGIN; ROOM];
+    let count = cells_of(words, &mut room)?;
+    let cells = &room[..];
+    Ok(Cells::new(&cells[..count]).ok())
+}
+
+/// The set of the cells that the text lists with a slash between each two, or none if there are over 16 or one comes twice. A part of
+/// another form than a cell's is a `BadCommand`; if there is none, a column or a row over 63 is a `BadCell`. `Memory` may come in place
+/// of these.
+pub fn listed_set(alloc: Global, text: &[u8]) -> Result<Option<Cells>, Refusal>
+    ensures ok { IfOk result (λ set. (cells : List Spot) × (listed_cells text.now ≡ Ok cells) × MakesSet cells set) }
+    ensures why { IfErr result (λ e. (e ≡ Refusal.Memory) ⊎ (listed_cells text.now ≡ Err e)) }
+{
+    let parts = parts_of(alloc, text)?;
+    if !are_formed(parts.as_slice()) {
+        return Err(Refusal::BadCommand);
+    }
+    match read_set(parts.as_slice()) {
+        Ok(set) => Ok(set),
+        Err(refusal) => Err(refusal),
+    }
 }

@@ -1,21 +1,21 @@
 //! The commands that ask for an edit, each by the words after its first one.
 ghost use Rattle.std.specs.Prelude.{◌≡◌, ◌∷◌, codes, map};
 ghost use Rattle.poly_grid.specs.declared.grid.Grid as grid;
-ghost use Rattle.poly_text.specs.Commands.{CommandSays, SetSays, NamedSays};
+ghost use Rattle.poly_text.specs.Commands.{CommandSays, NamedSays};
 ghost use Rattle.poly_grid.specs.declared.refusal.Refusal.TheVariants.{BadCommand};
 ghost use Rattle.poly_text.specs.Fields.{copies_of};
 ghost use Rattle.poly_text.specs.Gives.{Follows, ok_or};
 ghost use Rattle.poly_text.specs.Piece.{ShapeSays};
+ghost use Rattle.poly_text.specs.Sets.{SetSays};
 ghost use Rattle.poly_text.specs.Words.{cells_of, number_of};
 
 use crate::command::Command;
-use crate::words::{cell_of, cells_of, mode_of, name_of, need_of, number_of, switch_of};
+use crate::words::{
+    ROOM, cell_of, cells_of, mode_of, name_of, need_of, number_of, read_set, switch_of,
+};
 use poly_design::{Copies, Edit, Name};
 use poly_grid::{Cell, Grid, Refusal};
 use poly_shape::{Cells, Shape};
-
-// One cell more than a set can have: a longer list of cells is refused whatever follows.
-const ROOM: usize = 17;
 
 /// `add NAME required/optional on/off CELL..`
 pub fn add(grid: Grid, words: &[&[u8]]) -> Result<Command, Refusal>
@@ -172,10 +172,11 @@ fn copies_of(least: &[u8], most: &[u8]) -> Result<Copies, Refusal>
 fn set_of(words: &[&[u8]]) -> Result<Cells, Refusal>
     ensures { Follows (cells_of (map (λ w. w.now) words.now)) (λ cells. SetSays cells result) result }
 {
-    let mut room = [Cell::ORIGIN; ROOM];
-    let count = cells_of(words, &mut room)?;
-    let cells = &room[..];
-    Cells::new(&cells[..count])
+    match read_set(words) {
+        Ok(Some(set)) => Ok(set),
+        Ok(None) => Err(Refusal::BadShape),
+        Err(refusal) => Err(refusal),
+    }
 }
 
 fn shape_of(grid: Grid, words: &[&[u8]]) -> Result<Shape, Refusal>

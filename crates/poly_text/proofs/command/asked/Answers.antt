@@ -8,3 +8,6 @@ returns-then-is_blank-clause-says c = blank_asks c.args.grid c.args.line.now (sy
 
 pub returns-in_err-words-clause-blank : goal.returns-in_err-words-clause-blank
 returns-in_err-words-clause-blank c none = absurd (false≢true (sym c.if-is_blank.false ∙ c.is_blank.ensures ∙ none_is_blank c.args.line.now none))
+
+pub returns-clause-blank : goal.returns-clause-blank
+returns-clause-blank c none = absurd (false≢true (sym c.if-is_blank.false ∙ c.is_blank.ensures ∙ none_is_blank c.args.line.now none))

@@ -1,0 +1,10 @@
+-- What `browse` asks of a tiling.
+use Rattle.std.specs.Prelude.{List}
+use Rattle.poly_design.specs.declared.placement.Placement.{Placement}
+use Rattle.poly_tiling.specs.declared.item.Item.{Item}
+
+-- placements that the tiling has, placements that it lacks, and items that it covers, each list in the order of the words
+pub record Asked : Type 0 where
+  pub has : List Placement
+  pub lacks : List Placement
+  pub covers : List Item

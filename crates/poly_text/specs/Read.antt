@@ -1,0 +1,17 @@
+-- What a word of `browse` is kept as while the others are read.
+use Rattle.std.specs.Prelude.{◌≡◌}
+use Rattle.poly_text.specs.declared.command.queries.QueryWord as kept
+use Rattle.poly_text.specs.declared.command.queries.QueryWord.TheVariants as kept_as
+use Rattle.poly_text.specs.Queries.{Query, has, lacks, covers, Makes}
+
+-- the same item, or the placement of the same name and cells
+abbrev pub IsReadAs : Query → kept.QueryWord → Type 0
+IsReadAs (has n) (kept_as.Has made) = Makes n made
+IsReadAs (has n) (kept_as.Lacks made) = ⊥
+IsReadAs (has n) (kept_as.Covers item) = ⊥
+IsReadAs (lacks n) (kept_as.Has made) = ⊥
+IsReadAs (lacks n) (kept_as.Lacks made) = Makes n made
+IsReadAs (lacks n) (kept_as.Covers item) = ⊥
+IsReadAs (covers i) (kept_as.Has made) = ⊥
+IsReadAs (covers i) (kept_as.Lacks made) = ⊥
+IsReadAs (covers i) (kept_as.Covers item) = i ≡ item
