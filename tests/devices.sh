@@ -50,6 +50,11 @@ refused_argument() {
 refused_argument '--fly'
 refused_argument 'fly'
 refused_argument '--help=1'
+refused_argument '--turns'
+refused_argument '--turns=0'
+refused_argument '--turns=1000000001'
+refused_argument '--turns=x'
+refused_argument '--workers=2'
 refused_argument "$(printf '\377')"
 
 # No byte at all is a puzzle line of no bytes.

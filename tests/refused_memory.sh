@@ -2,8 +2,9 @@
 # Refuses each allocation of the program in turn, counting up until a run ends in which none was refused.
 #
 # In place of one reply there may then stand `no 22 Memory`, and nothing else may change: the command that was refused
-# has left no trace, so all other replies are those of the script without it. Where the arguments can't be read for want
-# of memory, they are refused, and nothing is answered.
+# has left no trace, so all other replies are those of the script without it, but for the numbers of `status`: a question
+# that is refused keeps what was found until then. Where the arguments can't be read for want of memory, they are refused, and
+# nothing is answered.
 . "$(dirname "${BASH_SOURCE[0]}")/setup.bash"
 
 if ! cc -O1 -shared -fPIC -o "$room/refuse.so" tests/refuse_allocation.c -ldl; then
@@ -14,9 +15,10 @@ fi
 ./polybench </dev/null >/dev/null 2>&1
 program=crates/polybench/out/polybench
 
-# The replies of a run, one to a line: the lines of a list are joined.
+# The replies of a run, one to a line: the lines of a list or an answer are joined, and of `status` only the edition is kept.
 replies() {
-    awk '{ line = line $0 "\1" } !/^tiling / { print line; line = "" } END { if (line != "") print line }' "$1"
+    sed 's/^\(status edition [0-9]*\) .*/\1/' "$1" |
+        awk '{ line = line $0 "\1" } !/^(tiling|forced|item) / { print line; line = "" } END { if (line != "") print line }'
 }
 
 # Whether the run's replies are those of the script, or of the script without the command that was refused.
@@ -70,7 +72,7 @@ play() {
     echo "refused memory: $name, $((at - 1)) allocations" >&2
 }
 
-for name in two_dominoes a_first_design drop_and_undo mirror_with_a_pin copies an_optional_piece_comes refused_commands; do
+for name in two_dominoes forbid_and_undo drop_and_undo browse mirror_with_a_pin copies refused_commands; do
     play "$name"
 done
 close

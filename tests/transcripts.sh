@@ -3,17 +3,19 @@
 # examples/*.txt on the built program, and compares what it answers.
 #
 # In a transcript a line that begins with `> ` is typed, and the lines after it are what the program answers; a line
-# that begins with `#` is for the reader, but `# status N` says that the program has to end with status N, not 0. The
-# blocks of a document between ```text and ``` are one transcript together, up to the next puzzle line.
+# that begins with `#` is for the reader, but `# status N` says that the program has to end with status N, not 0, and
+# `# arguments WORD..` gives the program's arguments. The blocks of a document between ```text and ``` are one transcript
+# together, up to the next puzzle line.
 . "$(dirname "${BASH_SOURCE[0]}")/setup.bash"
 
 # Plays the transcript in the file under the name.
 play() {
-    local name=$1 transcript=$2 wanted status
+    local name=$1 transcript=$2 wanted status arguments
     sed -n 's/^> //p' "$transcript" >"$room/input"
     sed '/^> /d;/^#/d;/^$/d' "$transcript" >"$room/wanted"
     wanted=$(sed -n 's/^# status //p' "$transcript")
-    ./polybench <"$room/input" >"$room/output" 2>"$room/errors"
+    read -r -a arguments <<<"$(sed -n 's/^# arguments //p' "$transcript")"
+    ./polybench "${arguments[@]}" <"$room/input" >"$room/output" 2>"$room/errors"
     status=$?
     if [ -s "$room/input" ] && [ "$status" -eq "${wanted:-0}" ] && cmp -s "$room/wanted" "$room/output" && [ ! -s "$room/errors" ]; then
         passed=$((passed + 1))

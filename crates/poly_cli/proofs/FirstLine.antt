@@ -4,6 +4,7 @@ use Rattle.std.specs.Prelude.{◌⊎◌}
 use Rattle.std.proofs.lemmas.Bool.{le-ltb}
 use Rattle.std.proofs.Math.Seq.{take-append-add, take-nil}
 use Rattle.std.specs.Io.KnownBytes.{Appends, Consumes}
+use Rattle.poly_grid.specs.declared.grid.Grid.{Grid}
 use Rattle.poly_grid.specs.declared.refusal.Refusal.{Refusal}
 use Rattle.poly_grid.specs.declared.refusal.Refusal.TheVariants.{Memory}
 use Rattle.poly_cli.specs.declared.lines.Lines.{Lines}
@@ -16,7 +17,8 @@ use Rattle.poly_cli.specs.Cutting.{open_line, whole_lines, lines_before, lines_o
 use Rattle.poly_cli.specs.Buffered.{ahead, room, kept, NextLine}
 use Rattle.poly_text.specs.Replies.{ok_text, refusal_text}
 use Rattle.poly_cli.specs.Runs.{AreReadWhole, Limits, Writes, Serves, limits_from, lines_heard}
-use Rattle.poly_cli.specs.Slow.{State, Slow}
+use Rattle.poly_cli.specs.Slow.{Slow}
+use Rattle.poly_cli.specs.States.{State}
 use Rattle.poly_cli.specs.Sessions.{or_empty, session_lines, Accepts, Refuses, Opens, opening_text, RunsOpened, RunsRefused, SessionSays, session_limits}
 use Rattle.poly_cli.proofs.Known.{consumes_more, appends_none, appends_more}
 use Rattle.poly_cli.proofs.Going.{before_more, lines_more, take_heard}
@@ -67,12 +69,12 @@ module _ (old new : Lines) (first left held : Option (List ℕ)) (fresh : ahead 
     pub line_refused : (e : Refusal) (held_last : Option (List ℕ)) → Refuses said e → Appends held held_last (refusal_text e) → Session (Ok Refused) left held_last
     line_refused e held_last refuses wrote = (n.taken, consumed, (refusal_text e, said ∷ lines_heard (limits_from (most - 1) new) (ahead new), wrote, inl (read_after n.taken (ahead new) all_taken), (e, refuses, refl)))
 
-    pub line_unanswered : (opened : Result (Unit {0}) Refusal) (t : State) (f : Fault) (held_last : Option (List ℕ)) → Opens said opened t → Writes (Err f) held held_last (opening_text opened) → Session (Err f) left held_last
+    pub line_unanswered : (opened : Result Grid Refusal) (t : State) (f : Fault) (held_last : Option (List ℕ)) → Opens said opened t → Writes (Err f) held held_last (opening_text opened) → Session (Err f) left held_last
     line_unanswered opened t f held_last opens w = subst (λ g. Session (Err g) left held_last) (sym w.0)
         (n.taken, consumed, (w.1, w.2, said ∷ [], lines_heard (limits_from (most - 1) new) (ahead new), w.3, go opened opens w.4, inl (read_after n.taken (ahead new) all_taken)))
       where
-        go : (o : Result (Unit {0}) Refusal) → Opens said o t → w.1 ++ w.2 ≡ opening_text o → RunsOpened (said ∷ []) (w.1 ++ w.2) ⊎ RunsRefused (said ∷ []) (w.1 ++ w.2)
-        go (Ok x) a e = inl (t, [], a, refl, e ∙ sym (append-nil (ok_text 0)))
+        go : (o : Result Grid Refusal) → Opens said o t → w.1 ++ w.2 ≡ opening_text o → RunsOpened (said ∷ []) (w.1 ++ w.2) ⊎ RunsRefused (said ∷ []) (w.1 ++ w.2)
+        go (Ok x) a e = inl (t, [], a.0, refl, e ∙ sym (append-nil (ok_text 0)))
         go (Err x) a e = inr (x, a, e)
 
     abbrev pub after : Result (Unit {0}) Fault → Result End Fault
@@ -140,12 +142,12 @@ module _ (old new : Lines) (first left held : Option (List ℕ)) (fresh : ahead 
     end_done t held_last accepts wrote =
         (n.taken, consumed_end, (n.finds.2, short, rw only_line (omega (arith, some)), (ok_text 0, wrote, rw only_line (t, [], accepts, refl, sym (append-nil (ok_text 0))))))
 
-    pub end_unanswered : (opened : Result (Unit {0}) Refusal) (t : State) (f : Fault) (held_last : Option (List ℕ)) → Opens said opened t → Writes (Err f) held held_last (opening_text opened) → Session (Err f) left held_last
+    pub end_unanswered : (opened : Result Grid Refusal) (t : State) (f : Fault) (held_last : Option (List ℕ)) → Opens said opened t → Writes (Err f) held held_last (opening_text opened) → Session (Err f) left held_last
     end_unanswered opened t f held_last opens w = subst (λ g. Session (Err g) left held_last) (sym w.0)
         (n.taken, consumed_end, (w.1, w.2, said ∷ [], take (most - 1) [], w.3, go opened opens w.4, inr (n.finds.2, short, read_last)))
       where
-        go : (o : Result (Unit {0}) Refusal) → Opens said o t → w.1 ++ w.2 ≡ opening_text o → RunsOpened (said ∷ []) (w.1 ++ w.2) ⊎ RunsRefused (said ∷ []) (w.1 ++ w.2)
-        go (Ok x) a e = inl (t, [], a, refl, e ∙ sym (append-nil (ok_text 0)))
+        go : (o : Result Grid Refusal) → Opens said o t → w.1 ++ w.2 ≡ opening_text o → RunsOpened (said ∷ []) (w.1 ++ w.2) ⊎ RunsRefused (said ∷ []) (w.1 ++ w.2)
+        go (Ok x) a e = inl (t, [], a.0, refl, e ∙ sym (append-nil (ok_text 0)))
         go (Err x) a e = inr (x, a, e)
 
   -- no line was read whole

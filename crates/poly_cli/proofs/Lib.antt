@@ -9,6 +9,8 @@ pub mod Placed
 pub mod Covered
 pub mod Printable
 pub mod Written
-pub mod Paths
-pub mod Stepped
+pub mod Booked
+pub mod Counted
+pub mod Shared
+pub mod Grids
 pub mod LineReplies

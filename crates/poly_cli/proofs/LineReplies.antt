@@ -4,11 +4,16 @@ use Rattle.std.specs.Prelude.{◌⊎◌, IfErr, IfOk, OnErr, OnOk}
 use Rattle.poly_grid.specs.declared.grid.Grid.{Grid}
 use Rattle.poly_grid.specs.declared.refusal.Refusal.{Refusal}
 use Rattle.poly_grid.specs.declared.refusal.Refusal.TheVariants.{Memory}
+use Rattle.poly_design.specs.Layout.{Layout}
+use Rattle.poly_design.specs.declared.placement.Placement.{Placement}
+use Rattle.poly_tiling.specs.Listings.{IsListOfTilings}
 use Rattle.poly_text.specs.declared.command.Command.{Command}
 use Rattle.poly_text.specs.Commands.{AskedBy, Asks, CommandSays}
 use Rattle.poly_text.specs.Gives.{◌>>=◌}
 use Rattle.poly_text.specs.Replies.{ok_text, refusal_text, step_text}
-use Rattle.poly_cli.specs.Slow.{State, Answers, IsRefusal, Replies, Steps, WordsSay}
+use Rattle.poly_cli.specs.Slow.{Answers, IsRefusal, Replies, Steps, WordsSay}
+use Rattle.poly_cli.specs.Questions.{Tells}
+use Rattle.poly_cli.specs.States.{IsUnanswered, State, answered}
 use Rattle.poly_text.specs.Words.{words_of}
 
 same_command : (r : Result Command Refusal) (c : Command) → Ok (Some c) ≡ (r >>= λ x. Ok (Some x)) → r ≡ Ok c
@@ -44,3 +49,15 @@ pub step_says : (Leads : State → Type 0) (Refused : Refusal → Type 0) (s t :
 step_says Leads Refused s t (Ok n) leads next same why = inl (inl (leads, ap ok_text next))
 step_says Leads Refused s t (Err e) leads next same (inl refused) = inl (inr (e, refused, (same, refl)))
 step_says Leads Refused s t (Err e) leads next same (inr m) = inr (same, ap refusal_text m)
+
+-- a question that was answered by the design's tilings
+pub told : (Says : Layout → List (List Placement) → List ℕ → Type 0) (s t : State) (all : List (List Placement)) (out : List ℕ) → t ≡ answered s → IsListOfTilings s.design all → Says s.design all out → Tells Says s out t
+told Says s t all out is list says = inl (is, (all, list, says))
+
+-- a question that the engine didn't answer
+pub untold : (Says : Layout → List (List Placement) → List ℕ → Type 0) (s t : State) (e : Refusal) → t ≡ s → IsUnanswered s.design e → Tells Says s (refusal_text e) t
+untold Says s t e same why = inr (e, why, inl same, refl)
+
+-- a question that the engine answered, when memory ran out
+pub untold_late : (Says : Layout → List (List Placement) → List ℕ → Type 0) (s t : State) (e : Refusal) → t ≡ answered s → e ≡ Memory → Tells Says s (refusal_text e) t
+untold_late Says s t e is memory = inr (e, inr (inr (inl memory)), inr is, refl)

@@ -9,7 +9,7 @@ use Rattle.poly_tiling.specs.TilingOrder.{placed}
 use Rattle.poly_cli.specs.declared.writing.Fault.{Fault}
 use Rattle.poly_text.specs.Replies.{tiling_text, tilings_text}
 use Rattle.poly_cli.specs.Runs.{Writes}
-use Rattle.poly_cli.specs.Slow.{list_text}
+use Rattle.poly_cli.specs.Questions.{list_text}
 use Rattle.poly_cli.proofs.Known.{appends_more}
 
 module _ (old mid new : Option (List ℕ)) (before x : List ℕ) (a : Appends old mid before) where
@@ -47,3 +47,19 @@ lines_left v all i T lt is =
     = ap (λ z. flat_map tiling_text (map (placed v) z)) (sym (take-append-drop (i + 1) all)) ∙ ap (flat_map tiling_text) (map-append (placed v) (take (i + 1) all) (drop (i + 1) all))
     ∙ flat_map-append tiling_text (map (placed v) (take (i + 1) all)) (map (placed v) (drop (i + 1) all)) ∙ ap (λ z. z ++ tail) (lines_more v all i T lt is) in
     (tail ++ end, sym (ap (λ z. z ++ end) parts ∙ append_assoc (lines_to v all i ++ tiling_text (placed v T)) tail end ∙ append_assoc (lines_to v all i) (tiling_text (placed v T)) (tail ++ end)))
+
+-- one more of the texts of a list
+pub flat_next : {X : Type 0} (f : X → List ℕ) (xs : List X) (i : ℕ) (d : X) → i < length xs → flat_map f (take (i + 1) xs) ≡ flat_map f (take i xs) ++ f (get_or xs i d)
+flat_next f xs i d lt = ap (flat_map f) (take_more xs i d lt) ∙ flat_map-append f (take i xs) (get_or xs i d ∷ []) ∙ ap (λ z. flat_map f (take i xs) ++ z) (append-nil (f (get_or xs i d)))
+
+-- what is left of them after one
+pub flat_left : {X : Type 0} (f : X → List ℕ) (xs : List X) (i : ℕ) (d : X) → i < length xs → (rest : List ℕ) × (flat_map f (take i xs) ++ (f (get_or xs i d) ++ rest) ≡ flat_map f xs)
+flat_left f xs i d lt =
+    let tail = flat_map f (drop (i + 1) xs) in (
+      tail,
+      sym (append_assoc (flat_map f (take i xs)) (f (get_or xs i d)) tail) ∙ ap (λ z. z ++ tail) (sym (flat_next f xs i d lt)) ∙ sym (flat_map-append f (take (i + 1) xs) (drop (i + 1) xs)) ∙ ap (flat_map f) (take-append-drop (i + 1) xs),
+    )
+
+-- a first part that was not written whole
+pub first_part : (f : Fault) (old new : Option (List ℕ)) (x rest : List ℕ) → Writes (Err f) old new x → Writes (Err f) old new (x ++ rest)
+first_part f old new x rest w = (w.0, w.1, w.2 ++ rest, w.3, sym (append_assoc w.1 w.2 rest) ∙ ap (λ z. z ++ rest) w.4)

@@ -1,7 +1,9 @@
 pub mod Cutting
 pub mod Buffered
 pub mod Runs
+pub mod States
+pub mod Questions
+pub mod Books
 pub mod Slow
 pub mod Listings
-pub mod Paths
 pub mod Sessions

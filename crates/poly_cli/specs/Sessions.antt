@@ -1,6 +1,7 @@
 -- What a whole session writes: the first line is the puzzle line, and after a refusal of it nothing more is written.
 use Rattle.std.specs.Prelude.{◌≡◌, ◌⊎◌, ◌≤◌, ℕ, List, [], ◌∷◌, ◌++◌, length, take, Option, Some, None, Result, Ok, Err}
 use Rattle.std.specs.Io.KnownBytes.{Appends, IsAtEnd}
+use Rattle.poly_grid.specs.declared.grid.Grid.{Grid}
 use Rattle.poly_grid.specs.declared.refusal.Refusal.{Refusal}
 use Rattle.poly_grid.specs.declared.refusal.Refusal.TheVariants.{LineTooLong, Memory}
 use Rattle.poly_design.specs.Layout.{Layout}
@@ -12,7 +13,8 @@ use Rattle.poly_cli.specs.Cutting.{lines_of}
 use Rattle.poly_text.specs.Puzzle.{PuzzleSays}
 use Rattle.poly_text.specs.Replies.{ok_text, refusal_text}
 use Rattle.poly_cli.specs.Runs.{AreReadWhole, Limits, Runs, lines_heard}
-use Rattle.poly_cli.specs.Slow.{State, Slow, opened}
+use Rattle.poly_cli.specs.Slow.{Slow}
+use Rattle.poly_cli.specs.States.{State, opened}
 
 -- an input without a line is a puzzle line of no bytes
 abbrev pub or_empty : List (Option (List ℕ)) → List (Option (List ℕ))
@@ -33,13 +35,13 @@ Refuses line e = (e ≡ Memory) ⊎ FirstSays line (Err e)
 abbrev pub Accepts : Option (List ℕ) → State → Type 0
 Accepts line t = (design : Layout) × FirstSays line (Ok design) × (t ≡ opened design)
 
--- what the opening of a session gives
-abbrev pub Opens : Option (List ℕ) → Result (Unit {0}) Refusal → State → Type 0
-Opens line (Ok x) t = Accepts line t
+-- what the opening of a session gives, with the grid of its design
+abbrev pub Opens : Option (List ℕ) → Result Grid Refusal → State → Type 0
+Opens line (Ok grid) t = Accepts line t × (grid ≡ t.design.grid)
 Opens line (Err e) t = Refuses line e
 
 -- the reply to the opening: the edition is 0
-abbrev pub opening_text : Result (Unit {0}) Refusal → List ℕ
+abbrev pub opening_text : Result Grid Refusal → List ℕ
 opening_text (Ok x) = ok_text 0
 opening_text (Err e) = refusal_text e
 

@@ -2,27 +2,19 @@
 //!
 //! A session doesn't know how an engine searches or what it keeps between two questions. It knows only the state that the engine is in,
 //! by the definitions.
-ghost use Rattle.std.specs.Prelude.{◌≡◌, ◌⊎◌, ◌+◌, Err, IfOk, IfErr, OnOk, OnErr};
-ghost use Rattle.poly_tiling.specs.Listings.{HasOverTilings};
-ghost use Rattle.poly_cli.specs.Listings.{IsListing};
-ghost use Rattle.poly_cli.specs.Slow.{State, EditRefused, Edits, RedoRefused, Redoes, UndoRefused, Undoes, opened};
+ghost use Rattle.std.specs.Prelude.{◌≡◌, ◌⊎◌, ◌+◌, List, length, IfOk, IfErr, OnOk, OnErr};
+ghost use Rattle.poly_design.specs.declared.placement.Placement.{Placement as Placed};
+ghost use Rattle.poly_tiling.specs.Listings.{IsListOfTilings};
+ghost use Rattle.poly_cli.specs.States.{State, AreNumbers, EditRefused, IsUnanswered, Edits, RedoRefused, Redoes, UndoRefused, Undoes, answered, opened};
 
+use poly_book::{Numbers, Quiet};
 use poly_design::{Design, Edit};
-use poly_grid::{Grid, Refusal};
-use poly_tiling::{Tiling, View};
-
-/// All tilings of a design, in their order.
-#[derive(Drop)]
-pub struct Listing {
-    /// The placements that the numbers of the tilings name.
-    pub view: View,
-    /// Each tiling once, in the order of tilings.
-    pub tilings: Vec<Tiling>,
-}
+use poly_grid::Refusal;
 
 /// A design that is edited, and all its tilings.
 pub trait Engine {
-    /// The design with its edition and its steps to undo and redo, however the engine keeps them.
+    /// The design with its edition, its steps to undo and redo, and whether a question about all tilings was answered since the last
+    /// change; however the engine keeps them.
     ghost state: { Self → State };
 
     /// Holds before and after each call.
@@ -36,27 +28,22 @@ pub trait Engine {
         ensures err { OnErr result (state self.new ≡ state self.old) }
         ensures why { IfErr result (λ e. e ≡ Refusal.Memory) };
 
-    /// The grid of the design.
-    fn grid(&self) -> Grid
-        requires ready { ready self.now }
-        ensures { result ≡ (state self.now).design.grid };
-
     /// Makes the edit, and returns the edition after it.
     ///
-    /// Fails as `Design::check` does, then with `Spent` if the editions are used up; `Memory` may come in place of any answer. A refused
-    /// edit leaves the engine as it was.
-    fn edit(&mut self, edit: &Edit) -> Result<u64, Refusal>
+    /// Fails as `Design::check` does; then with `TooWide` if the change or its inverse has over 20,000 guards, or with `Spent` if a counter
+    /// is used up. `Memory` may come in place of any answer. A refused edit leaves the engine as it was.
+    fn edit(&mut self, edit: Edit) -> Result<u64, Refusal>
         requires ready { ready self.old }
         ensures ready { ready self.new }
-        ensures ok { OnOk result (Edits (state self.old) edit.now (state self.new)) }
+        ensures ok { OnOk result (Edits (state self.old) edit (state self.new)) }
         ensures next { IfOk result (λ n. n ≡ (state self.old).edition + 1) }
         ensures err { OnErr result (state self.new ≡ state self.old) }
-        ensures why { IfErr result (λ e. EditRefused (state self.old) edit.now e ⊎ (e ≡ Refusal.Memory)) };
+        ensures why { IfErr result (λ e. EditRefused (state self.old) edit e ⊎ (e ≡ Refusal.Memory)) };
 
     /// Undoes the last change that isn't undone, and returns the edition after it.
     ///
-    /// Fails with `NothingToUndo` if there is none, then with `Spent` if the editions are used up; `Memory` may come in place of any
-    /// answer. A refused undo leaves the engine as it was.
+    /// Fails with `NothingToUndo` if there is none; then with `Spent` if a counter is used up, or with `CatalogueFull` if the design that it
+    /// leads to has over 1,000,000 tilings. `Memory` may come in place of any answer. A refused undo leaves the engine as it was.
     fn undo(&mut self) -> Result<u64, Refusal>
         requires ready { ready self.old }
         ensures ready { ready self.new }
@@ -67,8 +54,8 @@ pub trait Engine {
 
     /// Makes the change again that was undone last, and returns the edition after it.
     ///
-    /// Fails with `NothingToRedo` if there is none, then with `Spent` if the editions are used up; `Memory` may come in place of any
-    /// answer. A refused redo leaves the engine as it was.
+    /// Fails with `NothingToRedo` if there is none; then with `Spent` if a counter is used up, or with `CatalogueFull` if the design that it
+    /// leads to has over 1,000,000 tilings. `Memory` may come in place of any answer. A refused redo leaves the engine as it was.
     fn redo(&mut self) -> Result<u64, Refusal>
         requires ready { ready self.old }
         ensures ready { ready self.new }
@@ -79,12 +66,27 @@ pub trait Engine {
 
     /// All tilings of the design, each once, in the order of tilings.
     ///
-    /// Fails with `CatalogueFull` only if there are more than 1,000,000, and otherwise only with `Memory`.
-    fn tilings(&mut self) -> Result<Listing, Refusal>
+    /// Fails with `Unfinished` if the turns are used up, with `Spent` if a counter is, with `CatalogueFull` only if there are more than
+    /// 1,000,000 tilings, and with `Memory`.
+    fn settle(&mut self) -> Result<Quiet, Refusal>
         requires ready { ready self.old }
         ensures ready { ready self.new }
-        ensures same { state self.new ≡ state self.old }
-        ensures ok { IfOk result (λ listing. IsListing (state self.old).design listing.view listing.tilings.items) }
-        ensures full { result ≡ Err Refusal.CatalogueFull → HasOverTilings 1000000 (state self.old).design }
-        ensures why { IfErr result (λ e. (e ≡ Refusal.CatalogueFull) ⊎ (e ≡ Refusal.Memory)) };
+        ensures ok { OnOk result (state self.new ≡ answered (state self.old)) }
+        ensures design { IfOk result (λ quiet. quiet.design ≡ (state self.old).design) }
+        ensures err { OnErr result (state self.new ≡ state self.old) }
+        ensures why { IfErr result (IsUnanswered (state self.old).design) };
+
+    /// The number of all tilings of the design, without a copy of any. Fails as `settle` does.
+    fn count(&mut self) -> Result<u64, Refusal>
+        requires ready { ready self.old }
+        ensures ready { ready self.new }
+        ensures ok { OnOk result (state self.new ≡ answered (state self.old)) }
+        ensures count { IfOk result (λ n. (all : List (List Placed)) × IsListOfTilings (state self.old).design all × (n ≡ length all)) }
+        ensures err { OnErr result (state self.new ≡ state self.old) }
+        ensures why { IfErr result (IsUnanswered (state self.old).design) };
+
+    /// The edition, and how many tilings are listed and how many tasks are pending at the moment. Settles nothing and takes no memory.
+    fn numbers(&self) -> Numbers
+        requires ready { ready self.now }
+        ensures { AreNumbers (state self.now) result };
 }

@@ -5,9 +5,11 @@ mod answering;
 mod arguments;
 mod engine;
 mod lines;
-mod plain;
+mod printing;
+mod questions;
 mod serving;
 mod sessions;
+mod solo;
 #[cfg(test)]
 mod tests;
 mod writing;
@@ -17,12 +19,12 @@ pub use sessions::{End, session};
 pub use writing::Fault;
 
 // What a session runs on.
-pub use engine::{Engine, Listing};
-pub use plain::Plain;
+pub use engine::Engine;
+pub use solo::Solo;
 
 // The limits on a line and on an input.
 pub use lines::{INPUT_LIMIT, LINE_LIMIT};
 pub use sessions::LINE_COUNT;
 
 // The arguments of the program.
-pub use arguments::read_arguments;
+pub use arguments::{DEFAULT_TURNS, MOST_TURNS, Options, read_arguments};

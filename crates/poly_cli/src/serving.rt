@@ -1,5 +1,5 @@
 //! Answers the lines of a reader one after another.
-ghost use Rattle.std.specs.Prelude.{◌++◌, ℕ, List};
+ghost use Rattle.std.specs.Prelude.{◌≡◌, ◌++◌, ℕ, List};
 ghost use Rattle.std.specs.Io.KnownBytes.{Consumes};
 ghost use Rattle.poly_cli.specs.Buffered.{ahead, IsReady};
 ghost use Rattle.poly_cli.specs.Runs.{Serves, limits_from};
@@ -9,12 +9,14 @@ use crate::answering::Answerer;
 use crate::engine::Engine;
 use crate::lines::{Event, Lines};
 use crate::writing::Fault;
+use poly_grid::Grid;
 use std::io::{Read, Write};
 
-/// Answers the lines from here on, at most `most` of them. Fails with `Read` if the reader fails, a byte comes over the limit or a
+/// Answers the lines from here on, at most `most` of them, of a session on a design of the grid. Fails with `Read` if the reader fails, a byte comes over the limit or a
 /// further line does, and with `Write` if the writer fails.
 pub fn serve<R: Read, W: Write, E: Engine>(
     most: u64,
+    grid: Grid,
     lines: &mut Lines,
     reader: &mut R,
     writer: &mut W,
@@ -23,6 +25,7 @@ pub fn serve<R: Read, W: Write, E: Engine>(
 ) -> Result<(), Fault>
     requires buffer { IsReady lines.old }
     requires ready { E.ready engine.old }
+    requires grid { grid ≡ (E.state engine.old).design.grid }
     ensures ready { E.ready engine.new }
     ensures run { (taken : List ℕ) × Consumes (R.remaining reader.old) (R.remaining reader.new) taken
         × Serves (limits_from most lines.old) Slow (E.state engine.old) (ahead lines.old ++ taken) result
@@ -30,7 +33,7 @@ pub fn serve<R: Read, W: Write, E: Engine>(
 {
     for answered in 0..most {
         match lines.next_line(reader) {
-            Event::Line => match answerer.respond(engine, lines.ended(), writer) {
+            Event::Line => match answerer.respond(grid, engine, lines.ended(), writer) {
                 Ok(()) => {}
                 Err(fault) => return Err(fault),
             },
@@ -38,7 +41,7 @@ pub fn serve<R: Read, W: Write, E: Engine>(
                 if lines.is_empty() {
                     return Ok(());
                 }
-                return match answerer.respond(engine, lines.unended(), writer) {
+                return match answerer.respond(grid, engine, lines.unended(), writer) {
                     Ok(()) => Ok(()),
                     Err(fault) => Err(fault),
                 };

@@ -10,7 +10,7 @@ use crate::engine::Engine;
 use crate::lines::{Event, INPUT_LIMIT, LINE_LIMIT, Lines};
 use crate::serving::serve;
 use crate::writing::{Fault, write_whole};
-use poly_grid::Refusal;
+use poly_grid::{Grid, Refusal};
 use poly_text::{puzzle_of, refusal_line};
 use std::alloc::Global;
 use std::io::{Read, Write};
@@ -104,7 +104,7 @@ fn run<R: Read, W: Write, E: Engine>(
                 Err(fault) => return Err(fault),
             }
             match opened {
-                Ok(()) => match serve(most - 1, lines, reader, writer, engine, answerer) {
+                Ok(grid) => match serve(most - 1, grid, lines, reader, writer, engine, answerer) {
                     Ok(()) => Ok(End::Done),
                     Err(fault) => Err(fault),
                 },
@@ -118,7 +118,7 @@ fn run<R: Read, W: Write, E: Engine>(
                 Err(fault) => return Err(fault),
             }
             match opened {
-                Ok(()) => Ok(End::Done),
+                Ok(_) => Ok(End::Done),
                 Err(_) => Ok(End::Refused),
             }
         }
@@ -126,8 +126,8 @@ fn run<R: Read, W: Write, E: Engine>(
     }
 }
 
-// Begins with the design that the puzzle line gives.
-fn open<E: Engine>(alloc: Global, line: Option<&[u8]>, engine: &mut E) -> Result<(), Refusal>
+// Begins with the design that the puzzle line gives, and returns its grid.
+fn open<E: Engine>(alloc: Global, line: Option<&[u8]>, engine: &mut E) -> Result<Grid, Refusal>
     requires { E.ready engine.old }
     ensures ready { E.ready engine.new }
     ensures opens { Opens (option_map (λ l. l.now) line.entry) result (E.state engine.new) }
@@ -136,19 +136,22 @@ fn open<E: Engine>(alloc: Global, line: Option<&[u8]>, engine: &mut E) -> Result
         return Err(Refusal::LineTooLong);
     };
     match puzzle_of(alloc, text) {
-        Ok(design) => match engine.begin(design) {
-            Ok(()) => Ok(()),
-            Err(refusal) => Err(refusal),
-        },
+        Ok(design) => {
+            let grid = design.grid();
+            match engine.begin(design) {
+                Ok(()) => Ok(grid),
+                Err(refusal) => Err(refusal),
+            }
+        }
         Err(refusal) => Err(refusal),
     }
 }
 
-fn answer_opening<W: Write>(opened: Result<(), Refusal>, writer: &mut W) -> Result<(), Fault>
+fn answer_opening<W: Write>(opened: Result<Grid, Refusal>, writer: &mut W) -> Result<(), Fault>
     ensures { Writes result (W.contents writer.old) (W.contents writer.new) (opening_text opened) }
 {
     match opened {
-        Ok(()) => write_whole(writer, b"ok 0\n"),
+        Ok(_) => write_whole(writer, b"ok 0\n"),
         Err(refusal) => write_whole(writer, refusal_line(refusal).as_bytes()),
     }
 }

@@ -1,7 +1,7 @@
-//! Whole sessions on the plain engine, over a reader that gives a few bytes at a time and a writer that takes one at a time. What
+//! Whole sessions on a book, over a reader that gives a few bytes at a time and a writer that takes one at a time. What
 //! sessions answer besides is in the transcripts that the test command plays.
 
-use crate::{End, Fault, Plain, session};
+use crate::{End, Fault, Solo, session};
 use poly_grid::Refusal;
 use std::alloc::{AllocGlobal, Global};
 use std::io;
@@ -82,7 +82,7 @@ fn run(alloc: Global, devices: Devices<'_>) -> Result<Outcome, Refusal> {
         room: devices.room,
         flushes: 0,
     };
-    let mut engine = Plain::new(alloc)?;
+    let mut engine = Solo::new(alloc, 1000)?;
     let end = session(alloc, &mut reader, &mut writer, &mut engine);
     Ok(Outcome {
         end,

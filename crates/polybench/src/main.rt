@@ -1,7 +1,7 @@
 //! The program: arguments, standard input and output, and the exit status. What it answers is `poly_cli::session`'s.
 #![tactic(auto)]
 
-use poly_cli::{End, Fault, Plain, read_arguments, session};
+use poly_cli::{End, Fault, Options, Solo, read_arguments, session};
 use poly_grid::Refusal;
 use poly_text::refusal_line;
 use std::alloc::AllocError;
@@ -18,27 +18,27 @@ const BAD_ARGUMENTS: u8 = 2;
 const FAULT: u8 = 3;
 
 fn main(rt: HostRuntime) -> ExitCode {
-    match arguments_status(&rt) {
-        Some(status) => ExitCode::from(status),
-        None => ExitCode::from(session_status(&rt)),
+    match options(&rt) {
+        Ok(options) => ExitCode::from(session_status(&rt, options)),
+        Err(status) => ExitCode::from(status),
     }
 }
 
-// The status to end with at once: help was asked for, or the arguments are refused.
-fn arguments_status(rt: &HostRuntime) -> Option<u8> {
+// What the arguments say, or the status to end with at once: help was asked for, or they are refused.
+fn options(rt: &HostRuntime) -> Result<Options, u8> {
     let Ok(words) = words(rt) else {
         let _ = eprintln!(rt; "polybench: the arguments can't be read");
-        return Some(BAD_ARGUMENTS);
+        return Err(BAD_ARGUMENTS);
     };
     let Ok(texts) = texts_of(rt, &words) else {
         let _ = eprintln!(rt; "polybench: the arguments can't be read");
-        return Some(BAD_ARGUMENTS);
+        return Err(BAD_ARGUMENTS);
     };
     match read_arguments(rt.alloc(), texts.as_slice()) {
-        Ok(()) => None,
+        Ok(options) => Ok(options),
         Err(error) => {
             let _ = error.print(rt);
-            Some(error.exit_code() as u8)
+            Err(error.exit_code() as u8)
         }
     }
 }
@@ -56,8 +56,8 @@ fn texts_of<'a>(rt: &HostRuntime, words: &'a [String]) -> Result<Vec<&'a str>, A
     Ok(texts)
 }
 
-fn session_status(rt: &HostRuntime) -> u8 {
-    let Ok(mut engine) = Plain::new(rt.alloc()) else {
+fn session_status(rt: &HostRuntime, options: Options) -> u8 {
+    let Ok(mut engine) = Solo::new(rt.alloc(), options.turns) else {
         return refused_for_memory(rt);
     };
     match session(

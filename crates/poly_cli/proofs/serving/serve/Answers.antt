@@ -1,8 +1,10 @@
-use Rattle.std.proofs.Common.{◌≡◌, [], refl, sym, arith, true≢false, append-nil}
+use Rattle.std.proofs.Common.{◌≡◌, ◌∙◌, Bor, List, ℕ, [], refl, sym, arith, true≢false, append-nil}
+use Rattle.std.specs.Prelude.{option_map}
 use Rattle.poly_cli.specs.declared.lines.Event.TheVariants.{Line, End, Fault}
 use Rattle.poly_cli.specs.Slow.{Slow}
 use Rattle.poly_cli.proofs.Known.{consumes_none, appends_none}
 use Rattle.poly_cli.proofs.Going.{goes_first}
+use Rattle.poly_cli.proofs.Grids.{same_grid}
 use Rattle.poly_cli.proofs.Answered.{line_answered, fault_served, limit_served, end_served, last_served, last_unserved, line_unserved}
 use Rattle.poly_cli.proofs.serving.serve.Goals as goal
 
@@ -10,6 +12,7 @@ pub loop-answered-init : goal.loop-answered-init
 loop-answered-init g c = record {
   buffer = c.requires.buffer;
   ready = c.requires.ready;
+  grid = c.requires.grid;
   so_far = record {
     done = [];
     taken = [];
@@ -33,6 +36,7 @@ loop-answered-preserved g c =
     record {
       buffer = n.ready;
       ready = r.ready;
+      grid = i.grid ∙ sym (same_grid (g.E.Engine.state c.loop-answered.engine) (option_map (λ (l : Bor (List ℕ)). l.now) c.ended.result) r.says.0 (g.E.Engine.state c.respond.new.engine) r.says.1);
       so_far = line_answered Slow _ _ _ _ _ _ _ _ _ _ _ i.so_far n.next n.limit _ c.ended.ensures _ r.says.0 _ r.says.1 r.says.2;
     }
 

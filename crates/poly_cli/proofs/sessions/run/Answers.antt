@@ -15,12 +15,12 @@ returns-in-Err-answer_opening-clause-run g c =
 pub returns-in-Ok-serve-clause-run : goal.returns-in-Ok-serve-clause-run
 returns-in-Ok-serve-clause-run g c =
     let n = c.in-Line.ensures in
-    then_served _ _ _ _ _ c.requires.fresh _ c.requires.some n.next n.limit _ c.ended.ensures (g.E.Engine.state c.open-opened.new.engine) _ _ _ (Ok c.in-Ok-serve.field-0) c.in-Ok-opened.ensures.opens (rw c.in-Ok-opened.is at c.in-Ok.ensures) c.in-Ok-serve.ensures.run
+    then_served _ _ _ _ _ c.requires.fresh _ c.requires.some n.next n.limit _ c.ended.ensures (g.E.Engine.state c.open-opened.new.engine) _ _ _ (Ok c.in-Ok-serve.field-0) c.in-Ok-opened.ensures.opens.0 (rw c.in-Ok-opened.is at c.in-Ok.ensures) c.in-Ok-serve.ensures.run
 
 pub returns-in-Err-serve-clause-run : goal.returns-in-Err-serve-clause-run
 returns-in-Err-serve-clause-run g c =
     let n = c.in-Line.ensures in
-    then_served _ _ _ _ _ c.requires.fresh _ c.requires.some n.next n.limit _ c.ended.ensures (g.E.Engine.state c.open-opened.new.engine) _ _ _ (Err c.in-Err-serve.fault) c.in-Ok-opened.ensures.opens (rw c.in-Ok-opened.is at c.in-Ok.ensures) c.in-Err-serve.ensures.run
+    then_served _ _ _ _ _ c.requires.fresh _ c.requires.some n.next n.limit _ c.ended.ensures (g.E.Engine.state c.open-opened.new.engine) _ _ _ (Err c.in-Err-serve.fault) c.in-Ok-opened.ensures.opens.0 (rw c.in-Ok-opened.is at c.in-Ok.ensures) c.in-Err-serve.ensures.run
 
 pub returns-in-Err-opened-clause-run : goal.returns-in-Err-opened-clause-run
 returns-in-Err-opened-clause-run g c =
@@ -38,4 +38,4 @@ returns-in-Fault-clause-run g c = fault_opened _ _ _ _ _ c.requires.fresh _ c.re
 pub returns-in-Ok-opened-2-clause-run : goal.returns-in-Ok-opened-2-clause-run
 returns-in-Ok-opened-2-clause-run g c =
     let n = c.in-End.ensures in
-    end_done _ _ _ _ _ c.requires.fresh _ c.requires.some n.next n.limit _ c.unended.ensures (g.E.Engine.state c.open-opened-in-End.new.engine) _ c.in-Ok-opened-2.ensures.opens (rw c.in-Ok-opened-2.is at c.in-Ok-answer_opening.ensures)
+    end_done _ _ _ _ _ c.requires.fresh _ c.requires.some n.next n.limit _ c.unended.ensures (g.E.Engine.state c.open-opened-in-End.new.engine) _ c.in-Ok-opened-2.ensures.opens.0 (rw c.in-Ok-opened-2.is at c.in-Ok-answer_opening.ensures)

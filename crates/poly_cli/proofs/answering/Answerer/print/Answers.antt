@@ -9,17 +9,17 @@ use Rattle.poly_cli.proofs.answering.Answerer.print.Goals as goal
 
 pub returns-in-Err : goal.returns-in-Err
 returns-in-Err g c =
-    let v = c.args.listing.now.view in
-    let all = c.args.listing.now.tilings.items in
-    let lt : c.loop-i.i < length all = omega (arith, c.loop-i-test.true, c.len-i-end.ensures) in
-    let left = lines_left v all c.loop-i.i c.index.result.now lt (get_or_read all c.loop-i.i c.index.result.now lt c.index.ensures []) in
-    writes_part _ _ _ (lines_to v all c.loop-i.i) (tiling_text (placed v c.index.result.now)) c.loop-i.invariant c.in-Err.fault _ left.0
+    let v = c.args.view.now in
+    let all = c.args.tilings.now in
+    let lt : c.loop-i.i < length all = c.loop-i-test.true in
+    let left = lines_left v all c.loop-i.i c.index-tilings-i.result lt (get_or_read all c.loop-i.i c.index-tilings-i.result lt c.index-tilings-i.is []) in
+    writes_part _ _ _ (lines_to v all c.loop-i.i) (tiling_text (placed v c.index-tilings-i.result)) c.loop-i.invariant c.in-Err.fault _ left.0
     (subst (λ z. Writes (Err c.in-Err.fault) (g.W.Write.contents c.loop-i.writer) (g.W.Write.contents c.write_bytes.new.writer) z) (c.as_bytes.ensures ∙ c.make_line.ensures) c.in-Err.ensures) left.1
 
 pub returns : goal.returns
 returns g c =
-    let v = c.args.listing.now.view in
-    let all = c.args.listing.now.tilings.items in
+    let v = c.args.view.now in
+    let all = c.args.tilings.now in
     let whole : take c.loop-i.i all ≡ all = take_all c.loop-i.i all (omega arith) in
-    let text : c.as_bytes-2.result.now ≡ tilings_text (length (map (placed v) all)) = c.as_bytes-2.ensures ∙ c.tilings.ensures ∙ ap tilings_text (c.len.ensures ∙ (search arith) ∙ sym (length-map all (placed v))) in
+    let text : c.as_bytes-2.result.now ≡ tilings_text (length (map (placed v) all)) = c.as_bytes-2.ensures ∙ c.tilings.ensures ∙ ap tilings_text (sym (length-map all (placed v))) in
     writes_last _ _ _ _ _ c.loop-i.invariant _ _ c.write_whole.ensures (ap (λ z. flat_map tiling_text (map (placed v) z) ++ c.as_bytes-2.result.now) whole ∙ ap (λ z. flat_map tiling_text (map (placed v) all) ++ z) text)

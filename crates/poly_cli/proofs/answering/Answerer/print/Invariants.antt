@@ -6,4 +6,4 @@ use Rattle.poly_text.specs.Replies.{tiling_text}
 use Rattle.poly_cli.proofs.answering.Answerer.print.Given as goal
 
 abbrev pub invariant-loop-i : goal.invariant-loop-i
-invariant-loop-i g l = Appends (g.W.Write.contents l.fn.writer) (g.W.Write.contents l.writer) (flat_map tiling_text (map (placed l.listing.view) (take l.i l.listing.tilings.items)))
+invariant-loop-i g l = Appends (g.W.Write.contents l.fn.writer) (g.W.Write.contents l.writer) (flat_map tiling_text (map (placed l.view) (take l.i l.tilings)))

@@ -9,5 +9,5 @@ returns-in-Ok-Some-clause-says g c =
     let t = g.E.Engine.state c.answer.new.engine in
     let line = c.in-Some.text.now in
     let a = c.answer.ensures.says in
-    let asked = subst (λ o. Asks c.grid.result line (Ok o)) c.in-Ok-Some.field-0-is c.in-Ok-Some.ensures.says in
-    (a.0, rw c.in-Some.is (command_says s c.grid.result c.grid.ensures line c.in-Ok-Some.command a.0 t asked a.1), a.2)
+    let asked = subst (λ o. Asks c.args.grid line (Ok o)) c.in-Ok-Some.field-0-is c.in-Ok-Some.ensures.says in
+    (a.0, rw c.in-Some.is (command_says s c.args.grid c.requires.grid line c.in-Ok-Some.command a.0 t asked a.1), a.2)

@@ -1,0 +1,56 @@
+-- The grid of a session's design stays.
+use Rattle.std.proofs.Common.{List, None, Option, Some, [], ap, inl, inr, refl, ℕ, ◌∙◌, ◌∷◌, ◌≡◌, Err, Ok, Result}
+use Rattle.poly_grid.specs.declared.refusal.Refusal.{Refusal}
+use Rattle.poly_design.specs.Changes.{changed, inverse_of}
+use Rattle.poly_design.specs.Layout.{Layout}
+use Rattle.poly_design.specs.declared.change.Change.{Change}
+use Rattle.poly_design.specs.declared.change.Change.TheVariants.{Cell, Piece}
+use Rattle.poly_design.specs.declared.placement.Placement.{Placement}
+use Rattle.poly_text.specs.declared.command.Command.{Command}
+use Rattle.poly_text.specs.declared.command.Command.TheVariants as command
+use Rattle.poly_text.specs.Words.{words_of}
+use Rattle.poly_cli.specs.Questions.{BrowseSays, ClassesSay, CountSays, ListSays, Tells}
+use Rattle.poly_cli.specs.Slow.{Answers, IsRefusal, Replies, Slow, Steps, WordsSay}
+use Rattle.poly_cli.specs.States.{EditRefused, Edits, RedoRefused, Redoes, State, UndoRefused, Undoes}
+
+changed_grid : (d : Layout) (x : Change) → (changed d x).grid ≡ d.grid
+changed_grid d (Cell c before after) = refl
+changed_grid d (Piece name before after) = refl
+
+abbrev Same : State → State → Type 0
+Same s t = t.design.grid ≡ s.design.grid
+
+same_state : (s t : State) → t ≡ s → Same s t
+same_state s t e = ap (λ (z : State). z.design.grid) e
+
+after_step : (Leads : State → Type 0) (Refused : Refusal → Type 0) (s : State) (out : List ℕ) (t : State) → (Leads t → Same s t) → Steps Leads Refused s out t → Same s t
+after_step Leads Refused s out t leads (inl h) = leads h.0
+after_step Leads Refused s out t leads (inr h) = same_state s t h.2.0
+
+after_question : (Says : Layout → List (List Placement) → List ℕ → Type 0) (s : State) (out : List ℕ) (t : State) → Tells Says s out t → Same s t
+after_question Says s out t (inl h) = ap (λ (z : State). z.design.grid) h.0
+after_question Says s out t (inr (e, why, inl same, text)) = same_state s t same
+after_question Says s out t (inr (e, why, inr settled, text)) = ap (λ (z : State). z.design.grid) settled
+
+after_command : (c : Command) (s : State) (out : List ℕ) (t : State) → Answers c s out t → Same s t
+after_command (command.Edit e) s out t h = after_step (Edits s e) (EditRefused s e) s out t (λ i. ap (λ (z : State). z.design.grid) i.is ∙ changed_grid s.design i.change) h
+after_command command.Undo s out t h = after_step (Undoes s) (UndoRefused s) s out t (λ i. ap (λ (z : State). z.design.grid) i.is ∙ changed_grid s.design (inverse_of i.change)) h
+after_command command.Redo s out t h = after_step (Redoes s) (RedoRefused s) s out t (λ i. ap (λ (z : State). z.design.grid) i.is ∙ changed_grid s.design i.change) h
+after_command command.Status s out t h = same_state s t h.0
+after_command command.Count s out t h = after_question CountSays s out t h
+after_command command.ListAll s out t h = after_question ListSays s out t h
+after_command (command.Browse q) s out t h = after_question (BrowseSays q) s out t h
+after_command command.Classes s out t h = after_question ClassesSay s out t h
+
+after_reply : (r : Result Command Refusal) (s : State) (out : List ℕ) (t : State) → Replies r s out t → Same s t
+after_reply (Ok c) s out t h = after_command c s out t h
+after_reply (Err e) s out t h = same_state s t h.0
+
+after_words : (words : List (List ℕ)) (s : State) (out : List ℕ) (t : State) → WordsSay words s out t → Same s t
+after_words [] s out t h = same_state s t h.0
+after_words (word ∷ words) s out t (inl h) = after_reply h.0 s out t h.2
+after_words (word ∷ words) s out t (inr h) = same_state s t h.0
+
+pub same_grid : (s : State) (line : Option (List ℕ)) (out : List ℕ) (t : State) → Slow s line out t → t.design.grid ≡ s.design.grid
+same_grid s None out t h = same_state s t h.0
+same_grid s (Some line) out t h = after_words (words_of line) s out t h

@@ -1,0 +1,84 @@
+-- The state of a session, and what edits, undo and redo make of it.
+use Rattle.std.specs.Prelude.{Bool, List, [], false, true, ℕ, ◌+◌, ◌++◌, ◌∷◌, ◌≡◌, ◌⊎◌}
+use Rattle.poly_grid.specs.declared.refusal.Refusal.{Refusal}
+use Rattle.poly_grid.specs.declared.refusal.Refusal.TheVariants.{CatalogueFull, Memory, NothingToRedo, NothingToUndo, Spent, TooWide, Unfinished}
+use Rattle.poly_design.specs.Layout.{Layout}
+use Rattle.poly_design.specs.Changes.{changed, inverse_of}
+use Rattle.poly_design.specs.Edits.{IsAccepted, IsRefused}
+use Rattle.poly_design.specs.declared.change.Change.{Change}
+use Rattle.poly_design.specs.declared.edit.Edit.{Edit}
+use Rattle.poly_tiling.specs.Listings.{HasOverTilings}
+use Rattle.poly_undo.specs.Steps.{newest}
+use Rattle.poly_book.specs.Amounts.{AreAllTilingsOf, AreTilingsOf, IsNarrow, IsWide}
+use Rattle.poly_book.specs.declared.book.Numbers.{Numbers}
+
+-- The design, how often it was changed, and the changes that can be undone and redone: each list ends with the one whose turn is next.
+-- Settled says that a question about all tilings was answered since the last change.
+pub record State : Type 0 where
+  pub design : Layout
+  pub edition : ℕ
+  pub undo : List Change
+  pub redo : List Change
+  pub settled : Bool
+
+-- the state with which a session on the design begins
+abbrev pub opened : Layout → State
+opened design = record { design = design; edition = 0; undo = []; redo = []; settled = false }
+
+-- a question about all tilings was answered
+abbrev pub answered : State → State
+answered s = record { design = s.design; edition = s.edition; undo = s.undo; redo = s.redo; settled = true }
+
+-- the change is made by an edit: it can be undone, and what could be redone is dropped
+abbrev pub after_edit : State → Change → State
+after_edit s change = record { design = changed s.design change; edition = s.edition + 1; undo = newest (s.undo ++ change ∷ []); redo = []; settled = false }
+
+-- the edit is accepted, its change isn't too wide, and it leads to t
+pub record Edits (s : State) (edit : Edit) (t : State) : Type 0 where
+  pub change : Change
+  pub accepted : IsAccepted s.design edit change
+  pub narrow : IsNarrow s.design (changed s.design change)
+  pub is : t ≡ after_edit s change
+
+-- the change whose turn is next is made backwards, and can be redone then
+pub record Undoes (s t : State) : Type 0 where
+  pub change : Change
+  pub left : List Change
+  pub taken : s.undo ≡ left ++ change ∷ []
+  pub is : t ≡ record { design = changed s.design (inverse_of change); edition = s.edition + 1; undo = left; redo = s.redo ++ change ∷ []; settled = false }
+
+-- the change whose turn is next is made again, and can be undone then
+pub record Redoes (s t : State) : Type 0 where
+  pub change : Change
+  pub left : List Change
+  pub taken : s.redo ≡ left ++ change ∷ []
+  pub is : t ≡ record { design = changed s.design change; edition = s.edition + 1; undo = s.undo ++ change ∷ []; redo = left; settled = false }
+
+-- The edit is refused by what stands against it. If nothing does, its change may be too wide, or a counter used up.
+abbrev pub EditRefused : State → Edit → Refusal → Type 0
+EditRefused s edit e = IsRefused s.design edit e ⊎ ((change : Change) × IsAccepted s.design edit change × (((e ≡ TooWide) × IsWide s.design (changed s.design change)) ⊎ (e ≡ Spent)))
+
+-- why the change to the design isn't made backwards or again: a counter is used up, or the design has too many tilings
+abbrev pub StepRefused : Layout → Refusal → Type 0
+StepRefused d e = (e ≡ Spent) ⊎ ((e ≡ CatalogueFull) × HasOverTilings 1000000 d)
+
+-- there is no change to undo, or there is one, and it isn't made backwards
+abbrev pub UndoRefused : State → Refusal → Type 0
+UndoRefused s e = ((e ≡ NothingToUndo) × (s.undo ≡ [])) ⊎ ((change : Change) × (left : List Change) × (s.undo ≡ left ++ change ∷ []) × StepRefused (changed s.design (inverse_of change)) e)
+
+-- there is no change to redo, or there is one, and it isn't made again
+abbrev pub RedoRefused : State → Refusal → Type 0
+RedoRefused s e = ((e ≡ NothingToRedo) × (s.redo ≡ [])) ⊎ ((change : Change) × (left : List Change) × (s.redo ≡ left ++ change ∷ []) × StepRefused (changed s.design change) e)
+
+-- Why a question about all tilings of the design isn't answered: the turns or a counter are used up, memory ran out, or there are too
+-- many tilings.
+abbrev pub IsUnanswered : Layout → Refusal → Type 0
+IsUnanswered d e = (e ≡ Unfinished) ⊎ (e ≡ Spent) ⊎ (e ≡ Memory) ⊎ ((e ≡ CatalogueFull) × HasOverTilings 1000000 d)
+
+-- The edition, how many tilings are listed and how many tasks are pending: no more tilings are listed than there are, and all of them
+-- if nothing is pending, as in a settled state.
+pub record AreNumbers (s : State) (n : Numbers) : Type 0 where
+  pub edition : n.edition ≡ s.edition
+  pub some : AreTilingsOf n.listed s.design
+  pub whole : n.pending ≡ 0 → AreAllTilingsOf n.listed s.design
+  pub none : s.settled ≡ true → n.pending ≡ 0

@@ -1,0 +1,131 @@
+//! Answers to questions about all tilings of the design. Nothing is written before the engine has settled and all memory is taken.
+ghost use Rattle.std.specs.Prelude.{◌≡◌, ◌≤◌, ℕ, List, IfErr, IfOk, map};
+ghost use Rattle.poly_tiling.specs.TilingOrder.{placed};
+ghost use Rattle.poly_browse.specs.Browsing.{IsAnswer};
+ghost use Rattle.poly_text.specs.Replies.{covered};
+ghost use Rattle.poly_cli.specs.Questions.{BrowseSays, ClassesSay, CountSays, ListSays, Tells, asked_of};
+ghost use Rattle.poly_cli.specs.Runs.{Writes};
+
+use crate::answering::{Answerer, refuse};
+use crate::engine::Engine;
+use crate::writing::{Fault, write_whole};
+use poly_book::Quiet;
+use poly_browse::laws::answers_go_by_sets;
+use poly_browse::{Answer, Query, browse, classes_of};
+use poly_grid::Refusal;
+use poly_text::Question;
+use poly_tiling::{listings_show, numbers_show};
+use std::alloc::Global;
+use std::io::Write;
+
+impl Answerer {
+    /// Writes how many tilings there are.
+    pub(crate) fn count<E: Engine, W: Write>(
+        &mut self,
+        engine: &mut E,
+        writer: &mut W,
+    ) -> Result<(), Fault>
+        requires ready { E.ready engine.old }
+        ensures ready { E.ready engine.new }
+        ensures says { (out : List ℕ) × Tells CountSays (E.state engine.old) out (E.state engine.new) × Writes result (W.contents writer.old) (W.contents writer.new) out }
+    {
+        match engine.count() {
+            Ok(count) => {
+                self.reply.tilings(count);
+                write_whole(writer, self.reply.as_bytes())
+            }
+            Err(refusal) => refuse(refusal, writer),
+        }
+    }
+
+    /// Writes all tilings, and how many there are.
+    pub(crate) fn list<E: Engine, W: Write>(
+        &mut self,
+        engine: &mut E,
+        writer: &mut W,
+    ) -> Result<(), Fault>
+        requires ready { E.ready engine.old }
+        ensures ready { E.ready engine.new }
+        ensures says { (out : List ℕ) × Tells ListSays (E.state engine.old) out (E.state engine.new) × Writes result (W.contents writer.old) (W.contents writer.new) out }
+    {
+        match engine.settle() {
+            Ok(quiet) => {
+                // These calls say that the tilings are those of the design, and that each fits a reply line.
+                let _design = quiet.design();
+                listings_show();
+                numbers_show();
+                self.print(quiet.view(), quiet.tilings(), writer)
+            }
+            Err(refusal) => refuse(refusal, writer),
+        }
+    }
+
+    /// Writes what the tilings that match have in common.
+    pub(crate) fn browse<E: Engine, W: Write>(
+        &mut self,
+        engine: &mut E,
+        question: Question,
+        writer: &mut W,
+    ) -> Result<(), Fault>
+        requires ready { E.ready engine.old }
+        ensures ready { E.ready engine.new }
+        ensures says { (out : List ℕ) × Tells (BrowseSays question) (E.state engine.old) out (E.state engine.new) × Writes result (W.contents writer.old) (W.contents writer.new) out }
+    {
+        match engine.settle() {
+            Ok(quiet) => {
+                // This call says that the tilings are those of the design.
+                let _tilings = quiet.tilings();
+                match answer_of(self.alloc, &quiet, question) {
+                    Ok(answer) => self.print_answer(&answer, writer),
+                    Err(refusal) => refuse(refusal, writer),
+                }
+            }
+            Err(refusal) => refuse(refusal, writer),
+        }
+    }
+
+    /// Writes how many tilings there are up to the symmetries of the design.
+    pub(crate) fn classes<E: Engine, W: Write>(
+        &mut self,
+        engine: &mut E,
+        writer: &mut W,
+    ) -> Result<(), Fault>
+        requires ready { E.ready engine.old }
+        ensures ready { E.ready engine.new }
+        ensures says { (out : List ℕ) × Tells ClassesSay (E.state engine.old) out (E.state engine.new) × Writes result (W.contents writer.old) (W.contents writer.new) out }
+    {
+        match engine.settle() {
+            Ok(quiet) => {
+                match classes_of(self.alloc, quiet.design(), quiet.view(), quiet.tilings()) {
+                    Ok(count) => {
+                        self.reply.classes(count);
+                        write_whole(writer, self.reply.as_bytes())
+                    }
+                    Err(refusal) => refuse(refusal, writer),
+                }
+            }
+            Err(refusal) => refuse(refusal, writer),
+        }
+    }
+}
+
+// What the tilings that match the question have in common.
+fn answer_of(alloc: Global, quiet: &Quiet, question: Question) -> Result<Answer, Refusal>
+    ensures ok { IfOk result (λ a. IsAnswer quiet.now.design (map (placed quiet.now.view) quiet.now.tilings) (asked_of question) a.count a.forced.items a.options.items) }
+    ensures short { IfOk result (λ a. covered a.forced.items ≤ 256) }
+    ensures why { IfErr result (λ e. e ≡ Refusal.Memory) }
+{
+    // These calls say that an answer doesn't go by the order of placements, and that no tiling covers over 256 cells.
+    answers_go_by_sets();
+    listings_show();
+    numbers_show();
+    let query = Query {
+        has: question.has,
+        lacks: question.lacks,
+        covers: question.covers,
+    };
+    match browse(alloc, quiet.design(), quiet.tilings(), quiet.view(), &query) {
+        Ok(answer) => Ok(answer),
+        Err(refusal) => Err(refusal),
+    }
+}

@@ -1,0 +1,133 @@
+//! An engine that works alone: it keeps a book, and settles it on the spot whenever all tilings are asked for.
+ghost use Rattle.std.specs.Prelude.{◌≡◌, ◌≢◌, [], IfErr, IfOk, OnErr, OnOk, false};
+ghost use Rattle.poly_cli.specs.Books.{session_of};
+ghost use Rattle.poly_cli.specs.States.{IsUnanswered, opened};
+
+use crate::engine::Engine;
+use poly_book::{Book, Numbers, Quiet};
+use poly_design::{Design, Edit};
+use poly_grid::{Grid, Refusal};
+use poly_tiling::listings_show;
+use std::alloc::Global;
+use std::marker::Model;
+
+/// The most nodes of a tree that one turn explores.
+const NODES: u32 = 256;
+
+/// A book, with the most turns that settling it may take.
+#[derive(Drop)]
+pub struct Solo {
+    alloc: Global,
+    book: Book,
+    turns: u64,
+    settled: bool,
+}
+
+impl Model for Solo {
+    ghost use Rattle.std.specs.Prelude.{◌≡◌, [], true};
+    ghost use Rattle.poly_cli.specs.Books.{session_of};
+    ghost use Rattle.poly_cli.specs.States.{State};
+
+    ghost Value = { State };
+
+    ghost view = { λ s. session_of s.book s.settled };
+
+    ghost invariant = { λ s. s.settled ≡ true → s.book.pending ≡ [] };
+}
+
+impl Solo {
+    /// An engine whose design is a square grid without cells and pieces, until it begins with another. Settling takes at most `turns`
+    /// turns. Fails only with `Memory`.
+    pub fn new(alloc: Global, turns: u64) -> Result<Solo, Refusal>
+        ensures ok { IfOk result (λ s. s ≡ opened (record { grid = Grid.Square; cells = []; pieces = [] })) }
+        ensures why { IfErr result (λ e. e ≡ Refusal.Memory) }
+    {
+        let book = Book::begin(alloc, Design::empty(alloc, Grid::Square))?;
+        Ok(Solo {
+            alloc,
+            book,
+            turns,
+            settled: false,
+        })
+    }
+}
+
+impl Engine for Solo {
+    ghost state = { λ s. s };
+
+    fn begin(&mut self, design: Design) -> Result<(), Refusal> {
+        let book = Book::begin(self.alloc, design)?;
+        self.book = book;
+        self.settled = false;
+        Ok(())
+    }
+
+    fn edit(&mut self, edit: Edit) -> Result<u64, Refusal> {
+        let done = match self.book.edit(edit) {
+            Ok(done) => done,
+            Err(refusal) => return Err(refusal),
+        };
+        self.settled = false;
+        Ok(done.place)
+    }
+
+    fn undo(&mut self) -> Result<u64, Refusal> {
+        let done = match self.book.undo() {
+            Ok(done) => done,
+            Err(refusal) => return Err(refusal),
+        };
+        self.settled = false;
+        Ok(done.place)
+    }
+
+    fn redo(&mut self) -> Result<u64, Refusal> {
+        // This call says that at most 256 changes can be undone and redone.
+        self.book.whole();
+        let done = match self.book.redo() {
+            Ok(done) => done,
+            Err(refusal) => return Err(refusal),
+        };
+        self.settled = false;
+        Ok(done.place)
+    }
+
+    fn settle(&mut self) -> Result<Quiet, Refusal> {
+        settle_book(&mut self.book, self.turns)?;
+        let quiet = self.book.quiet()?;
+        self.settled = true;
+        Ok(quiet)
+    }
+
+    fn count(&mut self) -> Result<u64, Refusal> {
+        settle_book(&mut self.book, self.turns)?;
+        self.settled = true;
+        // These calls say that what is listed are all tilings.
+        self.book.whole();
+        listings_show();
+        Ok(self.book.numbers().listed)
+    }
+
+    fn numbers(&self) -> Numbers {
+        self.book.numbers()
+    }
+}
+
+// Settles the book, if tasks are pending. What can be undone and redone stays.
+fn settle_book(book: &mut Book, turns: u64) -> Result<(), Refusal>
+    ensures same { session_of book.new false ≡ session_of book.old false }
+    ensures none { OnOk result (book.new.pending ≡ []) }
+    ensures some { OnErr result (book.old.pending ≢ []) }
+    ensures why { IfErr result (IsUnanswered book.old.design) }
+{
+    if book.numbers().pending == 0 {
+        return Ok(());
+    }
+    // Before and after, this call says that the steps lead to what can be undone and redone.
+    book.whole();
+    let settled = book.settle(turns, NODES);
+    book.whole();
+    match settled {
+        Ok(_) => Ok(()),
+        Err(refusal) => Err(refusal),
+    }
+}
