@@ -1,0 +1,20 @@
+-- What holds of both ends of every lane.
+use Rattle.std.specs.Prelude.{ℕ, ◌≡◌, true, false, []}
+use Rattle.std.specs.Global.{Global}
+use Rattle.crossbeam_deque.specs.Handles.{Pass, IsPassOf, worker_flavor, worker_view, view}
+use Rattle.crossbeam_deque.specs.declared.handles.Worker.{Worker}
+use Rattle.poly_crew.specs.declared.rule.Hand.{Hand}
+use Rattle.poly_crew.specs.declared.rule.Fair.{Fair}
+use Rattle.poly_crew.specs.Rule.{hand}
+use Rattle.poly_crew.specs.Sight.{DequeId}
+
+-- a lane pops its oldest hint, and its view is the owner's
+pub record IsOwner (worker : Worker ℕ Global Hand Fair) : Type 0 where
+  pub fifo : worker_flavor worker ≡ 0
+  pub owner : (worker_view worker).is_owner ≡ true
+  pub no_thief : (worker_view worker).thief ≡ 0
+
+-- a thief's pass is one of this lane's, and has nothing but what it took
+pub record IsThief (deque : DequeId) (pass : Pass ℕ Hand Global) : Type 0 where
+  pub here : IsPassOf deque pass
+  pub taken : view pass ≡ hand false 0 1 [] (view pass).taken

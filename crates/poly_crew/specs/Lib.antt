@@ -1,0 +1,6 @@
+pub mod Counts
+pub mod Ends
+pub mod Hints
+pub mod Rule
+pub mod Sight
+pub mod Worked

@@ -1,0 +1,30 @@
+-- The rule of a lane, over the hints that it holds and the views of the lane itself and its thieves.
+use Rattle.std.specs.Prelude.{ℕ, ◌≡◌, ◌+◌, ◌++◌, Bool, true, false, List, [], ◌∷◌}
+use mathlib.Core.Option.{some}
+use lib.ListN.{get_elem?}
+use Rattle.poly_crew.specs.declared.rule.Hand.{Hand}
+use Rattle.poly_crew.specs.Hints.{weigh}
+
+abbrev pub hand : Bool → ℕ → ℕ → List ℕ → List ℕ → Hand
+hand is_owner out thief pushed taken = record { is_owner = is_owner; out = out; thief = thief; pushed = pushed; taken = taken }
+
+-- a number of each view, added up
+abbrev pub total : (Hand → ℕ) → List Hand → ℕ
+total f [] = 0
+total f (v ∷ vs) = f v + total f vs
+
+-- the lane itself knows all that was pushed and how many thieves are out; a thief that came back has nothing
+pub record Fits (owner : ℕ) (log : List ℕ) (out by : ℕ) (v : Hand) : Type 0 where
+  pub whole : v.is_owner ≡ true → (by ≡ owner) × (v.pushed ≡ log) × (v.out ≡ out)
+  pub spent : v.is_owner ≡ false → v.thief ≡ 0 → v.taken ≡ []
+
+-- what was pushed is what left and what the lane holds; what left was taken by the lane and its thieves together
+pub record IsKept (items : List ℕ) (views : List Hand) : Type 0 where
+  pub owner : ℕ
+  pub log : List ℕ
+  pub gone : List ℕ
+  pub out : ℕ
+  pub split : log ≡ gone ++ items
+  pub taken : (h : ℕ → ℕ) → weigh h gone ≡ total (λ v. weigh h v.taken) views
+  pub thieves : total (λ v. v.thief) views ≡ out
+  pub fits : (by : ℕ) (v : Hand) → get_elem? views by ≡ some v → Fits owner log out by v

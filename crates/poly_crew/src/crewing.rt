@@ -1,0 +1,118 @@
+//! Running a crew.
+ghost use Rattle.std.specs.Prelude.{◌≡◌, ◌≤◌, ◌<◌, ◌*◌, ℕ, length, map, slice_index_or, sum_by, vec_len};
+ghost use Rattle.std.specs.List.{AllZip};
+ghost use Rattle.poly_crew.specs.Counts.{added};
+ghost use Rattle.poly_crew.specs.Worked.{IsWorked};
+
+use crate::gate::Gate;
+use crate::outcome::Crew;
+use crate::room::{Room, applied_by, first_refusal, room_for, seat_all, take_apart};
+use crate::turns::{Work, run};
+use crate::worker::Worker;
+use poly_desk::Bench;
+use std::alloc::Global;
+use std::sync::Wait;
+use std::thread;
+use std::thread::Threads;
+
+/// Lets a worker for each pass take tasks of the bench, search them and hand the results in, each in a thread of its own,
+/// until no task is there to be taken, a worker has taken `turns` tasks, or a call is refused.
+///
+/// A worker takes the oldest task that its own reports have opened, else one that another worker's reports have opened, else
+/// any. Each search has at most `nodes` nodes.
+pub fn crew<R: Threads + Wait + Sync, B: Bench + Sync, G: Gate + Sync>(
+    rt: &R,
+    alloc: Global,
+    bench: &B,
+    passes: Vec<B::Pass>,
+    turns: u64,
+    nodes: u32,
+    gate: &G,
+) -> Crew<B::Pass>
+where
+    B::Pass: Send,
+    requires some_passes { 1 ≤ length passes.items }
+    requires few_passes { length passes.items ≤ 16 }
+    requires few_turns { turns ≤ 1000000000 }
+    requires some_nodes { 1 ≤ nodes }
+    requires few_nodes { nodes ≤ 4096 }
+    ensures changes { map B.changes result.passes.items ≡ map B.changes passes.items }
+    ensures cuts { map B.cuts result.passes.items ≡ added (map B.cuts passes.items) (map (λ rs. vec_len rs) result.receipts.items) }
+    ensures applied { result.applied ≡ sum_by (λ rs. vec_len rs) result.receipts.items }
+    ensures few { result.applied ≤ length passes.items * turns }
+{
+    let room = match room_for(alloc, passes.len()) {
+        Ok(room) => room,
+        Err(refusal) => {
+            return Crew {
+                passes,
+                receipts: Vec::new(alloc),
+                applied: 0,
+                end: Err(refusal),
+            };
+        }
+    };
+    let Room {
+        hints,
+        mut workers,
+        passes: mut back,
+        mut receipts,
+    } = room;
+    seat_all(alloc, passes, hints, &mut workers);
+    let work = Work {
+        alloc,
+        bench,
+        gate,
+        turns,
+        nodes,
+    };
+    run_all(rt, &work, &mut workers);
+    let applied = applied_by(&workers);
+    let end = first_refusal(&workers);
+    take_apart(workers, &mut back, &mut receipts);
+    Crew {
+        passes: back,
+        receipts,
+        applied,
+        end,
+    }
+}
+
+// Runs each worker in a thread of its own.
+fn run_all<R: Threads + Wait + Sync, B: Bench + Sync, G: Gate + Sync>(
+    rt: &R,
+    work: &Work<B, G>,
+    workers: &mut Vec<Worker<B::Pass>>,
+)
+where
+    B::Pass: Send,
+    requires some { 1 ≤ length workers.old.items }
+    requires few { length workers.old.items ≤ 16 }
+    ensures { AllZip (IsWorked B.changes B.cuts work.now.turns) workers.old.items workers.new.items }
+{
+    run_each(rt, work, workers.as_mut_slice());
+}
+
+fn run_each<R: Threads + Wait + Sync, B: Bench + Sync, G: Gate + Sync>(
+    rt: &R,
+    work: &Work<B, G>,
+    workers: &mut [Worker<B::Pass>],
+)
+where
+    B::Pass: Send,
+    requires some { 1 ≤ length workers.old }
+    requires few { length workers.old ≤ 16 }
+    ensures count { length workers.new ≡ length workers.old }
+    ensures each { (k : ℕ) (d : _) → k < length workers.old → IsWorked B.changes B.cuts work.now.turns (slice_index_or workers.old k d) (slice_index_or workers.new k d) }
+{
+    let count = workers.len();
+    thread::for_each_mut(
+        rt,
+        workers,
+        count,
+        &|i, worker|
+            requires { i < 4294967296 }
+            ensures { IsWorked B.changes B.cuts work.entry.now.turns worker.entry.now worker.exit.now }
+        { run(rt, work, i as u32, worker) },
+    );
+}

@@ -1,0 +1,18 @@
+//! What follows from the contracts of a lane and a thief together.
+
+ghost use Rattle.std.specs.Prelude.{◌≡◌, ◌++◌, length};
+ghost use Rattle.poly_crew.specs.Hints.{SameHints};
+
+use crate::lane::Lane;
+use crate::thief::Thief;
+
+/// Takes back the last thief of a lane and returns how many hints are left. This accounts for each hint: those that were
+/// pushed are the ones that the lane and its thieves took, each as often, and then the ones that are left.
+pub fn pushed_is_taken_and_left(lane: &mut Lane, last: Thief) -> usize
+    requires lane { last.deque ≡ lane.old.deque }
+    requires last { lane.old.thieves ≡ 1 }
+    ensures { (gone : _) × (left : _) × (length left ≡ result) × (lane.old.pushed ≡ gone ++ left) × SameHints gone (lane.old.taken ++ last.stolen) }
+{
+    lane.take_back(last);
+    lane.left()
+}

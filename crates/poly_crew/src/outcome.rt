@@ -1,0 +1,18 @@
+//! What a crew leaves.
+
+use poly_desk::Receipt;
+use poly_grid::Refusal;
+
+/// What a crew leaves: the passes that it was given, and what its workers did with them.
+#[derive(Drop)]
+pub struct Crew<P: Drop> {
+    /// The passes, in the order in which they were given.
+    pub passes: Vec<P>,
+    /// For each pass the receipts of its worker, in the order in which they came. Empty if the workers couldn't be set up.
+    pub receipts: Vec<Vec<Receipt>>,
+    /// The number of reports that were applied.
+    pub applied: u64,
+    /// `Ok` if each worker ended because no task was there to be taken any more. Otherwise `Memory` if the workers couldn't be
+    /// set up, or the refusal that ended the first worker that met one.
+    pub end: Result<(), Refusal>,
+}

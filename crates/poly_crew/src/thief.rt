@@ -1,0 +1,45 @@
+//! The end of a lane that another worker has.
+
+ghost use Rattle.std.specs.Prelude.{◌≡◌, ◌++◌, [], ◌∷◌, MatchOption};
+ghost use Rattle.poly_crew.specs.Sight.{stolen_of};
+
+use crate::rule::{Fair, Hand, Stealing};
+use crossbeam_deque::{Pass, Steal, Stealer};
+use std::alloc::Global;
+use std::marker::Model;
+
+/// Steals the hints of another worker's lane. Contracts see which lane it is and the hints that were stolen.
+#[derive(Drop)]
+pub struct Thief {
+    pub(crate) stealer: Stealer<u32, Global, Hand, Fair>,
+    pub(crate) pass: Pass<u32, Hand>,
+}
+
+impl Model for Thief {
+    ghost use Rattle.crossbeam_deque.specs.Handles.{view as known_to, stealer_deque};
+    ghost use Rattle.poly_crew.specs.Ends.{IsThief};
+    ghost use Rattle.poly_crew.specs.Sight.{ThiefSight, stolen_of};
+
+    ghost Value = { ThiefSight };
+
+    ghost view = { λ t. stolen_of (stealer_deque t.stealer) (known_to t.pass).taken };
+
+    ghost invariant = { λ t. IsThief (stealer_deque t.stealer) t.pass };
+}
+
+impl Thief {
+    /// Takes the oldest hint out of the lane and returns it. Returns `None` if the lane has no hint, and possibly if another
+    /// worker takes one at the same time. Never allocates or waits.
+    pub fn steal(&mut self) -> Option<u32>
+        ensures lane { self.new.deque ≡ self.old.deque }
+        ensures stolen { MatchOption result
+            (self.new ≡ self.old)
+            (λ x. self.new ≡ stolen_of self.old.deque (self.old.stolen ++ x ∷ [])) }
+    {
+        let Thief { stealer, pass } = self;
+        match stealer.steal_as::<Stealing>(pass) {
+            Steal::Success(hint) => Some(hint),
+            Steal::Empty | Steal::Retry => None,
+        }
+    }
+}

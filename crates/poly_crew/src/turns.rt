@@ -1,0 +1,99 @@
+//! The turns of a worker: it takes tasks, searches them and hands the results in.
+ghost use Rattle.std.specs.Prelude.{◌≤◌};
+ghost use Rattle.poly_crew.specs.Worked.{IsWorked};
+
+use crate::gate::Gate;
+use crate::worker::Worker;
+use poly_book::Which;
+use poly_desk::Bench;
+use poly_grid::Refusal;
+use poly_report::Report;
+use poly_search::explore;
+use std::alloc::Global;
+use std::sync::Wait;
+
+/// What all workers of a crew share.
+#[derive(Drop)]
+pub(crate) struct Work<'a, B, G> {
+    pub(crate) alloc: Global,
+    pub(crate) bench: &'a B,
+    pub(crate) gate: &'a G,
+    pub(crate) turns: u64,
+    pub(crate) nodes: u32,
+    ghost some: { 1 ≤ nodes },
+    ghost few: { nodes ≤ 4096 },
+}
+
+/// Lets the worker take its turns, and leaves in it how it ended: well if no task was there to be taken any more, with
+/// `Unfinished` if it has used up its turns, or else with the refusal that it met.
+pub(crate) fn run<R: Wait, B: Bench, G: Gate>(
+    rt: &R,
+    work: &Work<B, G>,
+    number: u32,
+    worker: &mut Worker<B::Pass>,
+)
+    ensures { IsWorked B.changes B.cuts work.now.turns worker.old worker.new }
+{
+    worker.end = Err(Refusal::Unfinished);
+    for turn in 0..work.turns {
+        match take_turn(rt, work, number, turn, worker) {
+            Ok(true) => {}
+            Ok(false) => {
+                worker.end = Ok(());
+                return;
+            }
+            Err(refusal) => {
+                worker.end = Err(refusal);
+                return;
+            }
+        }
+    }
+}
+
+// One turn: takes a task, searches it and hands the result in. Returns false if there was none to be taken.
+fn take_turn<R: Wait, B: Bench, G: Gate>(
+    rt: &R,
+    work: &Work<B, G>,
+    number: u32,
+    turn: u64,
+    worker: &mut Worker<B::Pass>,
+) -> Result<bool, Refusal>
+    ensures { IsWorked B.changes B.cuts 1 worker.old worker.new }
+{
+    let which = worker.hints.next();
+    let Some(job) = work.bench.take(rt, &mut worker.pass, which)? else {
+        return Ok(which != Which::Any);
+    };
+    work.gate.enter(number, turn);
+    let found = explore(work.alloc, &job.view, &job.atoms, work.nodes);
+    work.gate.leave(number, turn);
+    let report = Report {
+        task: job.task,
+        edition: job.edition,
+        tree: found?,
+    };
+    hand_in(rt, work.bench, worker, report)?;
+    Ok(true)
+}
+
+// Hands the report in, and keeps its receipt. A report on a task that has ended meanwhile is let go.
+fn hand_in<R: Wait, B: Bench>(
+    rt: &R,
+    bench: &B,
+    worker: &mut Worker<B::Pass>,
+    report: Report,
+) -> Result<(), Refusal>
+    ensures { IsWorked B.changes B.cuts 1 worker.old worker.new }
+{
+    worker.receipts.reserve(1)?;
+    match bench.hand_in(rt, &mut worker.pass, report) {
+        Ok((applied, receipt)) => {
+            worker.receipts.push_reserved(receipt);
+            *worker.applied += 1;
+            worker.hints.push_opened(applied);
+            Ok(())
+        }
+        Err(Refusal::Gone) => Ok(()),
+        Err(refusal) => Err(refusal),
+    }
+}

@@ -1,0 +1,24 @@
+//! What a worker has.
+ghost use Rattle.std.specs.Prelude.{◌≡◌, vec_len};
+ghost use Rattle.crossbeam_utils.specs.Padded.{padded_value};
+
+use crate::hints::Hints;
+use crossbeam_utils::CachePadded;
+use poly_desk::Receipt;
+use poly_grid::Refusal;
+
+/// What a worker has of its own. For each report of its that was applied it has a receipt.
+#[derive(Drop)]
+pub(crate) struct Worker<P: Drop> {
+    /// Its right to take tasks and to hand reports in.
+    pub(crate) pass: P,
+    /// Its own hints, and the ends from which it steals those of the others.
+    pub(crate) hints: Hints,
+    /// The receipts of its reports, in the order in which they came.
+    pub(crate) receipts: Vec<Receipt>,
+    /// The number of its reports that were applied. Each worker writes its own, so it has cache lines of its own.
+    pub(crate) applied: CachePadded<u64>,
+    /// How it ended.
+    pub(crate) end: Result<(), Refusal>,
+    ghost counted: { padded_value applied ≡ vec_len receipts },
+}
