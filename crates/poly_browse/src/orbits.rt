@@ -10,10 +10,26 @@ ghost use Rattle.poly_browse.specs.Classes.{AreClasses};
 ghost use Rattle.poly_browse.specs.Maps.{is_first};
 
 use crate::symmetry::{Symmetry, symmetries};
+use poly_book::Quiet;
 use poly_design::Design;
 use poly_grid::Refusal;
 use poly_tiling::{Tiling, View, has_all};
 use std::alloc::Global;
+
+/// Returns the number of classes of the tilings of a quiet design: two tilings are in one class if a symmetry of the design
+/// carries one to the other, as for [`classes_of`]. Fails with `Memory` only.
+pub fn classes(alloc: Global, quiet: &Quiet) -> Result<u64, Refusal>
+    ensures ok { IfOk result (AreClasses quiet.now.design) }
+    ensures why { IfErr result (λ e. e ≡ Refusal.Memory) }
+{
+    let design = quiet.design();
+    let view = quiet.view();
+    let tilings = quiet.tilings();
+    match classes_of(alloc, design, view, tilings) {
+        Ok(count) => Ok(count),
+        Err(refusal) => Err(refusal),
+    }
+}
 
 /// Returns the number of classes of the design's tilings: two tilings are in one class if a symmetry of the design carries
 /// one to the other. A symmetry is a turn, with or without a reflection whatever the pieces allow, and then a translation,

@@ -1,0 +1,23 @@
+use Rattle.std.proofs.Common.{[], ◌∷◌, ◌≤◌, Bool, ℕ, ap, length, subst, sym, ◌+◌, ◌∙◌}
+use Rattle.poly_tiling.specs.Shows.{names}
+use Rattle.poly_browse.specs.Browsing.{is_in}
+use Rattle.poly_browse.proofs.Worded.{AreFlags, no_flags, flag_up, flag_down, all_flags, none_named}
+use Rattle.poly_browse.proofs.lines.placement_flags.Goals.{then-is_named+in_ok-raise_one, else-is_named}
+use Rattle.poly_browse.proofs.lines.placement_flags.Goals as goal
+
+pub loop-at-init : goal.loop-at-init
+loop-at-init c = no_flags _ _ c.new-flags.ensures.items
+
+pub loop-at-preserved : goal.loop-at-preserved
+loop-at-preserved c =
+    let f : ℕ → Bool = λ n. is_in (names c.args.view.now (n ∷ [])) c.args.placement.now in
+    let at = c.loop-at.at in
+    elim c.if-is_named.branch [
+      | then-is_named+in_ok-raise_one w ↦ subst (λ l. AreFlags f (at + 1) l) (sym (ap (λ v. v.items) w.flags-is)) (flag_up f at _ _ (sym c.is_named.ensures ∙ w.if-is_named.true) w.in_ok-raise_one.ensures.ok c.loop-at.invariant)
+      | else-is_named w ↦ subst (λ l. AreFlags f (at + 1) l) (sym (ap (λ v. v.items) w.flags-is)) (flag_down f at _ (sym c.is_named.ensures ∙ w.if-is_named.false) c.loop-at.invariant)
+    ]
+
+pub returns-clause-ok : goal.returns-clause-ok
+returns-clause-ok c =
+    let f : ℕ → Bool = λ n. is_in (names c.args.view.now (n ∷ [])) c.args.placement.now in
+    all_flags f c.loop-at.at (length c.args.view.now.placements) _ (subst (λ z. z ≤ c.loop-at.at) c.known-at-end.ensures c.loop-at-test.false) (none_named c.args.view.now c.args.placement.now) c.loop-at.invariant
