@@ -2,4 +2,7 @@
 
 mod kit;
 mod limits;
+mod memory;
+mod reports;
+mod settling;
 mod threads;
