@@ -8,6 +8,8 @@ mod book;
 #[cfg(test)]
 mod browse;
 #[cfg(test)]
+mod catalogue;
+#[cfg(test)]
 mod design;
 #[cfg(test)]
 mod designs;
