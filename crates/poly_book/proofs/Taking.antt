@@ -111,32 +111,32 @@ module _ {o d : Layout} {v t : View} {ls ls2 : List (List ℕ)} {log : List (Lis
 
 -- what applying the leaves of a tree does to the fields
 pub took_from : (a : Parts) (k place : ℕ) (tree : Plan) (ts : List (List ℕ)) (rs : List (List Atom)) (x : Pending) (ls2 : List (List ℕ)) (ps2 fresh : List Pending) (more : ℕ) (es2 : List Ending) →
-    AreLeaves a k place tree ts rs → x ≡ get_or a.tasks.items place x → ls2 ≡ a.listed ++ ts → ps2 ≡ (take place a.tasks.items ++ drop (place + 1) a.tasks.items) ++ fresh → Opens a.log a.next (arc_value a.view) rs fresh →
+    AreLeaves a k place tree ts rs → x ≡ get_or a.tasks.items place x → ls2 ≡ a.listed ++ ts → ps2 ≡ (take place a.tasks.items ++ drop (place + 1) a.tasks.items) ++ fresh → Opens a.log a.next a.scene rs fresh →
     more ≡ length fresh → a.next + length fresh ≤ 4294967296 → es2 ≡ a.endings.items ++ Cut x.number ∷ [] →
-    Took (arc_value a.view) a.listed ls2 a.log a.tasks.items ps2 fresh a.next (a.next + more) a.endings.items es2 k place x tree
+    Took a.scene a.listed ls2 a.log a.tasks.items ps2 fresh a.next (a.next + more) a.endings.items es2 k place x tree
 took_from a k place tree ts rs x ls2 ps2 fresh more es2 l is listed tasks opens count few ended =
     let there = first_at k a.tasks.items place l.first in
     let found : find_task k (tasks_of a.log a.tasks.items) ≡ Some (task_of a.log x) = at_find k a.log a.tasks.items place x there ∙ ap (λ y. Some (task_of a.log y)) (sym is) in
     let number : x.number ≡ k = (found_in k (tasks_of a.log a.tasks.items) (task_of a.log x) found).1 in
     let same : l.task ≡ task_of a.log x = some_same l.task (task_of a.log x) (sym l.there ∙ found) in
     let next : place + 1 ≡ suc place = omega arith in
-    let tilings_are : ts ≡ tilings (arc_value a.view) (atoms_of (task_of a.log x)) tree = l.cut.tilings ∙ ap (λ u. tilings (arc_value a.view) (atoms_of u) tree) same in
-    let rests_are : rs ≡ rests (arc_value a.view) (atoms_of (task_of a.log x)) tree = l.cut.rests ∙ ap (λ u. rests (arc_value a.view) (atoms_of u) tree) same in
+    let tilings_are : ts ≡ tilings a.scene (atoms_of (task_of a.log x)) tree = l.cut.tilings ∙ ap (λ u. tilings a.scene (atoms_of u) tree) same in
+    let rests_are : rs ≡ rests a.scene (atoms_of (task_of a.log x)) tree = l.cut.rests ∙ ap (λ u. rests a.scene (atoms_of u) tree) same in
     record {
       there = there;
       is = is;
-      right = and_from (fits tree) (holds (arc_value a.view) (atoms_of (task_of a.log x)) tree) l.small (ap (λ u. holds (arc_value a.view) (atoms_of u) tree) (sym same) ∙ l.cut.right);
+      right = and_from (fits tree) (holds a.scene (atoms_of (task_of a.log x)) tree) l.small (ap (λ u. holds a.scene (atoms_of u) tree) (sym same) ∙ l.cut.right);
       listed_is = λ f. ap (λ L. tally f L) (listed ∙ ap (λ L. a.listed ++ L) tilings_are);
       tasks_are = tasks ∙ ap (λ m. (take place a.tasks.items ++ drop m a.tasks.items) ++ fresh) next;
-      fresh_are = subst (λ R. Opens a.log a.next (arc_value a.view) R fresh) rests_are opens;
+      fresh_are = subst (λ R. Opens a.log a.next a.scene R fresh) rests_are opens;
       next_is = ap (λ m. a.next + m) count;
       few_tasks = omega (arith, few, count);
       ended_are = ended ∙ ap (λ m. a.endings.items ++ Cut m ∷ []) number;
     }
 
 -- the leaves of a tree for the task that stands at a place
-pub leaves_at : (p : Parts) (x : Pending) (i : ℕ) (tree : Plan) (ts : List (List ℕ)) (rs : List (List Atom)) → Keeps p → i < length p.tasks.items → x ≡ get_or p.tasks.items i x → fits tree ≡ true → holds (arc_value p.view) (atoms_of (task_of p.log x)) tree ≡ true →
-    ts ≡ tilings (arc_value p.view) (atoms_of (task_of p.log x)) tree → rs ≡ rests (arc_value p.view) (atoms_of (task_of p.log x)) tree → AreLeaves p x.number i tree ts rs
+pub leaves_at : (p : Parts) (x : Pending) (i : ℕ) (tree : Plan) (ts : List (List ℕ)) (rs : List (List Atom)) → Keeps p → i < length p.tasks.items → x ≡ get_or p.tasks.items i x → fits tree ≡ true → holds p.scene (atoms_of (task_of p.log x)) tree ≡ true →
+    ts ≡ tilings p.scene (atoms_of (task_of p.log x)) tree → rs ≡ rests p.scene (atoms_of (task_of p.log x)) tree → AreLeaves p x.number i tree ts rs
 leaves_at p x i tree ts rs keeps low is small right tilings_are rests_are =
     let ps = p.tasks.items in
     let number : x.number ≡ (get_or ps i x).number = ap (λ y. y.number) is in

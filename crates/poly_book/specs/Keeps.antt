@@ -33,7 +33,7 @@ pub record KeepsOf (o d : Layout) (v table : View) (ls : List (List ℕ)) (log :
 
 -- the state that the fields show
 abbrev pub state_of : Parts → State
-state_of p = shown p.opened p.design (arc_value p.view) p.listed p.log p.tasks.items p.next p.history p.steps.items p.endings.items
+state_of p = shown p.opened p.design p.scene p.listed p.log p.tasks.items p.next p.history p.steps.items p.endings.items
 
 abbrev pub Keeps : Parts → Type 0
-Keeps p = KeepsOf p.opened p.design (arc_value p.view) p.table p.listed p.log p.tasks.items p.next p.history p.steps.items p.endings.items
+Keeps p = KeepsOf p.opened p.design p.scene p.table p.listed p.log p.tasks.items p.next p.history p.steps.items p.endings.items

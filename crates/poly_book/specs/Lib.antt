@@ -9,6 +9,7 @@ pub mod Replay
 pub mod Quiet
 pub mod Whole
 pub mod Laws
+pub mod Scenes
 pub mod Meaning
 pub mod Opens
 pub mod Changing

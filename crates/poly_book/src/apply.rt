@@ -20,6 +20,7 @@ ghost use Rattle.poly_book.specs.Steps.{IsDone};
 
 use crate::parts::Parts;
 use crate::prepare::{Prepared, gather, is_shelved};
+use crate::scene::Scene;
 use crate::shelf::Kept;
 use crate::step::{Done, Ending, Kind, Step};
 use crate::task::Pending;
@@ -76,7 +77,7 @@ pub(crate) fn apply_change(parts: &mut Parts, kind: Kind, change: Change) -> Res
     let more = fresh.len() as u64;
     parts.table.make(plan);
     parts.design = after;
-    parts.view = view;
+    parts.scene = Scene::new(view);
     replace_tasks(&mut parts.tasks, room, &flags, fresh);
     let made = count as u64 + 1;
     note(&mut parts.history, kind, change, Kept { made, shelf });

@@ -6,6 +6,7 @@ ghost use Rattle.poly_book.specs.States.{opening};
 
 use crate::book::Book;
 use crate::parts::Parts;
+use crate::scene::Scene;
 use crate::task::{Own, Pending};
 use poly_atom::GuardLog;
 use poly_catalogue::Catalogue;
@@ -39,7 +40,7 @@ impl Book {
                 opened,
                 design,
                 table,
-                view,
+                scene: Scene::new(view),
                 listed: Catalogue::new(alloc),
                 log: GuardLog::new(alloc),
                 tasks,

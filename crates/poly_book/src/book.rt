@@ -84,7 +84,7 @@ impl Book {
     pub fn view(&self) -> &Arc<View>
         ensures { arc_value result.now ≡ self.now.view }
     {
-        &self.parts.view
+        self.parts.scene.shared()
     }
 
     /// The listed tilings. Never allocates.

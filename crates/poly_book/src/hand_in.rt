@@ -1,8 +1,9 @@
 //! Handing a report in: its task ends, its tilings are listed, and what it leaves becomes new tasks.
-ghost use Rattle.std.specs.Prelude.{◌≡◌, ◌<◌, ◌==◌, IfErr, IfOk, OnErr, ℕ};
+ghost use Rattle.std.specs.Prelude.{◌≡◌, ◌<◌, ◌==◌, IfErr, IfOk, OnErr, Some, true, ℕ};
 ghost use Rattle.std.specs.List.{position_from};
 ghost use Rattle.poly_report.specs.Gather.{lists};
 ghost use Rattle.poly_report.specs.Shapes.{plan_of};
+ghost use Rattle.poly_report.specs.Sizes.{fits};
 ghost use Rattle.poly_report.specs.Trees.{Plan};
 ghost use Rattle.poly_tiling.specs.Listings.{HasOverTilings};
 ghost use Rattle.poly_book.specs.Keeps.{Keeps, state_of};
@@ -16,7 +17,7 @@ use crate::parts::Parts;
 use crate::step::{Applied, Ending};
 use crate::task::{Pending, all_atoms};
 use poly_grid::Refusal;
-use poly_report::{Leaves, Report, cut_up, fits};
+use poly_report::{Leaves, Report, fits};
 
 impl Book {
     /// Applies the report: its task ends as `Cut`, the tree's tilings are listed, and its rests that aren't hopeless are
@@ -49,11 +50,24 @@ fn apply_report(parts: &mut Parts, report: &Report) -> Result<Applied, Refusal>
     if !fits(&report.tree) {
         return Err(Refusal::TooLarge);
     }
+    let leaves = checked_leaves(parts, at, report)?;
+    apply_leaves(parts, at, report.edition, leaves)
+}
+
+// The leaves of the report's tree, if it holds for the task at the place.
+fn checked_leaves(parts: &mut Parts, at: usize, report: &Report) -> Result<Leaves, Refusal>
+    requires keeps { Keeps parts.old }
+    requires place { position_from (λ q. q.number == report.now.task) 0 parts.old.tasks.items ≡ Some at }
+    requires small { fits (plan_of report.now.tree) ≡ true }
+    ensures stays { parts.new ≡ parts.old }
+    ensures leaves { IfOk result (λ l. AreLeaves parts.old report.now.task at (plan_of report.now.tree) l.tilings.items (lists l.rests.items)) }
+    ensures why { IfErr result (λ e. IsNotApplied report.now.task (plan_of report.now.tree) (state_of parts.old) e) }
+{
     let atoms = all_atoms(parts.alloc, &parts.log, &parts.tasks[at])?;
-    let Some(leaves) = cut_up(parts.alloc, &parts.view, &atoms, &report.tree)? else {
+    let Some(leaves) = parts.scene.cut_up(parts.alloc, &atoms, &report.tree)? else {
         return Err(Refusal::DoesNotHold);
     };
-    apply_leaves(parts, at, report.edition, leaves)
+    Ok(leaves)
 }
 
 /// Ends the task at the place, lists the tilings and opens the rests: the leaves of a tree that fits and holds for it.
@@ -73,13 +87,13 @@ pub(crate) fn apply_leaves(
     let Leaves { tilings, rests } = leaves;
     let now = parts.log.len() as u64;
     let start = parts.next;
-    let fresh = opened(parts.alloc, &parts.view, rests, start, now)?;
+    let fresh = opened(parts.alloc, parts.scene.view(), rests, start, now)?;
     let more = fresh.len();
     let found = tilings.len() as u64;
     let place = parts.endings.len() as u64 + 1;
     parts.tasks.reserve(more)?;
     parts.endings.reserve(1)?;
-    parts.listed.list_all(&parts.view, tilings)?;
+    parts.listed.list_all(parts.scene.view(), tilings)?;
     let task = parts.tasks.remove(at);
     push_tasks(fresh, &mut parts.tasks);
     parts

@@ -21,6 +21,7 @@ pub mod laws;
 mod parts;
 mod prepare;
 mod quiet;
+mod scene;
 mod settle;
 mod shelf;
 mod step;

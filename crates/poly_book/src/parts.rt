@@ -1,5 +1,6 @@
 //! What a book is made of.
 
+use crate::scene::Scene;
 use crate::shelf::Kept;
 use crate::step::{Ending, Step};
 use crate::task::Pending;
@@ -7,10 +8,8 @@ use poly_atom::GuardLog;
 use poly_catalogue::Catalogue;
 use poly_design::{Change, Design};
 use poly_place::Table;
-use poly_tiling::View;
 use poly_undo::History;
 use std::alloc::Global;
-use std::sync::Arc;
 
 /// The fields of a book. Each function that changes them requires and ensures what a book keeps of them.
 #[derive(Drop)]
@@ -23,7 +22,7 @@ pub(crate) struct Parts {
     /// Numbers for the placements of the design. A refused change may have given out more of them.
     pub table: Table,
     /// The design now, by numbers.
-    pub view: Arc<View>,
+    pub scene: Scene,
     /// The listed tilings.
     pub listed: Catalogue,
     /// The guards of each change.

@@ -74,16 +74,16 @@ pub(crate) fn gather(
     plan: Plan,
 ) -> Result<Prepared, Refusal>
     requires keeps { Keeps parts.now }
-    requires change { IsChangeOf (arc_value parts.now.view) (arc_value plan.view) plan.delta }
+    requires change { IsChangeOf parts.now.scene (arc_value plan.view) plan.delta }
     requires either { AreOfEither (arc_value plan.view) plan.delta parts.now.listed }
-    ensures ok { IfOk result (λ r. IsGathered (arc_value parts.now.view) parts.now.listed parts.now.log parts.now.tasks.items (stood_by kind parts.now.history) after plan parts.now.next r) }
+    ensures ok { IfOk result (λ r. IsGathered parts.now.scene parts.now.listed parts.now.log parts.now.tasks.items (stood_by kind parts.now.history) after plan parts.now.next r) }
     ensures few { IfOk result (λ r. length parts.now.steps.items < 100000) }
-    ensures narrow { OnOk result (kind ≡ Kind.Edit → (length (guards (arc_value parts.now.view) (arc_value plan.view)) ≤ 20000) × (length (guards (arc_value plan.view) (arc_value parts.now.view)) ≤ 20000)) }
-    ensures why { IfErr result (λ e. IsNotGathered (arc_value parts.now.view) (arc_value plan.view) kind (length parts.now.steps.items) parts.now.next (stood_by kind parts.now.history) e) }
+    ensures narrow { OnOk result (kind ≡ Kind.Edit → (length (guards parts.now.scene (arc_value plan.view)) ≤ 20000) × (length (guards (arc_value plan.view) parts.now.scene) ≤ 20000)) }
+    ensures why { IfErr result (λ e. IsNotGathered parts.now.scene (arc_value plan.view) kind (length parts.now.steps.items) parts.now.next (stood_by kind parts.now.history) e) }
 {
     let alloc = parts.alloc;
     let view = Arc::try_clone(&plan.view)?;
-    let both = both_guards(alloc, &parts.view, &view, &plan.delta)?;
+    let both = both_guards(alloc, parts.scene.view(), &view, &plan.delta)?;
     let BothGuards { forth: laid, back } = both;
     let width = back.len();
     check_width(kind, laid.len(), width)?;

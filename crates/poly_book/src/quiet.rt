@@ -89,7 +89,7 @@ impl Book {
             self.parts.alloc,
             &self.parts.design,
             edition,
-            &self.parts.view,
+            self.parts.scene.shared(),
             listed,
         ) {
             Ok(all) => Ok(all),

@@ -1,7 +1,10 @@
 //! Settling: taking tasks, exploring them and handing the results in until nothing is pending.
-ghost use Rattle.std.specs.Prelude.{◌≡◌, ◌≤◌, IfErr, IfOk, OnErr};
+ghost use Rattle.std.specs.Prelude.{◌≡◌, ◌≤◌, ◌<◌, IfErr, IfOk, OnErr, length, ℕ};
 ghost use Rattle.poly_tiling.specs.Listings.{HasOverTilings};
+ghost use Rattle.poly_report.specs.Gather.{lists};
+ghost use Rattle.poly_report.specs.Trees.{Plan};
 ghost use Rattle.poly_book.specs.Keeps.{Keeps, state_of};
+ghost use Rattle.poly_book.specs.Reports.{AreLeaves};
 ghost use Rattle.poly_book.specs.Settled.{IsNotSettled, IsNotTurned, IsSettled, IsTurn};
 
 use crate::book::Book;
@@ -9,7 +12,7 @@ use crate::hand_in::apply_leaves;
 use crate::parts::Parts;
 use crate::task::all_atoms;
 use poly_grid::Refusal;
-use poly_search::explore_with_leaves;
+use poly_report::Leaves;
 
 impl Book {
     /// Takes tasks, explores each with at most `nodes` nodes and hands the result in, until nothing is pending. Returns
@@ -64,11 +67,25 @@ fn settle_one(parts: &mut Parts, nodes: u32) -> Result<bool, Refusal>
         return Ok(false);
     }
     let at = parts.tasks.len() - 1;
-    let atoms = all_atoms(parts.alloc, &parts.log, &parts.tasks[at])?;
-    let found = explore_with_leaves(parts.alloc, &parts.view, &atoms, nodes)?;
+    let leaves = explored_leaves(parts, at, nodes)?;
     let edition = parts.log.len() as u64;
-    match apply_leaves(parts, at, edition, found.leaves) {
+    match apply_leaves(parts, at, edition, leaves) {
         Ok(_) => Ok(true),
         Err(refusal) => Err(refusal),
     }
+}
+
+// The leaves of a tree that fits and holds for the task at the place.
+fn explored_leaves(parts: &mut Parts, at: usize, nodes: u32) -> Result<Leaves, Refusal>
+    requires some { 1 ≤ nodes }
+    requires few { nodes ≤ 4096 }
+    requires keeps { Keeps parts.old }
+    requires place { at < length parts.old.tasks.items }
+    ensures stays { parts.new ≡ parts.old }
+    ensures leaves { IfOk result (λ l. (k : ℕ) × (tree : Plan) × AreLeaves parts.old k at tree l.tilings.items (lists l.rests.items)) }
+    ensures why { IfErr result (λ e. e ≡ Refusal.Memory) }
+{
+    let atoms = all_atoms(parts.alloc, &parts.log, &parts.tasks[at])?;
+    let found = parts.scene.explore(parts.alloc, &atoms, nodes)?;
+    Ok(found.leaves)
 }

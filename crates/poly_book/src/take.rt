@@ -91,11 +91,11 @@ fn make_job(parts: &Parts, task: &Pending) -> Result<Job, Refusal>
     ensures task { IfOk result (λ j. j.task ≡ task.now.number) }
     ensures edition { IfOk result (λ j. j.edition ≡ length parts.now.steps.items) }
     ensures atoms { IfOk result (λ j. j.atoms.items ≡ atoms_of (task_of parts.now.log task.now)) }
-    ensures view { IfOk result (λ j. arc_value j.view ≡ arc_value parts.now.view) }
+    ensures view { IfOk result (λ j. arc_value j.view ≡ parts.now.scene) }
     ensures why { IfErr result (λ e. e ≡ Refusal.Memory) }
 {
     let atoms = all_atoms(parts.alloc, &parts.log, task)?;
-    let view = Arc::try_clone(&parts.view)?;
+    let view = Arc::try_clone(parts.scene.shared())?;
     Ok(Job {
         task: task.number,
         edition: parts.steps.len() as u64,

@@ -42,18 +42,18 @@ leads_by p x r k has is q = record {
   design = is;
   well = q.right.well;
   shows = q.right.shows;
-  names = names_on (arc_value p.view) p.table (arc_value r.view) k.grown.0 q.names;
+  names = names_on p.scene p.table (arc_value r.view) k.grown.0 q.names;
 }
 
 -- the listed tilings are those of either view
 either_by : (p : Parts) (x : Change) (r : Plan) → Keeps p → IsPlanFor p.table p.design (changed p.design x) (arc_value r.view) r.delta → AreOfEither (arc_value r.view) r.delta p.listed
-either_by p x r k q = listed_either (arc_value p.view) p.table (arc_value r.view) p.design (changed p.design x) r.delta p.listed k.whole.consistent.well k.grown k.right q k.whole.consistent.partition.only
+either_by p x r k q = listed_either p.scene p.table (arc_value r.view) p.design (changed p.design x) r.delta p.listed k.whole.consistent.well k.grown k.right q k.whole.consistent.partition.only
 
 enters_by : (p : Parts) (k : Kind) (x : Change) (w : View) → Keeps p → IsTop k p.history x → Leads (state_of p) x w → Enters w p.listed (returned (stood_by k p.history))
 enters_by p k x w keeps top l = change_enters k (state_of p) p.history x w refl refl top keeps.whole l
 
 -- the plan's differences are those of the change
-abbrev change_by : (p : Parts) (x : Change) (r : Plan) → Keeps p → IsDesign (changed p.design x) → IsPlanFor p.table p.design (changed p.design x) (arc_value r.view) r.delta → IsChangeOf (arc_value p.view) (arc_value r.view) r.delta
+abbrev change_by : (p : Parts) (x : Change) (r : Plan) → Keeps p → IsDesign (changed p.design x) → IsPlanFor p.table p.design (changed p.design x) (arc_value r.view) r.delta → IsChangeOf p.scene (arc_value r.view) r.delta
 change_by p x r k is q = record {
   before = p.design;
   after = changed p.design x;
@@ -61,13 +61,13 @@ change_by p x r k is q = record {
   turned = q.right;
   first = k.whole.consistent.design;
   second = is;
-  names = names_on (arc_value p.view) p.table (arc_value r.view) k.grown.0 q.names;
+  names = names_on p.scene p.table (arc_value r.view) k.grown.0 q.names;
   delta = q.delta;
 }
 
 widths_by : (p : Parts) (x : Change) (r : Plan) → Keeps p → IsDesign (changed p.design x) → IsPlanFor p.table p.design (changed p.design x) (arc_value r.view) r.delta →
-    HasWidth p.design (changed p.design x) (length (guards (arc_value p.view) (arc_value r.view))) × HasWidth (changed p.design x) p.design (length (guards (arc_value r.view) (arc_value p.view)))
-widths_by p x r k is q = widths_show_lem (arc_value p.view) (arc_value r.view) r.delta (change_by p x r k is q)
+    HasWidth p.design (changed p.design x) (length (guards p.scene (arc_value r.view))) × HasWidth (changed p.design x) p.design (length (guards (arc_value r.view) p.scene))
+widths_by p x r k is q = widths_show_lem p.scene (arc_value r.view) r.delta (change_by p x r k is q)
 
 pub gather-requires-clause-change : goal.gather-requires-clause-change
 gather-requires-clause-change c = change_by c.args.parts.now c.args.change c.in_ok-plan.plan c.requires.keeps c.requires.design c.in_ok-plan.ensures.ok
@@ -93,7 +93,7 @@ returns-in_err-reserve-2-clause-err c =
     let a = c.args.parts.now in
     let steps : c.reserve.new.self.items ≡ a.steps.items = c.reserve.ensures.items in
     let ends : c.reserve-2.new.self.items ≡ a.endings.items = c.reserve-2.ensures.items in
-    rw p.1 (λ i. shown a.opened a.design (arc_value a.view) a.listed a.log a.tasks.items a.next a.history (steps i) (ends i))
+    rw p.1 (λ i. shown a.opened a.design a.scene a.listed a.log a.tasks.items a.next a.history (steps i) (ends i))
 
 pub returns-in_err-reserve-2-clause-why : goal.returns-in_err-reserve-2-clause-why
 returns-in_err-reserve-2-clause-why c =
@@ -138,7 +138,7 @@ returns-in_err-enter-clause-err c =
     let a = c.args.parts.now in
     let steps : c.reserve.new.self.items ≡ a.steps.items = c.reserve.ensures.items in
     let ends : c.reserve-2.new.self.items ≡ a.endings.items = c.reserve-2.ensures.items in
-    rw p.1 (λ i. shown a.opened a.design (arc_value a.view) (k.listed_stays i) (k.log_stays i) a.tasks.items a.next a.history (steps i) (ends i))
+    rw p.1 (λ i. shown a.opened a.design a.scene (k.listed_stays i) (k.log_stays i) a.tasks.items a.next a.history (steps i) (ends i))
 
 pub returns-in_err-enter-clause-why : goal.returns-in_err-enter-clause-why
 returns-in_err-enter-clause-why c =
@@ -162,7 +162,7 @@ abbrev kept_of : (c : goal.After-drop-flags-2) → Kept
 kept_of c = record { made = c.len-count.result + 1; shelf = c.in_ok-ready.ready.shelf }
 
 did : (c : goal.After-drop-flags-2) →
-    Did c.args.parts.now.opened c.args.parts.now.design c.in_ok-ready.ready.after (arc_value c.args.parts.now.view) (arc_value c.in_ok-plan.plan.view) c.make.new.self c.args.parts.now.listed c.enter.new.listed c.args.parts.now.log c.enter.new.log c.args.parts.now.tasks.items c.replace_tasks.new.tasks.items c.in_ok-ready.ready.fresh.items c.in_ok-ready.ready.flags.items c.args.parts.now.next (c.args.parts.now.next + c.len-more.result) c.args.parts.now.history c.note.new.history c.args.parts.now.steps.items c.push_reserved.new.self.items c.args.parts.now.endings.items c.push_endings.new.out.items c.args.kind c.args.change (kept_of c)
+    Did c.args.parts.now.opened c.args.parts.now.design c.in_ok-ready.ready.after c.args.parts.now.scene (arc_value c.in_ok-plan.plan.view) c.make.new.self c.args.parts.now.listed c.enter.new.listed c.args.parts.now.log c.enter.new.log c.args.parts.now.tasks.items c.replace_tasks.new.tasks.items c.in_ok-ready.ready.fresh.items c.in_ok-ready.ready.flags.items c.args.parts.now.next (c.args.parts.now.next + c.len-more.result) c.args.parts.now.history c.note.new.history c.args.parts.now.steps.items c.push_reserved.new.self.items c.args.parts.now.endings.items c.push_endings.new.out.items c.args.kind c.args.change (kept_of c)
 did c =
     let a = c.args.parts.now in
     let r = c.in_ok-ready.ready in
@@ -189,7 +189,7 @@ did c =
     record {
       design_is = g.after_is ∙ c.in_ok-after.ensures.ok;
       right = subst (λ z. IsRight z (changed a.design c.args.change)) (sym now) q.right;
-      names = names_on (arc_value a.view) a.table w c.requires.keeps.grown.0 q.names;
+      names = names_on a.scene a.table w c.requires.keeps.grown.0 q.names;
       table_is = now;
       log_is = laid ∙ ap (λ y. a.log ++ y ∷ []) g.guards_are;
       listed_is = subst (λ L. AreSame c.enter.new.listed (filter (λ T. is_tiling w T) a.listed ++ L)) g.returned_are listed2;
@@ -210,7 +210,7 @@ did c =
 pub returns-clause-keeps : goal.returns-clause-keeps
 returns-clause-keeps c =
     let k = did_keeps c.args.kind c.requires.keeps (did c) c.requires.before c.requires.design c.requires.top in
-    subst (λ z. KeepsOf c.args.parts.now.opened c.in_ok-ready.ready.after z c.make.new.self c.enter.new.listed c.enter.new.log c.replace_tasks.new.tasks.items (c.args.parts.now.next + c.len-more.result) c.note.new.history c.push_reserved.new.self.items c.push_endings.new.out.items) (sym c.in_ok-ready.ensures.ok.view_is) k
+    subst (λ z. KeepsOf c.args.parts.now.opened c.in_ok-ready.ready.after z c.make.new.self c.enter.new.listed c.enter.new.log c.replace_tasks.new.tasks.items (c.args.parts.now.next + c.len-more.result) c.note.new.history c.push_reserved.new.self.items c.push_endings.new.out.items) (sym (c.new.ensures ∙ c.in_ok-ready.ensures.ok.view_is)) k
 
 pub returns-clause-narrow : goal.returns-clause-narrow
 returns-clause-narrow c = λ edit.
@@ -235,7 +235,7 @@ returns-clause-ok c =
     let x = c.args.change in
     let w = arc_value c.in_ok-plan.plan.view in
     let e = did c in
-    let view_is = sym c.in_ok-ready.ensures.ok.view_is in
+    let view_is = sym (c.new.ensures ∙ c.in_ok-ready.ensures.ok.view_is) in
     let b = did_becomes k e c.requires.keeps.tasks c.requires.keeps.log_length c.requires.top in
     let told : c.in_ok-told.told ≡ record { kind = k; change = x; pending = length a.tasks.items; shelved = shelved_by k a.history } = c.in_ok-told.ensures.ok in
     let all : c.push_reserved.new.self.items ≡ a.steps.items ++ c.in_ok-told.told ∷ [] = e.steps_are ∙ (λ i. a.steps.items ++ sym told i ∷ []) in

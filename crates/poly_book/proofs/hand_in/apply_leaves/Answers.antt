@@ -19,8 +19,8 @@ list_all-requires-clause-tilings c =
     let a = c.args.parts.now in
     let l = c.requires.leaves.2 in
     let r = cut_enters (state_of a) c.requires.leaves.0 l.task c.requires.leaves.1 c.requires.keeps.whole l.there (and_from _ _ l.small l.cut.right) in
-    let at : c.deref-2.result.now ≡ arc_value a.view = c.deref-2.ensures in
-    subst (λ z. list_all (is_tiling z) c.args.leaves.tilings.items ≡ true) (sym at) (subst (λ L. list_all (is_tiling (arc_value a.view)) L ≡ true) (sym l.cut.tilings) r.tilings)
+    let at : c.view-2.result.now ≡ a.scene = c.view-2.ensures in
+    subst (λ z. list_all (is_tiling z) c.args.leaves.tilings.items ≡ true) (sym at) (subst (λ L. list_all (is_tiling a.scene) L ≡ true) (sym l.cut.tilings) r.tilings)
 
 pub list_all-requires-clause-once : goal.list_all-requires-clause-once
 list_all-requires-clause-once c =
@@ -41,9 +41,9 @@ returns-clause-keeps c =
     let a = c.args.parts.now in
     let x = c.remove-task.result in
     let l = c.requires.leaves.2 in
-    let at : c.deref.result.now ≡ arc_value a.view = c.deref.ensures in
+    let at : c.view.result.now ≡ a.scene = c.view.ensures in
     let ed : c.len-now.result ≡ length a.log = c.len-now.ensures in
-    let f0 : Opens a.log a.next c.deref.result.now (lists c.args.leaves.rests.items) c.in_ok-fresh.fresh.items = c.in_ok-fresh.ensures.ok a.log (sym ed) in
+    let f0 : Opens a.log a.next c.view.result.now (lists c.args.leaves.rests.items) c.in_ok-fresh.fresh.items = c.in_ok-fresh.ensures.ok a.log (sym ed) in
     let opens = subst (λ z. Opens a.log a.next z (lists c.args.leaves.rests.items) c.in_ok-fresh.fresh.items) at f0 in
     let is : x ≡ get_or a.tasks.items c.args.at x = search rules in
     let listed : c.list_all.new.self ≡ a.listed ++ c.args.leaves.tilings.items = c.in_ok-list_all.ensures.ok in
@@ -57,9 +57,9 @@ pub returns-clause-ok : goal.returns-clause-ok
 returns-clause-ok c =
     let a = c.args.parts.now in
     let x = c.remove-task.result in
-    let at : c.deref.result.now ≡ arc_value a.view = c.deref.ensures in
+    let at : c.view.result.now ≡ a.scene = c.view.ensures in
     let ed : c.len-now.result ≡ length a.log = c.len-now.ensures in
-    let f0 : Opens a.log a.next c.deref.result.now (lists c.args.leaves.rests.items) c.in_ok-fresh.fresh.items = c.in_ok-fresh.ensures.ok a.log (sym ed) in
+    let f0 : Opens a.log a.next c.view.result.now (lists c.args.leaves.rests.items) c.in_ok-fresh.fresh.items = c.in_ok-fresh.ensures.ok a.log (sym ed) in
     let opens = subst (λ z. Opens a.log a.next z (lists c.args.leaves.rests.items) c.in_ok-fresh.fresh.items) at f0 in
     let is : x ≡ get_or a.tasks.items c.args.at x = search rules in
     let listed : c.list_all.new.self ≡ a.listed ++ c.args.leaves.tilings.items = c.in_ok-list_all.ensures.ok in

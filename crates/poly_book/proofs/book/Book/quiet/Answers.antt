@@ -7,4 +7,4 @@ pub all_tilings-requires-clause-each : goal.all_tilings-requires-clause-each
 all_tilings-requires-clause-each c =
     let few : length c.self.inside.parts.tasks.items ≤ 0 = search rules in
     let e : c.all-listed.result.now ≡ c.self.inside.parts.listed = search rules in
-    rw e (partition_each (state_of c.self.inside.parts) c.self.invariant.whole.consistent.partition (none_pending c.self.inside.parts.log c.self.inside.parts.tasks.items few))
+    rw (c.shared.ensures, e) (partition_each (state_of c.self.inside.parts) c.self.invariant.whole.consistent.partition (none_pending c.self.inside.parts.log c.self.inside.parts.tasks.items few))

@@ -1,0 +1,32 @@
+use Rattle.std.proofs.Common.{ap, get_or, rules, subst, sym, true, ◌∙◌, ◌≡◌}
+use Rattle.poly_report.specs.Gather.{lists}
+use Rattle.poly_report.specs.Holds.{holds}
+use Rattle.poly_report.specs.Leaves.{rests, tilings}
+use Rattle.poly_report.specs.Shapes.{plan_of}
+use Rattle.poly_book.specs.Meaning.{IsTask, task_of}
+use Rattle.poly_book.specs.Tasks.{atoms_of}
+use Rattle.poly_book.proofs.Held.{task_at}
+use Rattle.poly_book.proofs.Taking.{leaves_at}
+use Rattle.poly_book.proofs.settle.explored_leaves.Goals as goal
+
+pub all_atoms-requires : goal.all_atoms-requires
+all_atoms-requires c =
+    let ps = c.args.parts.now.tasks.items in
+    let x = c.index.result.now in
+    let is : x ≡ get_or ps c.args.at x = search rules in
+    subst (λ p. IsTask c.args.parts.now.log p) (sym is) (task_at c.args.parts.now.log ps c.args.at x c.requires.keeps.tasks c.requires.place)
+
+pub returns-clause-leaves : goal.returns-clause-leaves
+returns-clause-leaves c =
+    let a = c.args.parts.now in
+    let ps = a.tasks.items in
+    let v = a.scene in
+    let x = c.index.result.now in
+    let u = task_of a.log x in
+    let tree = plan_of c.in_ok-found.found.tree in
+    let is : x ≡ get_or ps c.args.at x = search rules in
+    let atoms : c.deref.result.now ≡ atoms_of u = c.deref.ensures.value ∙ c.in_ok-atoms.ensures.ok in
+    let right : holds v (atoms_of u) tree ≡ true = sym (ap (λ A. holds v A tree) atoms) ∙ c.in_ok-found.ensures.holds in
+    let found : c.in_ok-found.found.leaves.tilings.items ≡ tilings v (atoms_of u) tree = c.in_ok-found.ensures.tilings ∙ ap (λ A. tilings v A tree) atoms in
+    let left : lists c.in_ok-found.found.leaves.rests.items ≡ rests v (atoms_of u) tree = c.in_ok-found.ensures.rests ∙ ap (λ A. rests v A tree) atoms in
+    (x.number, tree, leaves_at a x c.args.at tree c.in_ok-found.found.leaves.tilings.items (lists c.in_ok-found.found.leaves.rests.items) c.requires.keeps c.requires.place is c.in_ok-found.ensures.fits right found left)

@@ -1,0 +1,155 @@
+//! The design by numbers, with the cover matrix from which each task of that design is explored or checked.
+ghost use Rattle.std.specs.Prelude.{◌≡◌, ◌≤◌, IfErr, IfOk, MatchOption, None, false, true};
+ghost use Rattle.std.specs.Arc.{arc_value};
+ghost use Rattle.poly_frame.specs.Matrices.{IsWhole};
+ghost use Rattle.poly_report.specs.Gather.{IsCutUp, lists};
+ghost use Rattle.poly_report.specs.Holds.{holds};
+ghost use Rattle.poly_report.specs.Leaves.{rests, tilings};
+ghost use Rattle.poly_report.specs.Shapes.{plan_of};
+ghost use Rattle.poly_report.specs.Sizes.{fits};
+ghost use Rattle.poly_book.specs.Scenes.{IsMatrixOf};
+
+use poly_atom::Atom;
+use poly_grid::Refusal;
+use poly_report::{Leaves, Matrix, Tree, cut_up_over};
+use poly_search::{Explored, explore_over};
+use poly_tiling::View;
+use std::alloc::Global;
+use std::marker::Model;
+use std::sync::Arc;
+
+/// A design by numbers. Its matrix is made when a task first needs it, and then serves every task.
+#[derive(Drop)]
+pub(crate) struct Scene {
+    view: Arc<View>,
+    matrix: Option<Matrix>,
+}
+
+impl Model for Scene {
+    ghost use Rattle.std.specs.Arc.{arc_value};
+    ghost use Rattle.poly_tiling.specs.Puzzle.{View as ViewOf};
+    ghost use Rattle.poly_book.specs.Scenes.{IsMatrixOf};
+
+    ghost Value = { ViewOf };
+
+    ghost view = { λ s. arc_value s.view };
+
+    ghost invariant = { λ s. IsMatrixOf (arc_value s.view) s.matrix };
+}
+
+impl Scene {
+    /// The scene of a view. No matrix is made yet.
+    pub fn new(view: Arc<View>) -> Scene
+        ensures { result ≡ arc_value view }
+    {
+        Scene { view, matrix: None }
+    }
+
+    /// The view.
+    pub fn view(&self) -> &View
+        ensures { result.now ≡ self.now }
+    {
+        &self.view
+    }
+
+    /// The view, to be shared.
+    pub fn shared(&self) -> &Arc<View>
+        ensures { arc_value result.now ≡ self.now }
+    {
+        &self.view
+    }
+
+    /// What `poly_search::explore_with_leaves` answers.
+    pub fn explore(
+        &mut self,
+        alloc: Global,
+        atoms: &[Atom],
+        nodes: u32,
+    ) -> Result<Explored, Refusal>
+        requires some { 1 ≤ nodes }
+        requires few { nodes ≤ 4096 }
+        ensures stays { self.new ≡ self.old }
+        ensures fits { IfOk result (λ e. fits (plan_of e.tree) ≡ true) }
+        ensures holds { IfOk result (λ e. holds self.old atoms.now (plan_of e.tree) ≡ true) }
+        ensures tilings { IfOk result (λ e. e.leaves.tilings.items ≡ tilings self.old atoms.now (plan_of e.tree)) }
+        ensures rests { IfOk result (λ e. lists e.leaves.rests.items ≡ rests self.old atoms.now (plan_of e.tree)) }
+        ensures why { IfErr result (λ e. e ≡ Refusal.Memory) }
+    {
+        explore_from(alloc, &self.view, &mut self.matrix, atoms, nodes)
+    }
+
+    /// What `poly_report::cut_up` answers.
+    pub fn cut_up(
+        &mut self,
+        alloc: Global,
+        atoms: &[Atom],
+        tree: &Tree,
+    ) -> Result<Option<Leaves>, Refusal>
+        requires { fits (plan_of tree.now) ≡ true }
+        ensures stays { self.new ≡ self.old }
+        ensures value { IfOk result (λ o. MatchOption o (holds self.old atoms.now (plan_of tree.now) ≡ false) (λ l. IsCutUp self.old atoms.now (plan_of tree.now) l.tilings.items (lists l.rests.items))) }
+        ensures why { IfErr result (λ e. e ≡ Refusal.Memory) }
+    {
+        cut_up_from(alloc, &self.view, &mut self.matrix, atoms, tree)
+    }
+}
+
+// Explores the atoms with the matrix in the slot, which is made if the slot is empty.
+fn explore_from(
+    alloc: Global,
+    view: &View,
+    slot: &mut Option<Matrix>,
+    atoms: &[Atom],
+    nodes: u32,
+) -> Result<Explored, Refusal>
+    requires matrix { IsMatrixOf view.now slot.old }
+    requires some { 1 ≤ nodes }
+    requires few { nodes ≤ 4096 }
+    ensures matrix { IsMatrixOf view.now slot.new }
+    ensures fits { IfOk result (λ e. fits (plan_of e.tree) ≡ true) }
+    ensures holds { IfOk result (λ e. holds view.now atoms.now (plan_of e.tree) ≡ true) }
+    ensures tilings { IfOk result (λ e. e.leaves.tilings.items ≡ tilings view.now atoms.now (plan_of e.tree)) }
+    ensures rests { IfOk result (λ e. lists e.leaves.rests.items ≡ rests view.now atoms.now (plan_of e.tree)) }
+    ensures why { IfErr result (λ e. e ≡ Refusal.Memory) }
+{
+    let whole = take_matrix(alloc, view, slot)?;
+    let found = explore_over(alloc, view, &whole, atoms, nodes);
+    *slot = Some(whole);
+    found
+}
+
+// Checks the tree with the matrix in the slot, which is made if the slot is empty.
+fn cut_up_from(
+    alloc: Global,
+    view: &View,
+    slot: &mut Option<Matrix>,
+    atoms: &[Atom],
+    tree: &Tree,
+) -> Result<Option<Leaves>, Refusal>
+    requires matrix { IsMatrixOf view.now slot.old }
+    requires small { fits (plan_of tree.now) ≡ true }
+    ensures matrix { IsMatrixOf view.now slot.new }
+    ensures value { IfOk result (λ o. MatchOption o (holds view.now atoms.now (plan_of tree.now) ≡ false) (λ l. IsCutUp view.now atoms.now (plan_of tree.now) l.tilings.items (lists l.rests.items))) }
+    ensures why { IfErr result (λ e. e ≡ Refusal.Memory) }
+{
+    let whole = take_matrix(alloc, view, slot)?;
+    let cut = cut_up_over(alloc, view, &whole, atoms, tree);
+    *slot = Some(whole);
+    cut
+}
+
+// The view's matrix, taken out of its slot, or a new one if the slot is empty.
+fn take_matrix(alloc: Global, view: &View, slot: &mut Option<Matrix>) -> Result<Matrix, Refusal>
+    requires { IsMatrixOf view.now slot.old }
+    ensures whole { IfOk result (λ m. IsWhole view.now m) }
+    ensures empty { slot.new ≡ None }
+    ensures why { IfErr result (λ e. e ≡ Refusal.Memory) }
+{
+    match slot.take() {
+        Some(whole) => Ok(whole),
+        None => {
+            let whole = Matrix::new(alloc, view)?;
+            Ok(whole)
+        }
+    }
+}
