@@ -7,12 +7,12 @@ ghost use Rattle.poly_tiling.specs.Puzzle.{is_tiling};
 ghost use Rattle.poly_place.specs.Right.{IsRight};
 ghost use Rattle.poly_catalogue.specs.Listed.{AreOfEither, AreOnce};
 
+use crate::edits::edit_of;
 use poly_catalogue::Catalogue;
 use poly_design::{Design, Edit};
 use poly_grid::Refusal;
 use poly_place::{Delta, Plan, Table};
 use poly_search::search_all;
-use poly_text::{Command, asked};
 use poly_tiling::{Tiling, View};
 use std::alloc::Global;
 use std::time::Instant;
@@ -20,7 +20,7 @@ use std::{fs, io};
 
 /// Lists all tilings of the design, and keeps those that the edit leaves.
 pub fn measure(rt: &HostRuntime, design: &Design, line: &str) -> io::Result<()> {
-    let Ok(Some(Command::Edit(edit))) = asked(rt.alloc(), design.grid(), line.as_bytes()) else {
+    let Some(edit) = edit_of(rt.alloc(), design, line) else {
         return Ok(());
     };
     let Ok(mut table) = Table::of(rt.alloc(), design) else {

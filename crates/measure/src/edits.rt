@@ -1,17 +1,23 @@
-//! What an edit costs: its check, and the table's plan and make.
+//! What an edit costs: its check, the table's plan and make, and its guards, forth and back.
+ghost use Rattle.std.specs.Prelude.{IfOk};
+ghost use Rattle.std.specs.Arc.{arc_value};
+ghost use Rattle.poly_place.specs.Between.{IsChangeOf};
 ghost use Rattle.poly_place.specs.Right.{IsRight};
 
+use poly_atom::{both_guards, hopeless};
 use poly_design::{Design, Edit};
 use poly_grid::Refusal;
-use poly_place::Table;
+use poly_place::{Delta, Plan, Table};
 use poly_text::{Command, asked};
+use poly_tiling::View;
+use std::alloc::Global;
 use std::io;
 use std::time::Instant;
 
 /// Measures the edit that the line asks for. The design stays as it is.
 pub fn measure(rt: &HostRuntime, design: &Design, line: &str) -> io::Result<()> {
     let alloc = rt.alloc();
-    let Ok(Some(Command::Edit(edit))) = asked(alloc, design.grid(), line.as_bytes()) else {
+    let Some(edit) = edit_of(alloc, design, line) else {
         return println!(rt; "no edit: {line}");
     };
     let Ok(mut table) = Table::of(alloc, design) else {
@@ -21,8 +27,24 @@ pub fn measure(rt: &HostRuntime, design: &Design, line: &str) -> io::Result<()> 
     let answer = made(design, &mut table, &edit);
     let taken = begin.elapsed(rt)?.as_micros();
     match answer {
-        Ok(()) => println!(rt; "{line}: check, plan and make {taken} us"),
-        Err(refusal) => println!(rt; "{line}: {} after {taken} us", refusal.name()),
+        Ok(()) => println!(rt; "{line}: check, plan and make {taken} us")?,
+        Err(refusal) => return println!(rt; "{line}: {} after {taken} us", refusal.name()),
+    }
+    let Ok(mut table) = Table::of(alloc, design) else {
+        return println!(rt; "a table was refused");
+    };
+    match planned(design, &mut table, &edit) {
+        Ok((view, plan)) => measure_guards(rt, &view, &plan.view, &plan.delta),
+        Err(refusal) => println!(rt; "{line}: {}", refusal.name()),
+    }
+}
+
+/// Returns the edit that the line asks for.
+pub fn edit_of(alloc: Global, design: &Design, line: &str) -> Option<Edit> {
+    let command = asked(alloc, design.grid(), line.as_bytes());
+    match &command {
+        Ok(Some(Command::Edit(edit))) => Some(*edit),
+        _ => None,
     }
 }
 
@@ -40,4 +62,40 @@ fn made(design: &Design, table: &mut Table, edit: &Edit) -> Result<(), Refusal>
         },
         Err(refusal) => Err(refusal),
     }
+}
+
+// The view before the edit, and the edit's plan.
+fn planned(design: &Design, table: &mut Table, edit: &Edit) -> Result<(View, Plan), Refusal>
+    requires { IsRight table.old design.now }
+    ensures { IfOk result (λ p. IsChangeOf p.0 (arc_value p.1.view) p.1.delta) }
+{
+    // This call says that the design is within its limits.
+    let _cells = design.cells();
+    let view = table.view()?;
+    let change = design.check(edit)?;
+    match table.plan(design, &change) {
+        Ok(plan) => Ok((view, plan)),
+        Err(refusal) => Err(refusal),
+    }
+}
+
+// Measures the guards both ways, and whether those that lead forth are hopeless.
+fn measure_guards(rt: &HostRuntime, before: &View, after: &View, delta: &Delta) -> io::Result<()>
+    requires { IsChangeOf before.now after.now delta.now }
+{
+    let begin = Instant::now(rt)?;
+    let guards = both_guards(rt.alloc(), before, after, delta);
+    let taken = begin.elapsed(rt)?.as_micros();
+    let Ok(both) = guards else {
+        return println!(rt; "the guards were refused");
+    };
+    println!(rt;
+        "guards: {} forth and {} back, {taken} us",
+        both.forth.len(),
+        both.back.len()
+    )?;
+    let begin = Instant::now(rt)?;
+    let ends = hopeless(after, &both.forth);
+    let taken = begin.elapsed(rt)?.as_nanos();
+    println!(rt; "hopeless over the guards that lead forth: {ends}, {taken} ns")
 }
