@@ -1,0 +1,60 @@
+#!/usr/bin/env bash
+# Refuses each allocation of a test in turn, counting up until a run ends in which none was refused.
+#
+# The tests below make each call that found no memory a second time, and assert before that it has changed nothing. A run
+# with a refused allocation has to pass like one without. `rt test` proves and builds the tests, if the gate hasn't left
+# them in out/.
+. "$(dirname "${BASH_SOURCE[0]}")/setup.bash"
+
+# A crate, and the full name of one of its tests.
+tests='
+poly_desk tests::memory::a_day_without_memory
+'
+
+if ! cc -O1 -shared -fPIC -o "$room/refuse.so" tests/refuse_allocation.c -ldl; then
+    echo "failed: the C compiler, which the linker of the toolchain needs too, could not build tests/refuse_allocation.c"
+    echo "0 passed, 1 failed"
+    exit 1
+fi
+
+# Runs the test with each allocation refused in turn.
+play() {
+    local program=crates/$1/out/$1_tests name=$2 at=0 before=$failed status
+    if [ ! -x "$program" ]; then
+        (cd "crates/$1" && rt test) >"$room/building" 2>&1
+    fi
+    if [ ! -x "$program" ]; then
+        failed=$((failed + 1))
+        echo "failed: the tests of $1 could not be built"
+        tail -n 5 "$room/building"
+        return
+    fi
+    while :; do
+        at=$((at + 1))
+        rm -f "$room/refused"
+        REFUSE_AT=$at REFUSED="$room/refused" LD_PRELOAD="$room/refuse.so" timeout 60 "$program" "$name" >"$room/output" 2>&1
+        status=$?
+        if [ "$status" -ne 0 ]; then
+            failed=$((failed + 1))
+            echo "failed: $name with allocation $at refused (status $status)"
+            head -n 3 "$room/output"
+        fi
+        if [ ! -e "$room/refused" ]; then
+            break
+        fi
+    done
+    if [ "$at" -eq 1 ]; then
+        failed=$((failed + 1))
+        echo "failed: $name met no allocation"
+    elif [ "$failed" -eq "$before" ]; then
+        passed=$((passed + 1))
+    fi
+    echo "refused memory: $name, $((at - 1)) allocations" >&2
+}
+
+while read -r crate name; do
+    if [ -n "$crate" ]; then
+        play "$crate" "$name" </dev/null
+    fi
+done <<<"$tests"
+close
