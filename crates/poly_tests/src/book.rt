@@ -21,8 +21,9 @@ fn book_of(rt: &impl Abort, alloc: Global, puzzle: &[u8]) -> Book {
 
 // The edit of a command line.
 fn edit_of(rt: &impl Abort, alloc: Global, book: &Book, line: &[u8]) -> Edit {
-    match asked(alloc, book.design().grid(), line).expect(rt, "a command line") {
-        Some(Command::Edit(edit)) => edit,
+    let command = asked(alloc, book.design().grid(), line).expect(rt, "a command line");
+    match &command {
+        Some(Command::Edit(edit)) => *edit,
         _ => abort(rt),
     }
 }

@@ -48,13 +48,14 @@ pub(crate) fn change_of(alloc: Global, design: &Design, line: &[u8]) -> Result<C
     ensures stands { IfOk result (λ change. HasBefore design.now change) }
     ensures limits { IfOk result (λ change. IsDesign (changed design.now change)) }
 {
-    match asked(alloc, design.grid(), line) {
-        Ok(Some(Command::Edit(edit))) => match design.check(&edit) {
+    let command = asked(alloc, design.grid(), line);
+    match &command {
+        Ok(Some(Command::Edit(edit))) => match design.check(edit) {
             Ok(change) => Ok(change),
             Err(refusal) => Err(refusal),
         },
         Ok(_) => Err(Refusal::BadCommand),
-        Err(refusal) => Err(refusal),
+        Err(refusal) => Err(*refusal),
     }
 }
 
