@@ -1,4 +1,4 @@
--- The placements that a list of atoms asks for stand for the list.
+-- What a list of atoms asks for counts once, however often and in whichever order the list asks for it.
 use Rattle.std.proofs.Common.{Bool, List, [], ap, eqb, false, get_or, inl, inr, length, not, refl, set, subst, sym, take, true, ℕ, ◌++◌, ◌||◌, ◌&&◌, ◌+◌, ◌<◌, ◌∙◌, ◌∷◌, ◌≡◌, ◌≤◌}
 use Rattle.std.proofs.lemmas.Bool.{eq-eqb, eqb-true, or_cases, or_left, or_right, true≢false}
 use Rattle.std.proofs.lemmas.List.{take_all, take_more, take_more_set}

@@ -17,7 +17,7 @@ use crate::order::stands_in;
 use poly_design::Name;
 use poly_tiling::{Item, View, find_bound, has_number};
 
-// As many placements as lie beside one another on the largest board.
+// The most placements without a common cell: each covers one of at most 256 cells.
 const MOST_ASKED: usize = 256;
 
 /// Whether the atoms show by themselves that no tiling meets all of them: one asks for a placement that isn't there, that

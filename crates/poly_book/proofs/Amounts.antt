@@ -54,7 +54,7 @@ stays z y (x ∷ xs) (inl e) (inr j) = inr j
 stays z y (x ∷ xs) (inr i) (inl f) = inr (inl f)
 stays z y (x ∷ xs) (inr i) (inr j) = elim (stays z y xs i j) [ inl e ↦ inl e | inr k ↦ inr (inr k) ]
 
--- a list whose elements have partners in another one, no two the same, is no longer than that
+-- if each element of a list has a partner of its own in another list, the first list is not longer than the second
 pub partners : {X Y : Type 0} (R : X → Y → Type 0) (xs : List X) (ys : List Y) → AllPairs (λ x z. x ≢ z) xs → ((x : X) → In x xs → (y : Y) × In y ys × R x y) → ((x z : X) (y : Y) → R x y → R z y → x ≡ z) → length xs ≤ length ys
 partners R [] ys apart find single = omega arith
 partners {X} {Y} R (x ∷ xs) ys apart find single =

@@ -38,7 +38,7 @@ use Rattle.poly_book.proofs.Sharing.{tally_filter}
 use Rattle.poly_book.proofs.Applying.{leads_top, top_way}
 use Rattle.poly_tiling.proofs.Named.{tally_same_in}
 
--- tilings of the view that may be listed beside those that are listed
+-- tilings of the view that can be added to those already listed
 pub record Enters (w : View) (ls more : List (List ℕ)) : Type 0 where
   pub tilings : list_all (is_tiling w) more ≡ true
   pub once : AreOnce (ls ++ more)
@@ -114,6 +114,6 @@ cut_enters s k u tree p found right =
       once = partition_once (cut s k u tree) q;
     }
 
--- what is listed stands in the view from which the differences lead
+-- each listed tiling is a tiling of the view before the differences
 pub listed_either : (v t w : View) (d e : Layout) (x : Delta) (ls : List (List ℕ)) → WellNamed v → Grown v t → IsRight t d → IsPlanFor t d e w x → list_all (λ U. is_tiling v U) ls ≡ true → AreOfEither w x ls
 listed_either v t w d e x ls wn g r p only = of_plan t w d e x ls r p (all_from (is_tiling t) ls (λ U i. numbers_may_grow_lem v t U wn g ∙ all_in (λ V. is_tiling v V) ls only U i))
