@@ -1,15 +1,14 @@
 #!/usr/bin/env python3
-"""Proves and builds the program with every crate that it stands on.
+"""Proves and builds the program with every crate that it uses.
 
 usage: scripts/build.py
 
 Standard error says which crate is being proved, how many are done, and the time so far. A crate is proved as soon as
-the crates below it are, so crates that don't wait for each other are proved at the same time, on all processors. `rt`
-locks a crate together with all crates below it; each proof therefore runs in a folder of its own, which holds the
-sources and links to the libraries that are proved already. What was proved goes back to crates/NAME/out, where later
-runs of `rt` find it.
+the crates below it are, so crates that don't use each other are proved at the same time, on all processors. `rt` locks a
+crate together with all crates below it, so each proof runs in a folder of its own, which contains the sources and links
+to the libraries that are proved already. The result goes to crates/NAME/out, where later runs of `rt` find it.
 
-A second start waits until the first has ended. The exit status is 0 if the program is built, else 1; after a failed
+A second start waits until the first has ended. The exit status is 0 if the program is built, else 1. After a failed
 proof, standard error ends with the last lines of its log.
 """
 import fcntl
@@ -43,7 +42,7 @@ def read_crates():
 
 
 def below(uses, name):
-    """Returns the crates of the repository that the crate stands on, lowest first."""
+    """Returns the crates of the repository below the crate, lowest first."""
     found = []
     for library in uses[name]:
         if library in uses:
@@ -52,7 +51,7 @@ def below(uses, name):
 
 
 def size(name):
-    """Returns the bytes of a crate's sources, a rough measure of the time that its proof takes."""
+    """Returns the number of bytes of a crate's sources, a rough measure of the time that its proof takes."""
     files = [f"{at}/{it}" for part in SOURCES for at, _, names in os.walk(f"{ROOT}/crates/{name}/{part}") for it in names]
     return sum(os.path.getsize(it) for it in files)
 
@@ -74,7 +73,7 @@ def lay_out(room, uses, name):
 
 
 def prove(uses, name, jobs):
-    """Proves one crate and brings its library or program back. Returns nothing, or the end of the log if it failed."""
+    """Proves one crate and copies its library or program to its out/. Returns None, or the log if the proof failed."""
     out = f"{ROOT}/crates/{name}/out"
     os.makedirs(out, exist_ok=True)
     with tempfile.TemporaryDirectory(prefix=".room-", dir=out) as room:
@@ -100,7 +99,7 @@ def prove(uses, name, jobs):
 
 
 def chains(uses, names):
-    """Returns for each crate the size of the longest chain of crates that begins with it and leads up to the program."""
+    """Returns for each crate the size of the largest chain of crates from it up to the program."""
     longest = {}
     for name in reversed(names):
         above = [longest[it] for it in names if name in uses[it]]

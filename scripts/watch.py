@@ -1,15 +1,15 @@
 #!/usr/bin/env python3
-"""Runs the gate, says how far it is, and logs what each crate costs.
+"""Runs the gate, shows its progress, and logs what each crate costs.
 
 usage: scripts/watch.py LOG COMMAND [ARGUMENT ..]
 
 Runs the command, passes its output on to standard output, and ends with its exit status. Meanwhile:
-- Twice a second it looks at the checks that the command has started. A check belongs to a crate and to a phase: its
-  `proof`, the proof of its `tests`, or its must-fail `edits`.
+- Twice a second it looks at the checks that the command has started. Each check belongs to a crate and a phase: the
+  crate's `proof`, the proof of its `tests`, or its must-fail `edits`.
 - Every half minute standard error says how many crates are proved, which checks run, and the time so far.
 - At the end LOG has one line for each crate and phase, `CRATE PHASE BEGAN ENDED PROCESSOR CHECKS`: when its first
-  check began and its last one ended, the user and system time that they took, all in seconds, and how many there were.
-  The last line is `all all 0 ENDED PROCESSOR CHECKS` for the whole command, with all that it ran.
+  check began and its last one ended, the user and system time of its checks, all in seconds, and the number of checks.
+  The last line is `all all 0 ENDED PROCESSOR CHECKS` for the whole command and everything that it ran.
 benches/costs.py makes a table of such a log.
 """
 import os
@@ -40,7 +40,7 @@ def processes():
 
 
 def descendants(found, root):
-    """Returns the processes that the root has started, and those that these have started."""
+    """Returns the root and all processes below it."""
     children = {}
     for pid, (parent, _) in found.items():
         children.setdefault(parent, []).append(pid)
@@ -51,7 +51,7 @@ def descendants(found, root):
 
 
 def phase_of(pid):
-    """Returns the crate and phase that a process checks, or nothing if it is no check."""
+    """Returns the crate and phase that a process checks, or None if the process isn't a check."""
     try:
         with open(f"/proc/{pid}/cmdline", "rb") as file:
             words = file.read().decode(errors="replace").split("\0")
@@ -65,7 +65,7 @@ def phase_of(pid):
 
 
 class Watch:
-    """What has been seen of the checks."""
+    """The checks that were seen, by crate and phase."""
 
     def __init__(self):
         self.phases = {}
@@ -99,7 +99,7 @@ class Watch:
         return f"edit {len(self.phases[crate, phase]['checks'])}" if phase == "edits" else phase
 
     def line(self, crates):
-        """Returns how far the gate is, as one line."""
+        """Returns the progress of the gate, as one line."""
         now = ", ".join(f"{crate} ({self.what(crate, phase)})" for crate, phase in self.running)
         seconds = int(time.monotonic() - START)
         return f"{seconds // 60} min {seconds % 60:02} s: {len(self.proved)} of {crates} crates proved; now {now or 'the programs and tests run'}"

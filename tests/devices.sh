@@ -3,7 +3,7 @@
 . "$(dirname "${BASH_SOURCE[0]}")/setup.bash"
 dominoes='{"format":1,"grid":"square","board":["##","##"],"pieces":[{"name":"A","cells":[[0,0],[1,0]]},{"name":"B","cells":[[0,0],[1,0]]}]}'
 
-# Judges a run that left its standard output and error in the room: name, wanted status, status, wanted error.
+# Judges a run whose standard output and error are in the room: name, wanted status, status, wanted standard error.
 judge() {
     local name=$1 wanted=$2 status=$3 errors=$4
     printf '%s' "$errors" >"$room/wanted_errors"
@@ -17,7 +17,7 @@ judge() {
     fi
 }
 
-# The program on a file as its standard input: name, file, wanted output, wanted status.
+# Runs the program with a file as its standard input: name, file, wanted output, wanted status.
 on_file() {
     printf '%s' "$3" >"$room/wanted"
     ./polybench <"$2" >"$room/output" 2>"$room/errors"
@@ -34,7 +34,7 @@ else
     echo "failed: help (status $status)"
 fi
 
-# An argument that has to be refused before any input is read: its text goes to standard error.
+# An argument that must be refused before any input is read, with a text on standard error.
 refused_argument() {
     local status
     ./polybench "$1" </dev/null >"$room/output" 2>"$room/errors"
@@ -57,7 +57,7 @@ refused_argument '--turns=x'
 refused_argument '--workers=2'
 refused_argument "$(printf '\377')"
 
-# No byte at all is a puzzle line of no bytes.
+# An empty input is an empty puzzle line.
 on_file "empty input" /dev/null $'no 1 BadJson\n' 1
 
 # A directory can't be read.
@@ -84,7 +84,7 @@ judge "a full device as standard output" 3 "$status" $'polybench: write fault\n'
 printf 'ok ' >"$room/wanted"
 judge "a closed pipe" 3 "$(cat "$room/status")" $'polybench: write fault\n'
 
-# The last line may lack its end, and each reply comes before the next line is read.
+# The last line needs no line feed, and each reply is written before the next line is read.
 printf '%s\ncount' "$dominoes" >"$room/input"
 on_file "a last line without its end" "$room/input" $'ok 0\ntilings 4\n' 0
 printf '%s\r\ncount\r\n   \n count  \n' "$dominoes" >"$room/input"

@@ -1,9 +1,8 @@
 #!/usr/bin/env bash
 # Refuses each allocation of a test in turn, counting up until a run ends in which none was refused.
 #
-# The tests below make each call that found no memory a second time, and assert before that it has changed nothing. A run
-# with a refused allocation has to pass like one without. `rt test` proves and builds the tests, if the gate hasn't left
-# them in out/.
+# If a call runs out of memory, the tests below assert that it changed nothing, and make it a second time. So a run with a
+# refused allocation must pass like one without. `rt test` proves and builds the tests, unless the gate has left them in out/.
 . "$(dirname "${BASH_SOURCE[0]}")/setup.bash"
 
 # A crate, and the full name of one of its tests.
@@ -17,7 +16,7 @@ if ! cc -O1 -shared -fPIC -o "$room/refuse.so" tests/refuse_allocation.c -ldl; t
     exit 1
 fi
 
-# Runs the test with each allocation refused in turn.
+# Runs the test once for each of its allocations, which is refused.
 play() {
     local program=crates/$1/out/$1_tests name=$2 at=0 before=$failed status
     if [ ! -x "$program" ]; then

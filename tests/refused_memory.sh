@@ -1,10 +1,9 @@
 #!/usr/bin/env bash
 # Refuses each allocation of the program in turn, counting up until a run ends in which none was refused.
 #
-# In place of one reply there may then stand `no 22 Memory`, and nothing else may change: the command that was refused
-# has left no trace, so all other replies are those of the script without it, but for the numbers of `status`: a question
-# that is refused keeps what was found until then. Where the arguments can't be read for want of memory, they are refused, and
-# nothing is answered.
+# One reply may then be `no 22 Memory`, and nothing else may change: the refused command leaves no trace, so all other
+# replies are those of the session without it. Only the numbers of `status` may differ, since a refused question keeps what
+# was found until then. If there is no memory to read the arguments, they are refused, and nothing is answered.
 . "$(dirname "${BASH_SOURCE[0]}")/setup.bash"
 
 if ! cc -O1 -shared -fPIC -o "$room/refuse.so" tests/refuse_allocation.c -ldl; then
@@ -15,13 +14,13 @@ fi
 ./polybench </dev/null >/dev/null 2>&1
 program=crates/polybench/out/polybench
 
-# The replies of a run, one to a line: the lines of a list or an answer are joined, and of `status` only the edition is kept.
+# Prints the replies of a run, one to a line: joins the lines of a list or an answer, and keeps only the edition of `status`.
 replies() {
     sed 's/^\(status edition [0-9]*\) .*/\1/' "$1" |
         awk '{ line = line $0 "\1" } !/^(tiling|forced|item) / { print line; line = "" } END { if (line != "") print line }'
 }
 
-# Whether the run's replies are those of the script, or of the script without the command that was refused.
+# Tells whether the run's replies are those of the session, or of the session without the command that was refused.
 is_right() {
     local status=$1 at
     replies "$room/output" >"$room/replies"
@@ -43,7 +42,7 @@ is_right() {
     fi
 }
 
-# Plays the transcript with each allocation refused in turn.
+# Plays the transcript once for each of its allocations, which is refused.
 play() {
     local name=$1 at=0 before=$failed status
     sed -n 's/^> //p' "tests/transcripts/$name.txt" | grep -v '^ *$' >"$room/input"

@@ -1,11 +1,10 @@
 #!/usr/bin/env bash
-# Plays the transcripts tests/transcripts/*.txt, those that README.md and docs/GUIDE.md show, and the sessions
-# examples/*.txt on the built program, and compares what it answers.
+# Plays the transcripts tests/transcripts/*.txt, those of README.md and docs/GUIDE.md, and the sessions examples/*.txt with
+# the built program, and compares its replies.
 #
-# In a transcript a line that begins with `> ` is typed, and the lines after it are what the program answers; a line
-# that begins with `#` is for the reader, but `# status N` says that the program has to end with status N, not 0, and
-# `# arguments WORD..` gives the program's arguments. The blocks of a document between ```text and ``` are one transcript
-# together, up to the next puzzle line.
+# In a transcript a line that begins with `> ` is typed, and the lines after it are the replies. A line that begins with `#`
+# is a comment, but `# status N` says that the program must end with status N, not 0, and `# arguments WORD..` gives the
+# program's arguments. The blocks of a document between ```text and ``` belong to one transcript, up to the next puzzle line.
 . "$(dirname "${BASH_SOURCE[0]}")/setup.bash"
 
 # Plays the transcript in the file under the name.
