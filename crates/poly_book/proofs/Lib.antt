@@ -5,7 +5,12 @@ pub mod Moves
 pub mod Traces
 pub mod Lasting
 pub mod Taken
+pub mod Along
+pub mod QuietShelves
+pub mod Coming
+pub mod Turning
 pub mod Stillness
+pub mod Regained
 pub mod Proved
 pub mod Held
 pub mod Changes

@@ -9,7 +9,9 @@ use Rattle.poly_book.specs.Whole.{Runs, Whole}
 use Rattle.poly_book.proofs.Moves.{becomes_consistent, opening_consistent, step_consistent}
 use Rattle.poly_book.proofs.Traces.{becomes_replay, opening_replay, step_replay}
 use Rattle.poly_book.proofs.Lasting.{HoldsAt, becomes_holds, becomes_rises, holds_now, holds_then, step_holds, step_rises}
-use Rattle.poly_book.proofs.Stillness.{becomes_stays_quiet, opening_stays_quiet, quiet_redo, quiet_shelves_are_kept, quiet_undo, step_stays_quiet}
+use Rattle.poly_book.proofs.QuietShelves.{quiet_shelves_are_kept}
+use Rattle.poly_book.proofs.Stillness.{becomes_stays_quiet, opening_stays_quiet, step_stays_quiet}
+use Rattle.poly_book.proofs.Regained.{quiet_redo, quiet_undo}
 pub use Rattle.poly_book.proofs.Taken.{listed_stay_lem}
 
 pub openings_are_whole_lem : OpeningsAreWhole
