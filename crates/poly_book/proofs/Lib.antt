@@ -17,6 +17,7 @@ pub mod Changes
 pub mod Applying
 pub mod Tops
 pub mod Places
+pub mod Halving
 pub mod Taking
 pub mod Running
 pub mod Settles

@@ -72,7 +72,7 @@ at_left k [] m h = absurd h
 at_left k (p ∷ ps) zero h = omega arith
 at_left k (p ∷ ps) (suc m) h = omega (arith, at_left k ps m h.1)
 
-behind : (m n : ℕ) (log : List (List Atom)) (ps : List Pending) (i : ℕ) (d : Pending) → Rising m (tasks_of log ps) n → i < length ps → m ≤ (get_or ps i d).number
+pub behind : (m n : ℕ) (log : List (List Atom)) (ps : List Pending) (i : ℕ) (d : Pending) → Rising m (tasks_of log ps) n → i < length ps → m ≤ (get_or ps i d).number
 behind m n log [] i d r l = absurd (omega (arith, l))
 behind m n log (p ∷ ps) zero d r l = r.0
 behind m n log (p ∷ ps) (suc i) d r l = omega (arith, r.0, behind (p.number + 1) n log ps i d r.1 (omega (arith, l)))

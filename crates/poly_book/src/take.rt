@@ -1,6 +1,7 @@
 //! Taking tasks. Taking changes nothing, so two workers may take one task.
 ghost use Rattle.std.specs.Prelude.{◌≡◌, IfErr, IfOk, MatchOption, length};
 ghost use Rattle.std.specs.Arc.{arc_value};
+ghost use Rattle.std.specs.List.Sorted.{IsNonDecreasingBy};
 ghost use Rattle.poly_book.specs.Jobs.{IsMissing, IsTaken};
 ghost use Rattle.poly_book.specs.Keeps.{Keeps, state_of};
 ghost use Rattle.poly_book.specs.Meaning.{IsTask, task_of};
@@ -104,14 +105,14 @@ fn make_job(parts: &Parts, task: &Pending) -> Result<Job, Refusal>
     })
 }
 
-// The first number from there on.
+// The first number from there on, found by halving.
 fn first_from(tasks: &[Pending], from: u32) -> Option<u32>
+    requires { IsNonDecreasingBy (λ p. p.number) tasks.now }
     ensures { result ≡ number_from from tasks.now }
 {
-    for task in tasks {
-        if from <= task.number {
-            return Some(task.number);
-        }
+    let place = tasks.partition_point(|task| task.number < from);
+    if place < tasks.len() {
+        return Some(tasks[place].number);
     }
     None
 }
