@@ -150,7 +150,7 @@ kept_covers qs (covers j) having lacking covering more are_sets i read is kept =
   not_made = λ e. still_none qs (covers j) (kept.not_made e);
 }
 
--- cells that make no set
+-- a list of cells that makes no set
 none_has : (qs : List Query) (n : Named) → (AreFewDistinct n.1 → ⊥) → NoSets (qs ++ has n ∷ [])
 none_has qs n none sets = none (sets_before (had qs) n (subst MakeSets (had_more qs (has n)) sets.0)).1
 
@@ -167,7 +167,7 @@ kept_no_lacks qs (has n) having lacking covering read = absurd read
 kept_no_lacks qs (lacks n) having lacking covering read = record { made = λ e. absurd (false≢true e); not_made = λ e. none_lacks qs n read }
 kept_no_lacks qs (covers i) having lacking covering read = absurd read
 
--- what comes of all words
+-- the question of all words
 pub gathered : (total : Result (List Query) Refusal) (qs : List Query) (q : Asked) → total ≡ Ok qs → IsQuestion qs q → Follows {B = Asked} total (λ queries. QuestionSays queries (Ok q)) (Ok q)
 gathered total qs q is made = rw is made
 

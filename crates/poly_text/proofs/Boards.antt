@@ -114,7 +114,7 @@ rows_more y vs v lt is =
     rows_of_append [] w = refl
     rows_of_append (x ∷ ws) w = ap (λ z. json.text (view x) ∷ z) (rows_of_append ws w)
 
--- what a board is within
+-- the limits of a board
 pub board_bounds : (vs : List Value) (y : ℕ) (v : Value) → is_board (rows_of vs) ≡ true → y < length vs → v ≡ get_or vs y v → (y < 64) × (length (json.text (view v)) ≤ 64)
 board_bounds vs y v board lt is =
     let parts = and_parts (nat_le (length (rows_of vs)) 64) (list_all is_row (rows_of vs)) board in

@@ -48,7 +48,7 @@ kept_more room new done count c lt is same counted kept =
     let whole : take (length room) (done ++ c ∷ []) ≡ done ++ c ∷ [] = take_all (length room) (done ++ c ∷ []) (omega (arith, few, lt, length-append done (c ∷ []))) in
     ap (take (count + 1)) is ∙ take_more_set room count c lt ∙ ap (λ z. z ++ c ∷ []) (kept ∙ all) ∙ sym whole ∙ ap (λ k. take k (done ++ c ∷ [])) (sym same)
 
--- there is none
+-- there is no room for one cell more
 pub kept_same : (room done : List Spot) (count : ℕ) (c : Spot) → length room ≤ count → count ≡ min (length done) (length room) → take count room ≡ take (length room) done
     → take count room ≡ take (length room) (done ++ c ∷ [])
 kept_same room done count c full counted kept = kept ∙ sym (take-append-le (length room) done (c ∷ []) (omega (arith, full, counted)))

@@ -20,6 +20,6 @@ pub listed_is : (text : List ℕ) (parts now again : List (Bor (List ℕ))) (for
     → listed_cells text ≡ cells_of (texts again)
 listed_is text parts now again formed same view is all view_again = rw (formed_parts text parts now formed same view is ∙ all) (ap cells_of (sym same ∙ ap texts (sym view_again)))
 
--- one has another form
+-- one part has another form
 pub listed_not : (text : List ℕ) (parts now : List (Bor (List ℕ))) (formed : Bool) → texts parts ≡ parts_of text → now ≡ parts → formed ≡ list_all is_formed now → formed ≡ false → listed_cells text ≡ Err BadCommand
 listed_not text parts now formed same view is other = rw (formed_parts text parts now formed same view is ∙ other) refl

@@ -13,7 +13,7 @@ use Rattle.poly_text.specs.Words.{is_number, number_of, coordinate_of}
 least_of : (v d M : ℕ) → min (min (min v M * 10) M + d) M ≡ min (v * 10 + d) M
 least_of v d M = omega arith
 
--- one more digit, where M stands for what is larger
+-- one more digit; a number over M is read as M
 pub number_step : (word : List ℕ) (i b number digit scaled new M : ℕ) → i < length word → b ≡ get_or word i 0 → number ≡ min (digits_value 10 (take i word)) M
     → digit ≡ digit_value b → scaled ≡ min (number * 10) M → new ≡ min (scaled + digit) M → new ≡ min (digits_value 10 (take (i + 1) word)) M
 number_step word i b number digit scaled new M lt is so_far value times plus =
@@ -40,7 +40,7 @@ short_number word digits short =
     let most : 10 ^ length word ≤ 10 ^ 9 = pow-le-pow_right (lit< tt) short in
     omega (arith, below, most)
 
--- a number of at most 9 digits fits
+-- a number of at most 9 digits fits into 64 bits
 pub short_is : (word : List ℕ) → length word ≤ 9 → option_map (λ n. min n (2 ^ 64 - 1)) (number_of word) ≡ coordinate_of word
 short_is word short = go (is_number word) refl
   where

@@ -5,7 +5,7 @@ use Rattle.poly_grid.specs.Spot.{Spot}
 use Rattle.poly_design.specs.declared.mode.Mode.{Mode}
 use Rattle.poly_design.specs.declared.mode.Mode.TheVariants.{Required, Optional}
 
--- what a character says of its cell, where it is not blocked
+-- the mode that a character gives its cell, or none if the cell is blocked
 abbrev pub open_mode : ℕ → Option Mode
 open_mode byte = if byte == 35 then Some Required else (if byte == 43 then Some Optional else None)
 
@@ -41,7 +41,7 @@ cells_from y (row ∷ rows) = row_cells 0 y row ++ cells_from (suc y) rows
 abbrev pub board_cells : List (List ℕ) → List (Spot × Mode)
 board_cells rows = cells_from 0 rows
 
--- each cell comes before that place, by 64 places to a row
+-- each cell comes before the place, which counts the cells of a board by rows of 64
 abbrev pub AreBefore : ℕ → List (Spot × Mode) → Type 0
 AreBefore place [] = Unit {0}
 AreBefore place (e ∷ es) = (64 * e.0.y + e.0.x < place) × (e.0.x < 64) × AreBefore place es

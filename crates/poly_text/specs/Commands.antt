@@ -1,4 +1,4 @@
--- Command lines: the commands, what their words may be, and what they come to.
+-- Command lines: the commands, the words that they take, and what they ask for.
 use Rattle.std.specs.Prelude.{◌≡◌, ℕ, ◌&&◌, Bool, true, false, List, [], ◌∷◌, codes, length, take, drop, nat_lt, if◌then◌else◌, Option, Some, None, is_some, Result, Ok, Err}
 use Rattle.std.specs.Str.{bytes_eq}
 use Rattle.poly_grid.specs.Spot.{Spot}
@@ -22,11 +22,11 @@ use Rattle.poly_text.specs.Queries.{Query, query_of, QuestionSays}
 use Rattle.poly_text.specs.Sets.{SetSays}
 use Rattle.poly_text.specs.Words.{words_of, need_of, switch_of, mode_of, number_of, cell_of, cells_of, read_each}
 
--- what may stand at a place of a command
+-- the kinds of words of a command
 pub data Kind : Type 0 where
   a_name a_need a_switch a_mode a_number a_cell : Kind
 
--- what a word of a kind stands for
+-- what a word of each kind gives
 abbrev pub Meaning : Kind → Type 0
 Meaning a_name = List ℕ
 Meaning a_need = Need
@@ -43,7 +43,7 @@ meaning_of a_mode word = ok_or (mode_of word) BadCommand
 meaning_of a_number word = ok_or (number_of word) BadCommand
 meaning_of a_cell word = cell_of word
 
--- keywords are judged before the words that say more
+-- Whether the word can be of the kind, as far as keywords tell. They are judged before all other words.
 abbrev pub is_fit : Kind → List ℕ → Bool
 is_fit a_name word = true
 is_fit a_need word = is_some (need_of word)
@@ -52,25 +52,25 @@ is_fit a_mode word = is_some (mode_of word)
 is_fit a_number word = true
 is_fit a_cell word = true
 
--- there are as many words as places, and each keyword is one of its place
+-- there are as many words as kinds, and each keyword is one of its kind
 abbrev pub are_fit : List Kind → List (List ℕ) → Bool
 are_fit [] [] = true
 are_fit [] (word ∷ words) = false
 are_fit (kind ∷ kinds) [] = false
 are_fit (kind ∷ kinds) (word ∷ words) = is_fit kind word && are_fit kinds words
 
--- what takes a value for each place
+-- a function that takes a value for each kind
 abbrev pub Takes : List Kind → Type 0 → Type 0
 Takes [] A = A
 Takes (kind ∷ kinds) A = Meaning kind → Takes kinds A
 
--- what f makes of the words, or the refusal of the leftmost word that is refused
+-- f of the values of the words, or the refusal of the leftmost word that is refused
 abbrev pub from_left : {A : Type 0} → (kinds : List Kind) → Takes kinds A → List (List ℕ) → Result A Refusal
 from_left [] f words = Ok f
 from_left (kind ∷ kinds) f [] = Err BadCommand
 from_left (kind ∷ kinds) f (word ∷ words) = meaning_of kind word >>= λ value. from_left kinds (f value) words
 
--- what a command comes to once its words are read: itself, or an edit by what its numbers or its cells make
+-- what the words of a command give: the command, or numbers, cells or queries that are judged after all words are read
 pub data Outcome : Type 0 where
   just : Command → Outcome
   of_copies : ℕ → ℕ → (Bounds → Edit) → Outcome
@@ -78,7 +78,7 @@ pub data Outcome : Type 0 where
   of_shape : List Spot → (Figure → Edit) → Outcome
   of_question : List Query → Outcome
 
--- a command by its first word and the places after it; one or more cells may follow them, or any number of queries the first word
+-- A command by its first word and the kinds of the words after it. One or more cells may follow, or any number of queries.
 pub data Form : Type 0 where
   form : List ℕ → (kinds : List Kind) → Takes kinds Outcome → Form
   form_with_cells : List ℕ → (kinds : List Kind) → Takes kinds (List Spot → Outcome) → Form
@@ -110,7 +110,7 @@ first_word (form first kinds f) = first
 first_word (form_with_cells first kinds f) = first
 first_word (form_of_queries first) = first
 
--- the words after the first: their number and the keywords are judged first, and then each word from the left
+-- reads the words after the first: judges their number and the keywords, and then each word from the left
 abbrev pub read : Form → List (List ℕ) → Result Outcome Refusal
 read (form first kinds f) words = check (are_fit kinds words) BadCommand >>= λ _. from_left kinds f words
 read (form_with_cells first kinds f) words = do
@@ -120,7 +120,7 @@ read (form_with_cells first kinds f) words = do
   Ok (made cells)
 read (form_of_queries first) words = read_each query_of words >>= λ queries. Ok (of_question queries)
 
--- the words after the first by the form of that first word
+-- reads the words after the first by the form with that first word
 abbrev pub read_by : List Form → List ℕ → List (List ℕ) → Result Outcome Refusal
 read_by [] first words = Err BadCommand
 read_by (f ∷ fs) first words = if bytes_eq first (first_word f) then read f words else read_by fs first words
@@ -135,25 +135,25 @@ ComesTo g (of_set cells f) r = (set : Result (List Spot) Refusal) × SetSays cel
 ComesTo g (of_shape cells f) r = (shape : Result Figure Refusal) × ShapeSays g cells shape × (r ≡ edit_by f shape)
 ComesTo g (of_question queries) r = (q : Result Asked Refusal) × QuestionSays queries q × (r ≡ (q >>= λ asked. Ok (command.Browse asked)))
 
--- the command of a form with the words after its first one
+-- r is the command of the form with these words after the first, or the first refusal
 abbrev pub FormSays : Grid → Form → List (List ℕ) → Result Command Refusal → Type 0
 FormSays g f words r = Follows (read f words) (λ outcome. ComesTo g outcome r) r
 
--- the command that the words are on a grid, or their first refusal
+-- r is the command that the words give on the grid, or their first refusal
 abbrev pub CommandSays : Grid → List (List ℕ) → Result Command Refusal → Type 0
 CommandSays g [] r = r ≡ Err BadCommand
 CommandSays g (first ∷ words) r = Follows (read_by forms first words) (λ outcome. ComesTo g outcome r) r
 
--- whatever edit f makes of a name and a set of cells, the words say that edit
+-- r is the name and the set of cells that the words give, or their first refusal, whatever edit f takes these
 abbrev pub NamedSays : List (List ℕ) → Result (List ℕ × List Spot) Refusal → Type 0
 NamedSays words r = (g : Grid) (f : List ℕ → List Spot → Edit)
     → FormSays g (form_with_cells [] (a_name ∷ []) (λ name cells. of_set cells (λ set. f name set))) words (r >>= λ n. Ok (command.Edit (f n.0 n.1)))
 
--- the command of some words, or none where there is no word
+-- the command of the words, or none if there are no words
 abbrev pub AskedBy : Grid → List (List ℕ) → Result (Option Command) Refusal → Type 0
 AskedBy g [] r = r ≡ Ok None
 AskedBy g (first ∷ words) r = (c : Result Command Refusal) × CommandSays g (first ∷ words) c × (r ≡ (c >>= λ x. Ok (Some x)))
 
--- what a line asks for: nothing, where it has no word
+-- what a line asks for: nothing if it has no words
 abbrev pub Asks : Grid → List ℕ → Result (Option Command) Refusal → Type 0
 Asks g line r = AskedBy g (words_of line) r

@@ -1,4 +1,4 @@
--- What a piece object says, without its shape.
+-- The fields of a piece object, before its cells are judged as a shape.
 use Rattle.std.specs.Prelude.{ℕ, ◌+◌, ◌&&◌, ◌==◌, Bool, true, false, List, [], ◌∷◌, codes, nat_le, nat_lt, if◌then◌else◌, Option, Some, None, option_map, option_and_then, unwrap_or}
 use Rattle.std.specs.Str.{bytes_eq}
 use Rattle.std.specs.List.{list_all}
@@ -33,22 +33,22 @@ copies_of least most = when (nat_le least most && nat_le most 16) (record { leas
 abbrev pub copies_of_text : List ℕ → Option Bounds
 copies_of_text t = if bytes_eq t (codes "required") then copies_of 1 1 else (if bytes_eq t (codes "optional") then copies_of 0 1 else None)
 
--- the copies by `need`: one where it is left out
+-- the copies by `need`: exactly one if the key is missing
 abbrev pub copies_by_need : Option Data → Option Bounds
 copies_by_need None = copies_of 1 1
 copies_by_need (Some d) = option_and_then copies_of_text (as_str d)
 
--- whether the piece may be turned over: it may where nothing is said
+-- whether the piece may be turned over: it may if the key is missing
 abbrev pub mirror_of : Option Data → Option Bool
 mirror_of None = Some true
 mirror_of (Some d) = as_bool d
 
--- how many keys
+-- how many keys an optional field adds
 abbrev pub present : Option Data → ℕ
 present None = 0
 present (Some d) = 1
 
--- Counting the keys tells that there is no other, since an object has each key once.
+-- An object has each key once, so counting the keys tells that it has no other.
 unfoldable pub fields_one : Data → Option Fields
 fields_one d = do
   ms ← as_object d

@@ -36,7 +36,7 @@ head_of d = do
   pieces ← check (nat_le (length outer.pieces) 64) TooManyPieces
   Ok (record { format = format; grid = grid; rows = map json.text outer.board; pieces = outer.pieces })
 
--- what an outer object that is not refused is within
+-- the limits that an accepted outer object keeps
 pub record IsWithin (h : Head) : Type 0 where
   pub board : is_board h.rows ≡ true
   pub cells : length (board_cells h.rows) ≤ 256

@@ -12,7 +12,7 @@ pub record Outer : Type 0 where
   pub board : List Data
   pub pieces : List Data
 
--- exactly these keys, each value of its kind (an object has each key once)
+-- An object has each key once, so four keys are exactly these.
 unfoldable pub outer_of : Data → Option Outer
 outer_of d = do
   ms ← as_object d

@@ -36,7 +36,7 @@ pub record MakeShape (g : Grid) (cells : List Spot) : Type 0 where
   pub few : AreFewDistinct cells
   pub connected : IsConnected g cells
 
--- the shape that the cells make, or a refusal where they make none
+-- the shape that the cells make, or a refusal if they make none
 abbrev pub ShapeSays : Grid → List Spot → Result Figure Refusal → Type 0
 ShapeSays g cells (Ok s) = MakeShape g cells × (s.grid ≡ g) × IsImage g 0 cells s.cells
 ShapeSays g cells (Err e) = (e ≡ BadShape) × (MakeShape g cells → ⊥)
@@ -58,7 +58,7 @@ spec_of taken s shape = if has_name taken s.name then Err NameTaken else Ok (new
 abbrev pub SpecSays : Grid → Pieces → Said → Result Spec Refusal → Type 0
 SpecSays g taken s r = (shape : Result Figure Refusal) × ShapeSays g s.cells shape × (r ≡ (shape >>= spec_of taken s))
 
--- the pieces one after the other, each beside those taken before
+-- r is the pieces of the list after those that are taken, or the first refusal
 abbrev pub PiecesSay : Format → Grid → List Data → Pieces → Result Pieces Refusal → Type 0
 PiecesSay format g [] taken r = r ≡ Ok taken
 PiecesSay format g (d ∷ ds) taken r = Follows (said_of format d)

@@ -12,7 +12,7 @@ use Rattle.poly_text.specs.Gives.{◌>>=◌, ok_or, Follows}
 use Rattle.poly_text.specs.Head.{Head, head_of}
 use Rattle.poly_text.specs.Piece.{Pieces, PiecesSay}
 
--- the value of JSON that the line is
+-- the JSON value of the line
 abbrev pub json_of : List ℕ → Option Data
 json_of line = if is_utf8 line then read line else None
 
@@ -22,7 +22,7 @@ judged line = ok_or (json_of line) BadJson >>= head_of
 abbrev pub layout_of : Head → Pieces → Layout
 layout_of h pieces = record { grid = h.grid; cells = board_cells h.rows; pieces = pieces }
 
--- the design of a layout, or a refusal where it has too many placements
+-- the design of the layout, or a refusal if it has too many placements
 abbrev pub DesignSays : Layout → Result Layout Refusal → Type 0
 DesignSays layout (Ok d) = (d ≡ layout) × FewPlacements layout
 DesignSays layout (Err e) = (e ≡ TooManyPlacements) × (FewPlacements layout → ⊥)

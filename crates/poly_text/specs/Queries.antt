@@ -31,13 +31,13 @@ named_cells text = do
   cells ← listed_cells (drop (equals + 1) text)
   Ok (name, cells)
 
--- a cell where there is a comma, and else the name of a piece
+-- a cell if the text has a comma, else the name of a piece
 unfoldable pub item_of : List ℕ → Result Item Refusal
 item_of text =
     if is_some (position (λ b. b == 44) text) then (cell_of text >>= λ c. Ok (Cell c))
     else (ok_or (name_of text) BadName >>= λ n. Ok (Piece n))
 
--- a word by its first byte: a plus, a minus or an at sign
+-- what a word asks, by its first byte: a plus, a minus or an at sign
 abbrev pub query_of : List ℕ → Result Query Refusal
 query_of [] = Err BadCommand
 query_of (first ∷ text) =
@@ -65,7 +65,7 @@ covered (has n ∷ queries) = covered queries
 covered (lacks n ∷ queries) = covered queries
 covered (covers i ∷ queries) = i ∷ covered queries
 
--- the placement of the name with the set of the cells, or none where they make no set
+-- the placement of the name and the set of the cells, or none if they make no set
 abbrev pub Makes : Named → Option Placement → Type 0
 Makes n (Some p) = (p.name ≡ n.0) × MakesSet n.1 (Some p.cells)
 Makes n None = MakesSet n.1 None
@@ -82,13 +82,13 @@ abbrev pub MakeSets : List Named → Type 0
 MakeSets [] = Unit {0}
 MakeSets (n ∷ ns) = AreFewDistinct n.1 × MakeSets ns
 
--- the question of these words
+-- q is the question that the queries make
 pub record IsQuestion (queries : List Query) (q : Asked) : Type 0 where
   pub has : AreMade (had queries) q.has
   pub lacks : AreMade (lacked queries) q.lacks
   pub covers : q.covers ≡ covered queries
 
--- the question of these words, or a refusal where a list of cells makes no set
+-- the question that the queries make, or a refusal if a list of cells makes no set
 abbrev pub QuestionSays : List Query → Result Asked Refusal → Type 0
 QuestionSays queries (Ok q) = IsQuestion queries q
 QuestionSays queries (Err e) = (e ≡ BadShape) × (MakeSets (had queries) × MakeSets (lacked queries) → ⊥)

@@ -1,4 +1,4 @@
--- What a word of `browse` is kept as while the others are read.
+-- How a word of `browse` is kept while the other words are read.
 use Rattle.std.specs.Prelude.{◌≡◌}
 use Rattle.poly_text.specs.declared.command.queries.QueryWord as kept
 use Rattle.poly_text.specs.declared.command.queries.QueryWord.TheVariants as kept_as

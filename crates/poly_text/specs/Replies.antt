@@ -23,11 +23,11 @@ step_text (Err e) = refusal_text e
 abbrev pub tilings_text : ℕ → List ℕ
 tilings_text n = codes "tilings " ++ decimal n ++ 10 ∷ []
 
--- a cell: its column and its row with a comma between
+-- the column and the row of a cell, with a comma between them
 abbrev pub cell_text : Spot → List ℕ
 cell_text c = decimal c.x ++ 44 ∷ decimal c.y
 
--- cells with a slash between each two
+-- cells with slashes between them
 abbrev pub cells_text : List Spot → List ℕ
 cells_text cells = join_by cell_text (47 ∷ []) cells
 
@@ -35,7 +35,7 @@ cells_text cells = join_by cell_text (47 ∷ []) cells
 abbrev pub placement_text : Placement → List ℕ
 placement_text p = p.name ++ 61 ∷ cells_text p.cells
 
--- each placement after a space, or a dash where there is none
+-- each placement after a space, or a space and a dash if there are none
 abbrev pub placements_text : List Placement → List ℕ
 placements_text [] = codes " -"
 placements_text (p ∷ ps) = flat_map (λ q. 32 ∷ placement_text q) (p ∷ ps)
@@ -43,7 +43,7 @@ placements_text (p ∷ ps) = flat_map (λ q. 32 ∷ placement_text q) (p ∷ ps)
 abbrev pub tiling_text : List Placement → List ℕ
 tiling_text ps = codes "tiling" ++ placements_text ps ++ 10 ∷ []
 
--- placements in all of some tilings
+-- the line of placements that are in all matching tilings
 abbrev pub forced_text : List Placement → List ℕ
 forced_text ps = codes "forced" ++ placements_text ps ++ 10 ∷ []
 
@@ -67,6 +67,6 @@ abbrev pub status_text : ℕ → ℕ → ℕ → List ℕ
 status_text edition listed pending =
     codes "status edition " ++ decimal edition ++ codes " listed " ++ decimal listed ++ codes " pending " ++ decimal pending ++ 10 ∷ []
 
--- how many cells the placements cover, each counted for each placement
+-- how many cells the placements have together; a cell of two placements counts twice
 abbrev pub covered : List Placement → ℕ
 covered ps = sum_by (λ p. length p.cells) ps

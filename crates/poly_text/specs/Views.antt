@@ -1,4 +1,4 @@
--- What values in memory stand for.
+-- How contracts see values in memory.
 use Rattle.std.specs.Prelude.{List, map, ℕ}
 use Rattle.serde_json.specs.Data.{Data}
 use Rattle.serde_json.specs.View.{view}

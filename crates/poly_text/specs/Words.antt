@@ -18,7 +18,7 @@ use Rattle.poly_text.specs.Json.{when}
 abbrev pub has_byte : List ℕ → Bool
 has_byte word = not (length word == 0)
 
--- the parts between spaces that have a byte
+-- the parts between spaces that are not empty
 abbrev pub words_of : List ℕ → List (List ℕ)
 words_of line = filter has_byte (slice_split (λ b. b == 32) line)
 
@@ -37,7 +37,7 @@ mode_of word =
 abbrev pub is_number : List ℕ → Bool
 is_number word = nat_lt 0 (length word) && list_all (λ b. is_digit b 10) word
 
--- the number that the digits write, which may begin with zeros
+-- the number that the digits write; leading zeros are allowed
 abbrev pub number_of : List ℕ → Option ℕ
 number_of word = when (is_number word) (digits_value 10 word)
 
@@ -76,7 +76,7 @@ cells_of words = read_each cell_of words
 abbrev pub parts_of : List ℕ → List (List ℕ)
 parts_of text = slice_split (λ b. b == 47) text
 
--- cells with a slash between each two: each part has to have the form of a cell before any number is judged
+-- cells with slashes between them: all parts must have the form of a cell before any number is judged
 abbrev pub listed_cells : List ℕ → Result (List Spot) Refusal
 listed_cells text = do
   formed ← check (list_all (λ part. is_ok (coordinates_of part)) (parts_of text)) BadCommand

@@ -1,6 +1,21 @@
-//! What lines say: a puzzle line gives a design, a command line asks for something, and replies are printed.
+//! What the lines of a session say.
 //!
-//! Nothing here knows of an engine, of a search or of where lines come from.
+//! The puzzle line:
+//!
+//! - [`puzzle_of`]: the design that it gives, or why it is refused.
+//!
+//! Each later line:
+//!
+//! - [`asked`]: what it asks for, or why it is refused.
+//! - [`Command`]: an edit, an undo or a redo, or a question.
+//! - [`Question`]: what `browse` asks of a tiling.
+//!
+//! Replies, in memory that is taken once:
+//!
+//! - [`ReplyLine`]: a buffer for one reply line, with a method for each kind of reply.
+//! - [`refusal_line`]: the line of a refusal.
+//!
+//! This crate knows nothing of engines and searches, nor of where lines come from.
 #![tactic(auto)]
 
 mod command;
@@ -10,11 +25,6 @@ mod replies;
 mod tests;
 mod words;
 
-// The first line of a session gives a design.
-pub use puzzle::puzzle_of;
-
-// Each later line asks for something.
 pub use command::{Command, Question, asked};
-
-// Replies: one line at a time, in memory that is taken once.
+pub use puzzle::puzzle_of;
 pub use replies::{ReplyLine, refusal_line};

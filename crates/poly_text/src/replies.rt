@@ -10,7 +10,7 @@ use poly_tiling::Item;
 use std::alloc::Global;
 use std::marker::Model;
 
-/// The line `no <code> <name>` of the refusal. It takes no memory.
+/// Returns the line `no <code> <name>` of the refusal, with its line feed. Takes no memory.
 pub fn refusal_line(refusal: Refusal) -> &'static str
     ensures { result.now ≡ refusal_text refusal }
 {
@@ -47,8 +47,8 @@ pub fn refusal_line(refusal: Refusal) -> &'static str
     }
 }
 
-// The most bytes of a reply line. The longest is that of a tiling: it covers at most 256 cells, and a placement of one cell takes up
-// to 24 bytes.
+// The most bytes of a reply line. The longest line is that of a tiling: its placements cover at most 256 cells, and a placement takes
+// at most 24 bytes for each of its cells.
 const REPLY_LIMIT: usize = 8192;
 
 /// A reply line, in memory that is taken once.
@@ -59,16 +59,17 @@ pub struct ReplyLine {
 
 impl Model for ReplyLine {
     ghost use Rattle.std.specs.Prelude.{◌≤◌, List, ℕ, vec_capacity};
+    ghost use Rattle.poly_text.specs.declared.replies.TheConstants.{REPLY_LIMIT};
 
     ghost Value = { List ℕ };
 
     ghost view = { λ r. r.text.items };
 
-    ghost invariant = { λ r. 8192 ≤ vec_capacity r.text };
+    ghost invariant = { λ r. REPLY_LIMIT ≤ vec_capacity r.text };
 }
 
 impl ReplyLine {
-    /// An empty line with room for any reply. Fails only with `Memory`.
+    /// Returns an empty line with room for any reply. Fails only with `Memory`.
     pub fn new(alloc: Global) -> Result<ReplyLine, Refusal>
         ensures ok { IfOk result (λ r. r ≡ []) }
         ensures why { IfErr result (λ e. e ≡ Refusal.Memory) }
@@ -78,7 +79,7 @@ impl ReplyLine {
         })
     }
 
-    /// The bytes of the line, its line feed included.
+    /// The bytes of the line, with its line feed.
     pub fn as_bytes(&self) -> &[u8]
         ensures { result.now ≡ self.now }
     {
@@ -107,8 +108,8 @@ impl ReplyLine {
         self.put(b"\n");
     }
 
-    /// Makes this the `tiling` line of the placements, in the order given; `tiling -` if there is none. Asks that they cover at most 256
-    /// cells in all.
+    /// Makes this the `tiling` line of the placements in their order, or `tiling -` if there are none. Requires placements that have
+    /// at most 256 cells in all.
     pub fn tiling(&mut self, placements: &[Placement])
         requires { covered placements.now ≤ 256 }
         ensures { self.new ≡ tiling_text placements.now }
@@ -119,8 +120,8 @@ impl ReplyLine {
         self.put(b"\n");
     }
 
-    /// Makes this the `forced` line of the placements, in the order given; `forced -` if there is none. Asks that they cover at most 256
-    /// cells in all.
+    /// Makes this the `forced` line of the placements in their order, or `forced -` if there are none. Requires placements that have
+    /// at most 256 cells in all.
     pub fn forced(&mut self, placements: &[Placement])
         requires { covered placements.now ≤ 256 }
         ensures { self.new ≡ forced_text placements.now }
@@ -181,14 +182,16 @@ impl ReplyLine {
         self.put(b"\n");
     }
 
+    // Empties the line.
     fn clear(&mut self)
         ensures { self.new ≡ [] }
     {
         self.text.clear();
     }
 
+    // Appends the bytes.
     fn put(&mut self, bytes: &[u8])
-        requires { length self.old + length bytes.now ≤ 8192 }
+        requires { length self.old + length bytes.now ≤ REPLY_LIMIT }
         ensures { self.new ≡ self.old ++ bytes.now }
     {
         for byte in bytes {
@@ -196,10 +199,10 @@ impl ReplyLine {
         }
     }
 
-    // Each placement after a space, or a dash where there is none.
+    // Appends each placement after a space, or a space and a dash if there are none.
     #[tactic(auto, using(crate::proofs::Digits::covered_at))]
     fn put_placements(&mut self, placements: &[Placement])
-        requires { length self.old + 2 + 24 * covered placements.now ≤ 8192 }
+        requires { length self.old + 2 + 24 * covered placements.now ≤ REPLY_LIMIT }
         ensures text { self.new ≡ self.old ++ placements_text placements.now }
         ensures short { length self.new ≤ length self.old + 2 + 24 * covered placements.now }
     {
@@ -208,15 +211,16 @@ impl ReplyLine {
             return;
         }
         for placement in placements {
-            // This call says that no set of cells is empty, which bounds how many placements there are.
+            // the contract of this call tells that no set of cells is empty, which bounds the number of placements
             let cells = placement.cells.as_slice();
             self.put(b" ");
             self.put_placement(&placement.name, cells);
         }
     }
 
+    // Appends the name, an equals sign and the cells.
     fn put_placement(&mut self, name: &Name, cells: &[Cell])
-        requires { length self.old + 17 + 6 * length cells.now ≤ 8192 }
+        requires { length self.old + 17 + 6 * length cells.now ≤ REPLY_LIMIT }
         ensures text { self.new ≡ self.old ++ (name.now ++ 61 ∷ cells_text cells.now) }
         ensures short { length self.new ≤ length self.old + 17 + 6 * length cells.now }
     {
@@ -225,8 +229,9 @@ impl ReplyLine {
         self.put_cells(cells);
     }
 
+    // Appends a cell, or the name of a piece.
     fn put_item(&mut self, item: &Item)
-        requires { length self.old + 16 ≤ 8192 }
+        requires { length self.old + 16 ≤ REPLY_LIMIT }
         ensures text { self.new ≡ self.old ++ item_name item.now }
         ensures short { length self.new ≤ length self.old + 16 }
     {
@@ -236,8 +241,9 @@ impl ReplyLine {
         }
     }
 
+    // Appends the cells with slashes between them.
     fn put_cells(&mut self, cells: &[Cell])
-        requires { length self.old + 6 * length cells.now ≤ 8192 }
+        requires { length self.old + 6 * length cells.now ≤ REPLY_LIMIT }
         ensures text { self.new ≡ self.old ++ cells_text cells.now }
         ensures short { length self.new ≤ length self.old + 6 * length cells.now }
     {
@@ -249,9 +255,10 @@ impl ReplyLine {
         }
     }
 
+    // Appends the column, a comma and the row.
     #[tactic(auto, using(crate::proofs::Digits::coordinate_short))]
     fn put_cell(&mut self, cell: Cell)
-        requires { length self.old + 5 ≤ 8192 }
+        requires { length self.old + 5 ≤ REPLY_LIMIT }
         ensures text { self.new ≡ self.old ++ cell_text cell }
         ensures short { length self.new ≤ length self.old + 5 }
     {
@@ -260,8 +267,9 @@ impl ReplyLine {
         self.put_number(u64::from(cell.y()));
     }
 
+    // Appends the number in decimal digits.
     fn put_number(&mut self, number: u64)
-        requires { length self.old + length (decimal number) ≤ 8192 }
+        requires { length self.old + length (decimal number) ≤ REPLY_LIMIT }
         ensures { self.new ≡ self.old ++ decimal number }
     {
         let mut digits = Buffer::new();

@@ -12,7 +12,7 @@ use poly_grid::{Cell, Refusal};
 use poly_shape::Cells;
 use std::alloc::Global;
 
-/// The words of a line: the parts between spaces that have a byte. Fails only with `Memory`.
+/// Returns the words of a line: the parts between spaces that aren't empty. Fails only with `Memory`.
 pub fn words_of(alloc: Global, line: &[u8]) -> Result<Vec<&[u8]>, Refusal>
     ensures ok { IfOk result (λ words. map (λ w. w.now) words.items ≡ words_of line.now) }
     ensures why { IfErr result (λ e. e ≡ Refusal.Memory) }
@@ -31,7 +31,7 @@ pub fn is_blank(line: &[u8]) -> bool
     line.iter().all(|byte| *byte == b' ')
 }
 
-/// The name that the bytes are, if they are one.
+/// The name of these bytes, if they are 1 to 16 of `A-Z a-z 0-9 _`.
 pub fn name_of(bytes: &[u8]) -> Option<Name>
     ensures { result ≡ name_of bytes.now }
 {
@@ -41,7 +41,7 @@ pub fn name_of(bytes: &[u8]) -> Option<Name>
     }
 }
 
-/// `required` or `optional`.
+/// The need that the word `required` or `optional` names.
 pub fn need_of(word: &[u8]) -> Option<Need>
     ensures { result ≡ need_of word.now }
 {
@@ -54,7 +54,7 @@ pub fn need_of(word: &[u8]) -> Option<Need>
     }
 }
 
-/// `on` is true and `off` is false.
+/// What the word switches: true for `on`, false for `off`.
 pub fn switch_of(word: &[u8]) -> Option<bool>
     ensures { result ≡ switch_of word.now }
 {
@@ -67,7 +67,7 @@ pub fn switch_of(word: &[u8]) -> Option<bool>
     }
 }
 
-/// `required`, `optional` or `blocked`.
+/// The mode that the word `required`, `optional` or `blocked` names.
 pub fn mode_of(word: &[u8]) -> Option<Mode>
     ensures { result ≡ mode_of word.now }
 {
@@ -82,7 +82,7 @@ pub fn mode_of(word: &[u8]) -> Option<Mode>
     }
 }
 
-/// The number that the word writes with one or more decimal digits; `u64::MAX` stands for a larger one.
+/// The number that the word writes in one or more decimal digits. A number over `u64::MAX` is read as `u64::MAX`.
 pub fn number_of(word: &[u8]) -> Option<u64>
     ensures { result ≡ option_map (λ n. min n (2 ^ 64 - 1)) (number_of word.now) }
 {
@@ -97,9 +97,10 @@ pub fn number_of(word: &[u8]) -> Option<u64>
     Some(number)
 }
 
-// The most digits of a coordinate, zeros in front included.
+// The most digits of a coordinate, leading zeros included.
 const COORDINATE_DIGITS: usize = 9;
 
+// The number that the word writes in 1 to 9 decimal digits.
 fn coordinate_of(word: &[u8]) -> Option<u64>
     ensures { result ≡ coordinate_of word.now }
 {
@@ -109,7 +110,7 @@ fn coordinate_of(word: &[u8]) -> Option<u64>
     number_of(word)
 }
 
-/// The first place of the byte in the word.
+/// The index of the byte's first place in the word.
 pub fn index_of(word: &[u8], byte: u8) -> Option<usize>
     ensures is { result ≡ position (λ b. b == byte) word.now }
     ensures within { IfSome result (λ i. i < length word.now) }
@@ -117,7 +118,8 @@ pub fn index_of(word: &[u8], byte: u8) -> Option<usize>
     word.iter().position(|b| *b == byte)
 }
 
-// The column and the row that the word names, each 1 to 9 decimal digits, with a comma between them.
+// The column and the row that the word names, each in 1 to 9 decimal digits, with a comma between them. A word of another form
+// is a `BadCommand`.
 #[tactic(auto, unfolding(crate::specs::Words::coordinates_of))]
 fn coordinates_of(word: &[u8]) -> Result<(u64, u64), Refusal>
     ensures { result ≡ coordinates_of word.now }
@@ -128,8 +130,8 @@ fn coordinates_of(word: &[u8]) -> Result<(u64, u64), Refusal>
     Ok((column, row))
 }
 
-/// The cell that the word names by its column and its row, each 1 to 9 decimal digits, with a comma between them. A word of another
-/// form is a `BadCommand`, a column or a row over 63 a `BadCell`.
+/// Returns the cell that the word names by its column and its row, each in 1 to 9 decimal digits, with a comma between them. Fails
+/// with `BadCommand` if the word has another form, and else with `BadCell` if the column or the row is over 63.
 pub fn cell_of(word: &[u8]) -> Result<Cell, Refusal>
     ensures { result ≡ cell_of word.now }
 {
@@ -137,11 +139,11 @@ pub fn cell_of(word: &[u8]) -> Result<Cell, Refusal>
     Cell::new(column, row).ok_or(Refusal::BadCell)
 }
 
-/// One cell more than a set can have: a longer list of cells is refused whatever follows.
+/// One cell more than a set can have. A list that fills this room is refused, whatever its other cells are, so nobody needs them.
 pub const ROOM: usize = 17;
 
-/// Reads the cells that the words name into the room, as many as fit, and returns how many those are. The leftmost word that names no
-/// cell decides the refusal, even past the room.
+/// Reads the cells that the words name into the room, as many as fit, and returns how many fit. Words past the room are read too:
+/// fails as `cell_of` does on the leftmost word that names no cell.
 pub fn cells_of(words: &[&[u8]], room: &mut [Cell]) -> Result<usize, Refusal>
     ensures read { IfOk result (λ n. (cells : List Spot) × (cells_of (map (λ w. w.now) words.now) ≡ Ok cells) × (take n room.new ≡ take (length room.old) cells)) }
     ensures within { IfOk result (λ n. n ≤ length room.new) }
@@ -158,6 +160,7 @@ pub fn cells_of(words: &[&[u8]], room: &mut [Cell]) -> Result<usize, Refusal>
     Ok(count)
 }
 
+// The parts of the text between slashes; one part if there is no slash. Fails only with `Memory`.
 fn parts_of(alloc: Global, text: &[u8]) -> Result<Vec<&[u8]>, Refusal>
     ensures ok { IfOk result (λ parts. map (λ w. w.now) parts.items ≡ parts_of text.now) }
     ensures why { IfErr result (λ e. e ≡ Refusal.Memory) }
@@ -166,14 +169,15 @@ fn parts_of(alloc: Global, text: &[u8]) -> Result<Vec<&[u8]>, Refusal>
     Ok(parts)
 }
 
+// Whether each part has the form of a cell, whatever its numbers are.
 fn are_formed(parts: &[&[u8]]) -> bool
     ensures { result ≡ list_all (λ part. is_ok (coordinates_of part.now)) parts.now }
 {
     parts.iter().all(|part| coordinates_of(part).is_ok())
 }
 
-/// The set of the cells that the words name, or none if there are over 16 or one comes twice. The leftmost word that names no cell
-/// decides the refusal.
+/// Returns the set of the cells that the words name, or `None` if there are over 16 or one comes twice. Fails as `cell_of` does on the
+/// leftmost word that names no cell.
 pub fn read_set(words: &[&[u8]]) -> Result<Option<Cells>, Refusal>
     ensures ok { IfOk result (λ set. (cells : List Spot) × (cells_of (map (λ w. w.now) words.now) ≡ Ok cells) × MakesSet cells set) }
     ensures why { IfErr result (λ e. cells_of (map (λ w. w.now) words.now) ≡ Err e) }
@@ -184,9 +188,9 @@ pub fn read_set(words: &[&[u8]]) -> Result<Option<Cells>, Refusal>
     Ok(Cells::new(&cells[..count]).ok())
 }
 
-/// The set of the cells that the text lists with a slash between each two, or none if there are over 16 or one comes twice. A part of
-/// another form than a cell's is a `BadCommand`; if there is none, a column or a row over 63 is a `BadCell`. `Memory` may come in place
-/// of these.
+/// Returns the set of the cells that the text lists with slashes between them, or `None` if there are over 16 or one comes twice.
+/// Fails with `BadCommand` if a part has another form than a cell, else with `BadCell` if a column or a row is over 63. `Memory` may
+/// come in place of these.
 pub fn listed_set(alloc: Global, text: &[u8]) -> Result<Option<Cells>, Refusal>
     ensures ok { IfOk result (λ set. (cells : List Spot) × (listed_cells text.now ≡ Ok cells) × MakesSet cells set) }
     ensures why { IfErr result (λ e. (e ≡ Refusal.Memory) ⊎ (listed_cells text.now ≡ Err e)) }
@@ -195,8 +199,6 @@ pub fn listed_set(alloc: Global, text: &[u8]) -> Result<Option<Cells>, Refusal>
     if !are_formed(parts.as_slice()) {
         return Err(Refusal::BadCommand);
     }
-    match read_set(parts.as_slice()) {
-        Ok(set) => Ok(set),
-        Err(refusal) => Err(refusal),
-    }
+    let set = read_set(parts.as_slice())?;
+    Ok(set)
 }

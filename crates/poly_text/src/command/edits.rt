@@ -30,15 +30,13 @@ pub fn add(grid: Grid, words: &[&[u8]]) -> Result<Command, Refusal>
     let need = need_of(need).ok_or(Refusal::BadCommand)?;
     let mirror = switch_of(mirror).ok_or(Refusal::BadCommand)?;
     let name = name_of(name).ok_or(Refusal::BadName)?;
-    match shape_of(grid, cells) {
-        Ok(shape) => Ok(Command::Edit(Edit::Add {
-            name,
-            shape,
-            need,
-            mirror,
-        })),
-        Err(refusal) => Err(refusal),
-    }
+    let shape = shape_of(grid, cells)?;
+    Ok(Command::Edit(Edit::Add {
+        name,
+        shape,
+        need,
+        mirror,
+    }))
 }
 
 /// `drop NAME`
@@ -106,10 +104,8 @@ pub fn cell(words: &[&[u8]]) -> Result<Command, Refusal>
 pub fn pin(words: &[&[u8]]) -> Result<Command, Refusal>
     ensures { (g : grid.Grid) → CommandSays g (codes "pin" ∷ map (λ w. w.now) words.now) result }
 {
-    match named_cells(words) {
-        Ok((name, cells)) => Ok(Command::Edit(Edit::Pin { name, cells })),
-        Err(refusal) => Err(refusal),
-    }
+    let (name, cells) = named_cells(words)?;
+    Ok(Command::Edit(Edit::Pin { name, cells }))
 }
 
 /// `unpin NAME`
@@ -127,23 +123,19 @@ pub fn unpin(words: &[&[u8]]) -> Result<Command, Refusal>
 pub fn forbid(words: &[&[u8]]) -> Result<Command, Refusal>
     ensures { (g : grid.Grid) → CommandSays g (codes "forbid" ∷ map (λ w. w.now) words.now) result }
 {
-    match named_cells(words) {
-        Ok((name, cells)) => Ok(Command::Edit(Edit::Forbid { name, cells })),
-        Err(refusal) => Err(refusal),
-    }
+    let (name, cells) = named_cells(words)?;
+    Ok(Command::Edit(Edit::Forbid { name, cells }))
 }
 
 /// `allow NAME CELL..`
 pub fn allow(words: &[&[u8]]) -> Result<Command, Refusal>
     ensures { (g : grid.Grid) → CommandSays g (codes "allow" ∷ map (λ w. w.now) words.now) result }
 {
-    match named_cells(words) {
-        Ok((name, cells)) => Ok(Command::Edit(Edit::Allow { name, cells })),
-        Err(refusal) => Err(refusal),
-    }
+    let (name, cells) = named_cells(words)?;
+    Ok(Command::Edit(Edit::Allow { name, cells }))
 }
 
-// `NAME CELL..`
+// The name and the set of cells of `NAME CELL..`, the words after the first of `pin`, `forbid` and `allow`.
 fn named_cells(words: &[&[u8]]) -> Result<(Name, Cells), Refusal>
     ensures { NamedSays (map (λ w. w.now) words.now) result }
 {
@@ -154,13 +146,12 @@ fn named_cells(words: &[&[u8]]) -> Result<(Name, Cells), Refusal>
         return Err(Refusal::BadCommand);
     }
     let name = name_of(name).ok_or(Refusal::BadName)?;
-    match set_of(cells) {
-        Ok(set) => Ok((name, set)),
-        Err(refusal) => Err(refusal),
-    }
+    let set = set_of(cells)?;
+    Ok((name, set))
 }
 
-// A number that is too large to be counted is over 16 like any other.
+// The bounds of `copies`. Bounds over 16, or a least above the most, are a `BadCommand`; a number over `u64::MAX` is read as
+// `u64::MAX`, which is over 16 too.
 fn copies_of(least: &[u8], most: &[u8]) -> Result<Copies, Refusal>
     ensures { Follows (ok_or (number_of least.now) BadCommand) (λ l. Follows (ok_or (number_of most.now) BadCommand) (λ m. result ≡ ok_or (copies_of l m) BadCommand) result) result }
 {
@@ -169,16 +160,14 @@ fn copies_of(least: &[u8], most: &[u8]) -> Result<Copies, Refusal>
     Copies::new(least, most).ok_or(Refusal::BadCommand)
 }
 
+// The set of the cells that the words name; `BadShape` if there are over 16 or one comes twice.
 fn set_of(words: &[&[u8]]) -> Result<Cells, Refusal>
     ensures { Follows (cells_of (map (λ w. w.now) words.now)) (λ cells. SetSays cells result) result }
 {
-    match read_set(words) {
-        Ok(Some(set)) => Ok(set),
-        Ok(None) => Err(Refusal::BadShape),
-        Err(refusal) => Err(refusal),
-    }
+    read_set(words)?.ok_or(Refusal::BadShape)
 }
 
+// The shape of the cells that the words name; `BadShape` if they make none.
 fn shape_of(grid: Grid, words: &[&[u8]]) -> Result<Shape, Refusal>
     ensures { Follows (cells_of (map (λ w. w.now) words.now)) (λ cells. ShapeSays grid cells result) result }
 {

@@ -42,13 +42,16 @@ pub enum Command {
     Status,
 }
 
-/// The command that a line of bytes is, given the grid of the design; none if the line has no word.
+/// Returns the command that the line asks for, or `None` if the line has no word. The grid is that of the design.
 ///
-/// The first fault decides the refusal. `BadCommand`: an unknown first word, a wrong number of words or a wrong keyword. Then word by
-/// word from the left `BadName`, `BadCommand` for a word of the wrong form, or `BadCell` for a coordinate over 63. Then `BadShape`: a
-/// list of cells with a repeated cell, with more than 16 or, for `add`, not connected on the grid; or `BadCommand`: bounds of `copies`
-/// over 16 or with the least above the most. `Memory` may come in place of any of these, but not if the line has no word: such a line
-/// takes no memory.
+/// Fails with the first of these causes:
+///
+/// 1. `BadCommand` if the first word is no command, the number of words is wrong, or a keyword is wrong;
+/// 2. word by word from the left: `BadName`, `BadCommand` if the word has another form, or `BadCell` if a coordinate is over 63;
+/// 3. `BadShape` if a list of cells has over 16 cells or a cell twice, or if those of `add` aren't connected on the grid;
+///    `BadCommand` if the least of `copies` is above the most, or the most is over 16.
+///
+/// `Memory` may come in place of any of these, except for a line without words, which takes no memory.
 pub fn asked(alloc: Global, grid: Grid, line: &[u8]) -> Result<Option<Command>, Refusal>
     ensures says { GivesBy (λ a. a) result (Asks grid line.now) }
     ensures blank { words_of line.now ≡ [] → result ≡ Ok None }
@@ -57,24 +60,21 @@ pub fn asked(alloc: Global, grid: Grid, line: &[u8]) -> Result<Option<Command>, 
         return Ok(None);
     }
     let words = words_of(alloc, line)?;
-    match asked_by(alloc, grid, words.as_slice()) {
-        Ok(command) => Ok(command),
-        Err(refusal) => Err(refusal),
-    }
+    asked_by(alloc, grid, words.as_slice())
 }
 
+// The command of the words of a line; none if there is no word.
 fn asked_by(alloc: Global, grid: Grid, words: &[&[u8]]) -> Result<Option<Command>, Refusal>
     ensures { GivesBy (λ a. a) result (AskedBy grid (map (λ w. w.now) words.now)) }
 {
     if words.is_empty() {
         return Ok(None);
     }
-    match command_of(alloc, grid, words) {
-        Ok(command) => Ok(Some(command)),
-        Err(refusal) => Err(refusal),
-    }
+    let command = command_of(alloc, grid, words)?;
+    Ok(Some(command))
 }
 
+// The command of one or more words.
 fn command_of(alloc: Global, grid: Grid, words: &[&[u8]]) -> Result<Command, Refusal>
     ensures { GivesBy (λ c. c) result (CommandSays grid (map (λ w. w.now) words.now)) }
 {
@@ -82,15 +82,10 @@ fn command_of(alloc: Global, grid: Grid, words: &[&[u8]]) -> Result<Command, Ref
         return Err(Refusal::BadCommand);
     };
     if *first == b"browse".as_slice() {
-        match question_of(alloc, rest) {
-            Ok(question) => Ok(Command::Browse(question)),
-            Err(refusal) => Err(refusal),
-        }
+        let question = question_of(alloc, rest)?;
+        Ok(Command::Browse(question))
     } else {
-        match plain_command(grid, first, rest) {
-            Ok(command) => Ok(command),
-            Err(refusal) => Err(refusal),
-        }
+        plain_command(grid, first, rest)
     }
 }
 
@@ -136,6 +131,7 @@ fn plain_command(grid: Grid, first: &[u8], rest: &[&[u8]]) -> Result<Command, Re
     }
 }
 
+// The command, which is one word: any word after it is a `BadCommand`.
 fn alone(command: Command, words: &[&[u8]]) -> Result<Command, Refusal>
     ensures { (g : grid.Grid) → FormSays g (form [] [] (just command)) (map (λ w. w.now) words.now) result }
 {

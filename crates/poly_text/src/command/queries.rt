@@ -12,7 +12,8 @@ use poly_grid::Refusal;
 use poly_tiling::Item;
 use std::alloc::Global;
 
-// What one word asks. In place of a placement whose cells make no set there is none.
+// What one word asks. A placement is `None` if its list of cells has over 16 cells or a cell twice: this is refused only
+// after all words are read.
 #[derive(Clone, Copy)]
 enum QueryWord {
     Has(Option<Placement>),
@@ -20,7 +21,7 @@ enum QueryWord {
     Covers(Item),
 }
 
-// `NAME=CELL/CELL/..`
+// The placement of a word `+NAME=CELL/CELL/..` or `-NAME=CELL/CELL/..`, without the sign.
 #[tactic(auto, unfolding(crate::specs::Queries::named_cells))]
 fn placement_of(alloc: Global, text: &[u8]) -> Result<Option<Placement>, Refusal>
     ensures ok { IfOk result (λ made. (named : Named) × (named_cells text.now ≡ Ok named) × Makes named made) }
@@ -35,7 +36,7 @@ fn placement_of(alloc: Global, text: &[u8]) -> Result<Option<Placement>, Refusal
     }
 }
 
-// `x,y` or `NAME`
+// The item of a word `@x,y` or `@NAME`, without the sign.
 #[tactic(auto, unfolding(crate::specs::Queries::item_of))]
 fn item_of(text: &[u8]) -> Result<Item, Refusal>
     ensures { result ≡ item_of text.now }
@@ -49,6 +50,7 @@ fn item_of(text: &[u8]) -> Result<Item, Refusal>
     }
 }
 
+// What the word asks, by its first byte.
 fn query_of(alloc: Global, word: &[u8]) -> Result<QueryWord, Refusal>
     ensures ok { IfOk result (λ query. (q : Query) × (query_of word.now ≡ Ok q) × IsReadAs q query) }
     ensures why { IfErr result (λ e. (e ≡ Refusal.Memory) ⊎ (query_of word.now ≡ Err e)) }
@@ -70,11 +72,12 @@ fn query_of(alloc: Global, word: &[u8]) -> Result<QueryWord, Refusal>
     }
 }
 
-/// The question of the words of `browse`: `+NAME=CELL/CELL/..` for a placement that a tiling has, `-NAME=CELL/CELL/..` for one that it
-/// lacks, `@x,y` for a cell and `@NAME` for a piece that it covers.
+/// Returns the question that the words of `browse` make: `+NAME=CELL/CELL/..` names a placement that a tiling has,
+/// `-NAME=CELL/CELL/..` one that it lacks, `@x,y` a cell and `@NAME` a piece that it covers.
 ///
-/// The leftmost faulty word decides the refusal: `BadName`; `BadCommand` for a word of another form; `BadCell` for a coordinate over 63.
-/// Then `BadShape` for a list of cells that has one twice or more than 16. `Memory` may come in place of any of these.
+/// The leftmost word that is refused decides the cause: `BadName`; `BadCommand` if the word has another form; `BadCell` if a
+/// coordinate is over 63. If none is, fails with `BadShape` if a list of cells has over 16 cells or a cell twice. `Memory` may come
+/// in place of any of these.
 pub fn question_of(alloc: Global, words: &[&[u8]]) -> Result<Question, Refusal>
     ensures { GivesBy (λ q. q) result (λ r. Follows (read_each query_of (map (λ w. w.now) words.now)) (λ queries. QuestionSays queries r) r) }
 {
@@ -83,10 +86,7 @@ pub fn question_of(alloc: Global, words: &[&[u8]]) -> Result<Question, Refusal>
     let mut covers = Vec::new(alloc);
     let mut are_sets = true;
     for word in words {
-        let query = match query_of(alloc, word) {
-            Ok(query) => query,
-            Err(refusal) => return Err(refusal),
-        };
+        let query = query_of(alloc, word)?;
         match query {
             QueryWord::Has(Some(placement)) => has.push(placement)?,
             QueryWord::Lacks(Some(placement)) => lacks.push(placement)?,

@@ -7,13 +7,16 @@ ghost use Rattle.poly_text.specs.Json as json;
 ghost use Rattle.poly_text.specs.Views.{rows_of};
 
 use crate::puzzle::json::text;
-use poly_design::Mode;
+use poly_design::{MAX_CELLS, Mode};
 use poly_grid::{Cell, Refusal};
 use serde_json::Value;
 use std::alloc::Global;
 use std::collections::BTreeMap;
 
-/// The mode that a character gives its cell, or `None` if the cell is blocked.
+// The most rows of a board, and the most characters of a row.
+const SIDE: usize = 64;
+
+// The mode that a character gives its cell, or `None` if the cell is blocked.
 fn open_mode(byte: u8) -> Option<Mode>
     ensures { result ≡ open_mode byte }
 {
@@ -30,16 +33,18 @@ fn is_open(byte: u8) -> bool
     open_mode(byte).is_some()
 }
 
+// Whether the byte is `#`, `+` or `.`.
 fn is_mark(byte: u8) -> bool
     ensures { result ≡ is_mark byte }
 {
     is_open(byte) || byte == b'.'
 }
 
+// Whether the row has at most 64 bytes, each of them a mark.
 fn is_row(row: &str) -> bool
     ensures { result ≡ is_row row.now }
 {
-    row.len() <= 64 && are_marks(row.as_bytes())
+    row.len() <= SIDE && are_marks(row.as_bytes())
 }
 
 fn are_marks(row: &[u8]) -> bool
@@ -59,9 +64,10 @@ fn are_rows(rows: &[Value]) -> bool
 pub fn is_board(rows: &[Value]) -> bool
     ensures { result ≡ is_board (rows_of rows.now) }
 {
-    rows.len() <= 64 && are_rows(rows)
+    rows.len() <= SIDE && are_rows(rows)
 }
 
+// How many cells of the row are not blocked.
 fn count_row(row: &[u8]) -> usize
     ensures small { result ≤ length row.now }
     ensures value { result ≡ count_by is_open row.now }
@@ -77,14 +83,14 @@ pub fn is_small(rows: &[Value]) -> bool
     let mut count = 0;
     for row in rows {
         count += count_row(text(row).as_bytes());
-        if count > 256 {
+        if count > MAX_CELLS {
             return false;
         }
     }
     true
 }
 
-/// The cells of the board that are not blocked. Fails only with `Memory`.
+/// Returns the cells of the board that are not blocked, each with its mode. Requires rows that make a board. Fails only with `Memory`.
 pub fn cells_of_rows(alloc: Global, rows: &[Value]) -> Result<BTreeMap<Cell, Mode>, Refusal>
     requires { is_board (rows_of rows.now) ≡ true }
     ensures ok { IfOk result (λ m. m.entries ≡ board_cells (rows_of rows.now)) }
@@ -97,7 +103,7 @@ pub fn cells_of_rows(alloc: Global, rows: &[Value]) -> Result<BTreeMap<Cell, Mod
     Ok(cells)
 }
 
-// Puts the cells of the row, which lie after those that are there.
+// Adds the cells of row `y`. All cells of the map are in rows above it.
 fn put_row(cells: &mut BTreeMap<Cell, Mode>, y: u64, row: &[u8]) -> Result<(), Refusal>
     requires few { (y < 64) × (length row.now ≤ 64) }
     requires after { AreBefore (64 * y) cells.old.entries }
@@ -111,7 +117,7 @@ fn put_row(cells: &mut BTreeMap<Cell, Mode>, y: u64, row: &[u8]) -> Result<(), R
     Ok(())
 }
 
-// Puts a cell with its mode, which lies after those that are there.
+// Adds the cell, unless it is blocked. All cells of the map come before it, by row, then by column.
 fn put_cell(cells: &mut BTreeMap<Cell, Mode>, cell: Cell, mode: Option<Mode>) -> Result<(), Refusal>
     requires fits { cell.x < 64 }
     requires after { AreBefore (64 * cell.y + cell.x) cells.old.entries }
@@ -125,6 +131,7 @@ fn put_cell(cells: &mut BTreeMap<Cell, Mode>, cell: Cell, mode: Option<Mode>) ->
     Ok(())
 }
 
+// The cell of column `x` and row `y`.
 fn cell_at(x: u64, y: u64) -> Cell
     requires { (x < 64) × (y < 64) }
     ensures { result ≡ record { x = x; y = y } }

@@ -11,16 +11,20 @@ use poly_design::Copies;
 use poly_grid::Cell;
 use serde_json::Value;
 
-/// What a piece object says, by its keys.
+/// The fields of a piece object, each of the right kind.
 #[derive(Clone, Copy)]
 pub struct Fields<'v> {
+    /// The text at `name`, which need not be a name.
     pub name: &'v str,
+    /// The elements of `cells`, each a list of two whole numbers.
     pub cells: &'v [Value],
+    /// How often the piece is used, by `need` or by `least` and `most`.
     pub copies: Copies,
+    /// Whether the piece may be turned over.
     pub mirror: bool,
 }
 
-/// The fields of the value, if it has exactly the keys of its format, each with a value of its kind.
+/// The fields of the value, if it has exactly the keys of the format, each with a value of the right kind.
 pub fn fields_of(format: Format, value: &Value) -> Option<Fields<'_>>
     ensures { option_map fields_view result ≡ fields_of format (view value.now) }
 {
@@ -30,6 +34,7 @@ pub fn fields_of(format: Format, value: &Value) -> Option<Fields<'_>>
     }
 }
 
+// The fields of format 1. An object has each key once, so counting its keys tells that it has no other.
 #[tactic(auto, using(crate::proofs::Testing::list_all_views), unfolding(crate::specs::Fields::fields_one))]
 fn fields_one(value: &Value) -> Option<Fields<'_>>
     ensures { option_map fields_view result ≡ fields_one (view value.now) }
@@ -52,6 +57,7 @@ fn fields_one(value: &Value) -> Option<Fields<'_>>
     }
 }
 
+// The fields of format 2.
 #[tactic(auto, using(crate::proofs::Testing::list_all_views), unfolding(crate::specs::Fields::fields_two))]
 fn fields_two(value: &Value) -> Option<Fields<'_>>
     ensures { option_map fields_view result ≡ fields_two (view value.now) }
@@ -76,6 +82,7 @@ fn fields_two(value: &Value) -> Option<Fields<'_>>
     }
 }
 
+// Whether the value is a list of two whole numbers.
 fn is_pair(value: &Value) -> bool
     ensures { result ≡ is_pair (view value.now) }
 {
@@ -97,6 +104,7 @@ fn copies_of(least: u64, most: u64) -> Option<Copies>
     Copies::new(least, most)
 }
 
+// The copies by the value at `need`, if it has one: exactly one without it.
 fn copies_by_need(need: Option<&Value>) -> Option<Copies>
     ensures { result ≡ copies_by_need (option_map (λ v. view v.now) need.entry) }
 {
@@ -113,6 +121,7 @@ fn copies_by_need(need: Option<&Value>) -> Option<Copies>
     }
 }
 
+// The value at `mirror`: true without it.
 fn mirror_of(mirror: Option<&Value>) -> Option<bool>
     ensures { result ≡ mirror_of (option_map (λ v. view v.now) mirror.entry) }
 {
@@ -122,6 +131,7 @@ fn mirror_of(mirror: Option<&Value>) -> Option<bool>
     }
 }
 
+// How many keys an optional field adds.
 fn present(field: Option<&Value>) -> usize
     ensures { result ≡ present (option_map (λ v. view v.now) field.entry) }
 {
@@ -131,7 +141,7 @@ fn present(field: Option<&Value>) -> usize
     }
 }
 
-/// The cell of a list of two numbers.
+/// The cell of a list of two numbers, if both are from 0 to 63.
 pub fn cell_of(value: &Value) -> Option<Cell>
     ensures { result ≡ cell_of (view value.now) }
 {

@@ -8,6 +8,7 @@ ghost use Rattle.poly_text.specs.Views.{views, outer_view, head_view};
 
 use crate::puzzle::board::{is_board, is_small};
 use crate::puzzle::json::{are_objects, are_texts, count, is_whole, list_at, text_at};
+use poly_design::MAX_PIECES;
 use poly_grid::{Grid, Refusal};
 use serde_json::Value;
 
@@ -20,23 +21,30 @@ pub enum Format {
     Two,
 }
 
+// The outer object, each key with a value of the right kind.
 #[derive(Clone, Copy)]
 struct Outer<'v> {
+    // none for a negative number
     format: Option<u64>,
     grid: &'v str,
     board: &'v [Value],
     pieces: &'v [Value],
 }
 
-/// The outer object with its values judged.
+/// The outer object, with its values judged.
 #[derive(Clone, Copy)]
 pub struct Head<'v> {
+    /// How the pieces give their copies.
     pub format: Format,
+    /// The grid of the board and the pieces.
     pub grid: Grid,
+    /// The rows of the board: a text each, within the limits of a board.
     pub rows: &'v [Value],
+    /// The pieces, at most 64 objects that are not judged yet.
     pub pieces: &'v [Value],
 }
 
+// The outer object of the value, if it has exactly its four keys, each with a value of the right kind.
 #[tactic(auto, using(crate::proofs::Testing::list_all_views), unfolding(crate::specs::Outer::outer_of))]
 fn outer_of(value: &Value) -> Option<Outer<'_>>
     ensures { option_map outer_view result ≡ outer_of (view value.now) }
@@ -80,7 +88,8 @@ fn grid_of(name: &str) -> Option<Grid>
     }
 }
 
-/// The outer object of the value, or its first refusal. It takes no memory.
+/// Returns the outer object of the value. Fails with the first of `BadField`, `BadFormat`, `BadGrid`, `BadBoard`, `TooManyCells` and
+/// `TooManyPieces`. Takes no memory.
 #[tactic(auto, using(crate::proofs::Testing::length_views), unfolding(crate::specs::Head::head_of))]
 pub fn head_of(value: &Value) -> Result<Head<'_>, Refusal>
     ensures head { seen head_view result ≡ head_of (view value.now) }
@@ -95,7 +104,7 @@ pub fn head_of(value: &Value) -> Result<Head<'_>, Refusal>
     if !is_small(outer.board) {
         return Err(Refusal::TooManyCells);
     }
-    if outer.pieces.len() > 64 {
+    if outer.pieces.len() > MAX_PIECES {
         return Err(Refusal::TooManyPieces);
     }
     Ok(Head {

@@ -19,6 +19,7 @@ mod head;
 mod json;
 mod piece;
 
+// The line as a value of JSON. Fails with `BadJson` or `Memory`.
 fn json_of(alloc: Global, line: &[u8]) -> Result<Value, Refusal>
     ensures { Gives view result (ok_or (json_of line.now) BadJson) }
 {
@@ -33,19 +34,16 @@ fn json_of(alloc: Global, line: &[u8]) -> Result<Value, Refusal>
     }
 }
 
-/// The design that a puzzle line gives, without pins and with nothing forbidden.
+/// Returns the design that the puzzle line gives: it has no pins, and nothing is forbidden.
 ///
-/// Fails with the first of: `BadJson`; `BadField` (the keys of the line and the kinds of their values); `BadFormat`; `BadGrid`;
-/// `BadBoard`; `TooManyCells`; `TooManyPieces`; then for each piece in turn `BadField`, `BadName`, `BadCell`, `BadShape`, `NameTaken`;
-/// then `TooManyPlacements`. `Memory` may come in place of any of these.
+/// Fails with the first of these causes: `BadJson`; `BadField` if a key of the outer object is missing, unknown or of the wrong kind;
+/// `BadFormat`; `BadGrid`; `BadBoard`; `TooManyCells`; `TooManyPieces`; then for each piece in turn `BadField`, `BadName`, `BadCell`,
+/// `BadShape`, `NameTaken`; and last `TooManyPlacements`. `Memory` may come in place of any of these.
 pub fn puzzle_of(alloc: Global, line: &[u8]) -> Result<Design, Refusal>
     ensures { GivesBy (λ d. d) result (PuzzleSays line.now) }
 {
     let value = json_of(alloc, line)?;
-    let head = match head_of(&value) {
-        Ok(head) => head,
-        Err(refusal) => return Err(refusal),
-    };
+    let head = head_of(&value)?;
     let pieces = pieces_of(alloc, head.format, head.grid, head.pieces)?;
     let cells = cells_of_rows(alloc, head.rows)?;
     Design::of_parts(alloc, head.grid, cells, pieces)

@@ -20,7 +20,7 @@ use serde_json::Value;
 use std::alloc::Global;
 use std::collections::BTreeMap;
 
-/// What a piece object says, before its cells are seen as a shape.
+// What a piece object says, before its cells are judged as a shape.
 #[derive(Drop)]
 struct Said {
     name: Name,
@@ -29,6 +29,7 @@ struct Said {
     mirror: bool,
 }
 
+// The cells of the pairs. Fails with `BadCell` or `Memory`.
 fn cells_of(alloc: Global, values: &[Value]) -> Result<Vec<Cell>, Refusal>
     ensures { Gives (λ v. v.items) result (ok_or (cells_of (views values.now)) BadCell) }
 {
@@ -42,6 +43,7 @@ fn cells_of(alloc: Global, values: &[Value]) -> Result<Vec<Cell>, Refusal>
     Ok(cells)
 }
 
+// What the piece object says. Fails with `BadField`, `BadName`, `BadCell` or `Memory`.
 #[tactic(auto, unfolding(crate::specs::Piece::said_of))]
 fn said_of(alloc: Global, format: Format, value: &Value) -> Result<Said, Refusal>
     ensures { Gives said_view result (said_of format (view value.now)) }
@@ -49,9 +51,7 @@ fn said_of(alloc: Global, format: Format, value: &Value) -> Result<Said, Refusal
     let Some(fields) = fields_of(format, value) else {
         return Err(Refusal::BadField);
     };
-    let Some(name) = name_of(fields.name.as_bytes()) else {
-        return Err(Refusal::BadName);
-    };
+    let name = name_of(fields.name.as_bytes()).ok_or(Refusal::BadName)?;
     let cells = cells_of(alloc, fields.cells)?;
     Ok(Said {
         name,
@@ -61,18 +61,21 @@ fn said_of(alloc: Global, format: Format, value: &Value) -> Result<Said, Refusal
     })
 }
 
+// Whether a piece of that name was read already.
 fn has_name(taken: &BTreeMap<Name, Spec>, name: &Name) -> bool
     ensures { result ≡ has_name taken.now.entries name.now }
 {
     taken.contains_key(name)
 }
 
+// The shape of the cells. Fails with `BadShape`.
 fn shape_of(grid: Grid, cells: &[Cell]) -> Result<Shape, Refusal>
     ensures { ShapeSays grid cells.now result }
 {
     Shape::from_cells(grid, cells)
 }
 
+// The piece, which has no pin and nothing forbidden. Fails with `BadShape`, or with `NameTaken` if its name is taken.
 fn spec_of(
     alloc: Global,
     grid: Grid,
@@ -81,10 +84,7 @@ fn spec_of(
 ) -> Result<Spec, Refusal>
     ensures { SpecSays grid taken.now.entries (said_view said.now) result }
 {
-    let shape = match shape_of(grid, said.cells.as_slice()) {
-        Ok(shape) => shape,
-        Err(refusal) => return Err(refusal),
-    };
+    let shape = shape_of(grid, said.cells.as_slice())?;
     if has_name(taken, &said.name) {
         return Err(Refusal::NameTaken);
     }
@@ -97,7 +97,7 @@ fn spec_of(
     })
 }
 
-/// The pieces of the list, or the first refusal of one. `Memory` may come in place of any.
+/// Returns the pieces of the list by their names. Fails with the first refusal of a piece; `Memory` may come in its place.
 pub fn pieces_of(
     alloc: Global,
     format: Format,
@@ -111,12 +111,8 @@ pub fn pieces_of(
     let mut taken = BTreeMap::new(alloc);
     for value in values {
         let said = said_of(alloc, format, value)?;
-        match spec_of(alloc, grid, &taken, &said) {
-            Ok(spec) => {
-                taken.insert(said.name, spec)?;
-            }
-            Err(refusal) => return Err(refusal),
-        }
+        let spec = spec_of(alloc, grid, &taken, &said)?;
+        taken.insert(said.name, spec)?;
     }
     Ok(taken)
 }

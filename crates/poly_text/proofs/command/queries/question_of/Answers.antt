@@ -1,4 +1,5 @@
 use Rattle.std.proofs.Common.{◌++◌, ◌∷◌, [], inl, inr, ap, subst, ◌∙◌}
+use Rattle.std.proofs.lemmas.Result.{err_from_is_err_and}
 use Rattle.poly_text.specs.declared.command.queries.QueryWord.TheVariants as kept_as
 use Rattle.poly_text.specs.Queries.{query_of}
 use Rattle.poly_text.specs.Read.{IsReadAs}
@@ -18,7 +19,7 @@ loop-word-init c = record {
 pub loop-word-preserved : goal.loop-word-preserved
 loop-word-preserved c =
     let i = c.loop-word.invariant in
-    let read = c.in-Ok.ensures.ok in
+    let read = c.in_ok-query.ensures.ok in
     record {
       done = i.done ++ read.0 ∷ [];
       so_far = each_step query_of c.args.words.now c.loop-word.word-index _ i.done read.0 _ c.loop-word-test.true read.1 i.so_far;
@@ -51,9 +52,10 @@ returns-else-are_sets c =
     let i = c.loop-word.invariant in
     inr (no_sets _ i.done (each_end query_of c.args.words.now c.loop-word.word-index i.done _ c.loop-word-test.false i.so_far) (i.kept.not_made c.if-are_sets.false))
 
-pub returns-in-Err : goal.returns-in-Err
-returns-in-Err c =
-    elim c.in-Err.ensures.why [
+pub returns-in_err-query : goal.returns-in_err-query
+returns-in_err-query c =
+    let p = err_from_is_err_and c.from_residual.result c.from_residual.ensures.1 in
+    rw (p.1, p.2) (elim c.in_err-query.ensures.why [
       | inl m ↦ inl m
-      | inr is ↦ inr (refused _ c.in-Err.refusal (each_stop query_of c.args.words.now c.loop-word.word-index _ c.loop-word.invariant.done c.in-Err.refusal _ c.loop-word-test.true is c.loop-word.invariant.so_far))
-    ]
+      | inr is ↦ inr (refused _ c.in_err-query.field-0.0 (each_stop query_of c.args.words.now c.loop-word.word-index _ c.loop-word.invariant.done c.in_err-query.field-0.0 _ c.loop-word-test.true is c.loop-word.invariant.so_far))
+    ])
