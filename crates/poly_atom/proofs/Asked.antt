@@ -14,7 +14,7 @@ use Rattle.poly_atom.specs.Hopeless.{AskTheSame, asked, bad, base, beyond, hopel
 use Rattle.poly_atom.proofs.Bases.{asked_in, base_in, base_up, in_asked, in_base_has, in_base_pin}
 use Rattle.poly_atom.proofs.Counted.{or_no}
 
-asked_append : (A B : List Atom) → asked (A ++ B) ≡ asked A ++ asked B
+pub asked_append : (A B : List Atom) → asked (A ++ B) ≡ asked A ++ asked B
 asked_append [] B = refl
 asked_append (Has p ∷ A) B = ap (λ l. p ∷ l) (asked_append A B)
 asked_append (Lacks p ∷ A) B = asked_append A B
@@ -23,25 +23,6 @@ asked_append (AtMost i n ∷ A) B = asked_append A B
 
 mem_asked : (A B : List Atom) (p : ℕ) → mem (asked (A ++ B)) p ≡ (mem (asked A) p || mem (asked B) p)
 mem_asked A B p = ap (λ l. mem l p) (asked_append A B) ∙ any_append (λ y. eqb y p) (asked A) (asked B)
-
-or_yes : (a b : Bool) → (b ≡ true → a ≡ true) → a ≡ (a || b)
-or_yes true b h = refl
-or_yes false true h = absurd (true≢false (sym (h refl)))
-or_yes false false h = refl
-
--- an atom that asks for nothing new
-pub gathered_again : (A : List Atom) (a : Atom) → true ≡ list_all (λ p. mem (asked A) p) (asked (a ∷ [])) → (p : ℕ) → mem (asked A) p ≡ (mem (asked A) p || mem (asked (a ∷ [])) p)
-gathered_again A (Has q) h p = or_yes (mem (asked A) p) (mem (asked (Has q ∷ [])) p) (λ e. elim (or_cases (eqb q p) false e) [
-  | inl k ↦ subst (λ z. mem (asked A) z ≡ true) (eqb-true q p k) (here (mem (asked A) q) h)
-  | inr k ↦ absurd (true≢false (sym k))
-])
-  where
-    here : (b : Bool) → true ≡ (b && true) → b ≡ true
-    here true k = refl
-    here false k = sym k
-gathered_again A (Lacks q) h p = sym (or_no (mem (asked A) p))
-gathered_again A (AtLeast i n) h p = sym (or_no (mem (asked A) p))
-gathered_again A (AtMost i n) h p = sym (or_no (mem (asked A) p))
 
 -- an atom that is written behind the first n
 pub gathered_new : (list new : List Atom) (n : ℕ) (a : Atom) → n < length list → new ≡ set list n a → (p : ℕ) → mem (asked (take (n + 1) new)) p ≡ (mem (asked (take n list)) p || mem (asked (a ∷ [])) p)

@@ -72,7 +72,7 @@ pub put_tally : (f : ℕ → Bool) (p : ℕ) (qs : List ℕ) → ascending qs �
 put_tally f p [] h = omega (arith, one_yes (f p))
 put_tally f p (q ∷ qs) h = put_tally_at f p q qs h (put_tally f p qs (ascending_rest q qs h)) (eqb p q) (ltb p q) refl refl
 
-mem_put_all : (ps qs : List ℕ) (x : ℕ) → mem (put_all ps qs) x ≡ (mem ps x || mem qs x)
+pub mem_put_all : (ps qs : List ℕ) (x : ℕ) → mem (put_all ps qs) x ≡ (mem ps x || mem qs x)
 mem_put_all ps qs x = same_truth (mem (put_all ps qs) x) (mem ps x || mem qs x)
     (λ e. elim (put_all_in ps qs x (mem_in (put_all ps qs) x e)) [ inl i ↦ or_left (mem ps x) (mem qs x) (in_mem ps x i) | inr i ↦ or_right (mem ps x) (mem qs x) (in_mem qs x i) ])
     (λ e. elim (or_cases (mem ps x) (mem qs x) e) [

@@ -17,3 +17,4 @@ pub mod Newly
 pub mod Hopes
 pub mod Few
 pub mod Asked
+pub mod Crowds

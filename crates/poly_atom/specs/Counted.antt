@@ -1,6 +1,6 @@
 -- Counting what each tiling of a family has, without building the list of it.
-use Rattle.std.specs.Prelude.{Bool, List, [], false, not, ℕ, ◌&&◌, ◌+◌, ◌∷◌}
-use Rattle.poly_tiling.specs.Lists.{mem, one}
+use Rattle.std.specs.Prelude.{Bool, List, [], false, length, not, ℕ, ◌&&◌, ◌+◌, ◌∷◌}
+use Rattle.poly_tiling.specs.Lists.{mem, one, put_all}
 use Rattle.poly_tiling.specs.declared.item.Item.{Item}
 use Rattle.poly_tiling.specs.Puzzle.{View, has_item}
 use Rattle.poly_atom.specs.declared.atom.Atom.{Atom}
@@ -18,3 +18,7 @@ adds v (AtMost j n) A i = false
 abbrev pub extra : View → List Atom → Item → ℕ
 extra v [] i = 0
 extra v (a ∷ A) i = one (adds v a A i) + extra v A i
+
+-- how many different placements the atoms ask for
+abbrev pub asked_count : List Atom → ℕ
+asked_count A = length (put_all (asked A) [])

@@ -2,36 +2,51 @@
 //! that the list asks for and the pins, each counted once.
 //!
 //! A list may be long, and may ask for one placement many times. So the placements that it asks for are gathered first,
-//! each once, and are then compared with one another and with the atoms that rule placements out. There are few of them
-//! in any list that can be met, since no two of them share a cell.
-ghost use Rattle.std.specs.Prelude.{[], IfSome, nat_lt, take, ◌&&◌, ◌||◌, ◌∷◌, ◌≡◌, ◌≤◌, length, ℕ};
+//! each once, and are then compared with one another and with the atoms that rule placements out. A list that asks for
+//! more different placements than the view has items is hopeless: placements that share no cell each have an item of
+//! their own.
+ghost use Rattle.std.specs.Prelude.{[], IfNone, IfSome, false, nat_lt, not, take, ◌&&◌, ◌+◌, ◌<◌, ◌||◌, ◌∷◌, ◌≡◌, ◌≤◌, length, ℕ};
 ghost use Rattle.std.specs.List.{list_all, list_any};
-ghost use Rattle.poly_atom.specs.Counted.{adds};
+ghost use Rattle.poly_atom.specs.Counted.{adds, asked_count};
 ghost use Rattle.poly_atom.specs.Hopeless.{AskTheSame, asked, bad, base, beyond, hopeless, lost};
-ghost use Rattle.poly_tiling.specs.Lists.{mem};
+ghost use Rattle.poly_tiling.specs.Lists.{mem, one};
 ghost use Rattle.poly_tiling.specs.Puzzle.{clash, count, is_piece, items, most};
 ghost use Rattle.poly_tiling.specs.declared.item.Item.TheVariants.{Piece as PieceItem};
 
 use crate::atom::Atom;
 use crate::order::stands_in;
-use poly_design::Name;
+use poly_design::{MAX_CELLS, MAX_PIECES, Name};
 use poly_tiling::{Item, View, find_bound, has_number};
 
-// The most placements without a common cell: each covers one of at most 256 cells.
-const MOST_ASKED: usize = 256;
+// The most items of a design.
+const MOST_ITEMS: usize = MAX_CELLS + MAX_PIECES;
+
+// Lists up to this length are compared as they are: gathering first would cost more.
+const FEW_ATOMS: usize = 8;
 
 /// Whether the atoms show by themselves that no tiling meets all of them: one asks for a placement that isn't there, that
 /// another rules out, or that is in conflict with a pin or with another that is asked for; or for one placement of a
 /// piece among too many; or it rules out a pin; or its bound is beyond that of its item. No memory.
 ///
-/// The time is in proportion to the number of atoms if they ask for at most 256 different placements.
+/// The time is in proportion to the number of atoms.
 pub fn hopeless(view: &View, atoms: &[Atom]) -> bool
     ensures { result ≡ hopeless view.now atoms.now }
 {
-    let mut list = [Atom::Has(0); MOST_ASKED];
+    if atoms.len() <= FEW_ATOMS {
+        return any_bad(view, atoms, atoms);
+    }
+    is_long_hopeless(view, atoms)
+}
+
+// If the list asks for more placements than can be gathered, it is hopeless, unless the view has more items than a design
+// can have.
+fn is_long_hopeless(view: &View, atoms: &[Atom]) -> bool
+    ensures { result ≡ hopeless view.now atoms.now }
+{
+    let mut list = [Atom::Has(0); MOST_ITEMS];
     match gather(&mut list, atoms) {
         Some(count) => any_bad(view, atoms, &list[..count]),
-        None => any_bad(view, atoms, atoms),
+        None => view.items().len() <= MOST_ITEMS || any_bad(view, atoms, atoms),
     }
 }
 
@@ -40,6 +55,7 @@ pub fn hopeless(view: &View, atoms: &[Atom]) -> bool
 fn gather(list: &mut [Atom], atoms: &[Atom]) -> Option<usize>
     ensures fits { IfSome result (λ n. n ≤ length list.new) }
     ensures same { IfSome result (λ n. AskTheSame (take n list.new) atoms.now) }
+    ensures many { IfNone result (length list.old < asked_count atoms.now) }
 {
     let mut count = 0;
     for atom in atoms {
@@ -57,6 +73,8 @@ fn gather_one(list: &mut [Atom], count: usize, atom: Atom) -> Option<usize>
     ensures long { length list.new ≡ length list.old }
     ensures fits { IfSome result (λ n. n ≤ length list.new) }
     ensures same { IfSome result (λ n. (p : ℕ) → mem (asked (take n list.new)) p ≡ (mem (asked (take count list.old)) p || mem (asked (atom ∷ [])) p)) }
+    ensures counted { IfSome result (λ n. n ≡ count + one (not (list_all (λ p. mem (asked (take count list.old)) p) (asked (atom ∷ []))))) }
+    ensures full { IfNone result ((count ≡ length list.old) × (list_all (λ p. mem (asked (take count list.old)) p) (asked (atom ∷ [])) ≡ false)) }
 {
     if is_gathered(&list[..count], &atom) {
         return Some(count);

@@ -103,13 +103,13 @@ fn pins_take_hope(rt: HostRuntime) {
     expect_hopeless(&rt, &view, &[Atom::Has(7)], false);
 }
 
-// More atoms than are compared at once, each of which asks for a placement of its own, and as many that ask for one.
+// More atoms than a design has items, each of which asks for a placement of its own, and as many that ask for one.
 #[test]
 fn long_lists(rt: HostRuntime) {
     let view = view(&rt, &design(&rt, DOMINOES));
-    let mut different = [Atom::Has(0); 300];
+    let mut different = [Atom::Has(0); 400];
     expect_hopeless(&rt, &view, &different, false);
-    for number in 0..300u32 {
+    for number in 0..400u32 {
         different[number as usize] = Atom::Has(number);
     }
     expect_hopeless(&rt, &view, &different, true);
