@@ -119,18 +119,19 @@ def build(uses):
     waiting, running, done = sorted(names, key=lambda it: -chain[it]), {}, set()
     say(f"proving {len(names)} crates on {processors} processors; this takes several minutes, once")
     failed = False
-    with ThreadPoolExecutor(processors) as pool:
+    with ThreadPoolExecutor(len(names)) as pool:
         while running or waiting and not failed:
-            ready = [it for it in waiting if not failed and all(lower in done for lower in below(uses, it))]
-            for at, name in enumerate(ready):
-                idle = processors - sum(jobs for _, jobs in running.values())
-                if idle > 0:
-                    jobs = max(1, idle // (len(ready) - at))
+            # everything above waits for the crate with the longest chain: it gets every processor, also if others share them
+            leading = max((it for it in names if it not in done), key=lambda it: chain[it])
+            for name in [it for it in waiting if not failed and all(lower in done for lower in below(uses, it))]:
+                others = [it for it in running.values() if it != leading]
+                if name == leading or len(others) < max(1, processors - 1):
+                    jobs = processors if name == leading else 1
                     waiting.remove(name)
-                    running[pool.submit(prove, uses, name, jobs)] = name, jobs
+                    running[pool.submit(prove, uses, name, jobs)] = name
                     say(f"proving {name} ({len(done)} of {len(names)} done, {clock(start)})")
             for it in wait(running, return_when=FIRST_COMPLETED).done:
-                name, _ = running.pop(it)
+                name = running.pop(it)
                 log = it.result()
                 if log is not None:
                     print("\n".join(log.splitlines()[-LINES_OF_A_FAILED_LOG:]), file=sys.stderr)
