@@ -107,7 +107,7 @@ module _ {K X : Type 0} {R : K → K → Ordering} (o : IsTotalOrder R) where
     | Greater ↦ λ is. ap (λ l. e ∷ l) (none_taken es k (sym (ap (λ r. cond (is_eq r) (Some e.1) (lookup (is_at (R k)) es)) is) ∙ none))
   ]) refl
 
-  -- what is put in above all keys stands at the end
+  -- an entry that is inserted above all keys is at the end
   pub put_last : (es rest : List (K × X)) (k : K) (v : X) → IsAscending R (keys_of (es ++ (k, v) ∷ rest)) → insert_entry R es k v ≡ es ++ (k, v) ∷ []
   put_last [] rest k v up = refl
   put_last (e ∷ es) rest k v up =

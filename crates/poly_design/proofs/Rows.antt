@@ -142,7 +142,7 @@ unblocked_found (Some m) h = refl
 same_key : (x y : Spot) → eq_by_cmp spot_cmp x y ≡ true → x ≡ y
 same_key = tells_apart same_spot
 
--- a cell is among the keys exactly where it is not blocked
+-- a cell is among the keys exactly if it is not blocked
 pub unblocked_exactly : (cells : List (Spot × Mode)) → NoneBlocked cells → (c : Spot) → Contains (keys_of cells) c ↔ (mode_at cells c ≢ Blocked)
 unblocked_exactly cells none c = (
   λ h. found_unblocked (lookup (is_at (spot_cmp c)) cells) (λ m e. none c m (Contains-from_lookup same_key c m cells e)) (IsSome-lookup_from_Contains (eq_by_cmp_equiv spot_total) c cells h),
@@ -204,7 +204,7 @@ placement_of_exactly d name spec none up has p = (
     same_name : (x y : List ℕ) → eq_by_cmp name_cmp x y ≡ true → x ≡ y
     same_name = tells_apart exact_bytes
 
--- where all placements are listed, no list of them is longer
+-- if all placements are listed, no list of them is longer
 pub few_from_list : (d : Layout) (list : List Placement) → IsListOf placement_cmp (IsPlacement d) list → length list ≤ 20000 → FewPlacements d
 few_from_list d list of few ys up members =
     let le = length-part placement_total ys list up of.ascending (λ v h. (of.exact v).1 (members v h)) in

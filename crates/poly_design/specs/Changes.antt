@@ -23,7 +23,7 @@ abbrev pub set_spec : List (List ℕ × Spec) → List ℕ → Option Spec → L
 set_spec pieces name None = remove_entry (is_at (name_cmp name)) pieces
 set_spec pieces name (Some spec) = insert_entry name_cmp pieces name spec
 
--- the design with the change's after side put in, whatever stood there
+-- the design with the change's after side in place of whatever was there
 abbrev pub changed : Layout → Change → Layout
 changed d (Cell c before after) = record { grid = d.grid; cells = set_mode d.cells c after; pieces = d.pieces }
 changed d (Piece name before after) = record { grid = d.grid; cells = d.cells; pieces = set_spec d.pieces name after }

@@ -98,7 +98,7 @@ abbrev pub NoneEarly : List (Refusal × Type 0) → Type 0
 NoneEarly [] = Unit {0}
 NoneEarly (c ∷ cs) = (IsEarly c.0 → ¬ c.1) × NoneEarly cs
 
--- the change is what the edit asks for, nothing stands against it, and what it makes is a design
+-- the change is what the edit asks for, no cause refuses it, and it makes a design
 pub record IsAccepted (d : Layout) (e : Edit) (step : Change) : Type 0 where
   pub is : step ≡ change_of d e
   pub free : NoneHolds (causes d e)
@@ -108,6 +108,6 @@ pub record IsAccepted (d : Layout) (e : Edit) (step : Change) : Type 0 where
 abbrev pub IsRefused : Layout → Edit → Refusal → Type 0
 IsRefused d e refusal = IsFirst (causes d e) refusal
 
--- a first cause that is found without memory is answered, so no other refusal stands in its place
+-- a first cause that is found without memory is the answer, so no other refusal takes its place
 abbrev pub RefusesEarly : Layout → Edit → Result Change Refusal → Type 0
 RefusesEarly d e answer = (refusal : Refusal) → IsEarly refusal → IsRefused d e refusal → answer ≡ Err refusal

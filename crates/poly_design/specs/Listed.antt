@@ -29,7 +29,7 @@ pub record HasAt {X : Type 0} (list : List X) (at : ℕ) (x : X) : Type 0 where
   pub within : at < length list
   pub is : (d : X) → slice_index_or list at d ≡ x
 
--- what stands before that place is below x, and what stands from there on is above it
+-- the elements before that place are below x, and those from there on are above it
 pub record IsGapFor {X : Type 0} (cmp : X → X → Ordering) (x : X) (list : List X) (at : ℕ) : Type 0 where
   pub within : at ≤ length list
   pub below : AllWithin (λ y. cmp y x ≡ Less) list 0 at

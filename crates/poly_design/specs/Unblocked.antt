@@ -6,7 +6,7 @@ use Rattle.poly_grid.specs.Spot.{Spot}
 abbrev pub flag_of : List Bool → Spot → Bool
 flag_of flags c = slice_index_or flags (64 * c.y + c.x) false
 
--- a cell's flag is up exactly where the list has the cell
+-- a cell's flag is up exactly if the list has the cell
 pub record AreFlagsOf (cells : List Spot) (flags : List Bool) : Type 0 where
   pub whole : length flags ≡ 64 * 64
   pub in_range : (c : Spot) → Contains cells c → (c.x < 64) × (c.y < 64)

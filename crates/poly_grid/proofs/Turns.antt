@@ -16,7 +16,7 @@ Makes g p n t u both =
     let r = turned_of g both p in
     (both < n) × (q.x ≡ r.x) × (q.y ≡ r.y)
 
--- the number of the turn t and then the turn u, where the first n turns are the rotations
+-- the number of the turn t followed by the turn u, if the first n turns are the rotations
 abbrev composed : ℕ → ℕ → ℕ → ℕ
 composed n t u =
     if nat_lt u n then (if nat_lt t n then (t + u) % n else (n + (t - n + u) % n))

@@ -63,8 +63,7 @@ impl Cell {
         self.y
     }
 
-    /// The cell so many columns to the right and so many rows down, or `None` if its column or row would be
-    /// over 63.
+    /// The cell `right` columns to the right and `down` rows down, or `None` if its column or row would be over 63.
     pub fn translated(self, right: u8, down: u8) -> Option<Cell>
         ensures { SomeIff result ((self.x + right < 64) × (self.y + down < 64)) (record { x = self.x + right; y = self.y + down }) }
     {

@@ -36,7 +36,7 @@ module _ {X : Type 0} (R : X → X → Type 0) where
 
 -- ---- merging
 
--- some of both lists stand in one, in order, before all that is left
+-- some of both lists are merged, in order, before all that is left
 pub record IsMerging (lt : ℕ → ℕ → Bool) (kept fresh : List ℕ) (i : ℕ) (rest live : List ℕ) : Type 0 where
   pub done : List ℕ
   pub all : kept ≡ done ++ rest
@@ -53,7 +53,7 @@ merging_begins lt kept fresh live none a b = record {
   before_fresh = subst (λ l. AllPairs (λ m n. lt n m ≡ false) (l ++ fresh)) (sym none) b;
 }
 
--- the same elements, where the middle two parts change places
+-- the same elements, if the middle two parts change places
 swapped : (a b c d : List ℕ) → IsPermutation ((a ++ b) ++ (c ++ d)) ((a ++ c) ++ (b ++ d))
 swapped a b c d =
     let inner : IsPermutation ((b ++ c) ++ d) ((c ++ b) ++ d) = IsPermutation-append (b ++ c) (c ++ b) d d (IsPermutation-append_comm b c) (IsPermutation-refl d) in

@@ -55,7 +55,7 @@ pub record GivesInOrder (d : Layout) (old new : List Placement) : Type 0 where
   pub pins_up : IsAscending placement_cmp pins
   pub are_pins : (p : Placement) → Contains pins p → IsPin d p
 
--- what a plan says, where the table was right for the first design
+-- what a plan says, if the table was right for the first design
 pub record IsPlanFor (t : View) (before after : Layout) (v : View) (x : Delta) : Type 0 where
   pub right : IsRight v after
   pub names : Names t v

@@ -5,7 +5,7 @@ use Rattle.poly_tiling.specs.declared.item.Item.{Item}
 use Rattle.poly_tiling.specs.declared.item.Item.TheVariants.{Cell, Piece}
 use Rattle.poly_tiling.specs.Puzzle.{Bound, bound_in, same_item}
 
--- the name, where the list has the piece with a lower most than this
+-- the name, if the list has the piece with a lower most than this
 abbrev pub falls_at : List Bound → Item → ℕ → Option (List ℕ)
 falls_at to (Cell c) most = None
 falls_at to (Piece name) most = if (list_any (λ b. same_item b.0 (Piece name)) to && nat_lt (bound_in to (Piece name) (λ b. b.2)) most) then Some name else None

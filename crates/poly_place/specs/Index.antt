@@ -16,7 +16,7 @@ use Rattle.poly_tiling.specs.Puzzle.{Bound, View, has_item, items_of, same_item}
 abbrev pub Row : Type 0
 Row = Item × List ℕ
 
--- the numbers of the item, none where it has no row
+-- the numbers of the item; none if it has no row
 abbrev pub row_in : List Row → Item → List ℕ
 row_in [] i = []
 row_in (r ∷ rs) i = cond (same_item r.0 i) r.1 (row_in rs i)
@@ -26,7 +26,7 @@ abbrev pub place_in : List Row → Item → Option ℕ
 place_in [] i = None
 place_in (r ∷ rs) i = cond (same_item r.0 i) (Some 0) (option_map suc (place_in rs i))
 
--- the rows stand in item order, one for an item
+-- the rows are in item order, one for each item
 abbrev pub AreRows : List Row → Type 0
 AreRows rows = AllPairs (λ r s. item_cmp r.0 s.0 ≡ Less) rows
 

@@ -17,7 +17,7 @@ use std::alloc::{AllocError, Global};
 /// placements, items and names in their own order.
 #[derive(Drop)]
 pub struct Delta {
-    /// The numbers that are no placement any more.
+    /// The numbers that are no longer placements.
     pub gone: Vec<u32>,
     /// The numbers that are a placement now and were none.
     pub fresh: Vec<u32>,
@@ -160,7 +160,7 @@ fn fallen(
     Ok(list)
 }
 
-// The piece of the bound, where the list has it with a lower most.
+// The piece of the bound, if the list has it with a lower most.
 fn falls(to: &[(Item, u8, u8)], bound: &(Item, u8, u8)) -> Option<Name>
     requires { items_ascend to.now ≡ true }
     ensures { result ≡ falls to.now bound.now }

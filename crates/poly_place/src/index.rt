@@ -123,7 +123,7 @@ impl Index {
         Ok(Index { rows })
     }
 
-    /// The numbers of the item, none where it has no row.
+    /// The numbers of the item; none if it has no row.
     pub(crate) fn numbers(&self, item: &Item) -> &[u32]
         requires { AreRows self.now.rows.items }
         ensures { result.now ≡ row_in self.now.rows.items item.now }

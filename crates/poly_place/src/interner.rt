@@ -92,10 +92,10 @@ impl Interner {
         Ok(Vec::from_slice(self.alloc, self.all.as_slice())?)
     }
 
-    /// The number of the placement, which is the next number where it has none yet.
+    /// The number of the placement. If it has none yet, it gets the next one.
     ///
-    /// Refused with `Spent` where the placement has no number and all are given out, and else only with `Memory`. A
-    /// refused call gives nothing out.
+    /// Fails with `Spent` if the placement has no number and all are in use, and else only with `Memory`. A refused
+    /// call gives nothing out.
     pub fn give(&mut self, placement: &Placement) -> Result<u32, Refusal>
         ensures ok { IfOk result (λ n. slice_get self.new n ≡ Some placement.now) }
         ensures gives { OnOk result (Gives self.old placement.now self.new) }
@@ -140,8 +140,8 @@ impl Interner {
 
     /// The numbers of the placements, in their order. Those that have none yet are given the next numbers.
     ///
-    /// Refused with `Spent` where there are more placements than numbers, and else only with `Memory`. A refused call
-    /// gives nothing out.
+    /// Fails with `Spent` if there are more placements than numbers, and else only with `Memory`. A refused call gives
+    /// nothing out.
     pub fn give_all(&mut self, placements: &[Placement]) -> Result<Vec<u32>, Refusal>
         ensures ok { IfOk result (λ numbers. AreNumbersOf self.new numbers.items placements.now) }
         ensures gives { OnOk result (GoesOnWith self.old placements.now self.new) }
@@ -165,7 +165,7 @@ impl Interner {
         Ok(numbers)
     }
 
-    // Makes room for so many more numbers.
+    // Makes room for this many more numbers.
     fn reserve(&mut self, more: usize) -> Result<(), Refusal>
         ensures same { self.new ≡ self.old }
         ensures why { IfErr result (λ e. e ≡ Refusal.Memory) }

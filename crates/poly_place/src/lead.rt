@@ -25,7 +25,7 @@ use std::sync::Arc;
 
 /// The plan of a change of the design that the sides show. After is the design after it.
 ///
-/// Refused with `Spent` where there are more placements than numbers, and else only with `Memory`.
+/// Fails with `Spent` if there are more placements than numbers, and else only with `Memory`.
 pub(crate) fn lead(
     alloc: Global,
     names: &mut Interner,

@@ -75,7 +75,7 @@ impl Table {
         view_of(self.alloc, &self.names, &self.sides)
     }
 
-    /// The numbers of the design's placements that have the item, each once; none where the item isn't there.
+    /// The numbers of the design's placements that have the item, each once; none if the item isn't in the design.
     pub fn numbers(&self, item: &Item) -> &[u32]
         ensures { AreNumbersWith self.now item.now result.now }
     {
@@ -84,8 +84,9 @@ impl Table {
 
     /// The plan of a change of the design that the table is right for.
     ///
-    /// Refused with `Spent` where there are more placements than numbers, and else only with `Memory`. Used or not, and
-    /// also where it is refused, the table stays right for the design before; numbers that were given out stay given out.
+    /// Fails with `Spent` if there are more placements than numbers, and else only with `Memory`. Whether or not the
+    /// plan is used, and even if the call is refused, the table stays right for the design before. Numbers that were
+    /// assigned stay in use.
     pub fn plan(&mut self, design: &Design, change: &Change) -> Result<Plan, Refusal>
         requires standing { IsRight self.old design.now }
         requires limits { IsDesign (changed design.now change.now) }

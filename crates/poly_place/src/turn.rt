@@ -1,7 +1,7 @@
 //! The sides after a change of one cell or one piece.
 //!
 //! A placement that neither covers the changed cell nor belongs to the changed piece stays what it was. So only the
-//! placements over the cell or of the piece are found anew, and their numbers come in between the others.
+//! placements over the cell or of the piece are listed again, and their numbers are merged with the others.
 ghost use Rattle.std.specs.Prelude.{◌≡◌, ◌⊎◌, ◌++◌, Err, IfErr, IfOk, IsSome, OnOk, false, length, nat_eq, true, ◌≤◌};
 ghost use Rattle.std.specs.Cmp.Lexicographic.{pointwise};
 ghost use Rattle.std.specs.List.{list_any};
@@ -42,7 +42,7 @@ pub(crate) struct Turn {
 /// The design after the change. The marks tell which numbers of the design before it the change touches. New numbers go to
 /// placements first, then to pins.
 ///
-/// Refused with `Spent` where there are more placements than numbers, and else only with `Memory`.
+/// Fails with `Spent` if there are more placements than numbers, and else only with `Memory`.
 pub(crate) fn turned(
     alloc: Global,
     names: &mut Interner,
@@ -91,7 +91,7 @@ fn found_on(cell: Cell, after: &Design) -> Result<Vec<Placement>, Refusal>
     Ok(list)
 }
 
-// The placements of the piece, none where it is not there.
+// The placements of the piece; none if it isn't in the design.
 fn found_of(alloc: Global, name: Name, after: &Design) -> Result<Vec<Placement>, Refusal>
     ensures ok { IfOk result (λ list. IsListOf placement_cmp (λ p. IsPlacement after.now p × (pointwise nat_eq p.name name ≡ true)) list.items) }
     ensures why { IfErr result (λ e. e ≡ Refusal.Memory) }

@@ -147,7 +147,7 @@ module _ {X : Type 0} {R : X → X → Ordering} (o : IsTotalOrder R) where
       λ i. e i ∷ rest i
 
 module _ {X : Type 0} {R : X → X → Ordering} (o : IsTotalOrder R) where
-  -- where the first element of a comes later in b, all of a does
+  -- if the first element of a comes later in b, all of a does
   all_later : (x y : X) (xs ys : List X) → IsAscending R (x ∷ xs) → IsAscending R (y ∷ ys) → Contains ys x
       → ((v : X) → Contains (x ∷ xs) v → Contains (y ∷ ys) v) → (v : X) → Contains (x ∷ xs) v → Contains ys v
   all_later x y xs ys up vp later ab v here = elim (contains_cons_cases y ys v (ab v here)) [
@@ -168,7 +168,7 @@ module _ {X : Type 0} {R : X → X → Ordering} (o : IsTotalOrder R) where
     | inl later ↦ let le = length-part (x ∷ xs) ys up (tail_ascending o y ys vp) (all_later x y xs ys up vp later ab) in omega (arith, le)
   ]
 
-  -- and shorter where the list has an element that the part has not
+  -- and shorter if the list has an element that the part doesn't have
   pub part_shorter : (a b : List X) (c : X) → IsAscending R a → IsAscending R b → ((v : X) → Contains a v → Contains b v) → Contains b c → (Contains a c → ⊥) → length a < length b
   part_shorter [] [] c up vp ab has lacks = absurd (omega (arith, has.1))
   part_shorter [] (y ∷ ys) c up vp ab has lacks = omega arith

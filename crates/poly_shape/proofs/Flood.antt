@@ -1,4 +1,4 @@
--- What flooding reaches, and that it reaches all of the cells exactly where they are connected.
+-- What flooding reaches, and that it reaches all of the cells exactly if they are connected.
 use Rattle.std.proofs.Common.{◌≡◌, Bool, true, false, not, List, ◌⊎◌, refl, sym, subst, inl, inr, ◌∙◌}
 use mathlib.Core.Bool.{true≢false}
 use Rattle.std.specs.Bool.{Decides}
@@ -61,7 +61,7 @@ false_or_true : (b : Bool) → (not b ≡ true) ⊎ (b ≡ true)
 false_or_true true = inr refl
 false_or_true false = inl refl
 
--- where flooding has reached every cell, the cells are connected
+-- if flooding has reached every cell, the cells are connected
 pub connected_from_flood : (g : Grid) (cells reached : List Spot) → IsFlood g cells reached → pointwise spot_eq reached cells ≡ true → IsConnected g cells
 connected_from_flood g cells reached flood e p closed a b in_a in_b pa =
     let same : reached ≡ cells = same_from_pointwise reached cells e in
@@ -86,7 +86,7 @@ in_from_test reached c e = Contains-from_any spot_eq_same c reached e
 test_from_in : (reached : List Spot) (c : Spot) → Contains reached c → is_in reached c ≡ true
 test_from_in reached c here = list_any-from_Contains spot_equiv c reached here
 
--- where the cells are connected, a flood that cannot go on has reached every cell
+-- if the cells are connected, a flood that cannot go on has reached every cell
 pub flood_from_connected : (g : Grid) (cells reached : List Spot) → IsAscending spot_cmp cells → IsFlood g cells reached
     → ((c : Spot) → Contains cells c → Touches g reached c → Contains reached c) → IsConnected g cells → pointwise spot_eq reached cells ≡ true
 flood_from_connected g cells reached up flood done connected =

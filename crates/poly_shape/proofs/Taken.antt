@@ -1,4 +1,4 @@
--- A set that has taken the first elements of a list, of which none came twice.
+-- A set that has taken the first elements of a list, none of which occurs twice.
 use Rattle.std.proofs.Common.{◌≡◌, ◌≢◌, ℕ, ◌+◌, ◌<◌, List, length, get_or, refl, ap, sym, subst, inl, inr, ◌∙◌, arith}
 use Rattle.std.proofs.lemmas.Bool.{cases_eq}
 use Rattle.std.specs.List.{Contains}

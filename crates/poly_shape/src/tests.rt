@@ -165,7 +165,7 @@ fn classes(alloc: Global, grid: Grid, fixed: &[Cells], mirror: bool) -> Result<u
     Ok(first.len())
 }
 
-// How many shapes of so many cells there are: fixed, one-sided and free.
+// How many shapes of `size` cells there are: fixed, one-sided and free.
 fn enumerated(alloc: Global, grid: Grid, size: usize) -> Result<[usize; 3], Refusal> {
     let mut fixed = Vec::new(alloc);
     fixed.push(Cells::one(Cell::ORIGIN))?;

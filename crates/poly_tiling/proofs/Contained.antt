@@ -56,7 +56,7 @@ low_get [] n l = absurd (omega arith)
 low_get (x ∷ xs) zero l = (x, refl)
 low_get (x ∷ xs) (suc n) l = low_get xs n (omega arith)
 
--- where no two elements are the same, each stands at one place
+-- if no two elements are the same, each has one place
 pub one_place : {X : Type 0} (xs : List X) → AllPairs (λ x y. x ≢ y) xs → (m n : ℕ) (x : X) → slice_get xs m ≡ Some x → slice_get xs n ≡ Some x → m ≡ n
 one_place [] h m n x a b = cc
 one_place (y ∷ ys) h zero zero x a b = refl

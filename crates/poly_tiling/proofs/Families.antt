@@ -126,7 +126,7 @@ left_split v chosen free p T a i = elim (cases_Bool (mem T p)) [
       omega (arith, ap one same, ap one none)
 ]
 
--- a tiling has no number that doesn't fit beside some of its own
+-- a tiling has no number that doesn't fit with some of its own
 pub fits_members : (v : View) (chosen T : List ℕ) (q : ℕ) → distinct chosen ≡ true → is_tiling v T ≡ true → ((p : ℕ) → In p chosen → In p T) → In q T → (In q chosen → ⊥) → fits_beside v chosen q ≡ true
 unfolding fits_beside
 fits_members v chosen T q d tiles has i out =

@@ -65,7 +65,7 @@ below_by {X} {R} o same x y h d = go (R x y) refl
     go Equal e = absurd (d (same x y e))
     go Greater e = let f : R y x ≡ Less = o.antisymm y x ∙ ap ordering_reverse e in let g : true ≡ false = sym (ap is_lt f) ∙ h in cc
 
--- where each element is below the next, each is below all that follow
+-- if each element is below the next, each is below all that follow
 pub steps_ascend : {X : Type 0} {R : X → X → Ordering} → IsTotalOrder R → (xs : List X) → ((k : ℕ) (d : X) → k + 1 < length xs → R (get_or xs k d) (get_or xs (k + 1) d) ≡ Less) → IsAscending R xs
 steps_ascend {X} {R} o xs step i j d l m = subst (λ n. R (get_or xs i d) (get_or xs n d) ≡ Less) (omega arith) (far (j - (i + 1)) (omega arith))
   where
@@ -181,14 +181,14 @@ pub tally_has : (T : List ℕ) (lists : List (List ℕ)) → 0 < tally (same_lis
 tally_has T [] l = absurd (omega arith)
 tally_has T (U ∷ lists) l = tally_has_at T U lists (tally_has T lists) (same_list T U) refl l
 
--- where each stands once at most, no two are the same
+-- if a list has no repeats, no two of its elements are the same
 apart_by : (lists : List (List ℕ)) → ((T : List ℕ) → tally (same_list T) lists ≤ 1) → AllPairs (λ S T. S ≢ T) lists
 apart_by [] h = pairs_none (λ S T. S ≢ T)
 apart_by (S ∷ lists) h = pairs_cons (λ S T. S ≢ T) S lists
     (λ T i e. let l = tally_some S lists (subst (λ U. In U lists) (sym e) i) in let y = ap one (same_list_self S) in let m = h S in absurd (omega (arith, l, y, m)))
     (apart_by lists (λ T. let m = h T in omega (arith, m)))
 
--- each is a tiling, and none stands twice
+-- each is a tiling, and none occurs twice
 record AreTilings (v : View) (lists : List (List ℕ)) : Type 0 where
   tilings : (T : List ℕ) → In T lists → is_tiling v T ≡ true
   apart : AllPairs (λ S T. S ≢ T) lists

@@ -1,4 +1,4 @@
--- Membership, tests over lists, counts, and what stands at a place.
+-- Membership, tests over lists, counts, and the element at a place.
 use Rattle.std.proofs.Common.{Bool, List, None, Option, [], ap, arith, cond, eqb, false, inl, inr, length, map, refl, slice_get, subst, suc, sym, true, zero, ℕ, ◌&&◌, ◌++◌, ◌+◌, ◌<◌, ◌||◌, ◌∙◌, ◌∷◌, ◌≡◌, ◌⊎◌}
 use Rattle.std.proofs.lemmas.Bool.{and_from, and_parts, both_ways, cases_lt, eq-eqb, eqb-true, false_from_ne_true, or_cases, or_left, or_right, true≢false}
 use Rattle.std.proofs.lemmas.Option.{slice_get_past}

@@ -1,4 +1,4 @@
--- Numbers that stand in the order of their placements stand once.
+-- Numbers in the order of their placements have no repeats.
 use Rattle.std.proofs.Common.{List, None, Option, Some, [], ap, cond, eqb, false, refl, slice_get, subst, sym, true, ℕ, ◌∷◌, ◌≡◌}
 use Rattle.std.proofs.lemmas.Bool.{and_from, and_parts, both_ways, ne_eqb}
 use Rattle.std.specs.List.{list_all}
@@ -27,7 +27,7 @@ in_order_once v (p ∷ ps) h =
     (all_from (λ y. cond (eqb p y) false true) ps (λ q i. ap (λ b. cond b false true) (ne_eqb p q (below_other v p q (all_in (λ q. below v p q) ps hs.0 q i)))))
     (in_order_once v ps hs.1)
 
--- each number of the design's stands once
+-- each number of the design occurs once
 pub live_once : (v : View) → WellNamed v → distinct v.live ≡ true
 live_once v w = in_order_once v v.live w.live_up
 

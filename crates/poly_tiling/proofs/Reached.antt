@@ -19,7 +19,7 @@ use Rattle.poly_tiling.proofs.Stands.{at_stands, stands_at}
 use Rattle.poly_tiling.proofs.Tilings.{IsTiling, whole}
 use Rattle.poly_tiling.proofs.Shown.{clash_conflict, in_names, is_given, named_of, names_in, pin_given, same_number, shown_least, shown_most, some_same}
 
--- numbers that stand for placements of the design
+-- numbers that name placements of the design
 numbers : (v : View) (d : Layout) → Shows v d → (S : List Placement) → ((x : Placement) → In x S → (n : ℕ) × In n v.live × (slice_get v.placements n ≡ Some x)) →
     (N : List ℕ) × StandFor v.placements N S × ((n : ℕ) → In n N → In n v.live)
 numbers v d s [] h = ([], refl, λ n i. absurd i)

@@ -66,7 +66,7 @@ first_less b bs up k d l = all_in (λ c. is_lt (item_cmp b.0 c.0)) bs (and_parts
 rest_up : (b : Bound) (bs : List Bound) → items_ascend (b ∷ bs) ≡ true → items_ascend bs ≡ true
 rest_up b bs up = (and_parts (list_all (λ c. is_lt (item_cmp b.0 c.0)) bs) (items_ascend bs) up).1
 
--- the bound of an item that stands in the list
+-- the bound of an item of the list
 pub bound_at : (bs : List Bound) (i : Item) (f : Bound → ℕ) (k : ℕ) (d : Bound) → items_ascend bs ≡ true → k < length bs → item_cmp (get_or bs k d).0 i ≡ Equal → bound_in bs i f ≡ f (get_or bs k d)
 bound_at [] i f k d up l e = absurd (omega arith)
 bound_at (b ∷ bs) i f zero d up l e = ap (λ t. cond t (f b) (bound_in bs i f)) (same_item_ties b.0 i ∙ eq_from (item_cmp b.0 i) e)
@@ -112,7 +112,7 @@ bound_missing bs i ord is up at point f =
     let same : ord (get_or bs k.0 b) ≡ Equal = is (get_or bs k.0 b) ∙ ap (λ z. item_cmp z.0 i) k.2 ∙ e in
     elim (cases_lt k.0 at) [ inl l ↦ let o = sides.0 k.0 b (omega arith) l in cc | inr g ↦ let o = sides.1 k.0 b g k.1 in cc ])
 
--- whether an item stands in the list, by what is found of it
+-- whether the list has an item, by what a search finds
 found_or_not : (a b : Bool) (n : ℕ) → n ≡ one b → cond a 1 n ≡ one (a || b)
 found_or_not true b n e = refl
 found_or_not false b n e = e

@@ -34,12 +34,12 @@ fits_beside v chosen q =
     && not (list_any (λ p. clash v q p) chosen)
     && not (list_any (λ i. is_piece i && nat_le (most v i) (count v chosen i)) (items v q))
 
--- where an item is given, the number has it
+-- if an item is given, the number has it
 abbrev pub is_option : View → Option Item → ℕ → Bool
 is_option v None p = true
 is_option v (Some i) p = has_item v p i
 
--- no chosen number stands twice, and none of them is free
+-- no number is chosen twice, and no chosen number is free
 pub record AreApart (chosen free : List ℕ) : Type 0 where
   pub once : distinct chosen ≡ true
   pub apart : list_all (λ p. not (mem chosen p)) free ≡ true

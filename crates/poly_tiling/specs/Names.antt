@@ -28,7 +28,7 @@ placed_below (Some x) (Some y) = is_lt (placement_cmp x y)
 abbrev pub below : View → ℕ → ℕ → Bool
 below v p q = placed_below (slice_get v.placements p) (slice_get v.placements q)
 
--- the numbers stand in the order of their placements
+-- the numbers are in the order of their placements
 abbrev pub in_order : View → List ℕ → Bool
 in_order v [] = true
 in_order v (p ∷ ps) = list_all (λ q. below v p q) ps && in_order v ps

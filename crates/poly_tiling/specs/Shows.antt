@@ -1,4 +1,4 @@
--- How a view's numbers stand for a design.
+-- How a view shows a design by numbers.
 use Rattle.std.specs.List.{AllPairs, Contains, filter_map, list_all, range_with_len}
 use Rattle.std.specs.Option.{option_map}
 use Rattle.std.specs.Prelude.{Bool, List, None, Option, Some, [], length, map, nat_lt, slice_get, ℕ, ◌++◌, ◌+◌, ◌∷◌, ◌≤◌, ◌↔◌, ◌≡◌, ◌≢◌}
@@ -44,7 +44,7 @@ names v T = filter_map (λ n. slice_get v.placements n) T
 abbrev pub given : View → List ℕ → Bool
 given v T = list_all (λ n. nat_lt n (length v.placements)) T
 
--- the numbers stand for the placements, one by one
+-- the numbers name the placements, one by one
 abbrev pub StandFor : List Placement → List ℕ → List Placement → Type 0
 StandFor placements numbers list = map (λ n. slice_get placements n) numbers ≡ map (λ p. Some p) list
 

@@ -11,7 +11,7 @@ use Rattle.poly_tiling.specs.Puzzle.{View}
 use Rattle.poly_tiling.specs.Names.{WellNamed, placement_cmp}
 use Rattle.poly_tiling.specs.Shows.{names}
 
--- the placements of the tiling in placement order, in which the live numbers stand
+-- the placements of the tiling in placement order, which is that of the live numbers
 abbrev pub placed : View → List ℕ → List Placement
 placed v T = names v (filter (λ n. mem T n) v.live)
 

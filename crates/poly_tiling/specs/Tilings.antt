@@ -52,7 +52,7 @@ carries p i = list_any (λ j. same_item j i) (items_of (Some p))
 abbrev pub how_many : List Placement → Item → ℕ
 how_many T i = tally (λ p. carries p i) T
 
--- A tiling of a design. A list without repeats stands for the set of its members: its order says nothing.
+-- A tiling of a design. A list without repeats represents the set of its members: its order means nothing.
 pub record IsTiling (d : Layout) (T : List Placement) : Type 0 where
   pub single : AllPairs (λ p q. p ≢ q) T
   pub inside : (p : Placement) → Contains T p → IsPlacement d p

@@ -8,7 +8,9 @@ use poly_grid::Cell;
 /// What a placement covers: its cells and its piece. Cells come first, each kind in its own order.
 #[derive(Clone, Copy, Debug, PartialEq, Eq, PartialOrd, Ord)]
 pub enum Item {
+    /// A cell of the board.
     Cell(Cell),
+    /// A piece, by its name.
     Piece(Name),
 }
 

@@ -30,12 +30,12 @@ pub fn listings_show()
     ensures { ListingsShow }
 {}
 
-/// Where a view shows a design and has over so many tilings, so has the design.
+/// If a view shows a design and has over a number of tilings, so has the design.
 pub fn over_shows()
     ensures { OverShow }
 {}
 
-/// Two views of one design, of which the later one names what the earlier one names, are one view under numbers that go on.
+/// If a later view of a design names what an earlier one names, both are one view under numbers that continue.
 pub fn same_design_grows()
     ensures { SameDesignGrows }
 {}

@@ -22,7 +22,7 @@ pub const MAX_TILINGS: usize = 1_000_000;
 
 /// All tilings of the view, each once, in no order that is promised.
 ///
-/// Refused with `CatalogueFull` where there are over 1,000,000, and else only with `Memory`.
+/// Fails with `CatalogueFull` if there are over 1,000,000, and else only with `Memory`.
 pub fn list_tilings(alloc: Global, view: &View) -> Result<Vec<Tiling>, Refusal>
     ensures ok { IfOk result (λ found. HasEachOnce view.now found.items) }
     ensures few { IfOk result (λ found. length found.items ≤ 1000000) }
@@ -142,7 +142,7 @@ fn in_order(alloc: Global, numbers: &[u32]) -> Result<Vec<u32>, Refusal>
     Ok(list)
 }
 
-// The free numbers that fit beside the chosen ones.
+// The free numbers that fit with the chosen ones.
 fn narrowed(alloc: Global, view: &View, chosen: &[u32], free: &[u32]) -> Result<Vec<u32>, Refusal>
     ensures ok { IfOk result (λ list. list.items ≡ filter (λ q. fits_beside view.now chosen.now q) free.now) }
     ensures why { IfErr result (λ e. e ≡ Refusal.Memory) }
@@ -174,7 +174,7 @@ fn take_out(free: &mut Vec<u32>, p: u32)
     free.retain(|q| *q != p);
 }
 
-// The first free number that has the item, or simply the first where no item is given.
+// The first free number that has the item, or simply the first if no item is given.
 fn next_option(view: &View, free: &[u32], item: &Option<Item>) -> Option<u32>
     ensures { result ≡ find (λ p. is_option view.now item.now p) free.now }
 {

@@ -3,7 +3,7 @@ ghost use Rattle.std.specs.Prelude.{◌≡◌};
 ghost use Rattle.std.specs.List.{list_all};
 ghost use Rattle.poly_tiling.specs.Lists.{ascending, mem};
 
-/// Whether the number stands in the list.
+/// Whether the list has the number.
 pub fn has_number(numbers: &[u32], number: u32) -> bool
     ensures { result ≡ mem numbers.now number }
 {
@@ -22,7 +22,7 @@ pub fn ascends(numbers: &[u32]) -> bool
     true
 }
 
-/// Whether all members stand in the list.
+/// Whether the list has all members.
 pub fn has_all(numbers: &[u32], members: &[u32]) -> bool
     ensures { result ≡ list_all (λ p. mem numbers.now p) members.now }
 {

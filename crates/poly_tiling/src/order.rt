@@ -1,6 +1,6 @@
 //! Tilings in their order: each is its placements in placement order, and tilings are compared as such lists.
 //!
-//! They are compared by the places of their numbers among the live ones, which stand in placement order.
+//! They are compared by the places of their numbers among the live ones, which are in placement order.
 ghost use Rattle.std.specs.Prelude.{IfErr, IfOk, OnErr, OnOk, map, ◌≡◌};
 ghost use Rattle.std.specs.List.{All, filter_map};
 ghost use Rattle.std.specs.List.Sorted.{IsPermutation, IsSorted};
@@ -36,7 +36,7 @@ pub fn sort_tilings(alloc: Global, view: &View, tilings: &mut Vec<Tiling>) -> Re
     Ok(())
 }
 
-// The place of each number among the live ones, none where it is not live.
+// The place of each number among the live ones; none if it is not live.
 fn live_places(alloc: Global, view: &View) -> Result<Vec<Option<usize>>, Refusal>
     ensures ok { IfOk result (λ places. ArePlaces view.now.live places.items) }
     ensures well { OnOk result (WellNamed view.now) }

@@ -78,7 +78,7 @@ impl View {
         &self.pins
     }
 
-    /// The placement that a number names, none where the number was not given out.
+    /// The placement that a number names; none if the number is not in use.
     pub fn placement(&self, number: u32) -> Option<Placement>
         ensures { result ≡ slice_get self.now.placements number }
     {
@@ -149,7 +149,7 @@ impl View {
         self.bounds(piece).1 as usize <= self.count(numbers, &piece)
     }
 
-    /// The least and the most of an item, 0 and 0 where it is not there.
+    /// The least and the most of an item; 0 and 0 if it isn't in the view.
     pub fn bounds(&self, item: Item) -> (u8, u8)
         ensures least { result.0 ≡ least self.now item }
         ensures most { result.1 ≡ most self.now item }
