@@ -34,6 +34,25 @@ else
     echo "failed: help (status $status)"
 fi
 
+# The version goes to standard output too.
+./polybench --version </dev/null >"$room/output" 2>"$room/errors"
+status=$?
+if [ "$status" -eq 0 ] && grep -q '^polybench [0-9.]*$' "$room/output" && [ ! -s "$room/errors" ]; then
+    passed=$((passed + 1))
+else
+    failed=$((failed + 1))
+    echo "failed: the version (status $status)"
+fi
+
+# The example of the help, played as it is shown.
+./polybench --help </dev/null | sed -n '/^Example/,/^$/s/^  //p' >"$room/example"
+if [ -s "$room/example" ]; then
+    on_file "the example of the help" "$room/example" $'ok 0\ntilings 4\n' 0
+else
+    failed=$((failed + 1))
+    echo "failed: the help shows no example"
+fi
+
 # An argument that must be refused before any input is read, with a text on standard error.
 refused_argument() {
     local status
@@ -54,7 +73,8 @@ refused_argument '--turns'
 refused_argument '--turns=0'
 refused_argument '--turns=1000000001'
 refused_argument '--turns=x'
-refused_argument '--workers=2'
+refused_argument '--workers=0'
+refused_argument '--workers=17'
 refused_argument "$(printf '\377')"
 
 # An empty input is an empty puzzle line.

@@ -1,33 +1,45 @@
 #!/usr/bin/env bash
 # Plays the transcripts tests/transcripts/*.txt, those of README.md and docs/GUIDE.md, and the sessions examples/*.txt with
-# the built program, and compares its replies.
+# the built program, and compares its replies. Each is played by one thread and by four workers, and a few by 1, 2 and 16
+# workers too: the replies are the same bytes. They are so even if the turns run out, since then more workers leave tasks too.
 #
 # In a transcript a line that begins with `> ` is typed, and the lines after it are the replies. A line that begins with `#`
 # is a comment, but `# status N` says that the program must end with status N, not 0, and `# arguments WORD..` gives the
 # program's arguments. The blocks of a document between ```text and ``` belong to one transcript, up to the next puzzle line.
 . "$(dirname "${BASH_SOURCE[0]}")/setup.bash"
 
-# Plays the transcript in the file under the name.
-play() {
+# Plays the transcript in the file under the name, with further arguments of the program.
+play_with() {
     local name=$1 transcript=$2 wanted status arguments
+    shift 2
     sed -n 's/^> //p' "$transcript" >"$room/input"
     sed '/^> /d;/^#/d;/^$/d' "$transcript" >"$room/wanted"
     wanted=$(sed -n 's/^# status //p' "$transcript")
     read -r -a arguments <<<"$(sed -n 's/^# arguments //p' "$transcript")"
-    ./polybench "${arguments[@]}" <"$room/input" >"$room/output" 2>"$room/errors"
+    ./polybench "$@" "${arguments[@]}" <"$room/input" >"$room/output" 2>"$room/errors"
     status=$?
     if [ -s "$room/input" ] && [ "$status" -eq "${wanted:-0}" ] && cmp -s "$room/wanted" "$room/output" && [ ! -s "$room/errors" ]; then
         passed=$((passed + 1))
     else
         failed=$((failed + 1))
-        echo "failed: $name (status $status)"
+        echo "failed: $name $* (status $status)"
         diff "$room/wanted" "$room/output" | head -n 10
         head -n 5 "$room/errors"
     fi
 }
 
+play() {
+    play_with "$1" "$2"
+    play_with "$1" "$2" --workers 4
+}
+
 for transcript in tests/transcripts/*.txt; do
     play "$transcript" "$transcript"
+done
+for name in two_dominoes tetrominoes pentominoes_3_by_20 one_turn drop_undo_redo; do
+    for workers in 1 2 16; do
+        play_with "$name" "tests/transcripts/$name.txt" --workers "$workers"
+    done
 done
 for session in examples/*.txt; do
     sed 's/^/> /' "$session" | cat - "${session%.txt}.out" >"$room/transcript"

@@ -35,9 +35,9 @@ one_line limit piece said whole is = rw (whole, is) (go (open_line [] piece))
     go [] = rw (le-ltb limit 0 (omega arith)) refl
     go (x ∷ xs) = refl
 
-module _ (old new : Lines) (first left held : Option (List ℕ)) (fresh : ahead old ≡ []) (most : ℕ) (some : 0 < most) where
+module _ (Failures : Refusal → Type 0) (old new : Lines) (first left held : Option (List ℕ)) (fresh : ahead old ≡ []) (most : ℕ) (some : 0 < most) where
   abbrev pub Session : Result End Fault → Option (List ℕ) → Option (List ℕ) → Type 0
-  Session r last held_last = (taken : List ℕ) × Consumes first last taken × SessionSays (limits_from most old) taken r last held held_last
+  Session r last held_last = (taken : List ℕ) × Consumes first last taken × SessionSays Failures (limits_from most old) taken r last held held_last
 
   -- the first line ended with a line feed
   module _ (n : NextLine event.Line old new first left) (same : new.limit ≡ old.limit) (said : Option (List ℕ)) (is : (bytes : List ℕ) → new.line.items ≡ kept new.limit bytes → said ≡ ended new.limit bytes) where
@@ -73,7 +73,7 @@ module _ (old new : Lines) (first left held : Option (List ℕ)) (fresh : ahead 
     line_unanswered opened t f held_last opens w = subst (λ g. Session (Err g) left held_last) (sym w.0)
         (n.taken, consumed, (w.1, w.2, said ∷ [], lines_heard (limits_from (most - 1) new) (ahead new), w.3, go opened opens w.4, inl (read_after n.taken (ahead new) all_taken)))
       where
-        go : (o : Result Grid Refusal) → Opens said o t → w.1 ++ w.2 ≡ opening_text o → RunsOpened (said ∷ []) (w.1 ++ w.2) ⊎ RunsRefused (said ∷ []) (w.1 ++ w.2)
+        go : (o : Result Grid Refusal) → Opens said o t → w.1 ++ w.2 ≡ opening_text o → RunsOpened Failures (said ∷ []) (w.1 ++ w.2) ⊎ RunsRefused (said ∷ []) (w.1 ++ w.2)
         go (Ok x) a e = inl (t, [], a.0, refl, e ∙ sym (append-nil (ok_text 0)))
         go (Err x) a e = inr (x, a, e)
 
@@ -83,7 +83,7 @@ module _ (old new : Lines) (first left held : Option (List ℕ)) (fresh : ahead 
 
     -- the lines after the first were served
     pub then_served : (t : State) (mid held_last last : Option (List ℕ)) (r : Result (Unit {0}) Fault) → Accepts said t → Appends held mid (ok_text 0)
-        → (more : List ℕ) × Consumes left last more × Serves (limits_from (most - 1) new) Slow t (ahead new ++ more) r last mid held_last → Session (after r) last held_last
+        → (more : List ℕ) × Consumes left last more × Serves (limits_from (most - 1) new) (Slow Failures) t (ahead new ++ more) r last mid held_last → Session (after r) last held_last
     then_served t mid held_last last r accepts wrote s = (n.taken ++ s.0, consumes_more first left last n.taken s.0 consumed s.1, go r s.2)
       where
         bytes : n.taken ++ s.0 ≡ n.piece ++ (ahead new ++ s.0)
@@ -100,7 +100,7 @@ module _ (old new : Lines) (first left held : Option (List ℕ)) (fresh : ahead 
         read lines (inl e) = inl (ap (λ z. said ∷ z) e ∙ read_after (n.taken ++ s.0) (ahead new ++ s.0) bytes)
         read lines (inr (ended, few, e)) = inr (ended, short few, rw whole (ap (λ z. said ∷ z) e ∙ sym (take_first most said (lines_of new.limit (ahead new ++ s.0)) some)))
 
-        go : (q : Result (Unit {0}) Fault) → Serves (limits_from (most - 1) new) Slow t (ahead new ++ s.0) q last mid held_last → SessionSays (limits_from most old) (n.taken ++ s.0) (after q) last held held_last
+        go : (q : Result (Unit {0}) Fault) → Serves (limits_from (most - 1) new) (Slow Failures) t (ahead new ++ s.0) q last mid held_last → SessionSays Failures (limits_from most old) (n.taken ++ s.0) (after q) last held held_last
         go (Ok x) v = (
           v.0,
           short v.1,
@@ -146,7 +146,7 @@ module _ (old new : Lines) (first left held : Option (List ℕ)) (fresh : ahead 
     end_unanswered opened t f held_last opens w = subst (λ g. Session (Err g) left held_last) (sym w.0)
         (n.taken, consumed_end, (w.1, w.2, said ∷ [], take (most - 1) [], w.3, go opened opens w.4, inr (n.finds.2, short, read_last)))
       where
-        go : (o : Result Grid Refusal) → Opens said o t → w.1 ++ w.2 ≡ opening_text o → RunsOpened (said ∷ []) (w.1 ++ w.2) ⊎ RunsRefused (said ∷ []) (w.1 ++ w.2)
+        go : (o : Result Grid Refusal) → Opens said o t → w.1 ++ w.2 ≡ opening_text o → RunsOpened Failures (said ∷ []) (w.1 ++ w.2) ⊎ RunsRefused (said ∷ []) (w.1 ++ w.2)
         go (Ok x) a e = inl (t, [], a.0, refl, e ∙ sym (append-nil (ok_text 0)))
         go (Err x) a e = inr (x, a, e)
 
@@ -168,17 +168,17 @@ limits_are l line left fresh =
     let bytes : room l ≡ 1073741824 = omega (arith, ap length fresh, left) in
     ap (λ (n : ℕ). limits_of n (room l) 1000000) line ∙ ap (λ (n : ℕ). limits_of 65536 n 1000000) bytes
 
-module _ (m : Limits) (left held held_last : Option (List ℕ)) where
+module _ (Failures : Refusal → Type 0) (m : Limits) (left held held_last : Option (List ℕ)) where
   -- no memory to begin with, so that nothing was read
   none_read : [] ≡ lines_heard m []
   none_read = rw (take-nil m.bytes) (sym (take-nil m.lines))
 
-  pub unread_refused : Appends held held_last (refusal_text Memory) → SessionSays m [] (Ok Refused) left held held_last
+  pub unread_refused : Appends held held_last (refusal_text Memory) → SessionSays Failures m [] (Ok Refused) left held held_last
   unread_refused wrote = (refusal_text Memory, [], wrote, inl none_read, refl)
 
-  pub unread_unanswered : (f : Fault) → Writes (Err f) held held_last (refusal_text Memory) → SessionSays m [] (Err f) left held held_last
-  unread_unanswered f w = subst (λ g. SessionSays m [] (Err g) left held held_last) (sym w.0) (w.1, w.2, [], [], w.3, inr w.4, inl none_read)
+  pub unread_unanswered : (f : Fault) → Writes (Err f) held held_last (refusal_text Memory) → SessionSays Failures m [] (Err f) left held held_last
+  unread_unanswered f w = subst (λ g. SessionSays Failures m [] (Err g) left held held_last) (sym w.0) (w.1, w.2, [], [], w.3, inr w.4, inl none_read)
 
-pub with_limits : (m k : Limits) (r : Result End Fault) (first last held held_last : Option (List ℕ)) → m ≡ k → (taken : List ℕ) × Consumes first last taken × SessionSays m taken r last held held_last
-    → (taken : List ℕ) × Consumes first last taken × SessionSays k taken r last held held_last
-with_limits m k r first last held held_last e run = subst (λ z. (taken : List ℕ) × Consumes first last taken × SessionSays z taken r last held held_last) e run
+pub with_limits : (Failures : Refusal → Type 0) (m k : Limits) (r : Result End Fault) (first last held held_last : Option (List ℕ)) → m ≡ k → (taken : List ℕ) × Consumes first last taken × SessionSays Failures m taken r last held held_last
+    → (taken : List ℕ) × Consumes first last taken × SessionSays Failures k taken r last held held_last
+with_limits Failures m k r first last held held_last e run = subst (λ z. (taken : List ℕ) × Consumes first last taken × SessionSays Failures z taken r last held held_last) e run

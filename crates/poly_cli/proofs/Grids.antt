@@ -42,15 +42,16 @@ after_command command.ListAll s out t h = after_question ListSays s out t h
 after_command (command.Browse q) s out t h = after_question (BrowseSays q) s out t h
 after_command command.Classes s out t h = after_question ClassesSay s out t h
 
-after_reply : (r : Result Command Refusal) (s : State) (out : List ℕ) (t : State) → Replies r s out t → Same s t
-after_reply (Ok c) s out t h = after_command c s out t h
-after_reply (Err e) s out t h = same_state s t h.0
+after_reply : (Failures : Refusal → Type 0) (r : Result Command Refusal) (s : State) (out : List ℕ) (t : State) → Replies Failures r s out t → Same s t
+after_reply Failures (Ok c) s out t (inl h) = after_command c s out t h
+after_reply Failures (Ok c) s out t (inr h) = same_state s t h.1.2.0
+after_reply Failures (Err e) s out t h = same_state s t h.0
 
-after_words : (words : List (List ℕ)) (s : State) (out : List ℕ) (t : State) → WordsSay words s out t → Same s t
-after_words [] s out t h = same_state s t h.0
-after_words (word ∷ words) s out t (inl h) = after_reply h.0 s out t h.2
-after_words (word ∷ words) s out t (inr h) = same_state s t h.0
+after_words : (Failures : Refusal → Type 0) (words : List (List ℕ)) (s : State) (out : List ℕ) (t : State) → WordsSay Failures words s out t → Same s t
+after_words Failures [] s out t h = same_state s t h.0
+after_words Failures (word ∷ words) s out t (inl h) = after_reply Failures h.0 s out t h.2
+after_words Failures (word ∷ words) s out t (inr h) = same_state s t h.0
 
-pub same_grid : (s : State) (line : Option (List ℕ)) (out : List ℕ) (t : State) → Slow s line out t → t.design.grid ≡ s.design.grid
-same_grid s None out t h = same_state s t h.0
-same_grid s (Some line) out t h = after_words (words_of line) s out t h
+pub same_grid : (Failures : Refusal → Type 0) (s : State) (line : Option (List ℕ)) (out : List ℕ) (t : State) → Slow Failures s line out t → t.design.grid ≡ s.design.grid
+same_grid Failures s None out t h = same_state s t h.0
+same_grid Failures s (Some line) out t h = after_words Failures (words_of line) s out t h

@@ -14,3 +14,4 @@ pub mod Counted
 pub mod Shared
 pub mod Grids
 pub mod LineReplies
+pub mod Crewed

@@ -1,5 +1,5 @@
 -- What stands as the reply to a line, by what was asked of it.
-use Rattle.std.proofs.Common.{◌≡◌, ℕ, ◌+◌, List, [], ◌∷◌, refl, sym, ap, subst, inl, inr, Option, Some, None, Result, Ok, Err}
+use Rattle.std.proofs.Common.{false, ◌≡◌, ℕ, ◌+◌, List, [], ◌∷◌, refl, sym, ap, subst, inl, inr, Option, Some, None, Result, Ok, Err}
 use Rattle.std.specs.Prelude.{◌⊎◌, IfErr, IfOk, OnErr, OnOk}
 use Rattle.poly_grid.specs.declared.grid.Grid.{Grid}
 use Rattle.poly_grid.specs.declared.refusal.Refusal.{Refusal}
@@ -11,7 +11,7 @@ use Rattle.poly_text.specs.declared.command.Command.{Command}
 use Rattle.poly_text.specs.Commands.{AskedBy, Asks, CommandSays}
 use Rattle.poly_text.specs.Gives.{◌>>=◌}
 use Rattle.poly_text.specs.Replies.{ok_text, refusal_text, step_text}
-use Rattle.poly_cli.specs.Slow.{Answers, IsRefusal, Replies, Steps, WordsSay}
+use Rattle.poly_cli.specs.Slow.{Answers, Fails, IsRefusal, Replies, Steps, WordsSay, is_status}
 use Rattle.poly_cli.specs.Questions.{Tells}
 use Rattle.poly_cli.specs.States.{IsUnanswered, State, answered}
 use Rattle.poly_text.specs.Words.{words_of}
@@ -24,40 +24,59 @@ same_refusal : (r : Result Command Refusal) (e : Refusal) → Err e ≡ (r >>= �
 same_refusal (Ok c) e h = absurd cc
 same_refusal (Err f) e h = cc
 
-module _ (s : State) (g : Grid) (standing : g ≡ s.design.grid) where
+-- what comes of a command: its answer, want of memory or a failure
+abbrev pub Comes : (Refusal → Type 0) → Command → State → List ℕ → State → Type 0
+Comes Failures c s out t = Answers c s out t ⊎ IsRefusal Memory s out t ⊎ ((is_status c ≡ false) × Fails Failures s out t)
+
+module _ (Failures : Refusal → Type 0) (s : State) (g : Grid) (standing : g ≡ s.design.grid) where
   -- a command was asked, and answered
-  pub command_says : (line : List ℕ) (c : Command) (out : List ℕ) (t : State) → Asks g line (Ok (Some c)) → Answers c s out t ⊎ IsRefusal Memory s out t → WordsSay (words_of line) s out t
+  pub command_says : (line : List ℕ) (c : Command) (out : List ℕ) (t : State) → Asks g line (Ok (Some c)) → Comes Failures c s out t → WordsSay Failures (words_of line) s out t
   command_says line c out t a h = go (words_of line) a h
     where
-      go : (words : List (List ℕ)) → AskedBy g words (Ok (Some c)) → Answers c s out t ⊎ IsRefusal Memory s out t → WordsSay words s out t
+      replied : (words : List (List ℕ)) → (a : AskedBy g words (Ok (Some c))) → Replies Failures (Ok c) s out t → WordsSay Failures words s out t
+      replied [] a h = absurd cc
+      replied (word ∷ words) a h = inl (a.0, subst (λ d. CommandSays d (word ∷ words) a.0) standing a.1, subst (λ r. Replies Failures r s out t) (sym (same_command a.0 c a.2)) h)
+
+      go : (words : List (List ℕ)) → AskedBy g words (Ok (Some c)) → Comes Failures c s out t → WordsSay Failures words s out t
       go [] a h = absurd cc
-      go (word ∷ words) a (inl h) = inl (a.0, subst (λ d. CommandSays d (word ∷ words) a.0) standing a.1, subst (λ r. Replies r s out t) (sym (same_command a.0 c a.2)) h)
-      go (word ∷ words) a (inr m) = inr m
+      go (word ∷ words) a (inl h) = replied (word ∷ words) a (inl h)
+      go (word ∷ words) a (inr (inl m)) = inr m
+      go (word ∷ words) a (inr (inr f)) = replied (word ∷ words) a (inr f)
 
   -- the words of a line that has some were refused, or memory ran out
-  pub refusal_says : (line : List ℕ) (e : Refusal) → (words_of line ≡ [] → ◌≡◌ {A = Result (Option Command) Refusal} (Err e) (Ok None)) → (e ≡ Memory) ⊎ Asks g line (Err e) → WordsSay (words_of line) s (refusal_text e) s
+  pub refusal_says : (line : List ℕ) (e : Refusal) → (words_of line ≡ [] → ◌≡◌ {A = Result (Option Command) Refusal} (Err e) (Ok None)) → (e ≡ Memory) ⊎ Asks g line (Err e) → WordsSay Failures (words_of line) s (refusal_text e) s
   refusal_says line e blank a = go (words_of line) blank a
     where
-      go : (words : List (List ℕ)) → (words ≡ [] → ◌≡◌ {A = Result (Option Command) Refusal} (Err e) (Ok None)) → (e ≡ Memory) ⊎ AskedBy g words (Err e) → WordsSay words s (refusal_text e) s
+      go : (words : List (List ℕ)) → (words ≡ [] → ◌≡◌ {A = Result (Option Command) Refusal} (Err e) (Ok None)) → (e ≡ Memory) ⊎ AskedBy g words (Err e) → WordsSay Failures words s (refusal_text e) s
       go [] blank a = let none = blank refl in absurd cc
       go (word ∷ words) blank (inl m) = inr (refl, ap refusal_text m)
-      go (word ∷ words) blank (inr a) = inl (a.0, subst (λ d. CommandSays d (word ∷ words) a.0) standing a.1, subst (λ r. Replies r s (refusal_text e) s) (sym (same_refusal a.0 e a.2)) (refl, refl))
+      go (word ∷ words) blank (inr a) = inl (a.0, subst (λ d. CommandSays d (word ∷ words) a.0) standing a.1, subst (λ r. Replies Failures r s (refusal_text e) s) (sym (same_refusal a.0 e a.2)) (refl, refl))
 
 -- what an engine answers to a step
-pub step_says : (Leads : State → Type 0) (Refused : Refusal → Type 0) (s t : State) (r : Result ℕ Refusal) → OnOk r (Leads t) → IfOk r (λ n. n ≡ s.edition + 1) → OnErr r (t ≡ s) → IfErr r (λ e. Refused e ⊎ (e ≡ Memory))
-    → Steps Leads Refused s (step_text r) t ⊎ IsRefusal Memory s (step_text r) t
-step_says Leads Refused s t (Ok n) leads next same why = inl (inl (leads, ap ok_text next))
-step_says Leads Refused s t (Err e) leads next same (inl refused) = inl (inr (e, refused, (same, refl)))
-step_says Leads Refused s t (Err e) leads next same (inr m) = inr (same, ap refusal_text m)
+pub step_says : (Failures : Refusal → Type 0) (Leads : State → Type 0) (Refused : Refusal → Type 0) (s t : State) (r : Result ℕ Refusal) → OnOk r (Leads t) → IfOk r (λ n. n ≡ s.edition + 1) → OnErr r (t ≡ s)
+    → IfErr r (λ e. (Refused e ⊎ (e ≡ Memory)) ⊎ Failures e) → Steps Leads Refused s (step_text r) t ⊎ IsRefusal Memory s (step_text r) t ⊎ ((false ≡ false) × Fails Failures s (step_text r) t)
+step_says Failures Leads Refused s t (Ok n) leads next same why = inl (inl (leads, ap ok_text next))
+step_says Failures Leads Refused s t (Err e) leads next same (inl (inl refused)) = inl (inr (e, refused, (same, refl)))
+step_says Failures Leads Refused s t (Err e) leads next same (inl (inr m)) = inr (inl (same, ap refusal_text m))
+step_says Failures Leads Refused s t (Err e) leads next same (inr failed) = inr (inr (refl, (e, failed, (same, refl))))
+
+-- what an engine answers to a question
+pub question_says : (Failures : Refusal → Type 0) (Says : Layout → List (List Placement) → List ℕ → Type 0) (s t : State) (out : List ℕ) → Tells Says s out t ⊎ Fails Failures s out t
+    → Tells Says s out t ⊎ IsRefusal Memory s out t ⊎ ((false ≡ false) × Fails Failures s out t)
+question_says Failures Says s t out (inl told) = inl told
+question_says Failures Says s t out (inr failed) = inr (inr (refl, failed))
 
 -- a question that was answered by the design's tilings
-pub told : (Says : Layout → List (List Placement) → List ℕ → Type 0) (s t : State) (all : List (List Placement)) (out : List ℕ) → t ≡ answered s → IsListOfTilings s.design all → Says s.design all out → Tells Says s out t
-told Says s t all out is list says = inl (is, (all, list, says))
+pub told : (Failures : Refusal → Type 0) (Says : Layout → List (List Placement) → List ℕ → Type 0) (s t : State) (all : List (List Placement)) (out : List ℕ) → t ≡ answered s → IsListOfTilings s.design all → Says s.design all out
+    → Tells Says s out t ⊎ Fails Failures s out t
+told Failures Says s t all out is list says = inl (inl (is, (all, list, says)))
 
 -- a question that the engine didn't answer
-pub untold : (Says : Layout → List (List Placement) → List ℕ → Type 0) (s t : State) (e : Refusal) → t ≡ s → IsUnanswered s.design e → Tells Says s (refusal_text e) t
-untold Says s t e same why = inr (e, why, inl same, refl)
+pub untold : (Failures : Refusal → Type 0) (Says : Layout → List (List Placement) → List ℕ → Type 0) (s t : State) (e : Refusal) → t ≡ s → IsUnanswered s.design e ⊎ Failures e
+    → Tells Says s (refusal_text e) t ⊎ Fails Failures s (refusal_text e) t
+untold Failures Says s t e same (inl why) = inl (inr (e, why, inl same, refl))
+untold Failures Says s t e same (inr failed) = inr (e, failed, (same, refl))
 
 -- a question that the engine answered, when memory ran out
-pub untold_late : (Says : Layout → List (List Placement) → List ℕ → Type 0) (s t : State) (e : Refusal) → t ≡ answered s → e ≡ Memory → Tells Says s (refusal_text e) t
-untold_late Says s t e is memory = inr (e, inr (inr (inl memory)), inr is, refl)
+pub untold_late : (Failures : Refusal → Type 0) (Says : Layout → List (List Placement) → List ℕ → Type 0) (s t : State) (e : Refusal) → t ≡ answered s → e ≡ Memory → Tells Says s (refusal_text e) t ⊎ Fails Failures s (refusal_text e) t
+untold_late Failures Says s t e is memory = inl (inr (e, inr (inr (inl memory)), inr is, refl))

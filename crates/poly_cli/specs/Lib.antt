@@ -7,3 +7,4 @@ pub mod Books
 pub mod Slow
 pub mod Listings
 pub mod Sessions
+pub mod Teams

@@ -50,22 +50,22 @@ abbrev pub RunsRefused : List (Option (List ℕ)) → List ℕ → Type 0
 RunsRefused [] out = out ≡ refusal_text Memory
 RunsRefused (first ∷ lines) out = (e : Refusal) × Refuses first e × (out ≡ refusal_text e)
 
--- a session whose first line was accepted, if there was one
-abbrev pub RunsOpened : List (Option (List ℕ)) → List ℕ → Type 0
-RunsOpened [] out = out ≡ []
-RunsOpened (first ∷ lines) out = (s : State) × (rest : List ℕ) × Accepts first s × Runs Slow s lines rest × (out ≡ ok_text 0 ++ rest)
+-- a session whose first line was accepted, if there was one; its engine tells by one of these refusals that it failed
+abbrev pub RunsOpened : (Refusal → Type 0) → List (Option (List ℕ)) → List ℕ → Type 0
+RunsOpened Failures [] out = out ≡ []
+RunsOpened Failures (first ∷ lines) out = (s : State) × (rest : List ℕ) × Accepts first s × Runs (Slow Failures) s lines rest × (out ≡ ok_text 0 ++ rest)
 
 -- What a session says of the bytes that it took. Done: the end, within the limits, and a run on all lines. Refused: the reply to the
 -- first line, which was read whole, unless memory ran out before. At a read fault a run on the lines read whole before, and at a write
 -- fault a first part of a run's output on the first of the lines read whole.
-abbrev pub SessionSays : Limits → List ℕ → Result End Fault → Option (List ℕ) → Option (List ℕ) → Option (List ℕ) → Type 0
-SessionSays m bytes (Ok Done) left old new =
-    IsAtEnd left × (length bytes ≤ m.bytes) × (length (session_lines m.line bytes) ≤ m.lines) × ((out : List ℕ) × Appends old new out × RunsOpened (session_lines m.line bytes) out)
-SessionSays m bytes (Ok Refused) left old new =
+abbrev pub SessionSays : (Refusal → Type 0) → Limits → List ℕ → Result End Fault → Option (List ℕ) → Option (List ℕ) → Option (List ℕ) → Type 0
+SessionSays Failures m bytes (Ok Done) left old new =
+    IsAtEnd left × (length bytes ≤ m.bytes) × (length (session_lines m.line bytes) ≤ m.lines) × ((out : List ℕ) × Appends old new out × RunsOpened Failures (session_lines m.line bytes) out)
+SessionSays Failures m bytes (Ok Refused) left old new =
     (out : List ℕ) × (lines : List (Option (List ℕ))) × Appends old new out × AreReadWhole m (session_lines m.line) bytes left lines × RunsRefused lines out
-SessionSays m bytes (Err Read) left old new = (out : List ℕ) × Appends old new out × RunsOpened (lines_heard m bytes) out
-SessionSays m bytes (Err Write) left old new =
-    (out rest : List ℕ) × (lines more : List (Option (List ℕ))) × Appends old new out × (RunsOpened lines (out ++ rest) ⊎ RunsRefused lines (out ++ rest)) × AreReadWhole m (session_lines m.line) bytes left (lines ++ more)
+SessionSays Failures m bytes (Err Read) left old new = (out : List ℕ) × Appends old new out × RunsOpened Failures (lines_heard m bytes) out
+SessionSays Failures m bytes (Err Write) left old new =
+    (out rest : List ℕ) × (lines more : List (Option (List ℕ))) × Appends old new out × (RunsOpened Failures lines (out ++ rest) ⊎ RunsRefused lines (out ++ rest)) × AreReadWhole m (session_lines m.line) bytes left (lines ++ more)
 
 -- the limits of every session
 unfoldable pub session_limits : Limits

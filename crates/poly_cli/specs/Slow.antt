@@ -1,6 +1,6 @@
 -- The slow session: what each line after the puzzle line answers, and which state comes next. It knows the definitions alone: no
--- engine, no numbers, no tables, no search.
-use Rattle.std.specs.Prelude.{◌≡◌, ◌⊎◌, ℕ, ◌+◌, List, [], ◌∷◌, Option, Some, None, Result, Ok, Err}
+-- engine, no numbers, no tables, no search. Of an engine it is given only the refusals by which that engine tells that it failed.
+use Rattle.std.specs.Prelude.{Bool, false, true, ◌≡◌, ◌⊎◌, ℕ, ◌+◌, List, [], ◌∷◌, Option, Some, None, Result, Ok, Err}
 use Rattle.poly_grid.specs.declared.refusal.Refusal.{Refusal}
 use Rattle.poly_grid.specs.declared.refusal.Refusal.TheVariants.{LineTooLong, Memory}
 use Rattle.poly_text.specs.declared.command.Command.{Command}
@@ -30,17 +30,26 @@ Answers command.ListAll s out t = Tells ListSays s out t
 Answers (command.Browse question) s out t = Tells (BrowseSays question) s out t
 Answers command.Classes s out t = Tells ClassesSay s out t
 
--- the reply to a command, or its refusal
-abbrev pub Replies : Result Command Refusal → State → List ℕ → State → Type 0
-Replies (Ok c) s out t = Answers c s out t
-Replies (Err e) s out t = IsRefusal e s out t
+-- the command asks for nothing but numbers, which every engine tells
+abbrev pub is_status : Command → Bool
+is_status command.Status = true
+is_status _ = false
+
+-- the engine tells that it failed, and nothing changes
+abbrev pub Fails : (Refusal → Type 0) → State → List ℕ → State → Type 0
+Fails Failures s out t = (e : Refusal) × Failures e × IsRefusal e s out t
+
+-- the reply to a command, in place of which a failure may stand, or its refusal
+abbrev pub Replies : (Refusal → Type 0) → Result Command Refusal → State → List ℕ → State → Type 0
+Replies Failures (Ok c) s out t = Answers c s out t ⊎ ((is_status c ≡ false) × Fails Failures s out t)
+Replies Failures (Err e) s out t = IsRefusal e s out t
 
 -- the reply to the words of a line: none, where it has no word. Want of memory may stand in place of any reply.
-abbrev pub WordsSay : List (List ℕ) → State → List ℕ → State → Type 0
-WordsSay [] s out t = (t ≡ s) × (out ≡ [])
-WordsSay (first ∷ words) s out t = ((c : Result Command Refusal) × CommandSays s.design.grid (first ∷ words) c × Replies c s out t) ⊎ IsRefusal Memory s out t
+abbrev pub WordsSay : (Refusal → Type 0) → List (List ℕ) → State → List ℕ → State → Type 0
+WordsSay Failures [] s out t = (t ≡ s) × (out ≡ [])
+WordsSay Failures (first ∷ words) s out t = ((c : Result Command Refusal) × CommandSays s.design.grid (first ∷ words) c × Replies Failures c s out t) ⊎ IsRefusal Memory s out t
 
 -- the reply to a line, of which nothing is given where it is too long
-abbrev pub Slow : State → Option (List ℕ) → List ℕ → State → Type 0
-Slow s None out t = IsRefusal LineTooLong s out t
-Slow s (Some line) out t = WordsSay (words_of line) s out t
+abbrev pub Slow : (Refusal → Type 0) → State → Option (List ℕ) → List ℕ → State → Type 0
+Slow Failures s None out t = IsRefusal LineTooLong s out t
+Slow Failures s (Some line) out t = WordsSay Failures (words_of line) s out t

@@ -1,9 +1,9 @@
 //! Answers to the lines after the puzzle line.
-ghost use Rattle.std.specs.Prelude.{◌≡◌, ◌⊎◌, ◌≤◌, ℕ, List, IfErr, option_map, vec_capacity};
+ghost use Rattle.std.specs.Prelude.{false, ◌≡◌, ◌⊎◌, ◌≤◌, ℕ, List, IfErr, option_map, vec_capacity};
 ghost use Rattle.poly_text.specs.Replies.{refusal_text, step_text};
 ghost use Rattle.poly_cli.specs.Questions.{TellsNumbers};
 ghost use Rattle.poly_cli.specs.Runs.{Writes};
-ghost use Rattle.poly_cli.specs.Slow.{Answers, IsRefusal, Slow};
+ghost use Rattle.poly_cli.specs.Slow.{Answers, Fails, IsRefusal, Slow, is_status};
 
 use crate::engine::Engine;
 use crate::writing::{Fault, write_whole};
@@ -49,7 +49,7 @@ impl Answerer {
         requires ready { E.ready engine.old }
         requires grid { grid ≡ (E.state engine.old).design.grid }
         ensures ready { E.ready engine.new }
-        ensures says { (out : List ℕ) × Slow (E.state engine.old) (option_map (λ l. l.now) line.entry) out (E.state engine.new) × Writes result (W.contents writer.old) (W.contents writer.new) out }
+        ensures says { (out : List ℕ) × Slow E.failures (E.state engine.old) (option_map (λ l. l.now) line.entry) out (E.state engine.new) × Writes result (W.contents writer.old) (W.contents writer.new) out }
     {
         let Some(text) = line else {
             return refuse(Refusal::LineTooLong, writer);
@@ -69,7 +69,8 @@ impl Answerer {
     ) -> Result<(), Fault>
         requires ready { E.ready engine.old }
         ensures ready { E.ready engine.new }
-        ensures says { (out : List ℕ) × (Answers command (E.state engine.old) out (E.state engine.new) ⊎ IsRefusal Refusal.Memory (E.state engine.old) out (E.state engine.new))
+        ensures says { (out : List ℕ) × (Answers command (E.state engine.old) out (E.state engine.new) ⊎ IsRefusal Refusal.Memory (E.state engine.old) out (E.state engine.new)
+            ⊎ ((is_status command ≡ false) × Fails E.failures (E.state engine.old) out (E.state engine.new)))
             × Writes result (W.contents writer.old) (W.contents writer.new) out }
     {
         match command {

@@ -1,12 +1,48 @@
 //! The arguments of the program.
 
+ghost use Rattle.std.specs.Prelude.{◌≤◌, IfOk, IfSome};
+
 use clap::{Arg, ArgAction, Command, Error, value_parser};
 use std::alloc::Global;
 
 const ABOUT: &str =
-    "A workbench for polyomino puzzles: standard input is a puzzle line and then a command to a line, standard output has the replies.";
+    "Finds every tiling of a polyomino or polyhex puzzle, and keeps them while the puzzle changes.
+
+Standard input has the puzzle line and then a command to a line; standard output has the replies.";
+
+const EXAMPLE: &str = "Example: two dominoes on a board of two by two
+  {\"format\":1,\"grid\":\"square\",\"board\":[\"##\",\"##\"],\"pieces\":[{\"name\":\"A\",\"cells\":[[0,0],[1,0]]},{\"name\":\"B\",\"cells\":[[0,0],[1,0]]}]}
+  count
+
+Commands (a CELL is x,y):
+  add NAME required|optional on|off CELL..   adds a piece; on: it may be turned over
+  drop NAME                                  drops a piece
+  need NAME required|optional                uses it exactly once, or at most once
+  copies NAME LEAST MOST                     uses it LEAST to MOST times, 0 to 16
+  mirror NAME on|off                         says whether it may be turned over
+  cell CELL required|optional|blocked        must be covered, may be, or isn't part of the board
+  pin NAME CELL..                            the piece lies here
+  unpin NAME                                 it lies anywhere again
+  forbid NAME CELL..                         the piece never lies here
+  allow NAME CELL..                          it may lie here again
+  undo                                       undoes the last change
+  redo                                       makes the change again that was undone last
+  count                                      the number of tilings
+  list                                       each tiling, and their number
+  browse +NAME=CELL/CELL.. -NAME=.. @CELL @NAME   the tilings with, without and over these
+  classes                                    the number of tilings up to symmetry
+  status                                     the edition, and what is listed and pending
+
+Exit status: 0 the input ended, or help or the version was asked for; 1 the puzzle line was refused;
+2 the arguments were refused; 3 a read or a write failed.
+
+The guide is docs/GUIDE.md of the repository; docs/FORMATS.md has each line in full.";
+
+const VERSION: &str = "1.0.0";
 
 const TURNS: &str = "turns";
+
+const WORKERS: &str = "workers";
 
 /// How many turns a search may take if the arguments don't say.
 pub const DEFAULT_TURNS: u64 = 1_000_000;
@@ -14,33 +50,58 @@ pub const DEFAULT_TURNS: u64 = 1_000_000;
 /// The most turns that the arguments may give a search.
 pub const MOST_TURNS: u64 = 1_000_000_000;
 
+/// The most workers that the arguments may ask for.
+pub const MOST_WORKERS: u8 = 16;
+
 /// What the arguments say.
 #[derive(Debug, Clone, Copy, PartialEq, Eq)]
 pub struct Options {
     /// The most turns that settling may take each time, from 1 to `MOST_TURNS`.
     pub turns: u64,
+    /// How many workers settle together, from 1 to `MOST_WORKERS`. Without any, settling is done alone.
+    pub workers: Option<u8>,
 }
 
-/// Reads the words of the command line, the program's own name first: `--turns N`, with N from 1 to `MOST_TURNS`, and `--help`.
+/// Reads the words of the command line, the program's own name first: `--turns N`, with N from 1 to
+/// `MOST_TURNS`, `--workers N`, with N from 1 to `MOST_WORKERS`, `--help` and `--version`.
 ///
-/// The error holds the text of the help or of a mistake, or says that memory ran out. `Error::print` writes help to standard output and
-/// the rest to standard error; `Error::exit_code` is 0 for help and 2 for the rest.
-pub fn read_arguments(alloc: Global, words: &[&str]) -> Result<Options, Error> {
+/// The error holds the text of the help, of the version or of a mistake, or says that memory ran out. `Error::print` writes help and
+/// version to standard output and the rest to standard error; `Error::exit_code` is 0 for help and version and 2 for the rest.
+pub fn read_arguments(alloc: Global, words: &[&str]) -> Result<Options, Error>
+    ensures turns { IfOk result (λ o. (1 ≤ o.turns) × (o.turns ≤ 1000000000)) }
+    ensures workers { IfOk result (λ o. IfSome o.workers (λ n. (1 ≤ n) × (n ≤ 16))) }
+{
+    let matches = command(alloc)?.try_get_matches_from(words)?;
+    let turns = matches.get_one::<u64>(TURNS).unwrap_or(DEFAULT_TURNS);
+    // The parsers have refused every number out of range. That they have isn't read off their contracts, so it is made sure of.
+    Ok(Options {
+        turns: turns.clamp(1, MOST_TURNS),
+        workers: match matches.get_one::<u8>(WORKERS) {
+            Some(workers) => Some(workers.clamp(1, MOST_WORKERS)),
+            None => None,
+        },
+    })
+}
+
+// What the command line may have.
+fn command<'a>(alloc: Global) -> Result<Command<'a>, Error> {
     let turns = Arg::new(alloc, TURNS)
         .long(TURNS)
         .help("The most turns of a search: 1 to 1000000000, by default 1000000")
         .action(ArgAction::Set)
         .value_parser(value_parser!(u64).range(1..=MOST_TURNS as i64));
-    let command = Command::new(alloc, "polybench").about(ABOUT).arg(turns)?;
-    match command.try_get_matches_from(words) {
-        Ok(matches) => {
-            let given = matches.get_one::<u64>(TURNS);
-            Ok(Options {
-                turns: given.unwrap_or(DEFAULT_TURNS),
-            })
-        }
-        Err(error) => Err(error),
-    }
+    let workers = Arg::new(alloc, WORKERS)
+        .long(WORKERS)
+        .help("How many workers search at the same time: 1 to 16; without it, one thread does")
+        .action(ArgAction::Set)
+        .value_parser(value_parser!(u8).range(1..=MOST_WORKERS as i64));
+    let command = Command::new(alloc, "polybench")
+        .version(VERSION)
+        .about(ABOUT)
+        .after_help(EXAMPLE)
+        .arg(turns)?
+        .arg(workers)?;
+    Ok(command)
 }
 
 #[cfg(test)]
@@ -48,18 +109,21 @@ mod tests {
     use super::*;
     use clap::error::ErrorKind;
 
-    // The turns, or the kind of the error and the status that it asks for.
-    fn read(alloc: Global, words: &[&str]) -> Result<u64, (ErrorKind, i32)> {
+    // The turns and workers, or the kind of the error and the status that it asks for.
+    fn read(alloc: Global, words: &[&str]) -> Result<(u64, Option<u8>), (ErrorKind, i32)> {
         match read_arguments(alloc, words) {
-            Ok(options) => Ok(options.turns),
+            Ok(options) => Ok((options.turns, options.workers)),
             Err(error) => Err((error.kind(), error.exit_code())),
         }
     }
 
-    const READ: [(&[&str], Result<u64, (ErrorKind, i32)>); 9] = [
-        (&["polybench"], Ok(1_000_000)),
-        (&["polybench", "--turns", "1"], Ok(1)),
-        (&["polybench", "--turns=1000000000"], Ok(1_000_000_000)),
+    const READ: [(&[&str], Result<(u64, Option<u8>), (ErrorKind, i32)>); 13] = [
+        (&["polybench"], Ok((1_000_000, None))),
+        (&["polybench", "--turns", "1"], Ok((1, None))),
+        (
+            &["polybench", "--turns=1000000000"],
+            Ok((1_000_000_000, None)),
+        ),
         (
             &["polybench", "--turns", "0"],
             Err((ErrorKind::ValueValidation, 2)),
@@ -69,11 +133,24 @@ mod tests {
             Err((ErrorKind::ValueValidation, 2)),
         ),
         (&["polybench", "--turns"], Err((ErrorKind::InvalidValue, 2))),
+        (&["polybench", "--workers", "16"], Ok((1_000_000, Some(16)))),
         (
-            &["polybench", "--workers", "2"],
+            &["polybench", "--workers", "0"],
+            Err((ErrorKind::ValueValidation, 2)),
+        ),
+        (
+            &["polybench", "--workers", "17"],
+            Err((ErrorKind::ValueValidation, 2)),
+        ),
+        (
+            &["polybench", "--worker", "2"],
             Err((ErrorKind::UnknownArgument, 2)),
         ),
         (&["polybench", "--help"], Err((ErrorKind::DisplayHelp, 0))),
+        (
+            &["polybench", "--version"],
+            Err((ErrorKind::DisplayVersion, 0)),
+        ),
         (
             &["polybench", "puzzle.json"],
             Err((ErrorKind::UnknownArgument, 2)),
@@ -81,7 +158,7 @@ mod tests {
     ];
 
     #[test]
-    fn turns_and_help_are_the_options(rt: HostRuntime) {
+    fn turns_workers_help_and_version_are_the_options(rt: HostRuntime) {
         for &(words, want) in &READ {
             assert!(rt; read(rt.alloc(), words) == want, "{words:?}");
         }

@@ -3,6 +3,7 @@
 //! A session doesn't know how an engine searches or what it keeps between two questions. It knows only the state that the engine is in,
 //! by the definitions.
 ghost use Rattle.std.specs.Prelude.{◌≡◌, ◌⊎◌, ◌+◌, List, length, IfOk, IfErr, OnOk, OnErr};
+ghost use Rattle.poly_grid.specs.declared.refusal.Refusal.{Refusal as Cause};
 ghost use Rattle.poly_design.specs.declared.placement.Placement.{Placement as Placed};
 ghost use Rattle.poly_tiling.specs.Listings.{IsListOfTilings};
 ghost use Rattle.poly_cli.specs.States.{State, AreNumbers, EditRefused, IsUnanswered, Edits, RedoRefused, Redoes, UndoRefused, Undoes, answered, opened};
@@ -20,7 +21,11 @@ pub trait Engine {
     /// Holds before and after each call.
     ghost ready: { Self → Type 0 } = { λ _. Unit {0} };
 
-    /// Begins anew with the design, at edition 0 and without steps. Fails only with `Memory`, and then leaves the engine as it was.
+    /// The refusals by which an engine that failed may answer a call. It is left as it was.
+    ghost failures: { Cause → Type 0 } = { λ _. ⊥ };
+
+    /// Begins anew with the design, at edition 0 and without steps; also an engine that failed begins anew. Fails only with `Memory`,
+    /// and then leaves the engine as it was.
     fn begin(&mut self, design: Design) -> Result<(), Refusal>
         requires ready { ready self.old }
         ensures ready { ready self.new }
@@ -38,7 +43,7 @@ pub trait Engine {
         ensures ok { OnOk result (Edits (state self.old) edit (state self.new)) }
         ensures next { IfOk result (λ n. n ≡ (state self.old).edition + 1) }
         ensures err { OnErr result (state self.new ≡ state self.old) }
-        ensures why { IfErr result (λ e. EditRefused (state self.old) edit e ⊎ (e ≡ Refusal.Memory)) };
+        ensures why { IfErr result (λ e. (EditRefused (state self.old) edit e ⊎ (e ≡ Refusal.Memory)) ⊎ failures e) };
 
     /// Undoes the last change that isn't undone, and returns the edition after it.
     ///
@@ -50,7 +55,7 @@ pub trait Engine {
         ensures ok { OnOk result (Undoes (state self.old) (state self.new)) }
         ensures next { IfOk result (λ n. n ≡ (state self.old).edition + 1) }
         ensures err { OnErr result (state self.new ≡ state self.old) }
-        ensures why { IfErr result (λ e. UndoRefused (state self.old) e ⊎ (e ≡ Refusal.Memory)) };
+        ensures why { IfErr result (λ e. (UndoRefused (state self.old) e ⊎ (e ≡ Refusal.Memory)) ⊎ failures e) };
 
     /// Makes the change again that was undone last, and returns the edition after it.
     ///
@@ -62,19 +67,19 @@ pub trait Engine {
         ensures ok { OnOk result (Redoes (state self.old) (state self.new)) }
         ensures next { IfOk result (λ n. n ≡ (state self.old).edition + 1) }
         ensures err { OnErr result (state self.new ≡ state self.old) }
-        ensures why { IfErr result (λ e. RedoRefused (state self.old) e ⊎ (e ≡ Refusal.Memory)) };
+        ensures why { IfErr result (λ e. (RedoRefused (state self.old) e ⊎ (e ≡ Refusal.Memory)) ⊎ failures e) };
 
     /// All tilings of the design, each once, in the order of tilings.
     ///
     /// Fails with `Unfinished` if the turns are used up, with `Spent` if a counter is, with `CatalogueFull` only if there are more than
-    /// 1,000,000 tilings, and with `Memory`.
+    /// 1,000,000 tilings, and with `Memory`. Here as in each call an engine that failed may answer one of its `failures` instead.
     fn settle(&mut self) -> Result<Quiet, Refusal>
         requires ready { ready self.old }
         ensures ready { ready self.new }
         ensures ok { OnOk result (state self.new ≡ answered (state self.old)) }
         ensures design { IfOk result (λ quiet. quiet.design ≡ (state self.old).design) }
         ensures err { OnErr result (state self.new ≡ state self.old) }
-        ensures why { IfErr result (IsUnanswered (state self.old).design) };
+        ensures why { IfErr result (λ e. IsUnanswered (state self.old).design e ⊎ failures e) };
 
     /// The number of all tilings of the design, without a copy of any. Fails as `settle` does.
     fn count(&mut self) -> Result<u64, Refusal>
@@ -83,7 +88,7 @@ pub trait Engine {
         ensures ok { OnOk result (state self.new ≡ answered (state self.old)) }
         ensures count { IfOk result (λ n. (all : List (List Placed)) × IsListOfTilings (state self.old).design all × (n ≡ length all)) }
         ensures err { OnErr result (state self.new ≡ state self.old) }
-        ensures why { IfErr result (IsUnanswered (state self.old).design) };
+        ensures why { IfErr result (λ e. IsUnanswered (state self.old).design e ⊎ failures e) };
 
     /// The edition, and how many tilings are listed and how many tasks are pending at the moment. Settles nothing and takes no memory.
     fn numbers(&self) -> Numbers

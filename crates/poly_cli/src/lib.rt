@@ -4,12 +4,15 @@
 mod answering;
 mod arguments;
 mod engine;
+mod kept;
 mod lines;
 mod printing;
 mod questions;
 mod serving;
 mod sessions;
 mod solo;
+mod team;
+mod teamwork;
 #[cfg(test)]
 mod tests;
 mod writing;
@@ -21,10 +24,11 @@ pub use writing::Fault;
 // What a session runs on.
 pub use engine::Engine;
 pub use solo::Solo;
+pub use team::Team;
 
 // The limits on a line and on an input.
 pub use lines::{INPUT_LIMIT, LINE_LIMIT};
 pub use sessions::LINE_COUNT;
 
 // The arguments of the program.
-pub use arguments::{DEFAULT_TURNS, MOST_TURNS, Options, read_arguments};
+pub use arguments::{DEFAULT_TURNS, MOST_TURNS, MOST_WORKERS, Options, read_arguments};

@@ -1,10 +1,11 @@
 //! Answers to questions about all tilings of the design. Nothing is written before the engine has settled and all memory is taken.
-ghost use Rattle.std.specs.Prelude.{◌≡◌, ◌≤◌, ℕ, List, IfErr, IfOk, map};
+ghost use Rattle.std.specs.Prelude.{◌≡◌, ◌⊎◌, ◌≤◌, ℕ, List, IfErr, IfOk, map};
 ghost use Rattle.poly_tiling.specs.TilingOrder.{placed};
 ghost use Rattle.poly_browse.specs.Browsing.{IsAnswer};
 ghost use Rattle.poly_text.specs.Replies.{covered};
 ghost use Rattle.poly_cli.specs.Questions.{BrowseSays, ClassesSay, CountSays, ListSays, Tells, asked_of};
 ghost use Rattle.poly_cli.specs.Runs.{Writes};
+ghost use Rattle.poly_cli.specs.Slow.{Fails};
 
 use crate::answering::{Answerer, refuse};
 use crate::engine::Engine;
@@ -27,7 +28,7 @@ impl Answerer {
     ) -> Result<(), Fault>
         requires ready { E.ready engine.old }
         ensures ready { E.ready engine.new }
-        ensures says { (out : List ℕ) × Tells CountSays (E.state engine.old) out (E.state engine.new) × Writes result (W.contents writer.old) (W.contents writer.new) out }
+        ensures says { (out : List ℕ) × (Tells CountSays (E.state engine.old) out (E.state engine.new) ⊎ Fails E.failures (E.state engine.old) out (E.state engine.new)) × Writes result (W.contents writer.old) (W.contents writer.new) out }
     {
         match engine.count() {
             Ok(count) => {
@@ -46,7 +47,7 @@ impl Answerer {
     ) -> Result<(), Fault>
         requires ready { E.ready engine.old }
         ensures ready { E.ready engine.new }
-        ensures says { (out : List ℕ) × Tells ListSays (E.state engine.old) out (E.state engine.new) × Writes result (W.contents writer.old) (W.contents writer.new) out }
+        ensures says { (out : List ℕ) × (Tells ListSays (E.state engine.old) out (E.state engine.new) ⊎ Fails E.failures (E.state engine.old) out (E.state engine.new)) × Writes result (W.contents writer.old) (W.contents writer.new) out }
     {
         match engine.settle() {
             Ok(quiet) => {
@@ -69,7 +70,7 @@ impl Answerer {
     ) -> Result<(), Fault>
         requires ready { E.ready engine.old }
         ensures ready { E.ready engine.new }
-        ensures says { (out : List ℕ) × Tells (BrowseSays question) (E.state engine.old) out (E.state engine.new) × Writes result (W.contents writer.old) (W.contents writer.new) out }
+        ensures says { (out : List ℕ) × (Tells (BrowseSays question) (E.state engine.old) out (E.state engine.new) ⊎ Fails E.failures (E.state engine.old) out (E.state engine.new)) × Writes result (W.contents writer.old) (W.contents writer.new) out }
     {
         match engine.settle() {
             Ok(quiet) => {
@@ -92,7 +93,7 @@ impl Answerer {
     ) -> Result<(), Fault>
         requires ready { E.ready engine.old }
         ensures ready { E.ready engine.new }
-        ensures says { (out : List ℕ) × Tells ClassesSay (E.state engine.old) out (E.state engine.new) × Writes result (W.contents writer.old) (W.contents writer.new) out }
+        ensures says { (out : List ℕ) × (Tells ClassesSay (E.state engine.old) out (E.state engine.new) ⊎ Fails E.failures (E.state engine.old) out (E.state engine.new)) × Writes result (W.contents writer.old) (W.contents writer.new) out }
     {
         match engine.settle() {
             Ok(quiet) => {

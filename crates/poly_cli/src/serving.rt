@@ -28,7 +28,7 @@ pub fn serve<R: Read, W: Write, E: Engine>(
     requires grid { grid ≡ (E.state engine.old).design.grid }
     ensures ready { E.ready engine.new }
     ensures run { (taken : List ℕ) × Consumes (R.remaining reader.old) (R.remaining reader.new) taken
-        × Serves (limits_from most lines.old) Slow (E.state engine.old) (ahead lines.old ++ taken) result
+        × Serves (limits_from most lines.old) (Slow E.failures) (E.state engine.old) (ahead lines.old ++ taken) result
         (R.remaining reader.new) (W.contents writer.old) (W.contents writer.new) }
 {
     for answered in 0..most {

@@ -42,7 +42,7 @@ pub fn session<R: Read, W: Write, E: Engine>(
     requires { E.ready engine.old }
     ensures ready { E.ready engine.new }
     ensures run { (taken : List ℕ) × Consumes (R.remaining reader.old) (R.remaining reader.new) taken
-        × SessionSays session_limits taken result (R.remaining reader.new) (W.contents writer.old) (W.contents writer.new) }
+        × SessionSays E.failures session_limits taken result (R.remaining reader.new) (W.contents writer.old) (W.contents writer.new) }
 {
     match buffers(alloc) {
         Ok((mut lines, mut answerer)) => {
@@ -93,7 +93,7 @@ fn run<R: Read, W: Write, E: Engine>(
     requires ready { E.ready engine.old }
     ensures ready { E.ready engine.new }
     ensures run { (taken : List ℕ) × Consumes (R.remaining reader.old) (R.remaining reader.new) taken
-        × SessionSays (limits_from most lines.old) taken result
+        × SessionSays E.failures (limits_from most lines.old) taken result
         (R.remaining reader.new) (W.contents writer.old) (W.contents writer.new) }
 {
     match lines.next_line(reader) {

@@ -1,5 +1,5 @@
 //! An engine that works alone: it keeps a book, and settles it on the spot whenever all tilings are asked for.
-ghost use Rattle.std.specs.Prelude.{◌≡◌, ◌≢◌, [], IfErr, IfOk, OnErr, OnOk, false};
+ghost use Rattle.std.specs.Prelude.{◌≡◌, ◌≢◌, [], IfErr, IfOk, IsTrue, OnErr, OnOk, false, true};
 ghost use Rattle.poly_cli.specs.Books.{session_of};
 ghost use Rattle.poly_cli.specs.States.{IsUnanswered, opened};
 
@@ -12,7 +12,7 @@ use std::alloc::Global;
 use std::marker::Model;
 
 /// The most nodes of a tree that one turn explores.
-const NODES: u32 = 256;
+pub(crate) const NODES: u32 = 256;
 
 /// A book, with the most turns that settling it may take.
 #[derive(Drop)]
@@ -42,13 +42,43 @@ impl Solo {
         ensures ok { IfOk result (λ s. s ≡ opened (record { grid = Grid.Square; cells = []; pieces = [] })) }
         ensures why { IfErr result (λ e. e ≡ Refusal.Memory) }
     {
-        let book = Book::begin(alloc, Design::empty(alloc, Grid::Square))?;
-        Ok(Solo {
+        Solo::on(alloc, turns, Design::empty(alloc, Grid::Square))
+    }
+
+    /// An engine that has begun with the design. Fails only with `Memory`.
+    pub(crate) fn on(alloc: Global, turns: u64, design: Design) -> Result<Solo, Refusal>
+        ensures ok { IfOk result (λ s. s ≡ opened design) }
+        ensures why { IfErr result (λ e. e ≡ Refusal.Memory) }
+    {
+        let book = Book::begin(alloc, design)?;
+        Ok(Solo::of_book(alloc, turns, book))
+    }
+
+    /// An engine with the book.
+    pub(crate) fn of_book(alloc: Global, turns: u64, book: Book) -> Solo
+        ensures { result ≡ session_of book false }
+    {
+        Solo {
             alloc,
             book,
             turns,
             settled: false,
-        })
+        }
+    }
+
+    /// The book.
+    pub(crate) fn into_book(self) -> Book
+        ensures { self ≡ session_of result self.settled }
+    {
+        let Solo { book, .. } = self;
+        book
+    }
+
+    /// Whether tasks are pending.
+    pub(crate) fn is_pending(&self) -> bool
+        ensures { IsTrue result → self.now.settled ≡ false }
+    {
+        self.book.numbers().pending > 0
     }
 }
 

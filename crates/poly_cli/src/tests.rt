@@ -1,12 +1,16 @@
 //! Whole sessions on a book, over a reader that gives a few bytes at a time and a writer that takes one at a time. What
 //! sessions answer besides is in the transcripts that the test command plays.
 
-use crate::{End, Fault, Solo, session};
+ghost use Rattle.std.specs.Prelude.{◌≤◌};
+
+use crate::{End, Engine, Fault, Solo, Team, session};
 use poly_grid::Refusal;
 use std::alloc::{AllocGlobal, Global};
 use std::io;
 use std::io::{ErrorKind, Read, Write};
 use std::process::Abort;
+use std::sync::Wait;
+use std::thread::Threads;
 
 // Gives its bytes, some at a time, and then fails, or ends.
 #[derive(Drop)]
@@ -71,7 +75,15 @@ struct Outcome {
     flushes: u64,
 }
 
+// Runs a session on a book that is settled alone.
 fn run(alloc: Global, devices: Devices<'_>) -> Result<Outcome, Refusal> {
+    let mut engine = Solo::new(alloc, 1000)?;
+    Ok(run_on(alloc, devices, &mut engine))
+}
+
+fn run_on<E: Engine>(alloc: Global, devices: Devices<'_>, engine: &mut E) -> Outcome
+    requires { E.ready engine.old }
+{
     let mut reader = Pieces {
         left: devices.input,
         most: devices.piece,
@@ -82,13 +94,12 @@ fn run(alloc: Global, devices: Devices<'_>) -> Result<Outcome, Refusal> {
         room: devices.room,
         flushes: 0,
     };
-    let mut engine = Solo::new(alloc, 1000)?;
-    let end = session(alloc, &mut reader, &mut writer, &mut engine);
-    Ok(Outcome {
+    let end = session(alloc, &mut reader, &mut writer, engine);
+    Outcome {
         end,
         taken: writer.taken,
         flushes: writer.flushes,
-    })
+    }
 }
 
 // Asserts how a session ends and what it writes, and answers how often it flushes.
@@ -134,4 +145,23 @@ fn devices_fail(rt: HostRuntime) {
     let full = Devices { room: 20, ..WHOLE };
     let (want, _) = ANSWERS.split_at(20);
     expect_end(&rt, full, Err(Fault::Write), want);
+}
+
+// A session by so many workers writes the same bytes.
+fn expect_team<R: Threads + Wait + Sync + AllocGlobal + Abort>(rt: &R, workers: usize)
+    requires some { 1 ≤ workers }
+    requires few { workers ≤ 16 }
+{
+    let mut team = Team::new(rt, rt.alloc(), workers, 1000).expect(rt, "memory");
+    let run = run_on(rt.alloc(), WHOLE, &mut team);
+    assert!(rt; run.end == Ok(End::Done));
+    assert_eq!(rt; run.taken.as_slice(), ANSWERS);
+}
+
+#[test]
+fn teams_of_every_size(rt: HostRuntime) {
+    expect_team(&rt, 1);
+    expect_team(&rt, 2);
+    expect_team(&rt, 4);
+    expect_team(&rt, 16);
 }

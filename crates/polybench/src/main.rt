@@ -1,7 +1,9 @@
 //! The program: arguments, standard input and output, and the exit status. What it answers is `poly_cli::session`'s.
 #![tactic(auto)]
 
-use poly_cli::{End, Fault, Options, Solo, read_arguments, session};
+ghost use Rattle.std.specs.Prelude.{◌≤◌, IfOk, IfSome};
+
+use poly_cli::{End, Engine, Fault, Options, Solo, Team, read_arguments, session};
 use poly_grid::Refusal;
 use poly_text::refusal_line;
 use std::alloc::AllocError;
@@ -18,14 +20,29 @@ const BAD_ARGUMENTS: u8 = 2;
 const FAULT: u8 = 3;
 
 fn main(rt: HostRuntime) -> ExitCode {
-    match options(&rt) {
-        Ok(options) => ExitCode::from(session_status(&rt, options)),
-        Err(status) => ExitCode::from(status),
-    }
+    let options = match options(&rt) {
+        Ok(options) => options,
+        Err(status) => return ExitCode::from(status),
+    };
+    let status = match options.workers {
+        None => match Solo::new(rt.alloc(), options.turns) {
+            Ok(mut solo) => status_with(&rt, &mut solo),
+            Err(_) => refused_for_memory(&rt),
+        },
+        // Only `main` has the handle for threads.
+        Some(workers) => match Team::new(&rt, rt.alloc(), usize::from(workers), options.turns) {
+            Ok(mut team) => status_with(&rt, &mut team),
+            Err(_) => refused_for_memory(&rt),
+        },
+    };
+    ExitCode::from(status)
 }
 
 // What the arguments say, or the status to end with at once: help was asked for, or they are refused.
-fn options(rt: &HostRuntime) -> Result<Options, u8> {
+fn options(rt: &HostRuntime) -> Result<Options, u8>
+    ensures turns { IfOk result (λ o. (1 ≤ o.turns) × (o.turns ≤ 1000000000)) }
+    ensures workers { IfOk result (λ o. IfSome o.workers (λ n. (1 ≤ n) × (n ≤ 16))) }
+{
     let Ok(words) = words(rt) else {
         let _ = eprintln!(rt; "polybench: the arguments can't be read");
         return Err(BAD_ARGUMENTS);
@@ -56,16 +73,11 @@ fn texts_of<'a>(rt: &HostRuntime, words: &'a [String]) -> Result<Vec<&'a str>, A
     Ok(texts)
 }
 
-fn session_status(rt: &HostRuntime, options: Options) -> u8 {
-    let Ok(mut engine) = Solo::new(rt.alloc(), options.turns) else {
-        return refused_for_memory(rt);
-    };
-    match session(
-        rt.alloc(),
-        &mut rt.reader(),
-        &mut io::writer(rt),
-        &mut engine,
-    ) {
+// Runs the session on the engine.
+fn status_with<E: Engine>(rt: &HostRuntime, engine: &mut E) -> u8
+    requires { E.ready engine.old }
+{
+    match session(rt.alloc(), &mut rt.reader(), &mut io::writer(rt), engine) {
         Ok(End::Done) => 0,
         Ok(End::Refused) => REFUSED,
         Err(Fault::Read) => {

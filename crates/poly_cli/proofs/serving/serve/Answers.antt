@@ -24,7 +24,7 @@ loop-answered-init g c = record {
     whole = refl;
     lines = refl;
     wrote = appends_none _;
-    goes = goes_first Slow c.args.lines.now.limit (g.E.Engine.state c.args.engine.now);
+    goes = goes_first (Slow g.E.Engine.failures) c.args.lines.now.limit (g.E.Engine.state c.args.engine.now);
   };
 }
 
@@ -36,8 +36,8 @@ loop-answered-preserved g c =
     record {
       buffer = n.ready;
       ready = r.ready;
-      grid = i.grid ∙ sym (same_grid (g.E.Engine.state c.loop-answered.engine) (option_map (λ (l : Bor (List ℕ)). l.now) c.ended.result) r.says.0 (g.E.Engine.state c.respond.new.engine) r.says.1);
-      so_far = line_answered Slow _ _ _ _ _ _ _ _ _ _ _ i.so_far n.next n.limit _ c.ended.ensures _ r.says.0 _ r.says.1 r.says.2;
+      grid = i.grid ∙ sym (same_grid g.E.Engine.failures (g.E.Engine.state c.loop-answered.engine) (option_map (λ (l : Bor (List ℕ)). l.now) c.ended.result) r.says.0 (g.E.Engine.state c.respond.new.engine) r.says.1);
+      so_far = line_answered (Slow g.E.Engine.failures) _ _ _ _ _ _ _ _ _ _ _ i.so_far n.next n.limit _ c.ended.ensures _ r.says.0 _ r.says.1 r.says.2;
     }
 
 pub returns-in-Err-clause-run : goal.returns-in-Err-clause-run
@@ -45,40 +45,40 @@ returns-in-Err-clause-run g c =
     let i = c.loop-answered.invariant in
     let n = c.in-Line.ensures in
     let r = c.in-Err.ensures in
-    line_unserved Slow _ _ _ _ _ _ _ _ _ _ _ i.so_far n.next _ c.loop-answered-test.true n.limit _ c.ended.ensures _ r.says.0 _ _ r.says.1 r.says.2
+    line_unserved (Slow g.E.Engine.failures) _ _ _ _ _ _ _ _ _ _ _ i.so_far n.next _ c.loop-answered-test.true n.limit _ c.ended.ensures _ r.says.0 _ _ r.says.1 r.says.2
 
 pub returns-in-Fault-clause-run : goal.returns-in-Fault-clause-run
-returns-in-Fault-clause-run g c = fault_served Slow _ _ _ _ _ _ _ _ _ _ _ c.loop-answered.invariant.so_far c.in-Fault.ensures.next _ (omega arith)
+returns-in-Fault-clause-run g c = fault_served (Slow g.E.Engine.failures) _ _ _ _ _ _ _ _ _ _ _ c.loop-answered.invariant.so_far c.in-Fault.ensures.next _ (omega arith)
 
 pub returns-then-is_empty-clause-run : goal.returns-then-is_empty-clause-run
-returns-then-is_empty-clause-run g c = end_served Slow _ _ _ _ _ _ _ _ _ _ _ c.loop-answered.invariant.so_far c.in-End.ensures.next _ (c.if-is_empty.ensures.0 refl) (omega arith)
+returns-then-is_empty-clause-run g c = end_served (Slow g.E.Engine.failures) _ _ _ _ _ _ _ _ _ _ _ c.loop-answered.invariant.so_far c.in-End.ensures.next _ (c.if-is_empty.ensures.0 refl) (omega arith)
 
 pub returns-in-Ok-respond-clause-run : goal.returns-in-Ok-respond-clause-run
 returns-in-Ok-respond-clause-run g c =
     let n = c.in-End.ensures in
     let r = c.in-Ok-respond.ensures in
-    last_served Slow _ _ _ _ _ _ _ _ _ _ _ c.loop-answered.invariant.so_far n.next _ c.loop-answered-test.true (λ e. true≢false (sym (c.if-is_empty.ensures.1 e))) n.limit _ c.unended.ensures _ r.says.0 r.says.1 _ r.says.2
+    last_served (Slow g.E.Engine.failures) _ _ _ _ _ _ _ _ _ _ _ c.loop-answered.invariant.so_far n.next _ c.loop-answered-test.true (λ e. true≢false (sym (c.if-is_empty.ensures.1 e))) n.limit _ c.unended.ensures _ r.says.0 r.says.1 _ r.says.2
 
 pub returns-in-Err-respond-clause-run : goal.returns-in-Err-respond-clause-run
 returns-in-Err-respond-clause-run g c =
     let n = c.in-End.ensures in
     let r = c.in-Err-respond.ensures in
-    last_unserved Slow _ _ _ _ _ _ _ _ _ _ _ c.loop-answered.invariant.so_far n.next _ c.loop-answered-test.true (λ e. true≢false (sym (c.if-is_empty.ensures.1 e))) n.limit _ c.unended.ensures _ r.says.0 r.says.1 _ _ r.says.2
+    last_unserved (Slow g.E.Engine.failures) _ _ _ _ _ _ _ _ _ _ _ c.loop-answered.invariant.so_far n.next _ c.loop-answered-test.true (λ e. true≢false (sym (c.if-is_empty.ensures.1 e))) n.limit _ c.unended.ensures _ r.says.0 r.says.1 _ _ r.says.2
 
 pub returns-then-is_empty-2-clause-run : goal.returns-then-is_empty-2-clause-run
-returns-then-is_empty-2-clause-run g c = end_served Slow _ _ _ _ _ _ _ _ _ _ _ c.loop-answered.invariant.so_far c.in-End-next_line.ensures.next _ (c.if-is_empty-2.ensures.0 refl) (c.loop-answered.auto.answered-end)
+returns-then-is_empty-2-clause-run g c = end_served (Slow g.E.Engine.failures) _ _ _ _ _ _ _ _ _ _ _ c.loop-answered.invariant.so_far c.in-End-next_line.ensures.next _ (c.if-is_empty-2.ensures.0 refl) (c.loop-answered.auto.answered-end)
 
 pub returns-else-is_empty-2-clause-run : goal.returns-else-is_empty-2-clause-run
 returns-else-is_empty-2-clause-run g c =
     let whole : c.loop-answered.answered ≡ c.args.most = omega arith in
-    rw whole at (limit_served Slow _ _ _ _ _ _ _ _ _ _ _ c.loop-answered.invariant.so_far End c.in-End-next_line.ensures.next)
+    rw whole at (limit_served (Slow g.E.Engine.failures) _ _ _ _ _ _ _ _ _ _ _ c.loop-answered.invariant.so_far End c.in-End-next_line.ensures.next)
 
 pub returns-in-Line-next_line-clause-run : goal.returns-in-Line-next_line-clause-run
 returns-in-Line-next_line-clause-run g c =
     let whole : c.loop-answered.answered ≡ c.args.most = omega arith in
-    rw whole at (limit_served Slow _ _ _ _ _ _ _ _ _ _ _ c.loop-answered.invariant.so_far Line c.in-Line-next_line.ensures.next)
+    rw whole at (limit_served (Slow g.E.Engine.failures) _ _ _ _ _ _ _ _ _ _ _ c.loop-answered.invariant.so_far Line c.in-Line-next_line.ensures.next)
 
 pub returns-in-Fault-next_line-clause-run : goal.returns-in-Fault-next_line-clause-run
 returns-in-Fault-next_line-clause-run g c =
     let whole : c.loop-answered.answered ≡ c.args.most = omega arith in
-    rw whole at (limit_served Slow _ _ _ _ _ _ _ _ _ _ _ c.loop-answered.invariant.so_far Fault c.in-Fault-next_line.ensures.next)
+    rw whole at (limit_served (Slow g.E.Engine.failures) _ _ _ _ _ _ _ _ _ _ _ c.loop-answered.invariant.so_far Fault c.in-Fault-next_line.ensures.next)

@@ -9,5 +9,5 @@ invariant-loop-answered g l = record {
   buffer : IsReady l.lines;
   ready : g.E.Engine.ready l.engine;
   grid : l.grid ≡ (g.E.Engine.state l.engine).design.grid;
-  so_far : Answered Slow l.fn.lines l.lines (g.E.Engine.state l.fn.engine) (g.E.Engine.state l.engine) (g.R.Read.remaining l.fn.reader) (g.R.Read.remaining l.reader) (g.W.Write.contents l.fn.writer) (g.W.Write.contents l.writer) l.answered;
+  so_far : Answered (Slow g.E.Engine.failures) l.fn.lines l.lines (g.E.Engine.state l.fn.engine) (g.E.Engine.state l.engine) (g.R.Read.remaining l.fn.reader) (g.R.Read.remaining l.reader) (g.W.Write.contents l.fn.writer) (g.W.Write.contents l.writer) l.answered;
 }

@@ -16,6 +16,6 @@ returns-in-Ok-answer_of-clause-says g c =
     let out = answer_text a.forced.items a.options.items a.count in
     let answer = subst (λ d. IsAnswer d all asked a.count a.forced.items a.options.items) c.in-Ok.ensures.design c.in-Ok-answer_of.ensures.ok in (
       out,
-      told (BrowseSays c.args.question) s (g.E.Engine.state c.settle.new.self) all out c.in-Ok.ensures.ok (subst (λ d. IsListOfTilings d all) c.in-Ok.ensures.design c.tilings-tilings.ensures.all) (a.count, a.forced.items, a.options.items, answer, refl),
+      told g.E.Engine.failures (BrowseSays c.args.question) s (g.E.Engine.state c.settle.new.self) all out c.in-Ok.ensures.ok (subst (λ d. IsListOfTilings d all) c.in-Ok.ensures.design c.tilings-tilings.ensures.all) (a.count, a.forced.items, a.options.items, answer, refl),
       c.print_answer.ensures,
     )

@@ -22,6 +22,6 @@ returns-in-Ok-clause-says g c =
     let all = map (placed q.view) q.tilings in
     let same = ap (λ v. list_text (map (placed v) c.tilings.result.now)) (c.deref.ensures ∙ c.view.ensures.value) ∙ ap (λ l. list_text (map (placed q.view) l)) c.tilings.ensures.value in (
       list_text all,
-      told ListSays s (g.E.Engine.state c.settle.new.self) all (list_text all) c.in-Ok.ensures.ok (subst (λ d. IsListOfTilings d all) c.in-Ok.ensures.design c.tilings.ensures.all) refl,
+      told g.E.Engine.failures ListSays s (g.E.Engine.state c.settle.new.self) all (list_text all) c.in-Ok.ensures.ok (subst (λ d. IsListOfTilings d all) c.in-Ok.ensures.design c.tilings.ensures.all) refl,
       subst (Writes c.print.result (g.W.Write.contents c.args.writer.now) (g.W.Write.contents c.print.new.writer)) same c.print.ensures,
     )

@@ -10,4 +10,4 @@ returns-in-Ok-Some-clause-says g c =
     let line = c.in-Some.text.now in
     let a = c.answer.ensures.says in
     let asked = subst (λ o. Asks c.args.grid line (Ok o)) c.in-Ok-Some.field-0-is c.in-Ok-Some.ensures.says in
-    (a.0, rw c.in-Some.is (command_says s c.args.grid c.requires.grid line c.in-Ok-Some.command a.0 t asked a.1), a.2)
+    (a.0, rw c.in-Some.is (command_says g.E.Engine.failures s c.args.grid c.requires.grid line c.in-Ok-Some.command a.0 t asked a.1), a.2)

@@ -1,0 +1,28 @@
+//! What a team keeps between two commands.
+ghost use Rattle.std.specs.Prelude.{◌≡◌, true};
+ghost use Rattle.poly_desk.specs.Seen.{is_unsettled};
+ghost use Rattle.poly_cli.specs.States.{AreNumbers};
+
+use crate::solo::Solo;
+use poly_book::Numbers;
+use poly_grid::Refusal;
+use std::snapshot::Snapshot;
+
+/// A book, or what is left of one that didn't come back from a desk.
+#[derive(Drop)]
+pub(crate) enum Kept {
+    /// A book that can be settled alone at any time.
+    Whole(Solo),
+    /// The book is at a desk, or it is lost there.
+    Lost(Remains),
+}
+
+/// What is left of a book that a desk has: its last numbers, and what every question is answered. Contracts see its last state too.
+#[derive(Drop)]
+pub(crate) struct Remains {
+    pub(crate) was: Snapshot<Solo>,
+    pub(crate) numbers: Numbers,
+    pub(crate) why: Refusal,
+    ghost told: { AreNumbers was.value numbers },
+    ghost failed: { is_unsettled why ≡ true },
+}

@@ -1,0 +1,182 @@
+//! An engine with a crew: several workers search at the same time whenever all tilings are asked for.
+//!
+//! Between two commands it keeps a book and answers as `Solo` does. A desk lives within one call: the book goes in, the crew works, and
+//! the book comes back. If the desk can't be settled up, the book stays there, and the team has failed until it begins anew.
+ghost use Rattle.std.specs.Prelude.{◌≡◌, ◌≤◌, ◌⊎◌, [], IfErr, IfOk, true};
+ghost use Rattle.std.specs.Thread.{IsSync};
+ghost use Rattle.poly_design.specs.Layout.{Layout};
+ghost use Rattle.poly_desk.specs.Seen.{is_unsettled};
+ghost use Rattle.poly_cli.specs.States.{IsUnanswered, opened};
+ghost use Rattle.poly_cli.specs.Teams.{state_of};
+
+use crate::engine::Engine;
+use crate::kept::{Kept, Remains};
+use crate::solo::Solo;
+use crate::teamwork::{Crewing, work_on};
+use poly_book::{Numbers, Quiet};
+use poly_design::{Design, Edit};
+use poly_grid::{Grid, Refusal};
+use std::alloc::Global;
+use std::mem;
+use std::snapshot::Snapshot;
+use std::sync::Wait;
+use std::thread::Threads;
+
+/// A book on which a crew of workers works whenever it is settled.
+#[derive(Drop)]
+pub struct Team<'a, R: Threads + Wait + Sync> {
+    rt: &'a R,
+    alloc: Global,
+    crewing: Crewing,
+    kept: Kept,
+}
+
+impl<'a, R: Threads + Wait + Sync> Team<'a, R> {
+    /// An engine whose design is a square grid without cells and pieces, until it begins with another. It has 1 to 16 workers, each of
+    /// which may take at most `turns` tasks each time, at most 1,000,000,000. Fails only with `Memory`.
+    pub fn new(rt: &'a R, alloc: Global, workers: usize, turns: u64) -> Result<Team<'a, R>, Refusal>
+        requires some { 1 ≤ workers }
+        requires few { workers ≤ 16 }
+        requires few_turns { turns ≤ 1000000000 }
+        ensures ok { IfOk result (λ t. state_of t.kept ≡ opened (record { grid = Grid.Square; cells = []; pieces = [] })) }
+        ensures why { IfErr result (λ e. e ≡ Refusal.Memory) }
+    {
+        let solo = Solo::new(alloc, turns)?;
+        Ok(Team {
+            rt,
+            alloc,
+            crewing: Crewing { workers, turns },
+            kept: Kept::Whole(solo),
+        })
+    }
+}
+
+impl<'a, R: Threads + Wait + Sync> Engine for Team<'a, R> {
+    ghost state = { λ t. state_of t.kept };
+
+    ghost ready = { λ _. IsSync R.row };
+
+    ghost failures = { λ e. is_unsettled e ≡ true };
+
+    fn begin(&mut self, design: Design) -> Result<(), Refusal> {
+        let solo = Solo::on(self.alloc, self.crewing.turns, design)?;
+        self.kept = Kept::Whole(solo);
+        Ok(())
+    }
+
+    fn edit(&mut self, edit: Edit) -> Result<u64, Refusal> {
+        match &mut self.kept {
+            Kept::Whole(solo) => solo.edit(edit),
+            Kept::Lost(remains) => Err(remains.why),
+        }
+    }
+
+    fn undo(&mut self) -> Result<u64, Refusal> {
+        match &mut self.kept {
+            Kept::Whole(solo) => solo.undo(),
+            Kept::Lost(remains) => Err(remains.why),
+        }
+    }
+
+    fn redo(&mut self) -> Result<u64, Refusal> {
+        match &mut self.kept {
+            Kept::Whole(solo) => solo.redo(),
+            Kept::Lost(remains) => Err(remains.why),
+        }
+    }
+
+    fn settle(&mut self) -> Result<Quiet, Refusal> {
+        match crew_on(self.rt, self.alloc, &self.crewing, &mut self.kept) {
+            Ok(()) => {}
+            Err(refusal) => return Err(refusal),
+        }
+        match &mut self.kept {
+            Kept::Whole(solo) => solo.settle(),
+            Kept::Lost(remains) => Err(remains.why),
+        }
+    }
+
+    fn count(&mut self) -> Result<u64, Refusal> {
+        match crew_on(self.rt, self.alloc, &self.crewing, &mut self.kept) {
+            Ok(()) => {}
+            Err(refusal) => return Err(refusal),
+        }
+        match &mut self.kept {
+            Kept::Whole(solo) => solo.count(),
+            Kept::Lost(remains) => Err(remains.why),
+        }
+    }
+
+    fn numbers(&self) -> Numbers {
+        match &self.kept {
+            Kept::Whole(solo) => solo.numbers(),
+            Kept::Lost(remains) => remains.numbers,
+        }
+    }
+}
+
+// Lets the crew work on a book with pending tasks. Fails if a task is pending still, and how the crew ended says why; or with `Unsettled`
+// if the book doesn't come back.
+fn crew_on<R: Threads + Wait + Sync>(
+    rt: &R,
+    alloc: Global,
+    crewing: &Crewing,
+    kept: &mut Kept,
+) -> Result<(), Refusal>
+    ensures same { state_of kept.new ≡ state_of kept.old }
+    ensures why { IfErr result (λ e. (d : Layout) → IsUnanswered d e ⊎ (is_unsettled e ≡ true)) }
+{
+    let remains = match &*kept {
+        Kept::Whole(solo) => {
+            if !solo.is_pending() {
+                return Ok(());
+            }
+            remains_of(solo)
+        }
+        Kept::Lost(_) => return Ok(()),
+    };
+    // Until the book comes back, it counts as lost.
+    let Kept::Whole(solo) = mem::replace(kept, Kept::Lost(remains)) else {
+        unreachable!()
+    };
+    let was = Snapshot::of(&solo);
+    let numbers = solo.numbers();
+    match work_on(rt, alloc, crewing, solo.into_book()) {
+        Ok(worked) => {
+            let solo = Solo::of_book(alloc, crewing.turns, worked.book);
+            let pending = solo.is_pending();
+            *kept = Kept::Whole(solo);
+            if pending {
+                stopped_by(worked.end)
+            } else {
+                Ok(())
+            }
+        }
+        Err(why) => {
+            *kept = Kept::Lost(Remains { was, numbers, why });
+            Err(why)
+        }
+    }
+}
+
+// What is left of the book while a desk has it.
+fn remains_of(solo: &Solo) -> Remains
+    ensures { result.was.value ≡ solo.now }
+{
+    Remains {
+        was: Snapshot::of(solo),
+        numbers: solo.numbers(),
+        why: Refusal::Unsettled { seen: 0, found: 0 },
+    }
+}
+
+// How the crew ended, if that stands for an answer. After any other end the book can be settled alone.
+fn stopped_by(end: Result<(), Refusal>) -> Result<(), Refusal>
+    ensures { IfErr result (λ e. (d : Layout) → IsUnanswered d e ⊎ (is_unsettled e ≡ true)) }
+{
+    match end {
+        Err(Refusal::Unfinished | Refusal::Memory | Refusal::Spent | Refusal::Unsettled { .. }) =>
+            end,
+        _ => Ok(()),
+    }
+}

@@ -1,0 +1,185 @@
+//! A crew's work on one book: the desk is set up, the crew works at it, and the book is taken back.
+ghost use Rattle.std.specs.Prelude.{◌≡◌, ◌≤◌, ◌+◌, [], IfErr, IfOk, OnOk, false, length, sum_by, true, vec_capacity};
+ghost use Rattle.poly_desk.specs.Changes.{cut_count};
+ghost use Rattle.poly_desk.specs.Seen.{is_unsettled};
+ghost use Rattle.poly_cli.specs.Books.{session_of};
+
+use crate::solo::NODES;
+use poly_book::Book;
+use poly_crew::{OpenGate, crew};
+use poly_desk::{Desk, Opening, Pass, Receipt};
+use poly_grid::Refusal;
+use std::alloc::Global;
+use std::marker::Brand;
+use std::sync::Wait;
+use std::sync::ledger::{Blank, Ledger};
+use std::thread::Threads;
+
+/// A book that a crew has worked on, and how the crew ended.
+#[derive(Drop)]
+pub(crate) struct Worked {
+    pub(crate) book: Book,
+    pub(crate) end: Result<(), Refusal>,
+}
+
+/// How many workers a crew has, and how many tasks each may take.
+#[derive(Drop)]
+pub(crate) struct Crewing {
+    pub(crate) workers: usize,
+    pub(crate) turns: u64,
+    ghost some: { 1 ≤ workers },
+    ghost few: { workers ≤ 16 },
+    ghost few_turns: { turns ≤ 1000000000 },
+}
+
+/// Lets a crew work on the book, which keeps its design and what can be undone and redone. If there is no memory for the desk or a pass,
+/// then no crew works. Fails with `Unsettled` if the desk isn't settled up; the book is lost then.
+pub(crate) fn work_on<R: Threads + Wait + Sync>(
+    rt: &R,
+    alloc: Global,
+    crewing: &Crewing,
+    book: Book,
+) -> Result<Worked, Refusal>
+    ensures same { IfOk result (λ w. session_of w.book false ≡ session_of book false) }
+    ensures why { IfErr result (λ e. is_unsettled e ≡ true) }
+{
+    // Before and after, this call says that the steps lead to what can be undone and redone.
+    book.whole();
+    let changes = Blank::new(10001);
+    let cuts = Blank::new(10001);
+    let worked = work_at_desk::<Brand, Brand, Brand, R>(rt, alloc, crewing, changes, cuts, book);
+    match worked {
+        Ok(worked) => {
+            worked.book.whole();
+            Ok(worked)
+        }
+        Err(why) => Err(why),
+    }
+}
+
+// The same at a desk of these ledgers.
+fn work_at_desk<
+    C: Ledger + Send + Sync,
+    K: Ledger + Send + Sync,
+    O: Opening + Send + Sync,
+    R: Threads + Wait + Sync,
+>(
+    rt: &R,
+    alloc: Global,
+    crewing: &Crewing,
+    changes: Blank,
+    cuts: Blank,
+    book: Book,
+) -> Result<Worked, Refusal>
+    requires changes { (changes.name ≡ C.name) × (changes.parts ≡ C.parts) × (changes.parts ≡ 10001) }
+    requires cuts { (cuts.name ≡ K.name) × (cuts.parts ≡ K.parts) × (cuts.parts ≡ 10001) }
+    requires design { book.opened ≡ O.design }
+    requires steps { book.steps ≡ O.steps }
+    requires endings { cut_count book.endings ≡ O.cuts }
+    ensures opened { IfOk result (λ w. w.book.opened ≡ book.opened) }
+    ensures stay { IfOk result (λ w. w.book.steps ≡ book.steps) }
+    ensures why { IfErr result (λ e. is_unsettled e ≡ true) }
+{
+    let mut passes = match Vec::with_capacity(alloc, crewing.workers) {
+        Ok(passes) => passes,
+        Err(_) => {
+            return Ok(Worked {
+                book,
+                end: Err(Refusal::Memory),
+            });
+        }
+    };
+    let (desk, mut first) = match Desk::<C, K, O>::begin(alloc, changes, cuts, book) {
+        Ok(both) => both,
+        Err(not_begun) => {
+            return Ok(Worked {
+                book: not_begun.book,
+                end: Err(not_begun.why),
+            });
+        }
+    };
+    let dealt = deal(
+        rt,
+        alloc,
+        &desk,
+        &mut first,
+        crewing.workers - 1,
+        &mut passes,
+    );
+    passes.push_reserved(first);
+    let after = let_work(rt, alloc, &desk, crewing, dealt, passes);
+    match desk.settle_up(after.passes, after.receipts) {
+        Ok(book) => Ok(Worked {
+            book,
+            end: after.end,
+        }),
+        Err(not_settled) => Err(not_settled.why),
+    }
+}
+
+// What is given back to a desk.
+#[derive(Drop)]
+struct Returned<C: Ledger, K: Ledger, O: Opening> {
+    passes: Vec<Pass<C, K, O>>,
+    receipts: Vec<Vec<Receipt>>,
+    end: Result<(), Refusal>,
+}
+
+// Adds so many further passes.
+fn deal<C: Ledger, K: Ledger, O: Opening, R: Wait>(
+    rt: &R,
+    alloc: Global,
+    desk: &Desk<C, K, O>,
+    first: &mut Pass<C, K, O>,
+    count: usize,
+    passes: &mut Vec<Pass<C, K, O>>,
+) -> Result<(), Refusal>
+    requires empty { passes.old.items ≡ [] }
+    requires room { count + 1 ≤ vec_capacity passes.old }
+    ensures first { first.new.changes ≡ first.old.changes }
+    ensures none { sum_by (λ p. p.changes) passes.new.items ≡ 0 }
+    ensures few { length passes.new.items ≤ count }
+    ensures all { OnOk result (length passes.new.items ≡ count) }
+    ensures room { vec_capacity passes.new ≡ vec_capacity passes.old }
+{
+    for made in 0..count {
+        let pass = desk.pass(rt, alloc, first)?;
+        passes.push_reserved(pass);
+    }
+    Ok(())
+}
+
+// Lets a worker work for each pass, if there are passes for all of them.
+fn let_work<
+    C: Ledger + Send + Sync,
+    K: Ledger + Send + Sync,
+    O: Opening + Send + Sync,
+    R: Threads + Wait + Sync,
+>(
+    rt: &R,
+    alloc: Global,
+    desk: &Desk<C, K, O>,
+    crewing: &Crewing,
+    dealt: Result<(), Refusal>,
+    passes: Vec<Pass<C, K, O>>,
+) -> Returned<C, K, O>
+    requires each { OnOk dealt (length passes.items ≡ crewing.now.workers) }
+    requires none { sum_by (λ p. p.changes) passes.items ≡ 0 }
+    ensures { sum_by (λ p. p.changes) result.passes.items ≡ 0 }
+{
+    match dealt {
+        Ok(()) => {
+            let after = crew(rt, alloc, desk, passes, crewing.turns, NODES, &OpenGate);
+            Returned {
+                passes: after.passes,
+                receipts: after.receipts,
+                end: after.end,
+            }
+        }
+        Err(refusal) => Returned {
+            passes,
+            receipts: Vec::new(alloc),
+            end: Err(refusal),
+        },
+    }
+}
