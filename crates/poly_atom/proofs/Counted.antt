@@ -80,7 +80,7 @@ mem_put_all ps qs x = same_truth (mem (put_all ps qs) x) (mem ps x || mem qs x)
       | inr b ↦ in_mem (put_all ps qs) x (in_put_all_right ps qs x (mem_in qs x b))
     ])
 
--- numbers that stand once are counted as they stand
+-- in a list without repeats each number counts once
 once_tally : (f : ℕ → Bool) (ps : List ℕ) → distinct ps ≡ true → tally f (put_all ps []) ≡ tally f ps
 once_tally f [] d = refl
 once_tally f (p ∷ ps) d =

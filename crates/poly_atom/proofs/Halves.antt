@@ -21,7 +21,7 @@ sorted_places lt (x ∷ xs) i zero d h l m = absurd (omega arith)
 sorted_places lt (x ∷ xs) zero (suc j) d h l m = all_in (λ y. lt x y) xs (and_parts (list_all (λ y. lt x y) xs) (sorted lt xs) h).0 (get_or xs j d) (in_get xs j d (omega arith))
 sorted_places lt (x ∷ xs) (suc i) (suc j) d h l m = sorted_places lt xs i j d (and_parts (list_all (λ y. lt x y) xs) (sorted lt xs) h).1 (omega arith) (omega arith)
 
--- what has the place of x stands between two places
+-- what has the place of x lies between two places
 pub record IsWithin {X : Type 0} (eq : X → X → Bool) (xs : List X) (x : X) (low high : ℕ) : Type 0 where
   pub at : (k : ℕ) → k < length xs → eq (get_or xs k x) x ≡ true → (low ≤ k) × (k < high)
 

@@ -24,7 +24,7 @@ abbrev pub sorted : {X : Type 0} → (X → X → Bool) → List X → Bool
 sorted lt [] = true
 sorted lt (x ∷ xs) = list_all (λ y. lt x y) xs && sorted lt xs
 
--- those elements of the first list that pass with what stands for them in the second
+-- the elements of the first list that pass, with their partners in the second
 abbrev pub walk : {X A : Type 0} → (X → X → Bool) → (X → X → Bool) → (X → Option X → Bool) → (X → A) → List X → List X → List A
 walk lt eq test make [] ys = []
 walk lt eq test make (x ∷ xs) ys =
@@ -223,7 +223,7 @@ pub walk_done : {X A : Type 0} (lt eq : X → X → Bool) (test : X → Option X
     length xs ≤ i → out ++ walk lt eq test make (drop i xs) ys ≡ out
 walk_done lt eq test make xs i ys out h = ap (λ t. out ++ walk lt eq test make t ys) (drop_all i xs h) ∙ append-nil out
 
--- an item's bounds are those that stand beside it
+-- an item's bounds are those next to it in the list
 not_itself : (b : Bound) (bs : List Bound) (c : Bound) → list_all (λ d. bound_below b d) bs ≡ true → In c bs → same_item b.0 c.0 ≡ false
 not_itself b bs c h i = false_from_ne_true (same_item b.0 c.0) (items_order.apart b c (all_in (λ d. bound_below b d) bs h c i))
 

@@ -1,4 +1,4 @@
--- Lists that stand one after another, and where each starts.
+-- Lists kept one after another in one list, and where each starts.
 use Rattle.std.proofs.Common.{List, [], add-one, ap, append_assoc, arith, drop, get_or, length, length-append, refl, suc, sym, take, zero, ℕ, ◌+◌, ◌++◌, ◌-◌, ◌<◌, ◌∙◌, ◌∷◌, ◌≡◌, ◌≤◌}
 use Rattle.std.proofs.lemmas.List.{append-nil, drop_at, take_all, take_at}
 use Rattle.poly_atom.specs.declared.atom.Atom.{Atom}
@@ -59,11 +59,11 @@ flat_split [] (suc e) = refl
 flat_split (g ∷ L) zero = refl
 flat_split (g ∷ L) (suc e) = ap (λ x. g ++ x) (flat_split L e) ∙ sym (append_assoc g (flat (take e L)) (flat (drop e L)))
 
--- how many elements stand before a list
+-- how many elements come before a list
 pub start_is : (s : List ℕ) (all : List Atom) (e x : ℕ) → IsKept s all → e < length s → x ≡ get_or s e x → x ≡ length (flat (take e (rows s all)))
 start_is s all e x k h is = omega (arith, is, ap (λ t. get_or t e x) k.starts_are, offset_at 0 (rows s all) e x (omega (arith, length-rows s all)))
 
--- past the last list stand all elements
+-- all elements come before the end of the last list
 pub start_past : (s : List ℕ) (all : List Atom) (e : ℕ) → IsKept s all → length s ≤ e → length all ≡ length (flat (take e (rows s all)))
 start_past s all e k h = ap length (k.all_are ∙ ap flat (sym (take_all e (rows s all) (omega (arith, length-rows s all)))))
 
@@ -72,13 +72,13 @@ start_in s all e k =
     let L = rows s all in
     omega (arith, ap length (k.all_are ∙ flat_split L e), length-append (flat (take e L)) (flat (drop e L)))
 
--- what stands from a list's start on
+-- the elements from a list's start on
 pub tail_is : (s : List ℕ) (all : List Atom) (e x : ℕ) → IsKept s all → x ≡ length (flat (take e (rows s all))) → drop x all ≡ flat (drop e (rows s all))
 tail_is s all e x k is =
     let L = rows s all in
     ap (λ t. drop x t) (k.all_are ∙ flat_split L e) ∙ drop_at (flat (take e L)) (flat (drop e L)) x (sym is)
 
--- what stands between two starts
+-- the elements between two starts
 between : (L : List (List Atom)) (e : ℕ) → take (length (flat (take (suc e) L)) - length (flat (take e L))) (flat (drop e L)) ≡ get_or L e []
 between [] zero = refl
 between [] (suc e) = refl

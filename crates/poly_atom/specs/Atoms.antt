@@ -12,7 +12,7 @@ negated (Lacks p) = Has p
 negated (AtLeast i n) = AtMost i (n - 1)
 negated (AtMost i n) = AtLeast i (n + 1)
 
--- an AtLeast asks for one at least
+-- an AtLeast asks for at least one
 abbrev pub proper : Atom → Bool
 proper (Has p) = true
 proper (Lacks p) = true

@@ -7,7 +7,7 @@ use Rattle.poly_atom.specs.declared.atom.Atom.{Atom}
 use Rattle.poly_atom.specs.declared.atom.Atom.TheVariants.{AtLeast, AtMost, Has, Lacks}
 use Rattle.poly_atom.specs.Hopeless.{asked}
 
--- the atom asks for a placement that has the item, is no pin, and is not asked for later
+-- the atom asks for a placement that has the item, is not pinned, and is not asked for later
 abbrev pub adds : View → Atom → List Atom → Item → Bool
 adds v (Has p) A i = has_item v p i && not (mem (asked A) p) && not (mem v.pins p)
 adds v (Lacks p) A i = false

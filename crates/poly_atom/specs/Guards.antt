@@ -20,7 +20,7 @@ guards_most old new = map (λ b. AtMost b.0 (most old b.0)) (filter (λ b. nat_l
 abbrev pub guards_pins : View → View → List Atom
 guards_pins old new = map (λ p. Has p) (filter (λ p. not (mem new.pins p)) old.pins)
 
--- what the tilings of the old design have among those of the new one
+-- the atoms that tell the tilings of the old design among those of the new one
 abbrev pub guards : View → View → List Atom
 guards old new = guards_fresh old new ++ (guards_least old new ++ (guards_most old new ++ guards_pins old new))
 

@@ -11,7 +11,7 @@ use Rattle.poly_atom.specs.Stairs.{stairs}
 use Rattle.poly_atom.specs.Hopeless.{hopeless}
 use Rattle.poly_atom.specs.Logs.{without_last}
 
--- Of the stairs of any guards, a set that breaks a guard meets one, and a set that meets all meets none.
+-- A set that breaks a guard meets exactly one stair of the guards; a set that meets all guards meets no stair.
 abbrev pub StairsShareOut : Type 0
 StairsShareOut = (v : View) (T : List ℕ) (g : List Atom) → list_all proper g ≡ true →
     one (meets_all v T g) + tally (λ A. meets_all v T A) (stairs g) ≡ 1
@@ -20,7 +20,7 @@ StairsShareOut = (v : View) (T : List ℕ) (g : List Atom) → list_all proper g
 abbrev pub HopelessIsEmpty : Type 0
 HopelessIsEmpty = (v : View) (A : List Atom) (T : List ℕ) → hopeless v A ≡ true → in_family v A T ≡ false
 
--- A tiling of the new design is one of the old exactly if it meets the guards.
+-- A tiling of the new design is a tiling of the old one exactly if it meets the guards.
 abbrev pub GuardsTell : Type 0
 GuardsTell = (old new : View) (T : List ℕ) → WellNamed old → Names old new → is_tiling new T ≡ true →
     is_tiling old T ≡ meets_all new T (guards old new)
@@ -29,7 +29,7 @@ GuardsTell = (old new : View) (T : List ℕ) → WellNamed old → Names old new
 abbrev pub StairsWereHopeless : Type 0
 StairsWereHopeless = (old new : View) → list_all (λ A. hopeless old A) (stairs (guards old new)) ≡ true
 
--- A hopeless list stays hopeless with more atoms, and with more numbers given out.
+-- A hopeless list stays hopeless if atoms are added and new numbers are assigned.
 abbrev pub HopelessStays : Type 0
 HopelessStays = (v w : View) (A B : List Atom) → Grown v w → hopeless v A ≡ true → hopeless w (A ++ B) ≡ true
 
@@ -37,7 +37,7 @@ HopelessStays = (v w : View) (A B : List Atom) → Grown v w → hopeless v A �
 abbrev pub SameHasNoGuards : Type 0
 SameHasNoGuards = (v w : View) → Grown v w → guards v w ≡ []
 
--- Giving numbers out changes no answer of a tiling's.
+-- Assigning new numbers does not change whether a set is a tiling.
 abbrev pub AnswersMayGrow : Type 0
 AnswersMayGrow = (v w : View) (T : List ℕ) (A : List Atom) → WellNamed v → Grown v w → is_tiling v T ≡ true → meets_all w T A ≡ meets_all v T A
 
@@ -49,15 +49,15 @@ NegationIsUndone = (a : Atom) → proper a ≡ true → negated (negated a) ≡ 
 abbrev pub NegationIsOpposite : Type 0
 NegationIsOpposite = (v : View) (T : List ℕ) (a : Atom) → proper a ≡ true → meets v T (negated a) ≡ not (meets v T a)
 
--- Giving numbers out changes no family.
+-- Assigning new numbers does not change which tilings belong to a family.
 abbrev pub FamiliesMayGrow : Type 0
 FamiliesMayGrow = (v w : View) (A : List Atom) (T : List ℕ) → WellNamed v → Grown v w → in_family w A T ≡ in_family v A T
 
--- Giving numbers out changes nothing of what is hopeless.
+-- Assigning new numbers does not change which lists are hopeless.
 abbrev pub HopelessMayGrow : Type 0
 HopelessMayGrow = (v w : View) (A : List Atom) → WellNamed v → Grown v w → hopeless w A ≡ hopeless v A
 
--- Giving numbers out in either design changes no guard.
+-- Assigning new numbers in either design changes no guard.
 abbrev pub GuardsMayGrow : Type 0
 GuardsMayGrow = (old more new most : View) → Grown old more → Grown new most → guards more most ≡ guards old new
 

@@ -1,4 +1,4 @@
--- How a log of guards stands as one list and the place where each change's guards start.
+-- How a log of guards is kept: one list of all guards, and the index where each change's guards start.
 use Rattle.std.specs.Prelude.{List, [], drop, length, take, ℕ, ◌+◌, ◌-◌, ◌∷◌, ◌≡◌}
 use Rattle.poly_atom.specs.declared.atom.Atom.{Atom}
 use Rattle.poly_atom.specs.Atoms.{AllSmall}
@@ -14,7 +14,7 @@ abbrev pub rows : List ℕ → List Atom → List (List Atom)
 rows [] all = []
 rows (s ∷ ss) all = take (end_of ss (length all) - s) (drop s all) ∷ rows ss all
 
--- where each list starts, when they stand one after another behind so many elements
+-- where each list starts, if the lists follow one another after this many elements
 abbrev pub offsets : ℕ → List (List Atom) → List ℕ
 offsets n [] = []
 offsets n (g ∷ gs) = n ∷ offsets (n + length g) gs

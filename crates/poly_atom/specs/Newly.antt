@@ -29,8 +29,8 @@ abbrev pub NewlyHopelessIsTouched : Type 0
 NewlyHopelessIsTouched = (v w : View) (x : Delta) (y : Change) (A : List Atom) → (c : IsChangeOf v w x) → c.after ≡ changed c.before y → hopeless v A ≡ false → hopeless w A ≡ true →
     list_any (touched w x (item_of y)) A ≡ true
 
--- the number may join what each member of the family has: it is a placement that is outside, that no atom rules out, that
--- is in conflict with none of them, and whose piece may be in one more
+-- the number may join what each member of the family has: it is another placement, no atom rules it out, it is in
+-- conflict with none of them, and its piece may be in one more
 pub record IsOpenFor (v : View) (A : List Atom) (p : ℕ) : Type 0 where
   pub live : mem v.live p ≡ true
   pub outside : mem (base v A) p ≡ false
@@ -42,6 +42,6 @@ pub record IsOpenFor (v : View) (A : List Atom) (p : ℕ) : Type 0 where
 abbrev pub TakingKeepsHope : Type 0
 TakingKeepsHope = (v : View) (A : List Atom) (p : ℕ) → IsOpenFor v A p → hopeless v (A ++ Has p ∷ []) ≡ hopeless v A
 
--- So does ruling out what no member has to have.
+-- So does ruling out a placement that is neither asked for nor pinned.
 abbrev pub LeavingKeepsHope : Type 0
 LeavingKeepsHope = (v : View) (A : List Atom) (p : ℕ) → mem (base v A) p ≡ false → hopeless v (A ++ Lacks p ∷ []) ≡ hopeless v A

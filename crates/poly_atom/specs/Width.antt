@@ -28,10 +28,10 @@ pub record HasWidth (d e : Layout) (n : ℕ) : Type 0 where
   pub are_unpinned : IsListOf placement_cmp (λ p. IsPin d p × (¬ IsPin e p)) unpinned
   pub whole : n ≡ length fresh + (length unneeded + (length widened + length unpinned))
 
--- The guards of a change, and those of its inverse, are as many as the two designs say.
+-- The two designs determine how many guards a change and its inverse have.
 abbrev pub WidthsShow : Type 0
 WidthsShow = (v w : View) (x : Delta) → (c : IsChangeOf v w x) → HasWidth c.before c.after (length (guards v w)) × HasWidth c.after c.before (length (guards w v))
 
--- The designs say one number.
+-- Two designs determine only one number.
 abbrev pub WidthIsOne : Type 0
 WidthIsOne = (d e : Layout) (m n : ℕ) → HasWidth d e m → HasWidth d e n → m ≡ n

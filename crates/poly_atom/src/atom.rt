@@ -4,23 +4,23 @@ ghost use Rattle.poly_atom.specs.Atoms.{IsSmall, negated};
 
 use poly_tiling::Item;
 
-/// A condition on a set of placements: that it has a placement, or lacks it, or has an item at least or at most so
-/// often.
+/// A condition on a set of placements: it has a placement, lacks it, or covers an item at least or at most a number of
+/// times.
 #[derive(Clone, Copy, Debug, PartialEq, Eq)]
 pub enum Atom {
-    /// The number's placement is there.
+    /// The set has the number's placement.
     Has(u32),
-    /// The number's placement isn't there.
+    /// The set doesn't have the number's placement.
     Lacks(u32),
-    /// At least so many placements have the item.
+    /// At least this many placements of the set have the item.
     AtLeast(Item, u8),
-    /// At most so many placements have the item.
+    /// At most this many placements of the set have the item.
     AtMost(Item, u8),
 }
 
 impl Atom {
-    /// The atom that a set meets exactly where it doesn't meet this one. `AtLeast` asks for one at least here, and
-    /// `AtMost` for a number below 255, as every guard of a change has them.
+    /// Returns the atom that a set meets exactly if it doesn't meet this one. Requires that the number of `AtLeast` is
+    /// at least 1 and that of `AtMost` below 255, as in each guard of a change.
     pub fn negated(self) -> Atom
         requires { IsSmall self }
         ensures { result ≡ negated self }

@@ -1,5 +1,5 @@
-//! The guards of a change and of its inverse, from what the change does: as many as the change has differences, however
-//! many placements stay.
+//! The guards of a change and of its inverse, made from what the change does. There are as many as the change has
+//! differences, however many placements stay.
 ghost use Rattle.std.specs.Prelude.{IfErr, IfOk, length, map, ◌≡◌};
 ghost use Rattle.poly_atom.specs.Atoms.{AllSmall};
 ghost use Rattle.poly_atom.specs.Guards.{guards, guards_by};
@@ -19,9 +19,9 @@ use std::alloc::{AllocError, Global};
 /// The guards of a change and those of its inverse.
 #[derive(Debug, Drop)]
 pub struct BothGuards {
-    /// What the tilings of the design before have among those of the design after.
+    /// The guards of the change: they tell the tilings of the design before among those of the design after.
     pub forth: Vec<Atom>,
-    /// What the tilings of the design after have among those of the design before.
+    /// The guards of its inverse: they tell the tilings of the design after among those of the design before.
     pub back: Vec<Atom>,
 }
 
@@ -58,8 +58,7 @@ pub fn both_guards(
     Ok(BothGuards { forth, back })
 }
 
-/// How many guards the change has that leads from the view before to the view after, and how many its inverse has, without
-/// memory.
+/// Counts the guards of the change from the view before to the view after, and those of its inverse. Never allocates.
 pub fn guard_counts(before: &View, after: &View, delta: &Delta) -> (usize, usize)
     requires { IsChangeOf before.now after.now delta.now }
     ensures forth { result.0 ≡ length (guards before.now after.now) }

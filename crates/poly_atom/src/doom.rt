@@ -1,5 +1,5 @@
-//! Lists of atoms that no tiling can meet, found without the search. What each tiling of a family has is the placements
-//! that the list asks for and the pins, each counted once.
+//! Lists of atoms that no tiling can meet, found without the search. Each tiling of a family has the placements that
+//! the list asks for and the pins. Each of these is counted once.
 //!
 //! A list may be long, and may ask for one placement many times. So the placements that it asks for are gathered first,
 //! each once, and are then compared with one another and with the atoms that rule placements out. A list that asks for
@@ -24,9 +24,10 @@ const MOST_ITEMS: usize = MAX_CELLS + MAX_PIECES;
 // Lists up to this length are compared as they are: gathering first would cost more.
 const FEW_ATOMS: usize = 8;
 
-/// Whether the atoms show by themselves that no tiling meets all of them: one asks for a placement that isn't there, that
-/// another rules out, or that is in conflict with a pin or with another that is asked for; or for one placement of a
-/// piece among too many; or it rules out a pin; or its bound is beyond that of its item. No memory.
+/// Whether the atoms alone show that no tiling meets all of them. An atom shows it if it asks for a placement that isn't
+/// in the design, that another atom rules out, that is in conflict with a pin or with another placement asked for, or of
+/// whose piece too many placements are asked for; if it rules out a pin; or if its bound is beyond that of its item.
+/// Never allocates.
 ///
 /// The time is in proportion to the number of atoms.
 pub fn hopeless(view: &View, atoms: &[Atom]) -> bool
@@ -190,7 +191,7 @@ fn clashes_with(view: &View, atom: Atom, p: u32) -> bool
     }
 }
 
-// Whether the placement's piece is in more of what each tiling of the family has than its most.
+// Whether the placements that each tiling of the family has include more of the placement's piece than its most.
 fn is_over(view: &View, atoms: &[Atom], p: u32) -> bool
     ensures { result ≡ list_any (λ i. is_piece i && nat_lt (most view.now i) (count view.now (base view.now atoms.now) i)) (items view.now p) }
 {

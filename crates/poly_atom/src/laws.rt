@@ -3,7 +3,7 @@ ghost use Rattle.poly_atom.specs.Newly.{LeavingKeepsHope, NewlyHopelessIsTouched
 ghost use Rattle.poly_atom.specs.Width.{WidthIsOne, WidthsShow};
 ghost use Rattle.poly_atom.specs.Laws.{AnswersMayGrow, FamiliesMayGrow, GuardsMayGrow, GuardsTell, HopelessIsEmpty, HopelessMayGrow, HopelessStays, NegationIsOpposite, NegationIsUndone, SameHasNoGuards, StairsShareOut, StairsWereHopeless, TakenBackIsUndone};
 
-/// Of the stairs of any guards, a set that breaks a guard meets exactly one, and one that meets all guards none.
+/// A set that breaks a guard meets exactly one stair of the guards; a set that meets all guards meets no stair.
 pub fn stairs_share_out()
     ensures { StairsShareOut }
 {}
@@ -13,7 +13,7 @@ pub fn hopeless_is_empty()
     ensures { HopelessIsEmpty }
 {}
 
-/// A tiling of the later design is one of the earlier exactly if it meets the guards.
+/// A tiling of the later design is a tiling of the earlier one exactly if it meets the guards.
 pub fn guards_tell()
     ensures { GuardsTell }
 {}
@@ -23,7 +23,7 @@ pub fn stairs_were_hopeless()
     ensures { StairsWereHopeless }
 {}
 
-/// What is hopeless stays so with more atoms and more numbers given out.
+/// A hopeless list stays hopeless if atoms are added and new numbers are assigned.
 pub fn hopeless_stays()
     ensures { HopelessStays }
 {}
@@ -33,7 +33,7 @@ pub fn same_has_no_guards()
     ensures { SameHasNoGuards }
 {}
 
-/// Giving numbers out changes no answer of a tiling's.
+/// Assigning new numbers does not change whether a set is a tiling.
 pub fn answers_may_grow()
     ensures { AnswersMayGrow }
 {}
@@ -48,17 +48,17 @@ pub fn negation_is_opposite()
     ensures { NegationIsOpposite }
 {}
 
-/// Giving numbers out changes no family.
+/// Assigning new numbers does not change which tilings belong to a family.
 pub fn families_may_grow()
     ensures { FamiliesMayGrow }
 {}
 
-/// Giving numbers out changes nothing of what is hopeless.
+/// Assigning new numbers does not change which lists are hopeless.
 pub fn hopeless_may_grow()
     ensures { HopelessMayGrow }
 {}
 
-/// Giving numbers out in either design changes no guard.
+/// Assigning new numbers in either design changes no guard.
 pub fn guards_may_grow()
     ensures { GuardsMayGrow }
 {}
@@ -85,12 +85,12 @@ pub fn leaving_keeps_hope()
     ensures { LeavingKeepsHope }
 {}
 
-/// The guards of a change and of its inverse are as many as the two designs say.
+/// The two designs determine how many guards a change and its inverse have.
 pub fn widths_show()
     ensures { WidthsShow }
 {}
 
-/// The two designs say one number of guards.
+/// Two designs determine only one number of guards.
 pub fn width_is_one()
     ensures { WidthIsOne }
 {}

@@ -1,4 +1,4 @@
-//! Atoms, guards, stairs and hopeless lists: the words in which search tasks are said.
+//! Atoms, guards, stairs and hopeless lists: the terms in which search tasks are described.
 #![tactic(auto)]
 
 mod atom;

@@ -1,4 +1,4 @@
-//! The guards of all changes, each change's laid once.
+//! The guards of all changes. Those of each change are stored once, for all tasks.
 ghost use Rattle.std.specs.Prelude.{IfErr, List, OnErr, OnOk, [], drop, length, slice_index_or, take, ◌++◌, ◌+◌, ◌<◌, ◌≤◌, ◌∷◌, ◌≡◌};
 ghost use Rattle.poly_atom.specs.Atoms.{AllSmall};
 ghost use Rattle.poly_atom.specs.LogKept.{IsKept, rows};
@@ -55,7 +55,7 @@ impl GuardLog {
         rest(&self.guards, &self.starts, edition as usize)
     }
 
-    /// The guards of the change that led from the edition; none where there was no such change.
+    /// The guards of the change that led from the edition; none if there was no such change.
     pub fn guards_of(&self, edition: u64) -> &[Atom]
         ensures value { result.now ≡ slice_index_or self.now edition [] }
         ensures small { AllSmall result.now }
@@ -70,7 +70,7 @@ impl GuardLog {
         self.guards_of(edition).len()
     }
 
-    /// Adds the guards of one more change. A refusal is for memory, and leaves the log as it was.
+    /// Adds the guards of one more change. Fails only when out of memory, and then leaves the log as it was.
     pub fn push(&mut self, guards: Vec<Atom>) -> Result<(), Refusal>
         requires { AllSmall guards.items }
         ensures ok { OnOk result (self.new ≡ self.old ++ guards.items ∷ []) }

@@ -1,4 +1,4 @@
-//! Numbers in the order of their placements and items in theirs: how to compare two, and how to go on to one.
+//! Compares numbers by their placements, and items, and finds where one of them belongs in a list.
 ghost use Rattle.std.specs.Prelude.{drop, is_some, length, true, ℕ, ◌==◌, ◌≡◌, ◌≤◌};
 ghost use Rattle.std.specs.List.{list_any};
 ghost use Rattle.std.specs.Ordering.{is_lt};
@@ -71,7 +71,7 @@ pub fn past(numbers: &[u32], at: usize, number: u32) -> usize
     at
 }
 
-/// Whether the number stands at the place.
+/// Whether the list has the number at the place.
 pub fn stands_at(numbers: &[u32], at: usize, number: u32) -> bool
     ensures { result ≡ is_some (front (λ p. p == number) (drop at numbers.now)) }
 {
@@ -92,7 +92,7 @@ pub fn skip_items(bounds: &[(Item, u8, u8)], from: usize, item: &Item) -> usize
     bounds.len()
 }
 
-/// The least and the most of the item, 0 and 0 if it doesn't stand at the place.
+/// The least and the most of the item at the place; 0 and 0 if another item is there.
 pub fn bounds_at(bounds: &[(Item, u8, u8)], at: usize, item: &Item) -> (u8, u8)
     ensures least { result.0 ≡ found_or (λ b. b.1) (front (λ b. same_item b.0 item.now) (drop at bounds.now)) }
     ensures most { result.1 ≡ found_or (λ b. b.2) (front (λ b. same_item b.0 item.now) (drop at bounds.now)) }
@@ -107,7 +107,7 @@ pub fn bounds_at(bounds: &[(Item, u8, u8)], at: usize, item: &Item) -> (u8, u8)
     (0, 0)
 }
 
-/// Whether the number stands in the list.
+/// Whether the list has the number.
 pub fn stands_in(view: &View, numbers: &[u32], number: u32) -> bool
     requires { in_order view.now numbers.now ≡ true }
     ensures { result ≡ mem numbers.now number }

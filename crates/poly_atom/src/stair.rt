@@ -20,8 +20,8 @@ pub struct Stair {
 }
 
 impl Stair {
-    /// The atoms of the stair. It asks that the log has the edition and that edition's guards the index; only memory
-    /// refuses.
+    /// The atoms of the stair. Requires that the log has the edition, and that the edition's guards have the index.
+    /// Fails only when out of memory.
     pub fn atoms(&self, alloc: Global, log: &GuardLog) -> Result<Vec<Atom>, Refusal>
         requires { IsStairOf log.now self.now }
         ensures ok { IfOk result (λ atoms. atoms.items ≡ stair_of log.now self.now) }
@@ -32,8 +32,8 @@ impl Stair {
     }
 }
 
-/// For each atom the list of those before it and its negation, in order. It asks that each can be negated; only memory
-/// refuses.
+/// For each atom the list of those before it and its negation, in order. Requires that each atom can be negated. Fails
+/// only when out of memory.
 pub fn staircase(alloc: Global, atoms: &[Atom]) -> Result<Vec<Vec<Atom>>, Refusal>
     requires { AllSmall atoms.now }
     ensures ok { IfOk result (λ all. map (λ stair. stair.items) all.items ≡ stairs atoms.now) }

@@ -90,7 +90,8 @@ mod tests {
         after.edition < before.edition || after.endings < before.endings
     }
 
-    // A poster with both numbers of its last post, which are the same, as a desk has its own beside its poster.
+    // A poster with both numbers of its last post, which are equal here. A desk too keeps these numbers next to its
+    // poster.
     #[derive(Drop)]
     struct Counter {
         last: u32,

@@ -1,8 +1,8 @@
 //! The rule of a board's word: all posts form one log, the word is its last entry, and each seat knows a beginning of it.
-//! Each step on the word has to keep the rule, and tells its seat what the plays below say.
+//! Each step on the word must keep the rule, and tells its seat what the plays below state.
 //!
 //! A board has four kinds of step: making the views together with the word, a post, a look, and the split of a look.
-//! [`Look::catch_up`](crate::look::Look::catch_up), on which only the law stands, joins views too.
+//! [`Look::catch_up`](crate::look::Look::catch_up), which only the law uses, joins views too.
 
 ghost use Rattle.std.specs.Prelude.{◌≡◌, [], ◌∷◌, true, false};
 ghost use Rattle.poly_board.specs.Rule.{Looks, Posts, IsKept, view};

@@ -8,7 +8,7 @@ use Rattle.poly_book.specs.Tasks.{Rising, drop_task, find_task}
 use Rattle.poly_book.specs.declared.task.Pending.{Pending}
 use Rattle.poly_book.specs.Meaning.{AreTasks, task_of, tasks_of}
 
--- the first of the number stands there
+-- the first task of the number is there
 abbrev pub At : ℕ → List Pending → ℕ → Type 0
 At k [] m = ⊥
 At k (p ∷ ps) zero = (p.number == k) ≡ true
@@ -77,7 +77,7 @@ behind m n log [] i d r l = absurd (omega (arith, l))
 behind m n log (p ∷ ps) zero d r l = r.0
 behind m n log (p ∷ ps) (suc i) d r l = omega (arith, r.0, behind (p.number + 1) n log ps i d r.1 (omega (arith, l)))
 
--- numbers that rise are found where they stand
+-- in a rising list each number is found at its own place
 pub found_where : (m n j : ℕ) (log : List (List Atom)) (ps : List Pending) (i : ℕ) (d : Pending) → Rising m (tasks_of log ps) n → i < length ps → position_from (λ p. p.number == (get_or ps i d).number) j ps ≡ Some (j + i)
 found_where m n j log [] i d r l = absurd (omega (arith, l))
 found_where m n j log (p ∷ ps) zero d r l =
@@ -90,7 +90,7 @@ found_where m n j log (p ∷ ps) (suc i) d r l =
     let same : (j + 1) + i ≡ j + suc i = omega arith in
     ap (λ b. cond b (Some j) (position_from (λ q. q.number == k) (j + 1) ps)) (ne_eqb p.number k other) ∙ found_where (p.number + 1) n (j + 1) log ps i d r.1 low ∙ ap (λ x. Some x) same
 
--- the task of the number that stands at a place is the one there
+-- the task of the number at a place is the one there
 pub find_where : (m n : ℕ) (log : List (List Atom)) (ps : List Pending) (i : ℕ) (d : Pending) → Rising m (tasks_of log ps) n → i < length ps → find_task (get_or ps i d).number (tasks_of log ps) ≡ Some (task_of log (get_or ps i d))
 find_where m n log ps i d r l =
     let e : position_from (λ p. p.number == (get_or ps i d).number) 0 ps ≡ Some i = found_where m n 0 log ps i d r l ∙ ap (λ x. Some x) (let z : 0 + i ≡ i = omega arith in z) in

@@ -22,7 +22,7 @@ happen_push [] (q ∷ rs) s t u e r a h = absurd a
 happen_push (f ∷ es) [] s t u e r a h = absurd a
 happen_push (f ∷ es) (q ∷ rs) s t u e r a h = (a.0, a.1, happen_push es rs a.0 t u e r a.2 h)
 
--- what happens is no event, or one
+-- nothing happens, or one event
 happening : (e : Event) (s t : State) (r : Reply) → Happens e s t r → (es : List event.Event) × Runs s es t
 happening (Edit e) s t (reply.Done d) h = (event.Edit h.change h.made.view ∷ [], (t, h.made.leads, h.made.becomes, refl))
 happening (Edit e) s t (reply.Applied a) h = absurd h

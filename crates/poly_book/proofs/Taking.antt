@@ -134,7 +134,7 @@ took_from a k place tree ts rs x ls2 ps2 fresh more es2 l is listed tasks opens 
       ended_are = ended ∙ ap (λ m. a.endings.items ++ Cut m ∷ []) number;
     }
 
--- the leaves of a tree for the task that stands at a place
+-- the leaves of a tree for the task at a place
 pub leaves_at : (p : Parts) (x : Pending) (i : ℕ) (tree : Plan) (ts : List (List ℕ)) (rs : List (List Atom)) → Keeps p → i < length p.tasks.items → x ≡ get_or p.tasks.items i x → fits tree ≡ true → holds p.scene (atoms_of (task_of p.log x)) tree ≡ true →
     ts ≡ tilings p.scene (atoms_of (task_of p.log x)) tree → rs ≡ rests p.scene (atoms_of (task_of p.log x)) tree → AreLeaves p x.number i tree ts rs
 leaves_at p x i tree ts rs keeps low is small right tilings_are rests_are =

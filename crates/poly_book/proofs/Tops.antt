@@ -1,4 +1,4 @@
--- What stands to be undone or redone, and how a book begins.
+-- The changes that can be undone or redone, and how a book begins.
 use Rattle.std.proofs.Common.{Global, List, Some, Vec, [], ap, arith, inr, length, refl, subst, sym, take, ℕ, ◌-◌, ◌∙◌, ◌∷◌, ◌≡◌}
 use Rattle.poly_grid.specs.declared.refusal.Refusal.{Refusal}
 use Rattle.poly_design.specs.Changes.{HasBefore, changed, inverse_of}

@@ -29,7 +29,7 @@ use Rattle.poly_book.specs.Shelves.{is_kept, openings, returned}
 use Rattle.poly_book.specs.States.{Stored}
 use Rattle.poly_book.specs.Tasks.{atoms_of, hopeful}
 
--- what is kept of what a change takes away, where the way back has so many guards
+-- what is kept of what a change takes away, if the inverse has this many guards
 abbrev pub shelf_by : View → List (List ℕ) → List (List Atom) → List Pending → ℕ → Option Stored
 shelf_by w listed log ps width = cond (nat_le (length ps * width) 4096) (Some (record { taken = filter (λ T. not (is_tiling w T)) listed; frozen = map (λ t. atoms_of t) (tasks_of log ps) })) None
 
@@ -68,7 +68,7 @@ Noted Edit old new x k = (new.undo ≡ newest (old.undo ++ (record { change = x;
 Noted Undo old new x k = (stood : Option Kept) × Moves old.undo old.redo new.undo new.redo (Some k) stood
 Noted Redo old new x k = (stood : Option Kept) × Moves old.redo old.undo new.redo new.undo (Some k) stood
 
--- the shelf beside a change
+-- the shelf that is kept with a change
 abbrev pub shelf_at : Option (Beside Change Kept) → Option Stored
 shelf_at None = None
 shelf_at (Some s) = (way_of s).shelf

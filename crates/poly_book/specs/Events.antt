@@ -33,7 +33,7 @@ pub data Event : Type 0 where
 abbrev pub hopeless_endings : View → ℕ → List Task → List Ending
 hopeless_endings w edition ts = map (λ t. Hopeless t.number edition) (filter (λ t. hopeless w t.own) ts)
 
--- keeps the listed tilings that still are tilings, lays the guards, ends what is hopeless, and opens
+-- keeps the listed tilings that are still tilings, adds the guards, ends the hopeless tasks, and opens new ones
 abbrev pub moved : State → Kind → Change → View → Option Stored → Bool → List Way → List Way → State
 moved s k x w h shelved back forth =
     let g = guards s.view w in
@@ -81,7 +81,8 @@ step s (Undo w) = undone s w s.back
 step s (Redo w) = redone s w s.forth
 step s (Report k tree) = handed_in s k (find_task k s.pending) tree
 
--- The change finds its before side standing, it makes a design, and the view shows that under numbers that go on.
+-- The change finds what it is to replace, it makes a design, and the view shows that design under numbers that continue
+-- the earlier ones.
 pub record Leads (s : State) (x : Change) (w : View) : Type 0 where
   pub before : HasBefore s.design x
   pub design : IsDesign (changed s.design x)

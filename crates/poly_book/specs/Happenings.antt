@@ -39,6 +39,6 @@ AllHappen (e ∷ es) s (r ∷ rs) t = (u : State) × Happens e s u r × AllHappe
 abbrev pub HoldsNow : State → ℕ → Plan → Type 0
 HoldsNow s k tree = (a : Task) × (find_task k s.pending ≡ Some a) × (holds s.view (atoms_of a) tree ≡ true)
 
--- where the task is pending, the tree holds for it
+-- if the task is pending, the tree holds for it
 abbrev pub KeepsHolding : State → ℕ → Plan → Type 0
 KeepsHolding s k tree = (a : Task) → find_task k s.pending ≡ Some a → holds s.view (atoms_of a) tree ≡ true

@@ -39,7 +39,7 @@ ReportsKeepHolding = (s t : State) (es : List Event) (k : ℕ) (a b : Task) (tre
     find_task k s.pending ≡ Some a → holds s.view (atoms_of a) tree ≡ true →
     find_task k t.pending ≡ Some b → holds t.view (atoms_of b) tree ≡ true
 
--- A change that found nothing pending is undone to nothing pending, where each undo and redo since had a kept shelf.
+-- Undoing a change that found nothing pending leaves nothing pending, if each undo and redo since had a kept shelf.
 abbrev pub QuietUndo : Type 0
 QuietUndo = (s : State) (w : View) (b : Way) (ways : List Way) → Whole s → Goes s (Undo w) →
     s.back ≡ b ∷ ways → quiet_since b.made s.steps ≡ true → Complete (step s (Undo w))

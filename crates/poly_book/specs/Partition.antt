@@ -26,7 +26,7 @@ pub record Complete (s : State) : Type 0 where
   pub once : (T : List ℕ) → is_tiling s.view T ≡ true → tally (λ U. same_list U T) s.listed ≡ 1
   pub only : list_all (λ U. is_tiling s.view U) s.listed ≡ true
 
--- the same state, but for the order of what is listed
+-- the same state up to the order of the listed tilings
 pub record Becomes (s t : State) : Type 0 where
   pub same : t ≡ record s { listed = t.listed }
   pub order : (f : List ℕ → Bool) → tally f t.listed ≡ tally f s.listed

@@ -9,7 +9,7 @@ use Rattle.poly_book.specs.Tasks.{Task}
 use Rattle.poly_book.specs.States.{State, Stored}
 use Rattle.poly_book.specs.Trails.{Led, Trail}
 
--- Step number m found nothing pending, and each undo and redo since had a kept shelf. The steps have their newest first.
+-- Step number m found nothing pending, and each undo and redo since had a kept shelf. The newest step comes first.
 abbrev pub quiet_since : ℕ → List Step → Bool
 quiet_since m [] = false
 quiet_since m (d ∷ ds) = cond (length ds + 1 == m) (d.pending == 0) (d.shelved && quiet_since m ds)
@@ -18,11 +18,11 @@ abbrev pub frozen_in : Option Stored → List (List Atom)
 frozen_in None = []
 frozen_in (Some h) = h.frozen
 
--- step m is among those that the ways take back
+-- one of the ways undoes step m
 abbrev pub stands : ℕ → List Led → Bool
 stands m ways = list_any (λ b. b.made == m) ways
 
--- the atoms are hopeless where one of the ways leads to, as far as the way of step m
+-- the atoms are hopeless in a design that one of the ways leads to, up to the way of step m
 abbrev pub hopeless_along : ℕ → List Led → List Atom → Bool
 hopeless_along m [] A = false
 hopeless_along m (b ∷ ways) A = hopeless b.to A || (not (b.made == m) && hopeless_along m ways A)
@@ -40,7 +40,7 @@ HopelessAlong m (b ∷ ways) As =
     × (b.made ≡ m → IsQuiet b.shelf)
     × (stands m ways ≡ true → HopelessAlong m ways (frozen_in b.shelf))
 
--- the ways take back ever earlier steps
+-- each way undoes an earlier step than the one before
 abbrev pub Falling : ℕ → List Led → Type 0
 Falling n [] = Unit {0}
 Falling n (b ∷ ways) = (b.made < n) × Falling b.made ways

@@ -64,7 +64,7 @@ abbrev pub IsOver : ℕ → Plan → State → Refusal → Type 0
 IsOver k tree s e =
     ((e ≡ Spent) × (4294967296 < (step s (Report k tree)).next)) ⊎ ((e ≡ CatalogueFull) × (1000000 < length (step s (Report k tree)).listed)) ⊎ (e ≡ Memory)
 
--- The task isn't pending; or it is, and the tree doesn't fit, or fits and doesn't hold; or a limit stands against it.
+-- The task isn't pending; or the tree doesn't fit; or it doesn't hold; or a limit is reached.
 abbrev pub IsNotApplied : ℕ → Plan → State → Refusal → Type 0
 IsNotApplied k tree s e =
     ((e ≡ Gone) × (find_task k s.pending ≡ None))

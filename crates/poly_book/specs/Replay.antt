@@ -16,13 +16,13 @@ pub record Trace : Type 0 where
   pub back : List Change
   pub forth : List Change
 
--- a change is made: an undo makes the inverse of the change that it takes back
+-- a change is made: an undo makes the inverse of the change that it undoes
 abbrev pub traced : Trace → Kind → Change → Trace
 traced t Edit x = record { design = changed t.design x; back = newest 256 (x ∷ t.back); forth = [] }
 traced t Undo x = record { design = changed t.design x; back = drop 1 t.back; forth = inverse_of x ∷ t.forth }
 traced t Redo x = record { design = changed t.design x; back = newest 256 (x ∷ t.back); forth = drop 1 t.forth }
 
--- the steps have their newest first
+-- the newest step comes first
 abbrev pub replayed : Layout → List Step → Trace
 replayed o [] = record { design = o; back = []; forth = [] }
 replayed o (s ∷ ss) = traced (replayed o ss) s.kind s.change
@@ -33,7 +33,7 @@ IsNext t Edit x = Unit {0}
 IsNext t Undo x = (rest : List Change) × (t.back ≡ inverse_of x ∷ rest)
 IsNext t Redo x = (rest : List Change) × (t.forth ≡ x ∷ rest)
 
--- each step's change finds its before side standing
+-- each step's change finds what it is to replace
 abbrev pub AllStand : Layout → List Step → Type 0
 AllStand o [] = Unit {0}
 AllStand o (s ∷ ss) = HasBefore (replayed o ss).design s.change × IsNext (replayed o ss) s.kind s.change × AllStand o ss

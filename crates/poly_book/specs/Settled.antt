@@ -9,7 +9,7 @@ use Rattle.poly_book.specs.Happenings.{HoldsNow}
 use Rattle.poly_book.specs.Refused.{IsOver}
 use Rattle.poly_book.specs.States.{State}
 
--- so many tasks were cut; the opening design, the design and the steps are the same
+-- this many tasks were cut; the opening design, the design and the steps are the same
 pub record Cuts (s t : State) (n : ℕ) : Type 0 where
   pub opened : t.opened ≡ s.opened
   pub design : t.design ≡ s.design
@@ -24,11 +24,11 @@ abbrev pub IsTurn : State → State → Bool → Type 0
 IsTurn s t true = Cuts s t 1
 IsTurn s t false = (t ≡ s) × (s.pending ≡ [])
 
--- memory ran out, or a limit stands against a report that fits and holds for its pending task
+-- memory ran out, or a limit refuses a report that fits and holds for its pending task
 abbrev pub IsNotTurned : State → Refusal → Type 0
 IsNotTurned s e = (e ≡ Memory) ⊎ ((k : ℕ) × (tree : Plan) × (fits tree ≡ true) × HoldsNow s k tree × IsOver k tree s e)
 
--- nothing is pending, and so many tasks were cut
+-- nothing is pending, and this many tasks were cut
 pub record IsSettled (s t : State) (n : ℕ) : Type 0 where
   pub cuts : Cuts s t n
   pub none : t.pending ≡ []

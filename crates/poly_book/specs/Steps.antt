@@ -27,14 +27,14 @@ pub record IsEdited (e : Edit) (s t : State) (done : Done) : Type 0 where
   pub accepted : IsAccepted s.design e change
   pub made : IsDone kind.Edit change s t done
 
--- the last way back was taken
+-- the last change was undone
 pub record IsUndone (s t : State) (done : Done) : Type 0 where
   pub way : Way
   pub rest : List Way
   pub top : s.back ≡ way ∷ rest
   pub made : IsDone kind.Undo (inverse_of way.change) s t done
 
--- the last way forth was taken
+-- the last change that was undone was redone
 pub record IsRedone (s t : State) (done : Done) : Type 0 where
   pub way : Way
   pub rest : List Way

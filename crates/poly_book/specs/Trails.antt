@@ -12,7 +12,7 @@ use Rattle.poly_book.specs.Shelves.{newest, shelf_of}
 use Rattle.poly_book.specs.Events.{Edit, Event, Redo, Report, Undo}
 use Rattle.poly_book.specs.Partition.{IsShelf, Partition}
 
--- a view that stood, the number of the step that led away from it, and what that step stored
+-- an earlier view, the number of the step that led away from it, and what that step stored
 pub record Led : Type 0 where
   pub to : View
   pub made : ℕ

@@ -17,7 +17,7 @@ pub record Whole (s : State) : Type 0 where
   pub replay : Replay s
   pub rising : Rising 0 s.pending s.next
 
--- the events lead from one state to another; how the listed tilings are ordered says nothing
+-- the events lead from one state to another; the order of the listed tilings means nothing
 abbrev pub Runs : State → List Event → State → Type 0
 Runs s [] t = t ≡ s
 Runs s (e ∷ es) t = (u : State) × Goes s e × Becomes (step s e) u × Runs u es t

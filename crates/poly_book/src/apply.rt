@@ -1,5 +1,5 @@
-//! Applying a change: to the design, the table, the listed tilings, the tasks, the history and the steps. Whatever may be
-//! refused comes first; from the exchange of the listed tilings on, nothing allocates.
+//! Applies a change to the design, the table, the listed tilings, the tasks, the history and the steps. Everything that
+//! may be refused comes first; from the exchange of the listed tilings on, nothing allocates.
 ghost use Rattle.std.specs.Prelude.{◌≡◌, ◌≤◌, ◌<◌, ◌+◌, ◌++◌, ◌∷◌, ◌⊎◌, [], IfErr, IfOk, OnErr, OnOk, length, true, vec_capacity, vec_len};
 ghost use Rattle.std.specs.List.{filter, items_where_true, list_all};
 ghost use Rattle.poly_design.specs.Changes.{HasBefore, changed};
@@ -136,8 +136,8 @@ fn plan_of_change(
     }
 }
 
-// Lays the guards and exchanges what is listed, or refuses and leaves both. A change that returns no tilings is not
-// refused for the catalogue's limit.
+// Adds the guards to the log and exchanges the listed tilings. If it is refused, both stay as they were. A change that
+// lists no tilings again is never refused for the catalogue's limit.
 fn enter(
     log: &mut GuardLog,
     listed: &mut Catalogue,
@@ -182,7 +182,7 @@ fn note(history: &mut History<Change, Kept>, kind: Kind, change: Change, kept: K
     }
 }
 
-// Keeps the tasks that go on, and puts the fresh ones behind them.
+// Keeps the tasks that go on, and appends the new ones.
 fn replace_tasks(tasks: &mut Vec<Pending>, room: Vec<Pending>, flags: &[bool], fresh: Vec<Pending>)
     requires empty { room.items ≡ [] }
     requires room { length tasks.old.items + length fresh.items ≤ vec_capacity room }
@@ -194,7 +194,7 @@ fn replace_tasks(tasks: &mut Vec<Pending>, room: Vec<Pending>, flags: &[bool], f
     push_tasks(fresh, tasks);
 }
 
-/// Puts the tasks behind those that are there, which have room for them.
+/// Appends the tasks to the list, which has room for them.
 pub(crate) fn push_tasks(fresh: Vec<Pending>, out: &mut Vec<Pending>)
     requires { vec_len out.old + length fresh.items ≤ vec_capacity out.old }
     ensures { out.new.items ≡ out.old.items ++ fresh.items }
@@ -221,7 +221,7 @@ fn push_surviving(tasks: Vec<Pending>, flags: &[bool], out: &mut Vec<Pending>)
     }
 }
 
-// Puts the endings behind those that are there, which have room for them.
+// Appends the endings to the list, which has room for them.
 fn push_endings(ended: Vec<Ending>, out: &mut Vec<Ending>)
     requires { vec_len out.old + length ended.items ≤ vec_capacity out.old }
     ensures { out.new.items ≡ out.old.items ++ ended.items }

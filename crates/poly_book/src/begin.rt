@@ -1,4 +1,4 @@
-//! Beginning a book.
+//! Begins a book.
 ghost use Rattle.std.specs.Prelude.{◌≡◌, IfErr, IfOk};
 ghost use Rattle.poly_tiling.specs.Names.{WellNamed};
 ghost use Rattle.poly_tiling.specs.Shows.{Shows};

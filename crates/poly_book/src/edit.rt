@@ -1,4 +1,4 @@
-//! Edits, undo and redo: each is a change of the design, made in one way (`apply_change`).
+//! Edits, undo and redo. Each is a change of the design, and `apply_change` makes them all.
 ghost use Rattle.std.specs.Prelude.{◌≡◌, IfErr, IfOk, OnErr, OnOk};
 ghost use Rattle.poly_book.specs.Amounts.{IsNarrow, RedoIsFull, UndoIsFull};
 ghost use Rattle.poly_book.specs.Refused.{IsNotEdited, IsNotRedone, IsNotUndone};
@@ -43,7 +43,7 @@ impl Book {
         apply_change(&mut self.parts, Kind::Undo, change)
     }
 
-    /// Makes the last change that was undone again.
+    /// Redoes the last change that was undone.
     ///
     /// Refused with `NothingToRedo` if there is none; then with `Spent` as for an edit, with `CatalogueFull` if over
     /// 1,000,000 tilings would be listed, and with `Memory`. A refused redo leaves the book as it was.

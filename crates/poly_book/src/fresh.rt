@@ -1,4 +1,5 @@
-//! New tasks: the stairs of a change, what is crossed with them, and the rests of a report. Hopeless lists get no task.
+//! New tasks: the stairs of a change, the frozen lists crossed with them, and the rests of a report. A hopeless list
+//! gets no task.
 ghost use Rattle.std.specs.Prelude.{◌≡◌, ◌≤◌, ◌<◌, ◌++◌, ◌+◌, ◌∷◌, ◌⊎◌, ℕ, [], IfErr, IfOk, OnOk, List, length, map, option_copied};
 ghost use Rattle.std.specs.List.{flat_map};
 ghost use Rattle.poly_atom.specs.declared.atom.Atom.{Atom as AtomOf};
@@ -87,7 +88,7 @@ pub(crate) fn opened_stairs(
     Ok(tasks)
 }
 
-// Whether the atoms and the negation of the next one are hopeless; the next one is put behind the atoms.
+// Appends the guard to the atoms. Returns whether the atoms before it and its negation are hopeless.
 fn next_stair(view: &View, atoms: &mut Vec<Atom>, guard: &Atom) -> Result<bool, Refusal>
     requires { IsSmall guard.now }
     ensures ok { IfOk result (λ yes. yes ≡ hopeless view.now (atoms.old.items ++ negated guard.now ∷ [])) }

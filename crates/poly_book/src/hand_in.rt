@@ -1,4 +1,4 @@
-//! Handing a report in: its task ends, its tilings are listed, and what it leaves becomes new tasks.
+//! Takes a report: its task ends, its tilings are listed, and its rests become new tasks.
 ghost use Rattle.std.specs.Prelude.{◌≡◌, ◌<◌, ◌==◌, IfErr, IfOk, OnErr, Some, true, ℕ};
 ghost use Rattle.std.specs.List.{position_from};
 ghost use Rattle.poly_report.specs.Gather.{lists};

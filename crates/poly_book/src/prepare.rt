@@ -1,4 +1,4 @@
-//! What a change needs, prepared before anything is changed: whatever may be refused comes first.
+//! Prepares all that a change needs before anything is changed, so that every refusal comes first.
 ghost use Rattle.std.specs.Prelude.{◌≡◌, ◌↔◌, ◌≤◌, ◌<◌, ◌*◌, ◌+◌, ◌++◌, ◌⊎◌, ◌∷◌, [], IfErr, IfOk, OnOk, List, None, Some, cond, length, map, nat_le, not, option_copied, true};
 ghost use Rattle.std.specs.Arc.{arc_value};
 ghost use Rattle.std.specs.List.{filter};
@@ -38,10 +38,10 @@ const MAX_GUARDS: usize = 20_000;
 /// The most changes of a book.
 const MAX_CHANGES: usize = 100_000;
 
-/// A shelf is kept if frozen tasks times guards of the way back are at most this.
+/// A shelf is kept if the number of its frozen tasks times the guards of the inverse is at most this.
 const MAX_SHELF: usize = 4096;
 
-/// What a change puts in.
+/// The parts of the book after a change.
 #[derive(Drop)]
 pub(crate) struct Prepared {
     /// The design after it.
@@ -58,9 +58,9 @@ pub(crate) struct Prepared {
     pub flags: Vec<bool>,
     /// The endings of the others.
     pub ended: Vec<Ending>,
-    /// The tilings that it lists again.
+    /// The tilings that the change lists again.
     pub returned: Vec<Tiling>,
-    /// What it stores for its way back, if that is kept.
+    /// What the change stores for its undo or redo, if a shelf is kept.
     pub shelf: Option<Shelf>,
     /// Room for the tasks after it.
     pub room: Vec<Pending>,
@@ -112,7 +112,7 @@ pub(crate) fn gather(
     })
 }
 
-// Refuses an edit with too many guards there or back.
+// Refuses an edit if it or its inverse has too many guards.
 fn check_width(kind: Kind, forth: usize, back: usize) -> Result<(), Refusal>
     ensures ok { OnOk result (kind ≡ Kind.Edit → (forth ≤ 20000) × (back ≤ 20000)) }
     ensures why { IfErr result (λ e. (e ≡ Refusal.TooWide) × (kind ≡ Kind.Edit) × ((20000 < forth) ⊎ (20000 < back))) }
@@ -166,7 +166,7 @@ fn endings_of(
     Ok(all)
 }
 
-// What a change to the view stores for its way back, which has so many guards, if that is kept.
+// What a change to the view stores for its inverse, which has `width` guards. None if a shelf would be too large.
 fn shelve(parts: &Parts, view: &View, delta: &Delta, width: usize) -> Result<Option<Shelf>, Refusal>
     requires tasks { AreTasks parts.now.log parts.now.tasks.items }
     requires either { AreOfEither view.now delta.now parts.now.listed }
@@ -207,7 +207,7 @@ fn frozen_atoms(alloc: Global, log: &GuardLog, tasks: &[Pending]) -> Result<Vec<
     Ok(all)
 }
 
-// The tilings that a change lists again.
+// Copies of the tilings that a change lists again.
 fn returning(alloc: Global, stood: Option<&Shelf>) -> Result<Vec<Tiling>, Refusal>
     ensures ok { IfOk result (λ v. v.items ≡ returned (stored_of (option_copied stood.entry))) }
     ensures why { IfErr result (λ e. e ≡ Refusal.Memory) }

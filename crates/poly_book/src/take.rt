@@ -52,7 +52,7 @@ impl Book {
         }
     }
 
-    /// The least number of a pending task from there on. Never allocates.
+    /// The least number of a pending task that is at least `from`. Never allocates.
     pub fn next(&self, from: u32) -> Option<u32>
         ensures { MatchOption result (NoneFrom from self.now.pending) (λ n. IsLeastFrom from self.now.pending n) }
     {
@@ -73,7 +73,7 @@ fn take_number(parts: &Parts, number: u32) -> Result<Option<Job>, Refusal>
     Ok(Some(taken))
 }
 
-// The newest task, taken, if one is pending: so few tasks are pending at a time.
+// The newest task, if one is pending. Taking the newest keeps the number of pending tasks small.
 fn take_any(parts: &Parts) -> Result<Option<Job>, Refusal>
     requires { Keeps parts.now }
     ensures ok { IfOk result (λ o. MatchOption o (IsMissing (state_of parts.now) Which.Any) (λ j. IsTaken (state_of parts.now) Which.Any j)) }

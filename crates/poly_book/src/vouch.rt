@@ -1,4 +1,4 @@
-//! Vouching for a Quiet: whether the book's first steps lead to its design.
+//! Vouches for a Quiet: tells whether the book's first steps lead to its design.
 ghost use Rattle.std.specs.Prelude.{◌≡◌, ◌≤◌, ◌↔◌, IfErr, IfOk, IsTrue, length, take};
 ghost use Rattle.poly_book.specs.Vouched.{AllLead, IsLedTo, led_to};
 
@@ -9,8 +9,8 @@ use poly_design::Design;
 use poly_grid::Refusal;
 
 impl Book {
-    /// Whether the opening design and the first steps, as many as the edition of the Quiet, lead to the design of the
-    /// Quiet. False if there are fewer steps. Fails only when out of memory.
+    /// Whether the opening design and the first steps lead to the design of the Quiet. The Quiet's edition says how
+    /// many steps these are; false if there are fewer. Fails only when out of memory.
     pub fn vouch(&self, quiet: &Quiet) -> Result<bool, Refusal>
         ensures ok { IfOk result (λ yes. IsTrue yes ↔ IsLedTo self.now quiet.now.edition quiet.now.design) }
         ensures why { IfErr result (λ e. e ≡ Refusal.Memory) }
@@ -24,7 +24,7 @@ impl Book {
     }
 }
 
-// Whether there are so many steps and the first of them lead from one design to the other.
+// Whether there are at least `count` steps, and the first `count` lead from one design to the other.
 fn leads_to(first: &Design, steps: &[Step], count: u64, to: &Design) -> Result<bool, Refusal>
     requires { AllLead first.now steps.now }
     ensures ok { IfOk result (λ yes. IsTrue yes ↔ ((count ≤ length steps.now) × (led_to first.now (take count steps.now) ≡ to.now))) }

@@ -50,7 +50,7 @@ carrying v d maps a f s = record { well = a.well; shows = a.shows; symmetry = s.
 never_itself : (T : List ℕ) → comes_before T T ≡ false
 never_itself T = ap is_lt (tied_itself nat_list_cmp_total T)
 
--- two lists neither of which comes before the other are one
+-- two lists are equal if neither comes before the other
 neither : (S T : List ℕ) → comes_before S T ≡ false → comes_before T S ≡ false → (S ≢ T) → ⊥
 neither S T a b differ =
     let less = below_by nat_list_cmp_total (slice_cmp-IsAntisymmetric nat_cmp-IsAntisymmetric) S T b differ in
@@ -90,7 +90,7 @@ alike_image v d maps a f T i h =
       };
     }
 
--- where a symmetry takes the one tiling to the other, so does its map
+-- if a symmetry carries one tiling to another, so does its map
 taken_by : (v : View) (d : Layout) (m : Motion) (f S T : List ℕ) → Carrying v d m f → is_tiling v S ≡ true → is_tiling v T ≡ true → (a : AreAlike d (names v S) (names v T)) → a.motion ≡ m → T ≡ image_of f S
 taken_by v d m f S T c g h a e =
     let s = parts v S g in
@@ -117,7 +117,7 @@ taken_by v d m f S T c g h a e =
     (subst (λ (w : Motion). TakesPlacement d.grid w z.place y.0) e y.2) z.taken in
     subst (λ q. In q T) (same_number v c.well r.0 k z.image (r.2 ∙ ap (λ (q : Placement). Some q) same) (ap (λ n. slice_get v.placements n) (sym n.2) ∙ z.taken_to)) r.1)
 
--- where no cell is unblocked no placement is there
+-- if all cells are blocked there is no placement
 no_placement : (d : Layout) → d.cells ≡ [] → (p : Placement) → IsPlacement d p → ⊥
 no_placement d none p is =
     let c = some_cell d p is in
@@ -244,7 +244,7 @@ kept_apart_at : (keep : List ℕ → Bool) (S : List ℕ) (lists : List (List �
 kept_apart_at keep S lists only rest true = pairs_cons (λ S T. S ≢ T) S (filter keep lists) (λ T i e. only (subst (λ U. In U lists) (sym e) (filter_in keep lists T i).0)) rest
 kept_apart_at keep S lists only rest false = rest
 
--- where each stands once at most, no two of those that are kept are the same
+-- if a list has no repeats, no two of its elements that are kept are the same
 kept_apart : (keep : List ℕ → Bool) (lists : List (List ℕ)) → ((T : List ℕ) → tally (same_list T) lists ≤ 1) → AllPairs (λ S T. S ≢ T) (filter keep lists)
 kept_apart keep [] h = pairs_none (λ S T. S ≢ T)
 kept_apart keep (S ∷ lists) h = kept_apart_at keep S lists
@@ -284,7 +284,7 @@ firsts_are_classes v d maps lists a once =
       counted = length-map kept (names v);
     }
 
--- with a pin that is no placement there is no tiling
+-- if a pin isn't a placement there is no tiling
 pub no_classes : (v : View) (d : Layout) → WellNamed v → Shows v d → list_all (λ n. mem v.live n) v.pins ≡ false → AreClasses d 0
 no_classes v d wn s lost =
     let none : (T : List Placement) → IsTiling d T → ⊥ = λ T t.

@@ -103,7 +103,7 @@ ascending_push (x ∷ xs) n up low = ascending_from x (xs ++ n ∷ [])
     ])
     (ascending_push xs n (ascending_rest x xs up) (λ y i. low y (inr i)))
 
--- a flag that is raised stands among those that were looked at
+-- a flag that is raised is among those that were looked at
 pub raised_low : (i : ℕ) (flags : List Bool) (k : ℕ) → get_or (take i flags) k false ≡ true → k < i
 raised_low zero flags k h = absurd (true≢false (sym h))
 raised_low (suc i) [] k h = absurd (true≢false (sym h))

@@ -30,8 +30,8 @@ impl Line {
         self.flags.get(number as usize).copied().unwrap_or(false)
     }
 
-    // Whether one of the numbers has its flag. All of them are looked at: a loop that ends early takes longer, since nobody
-    // foresees where it ends.
+    // Whether one of the numbers has its flag. All of them are looked at: a loop that ends early takes longer, since the
+    // processor can't predict its end.
     fn has_one(&self, numbers: &[u32]) -> bool
         ensures { result ≡ list_any (λ n. slice_index_or self.now.flags.items n false) numbers.now }
     {

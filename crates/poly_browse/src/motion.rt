@@ -36,7 +36,7 @@ impl Motion {
         }
     }
 
-    /// Returns where the motion carries the cell, or `None` if that isn't a cell.
+    /// Returns the cell that the motion carries the cell to, or `None` if that point isn't a cell.
     pub(crate) fn moved(self, grid: Grid, cell: Cell) -> Option<Cell>
         requires known { self.turn < turn_count grid true }
         requires near { IsNear self.shift }

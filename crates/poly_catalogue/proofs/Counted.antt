@@ -41,7 +41,7 @@ keeps_all p a all f = tally_same_in f (λ T. f T && p T) a (λ T i. and_true (f 
 none_of : (p : List ℕ → Bool) (a : List (List ℕ)) → list_any p a ≡ false → (T : List ℕ) → In T a → p T ≡ false
 none_of p a h T i = false_from_ne_true (p T) (λ e. both_ways (list_any p a) h (any_from p a T i e))
 
--- where no tiling has the number, none is left out
+-- if no tiling has the number, none is left out
 pub none_has : (n : ℕ) (a b : List (List ℕ)) → ((f : List ℕ → Bool) → tally (λ T. f T && not (mem T n)) b ≡ tally (λ T. f T && not (mem T n)) a) → list_any (λ T. mem T n) b ≡ false → Keeps (λ T. not (mem T n)) a b
 none_has n a b same none f = keeps_all (λ T. not (mem T n)) b (λ T i. ap not (none_of (λ U. mem U n) b none T i)) f ∙ same f
 

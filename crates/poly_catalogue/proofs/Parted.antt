@@ -1,4 +1,4 @@
--- What a list of tilings says where it has each once, and of its two parts.
+-- Lists that have each tiling once, and their two parts.
 use Rattle.std.proofs.Common.{Bool, List, [], ap, arith, false, filter, not, refl, subst, sym, true, ℕ, ◌&&◌, ◌++◌, ◌||◌, ◌+◌, ◌<◌, ◌∷◌, ◌≡◌, ◌≤◌}
 use Rattle.std.proofs.lemmas.Bool.{or_left, true_from_ne_false}
 use Rattle.std.specs.List.{list_all}

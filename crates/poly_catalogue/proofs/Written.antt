@@ -57,7 +57,7 @@ read_some rows i k l = go (row rows i) k l
     go (x ∷ xs) zero m = refl
     go (x ∷ xs) (suc n) m = go xs n (omega arith)
 
--- one row written anew
+-- one row is replaced
 pub row_set_same : (rows : List (List ℕ)) (i : ℕ) (r : List ℕ) → i < length rows → row (set rows i r) i ≡ r
 row_set_same rows i r l = get_or-set_same rows i r [] l
 

@@ -1,5 +1,5 @@
 -- The index of a list of tilings. Each placement number has a row: the indices in the list of the tilings that have the
--- number. Each number of a tiling has a position: where in the number's row the tiling stands.
+-- number. Each number of a tiling has a position: the tiling's place in the number's row.
 use Rattle.std.specs.Prelude.{List, Option, Some, length, ℕ, ◌-◌, ◌^◌, ◌<◌, ◌≡◌}
 use Rattle.poly_catalogue.specs.Rows.{Puts, at, row}
 
@@ -30,7 +30,7 @@ pub record HasEntry (tilings positions rows : List (List ℕ)) (t k : ℕ) : Typ
   pub number : ℕ
   pub here : numbers t k ≡ Some number
 
--- the last entry of the number's row also stands at position j, and its tiling's position says so
+-- the last entry of the number's row is also at position j, and its tiling's position says so
 pub record TakesOver (tilings positions rows : List (List ℕ)) (p j : ℕ) (new_positions new_rows : List (List ℕ)) : Type 0 where
   pub tiling : ℕ
   pub nth : ℕ

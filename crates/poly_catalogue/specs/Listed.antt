@@ -1,4 +1,4 @@
--- What a list of tilings says of the tilings in it.
+-- Lists of tilings, and the tilings in them.
 use Rattle.std.specs.Prelude.{Bool, List, false, length, slice_index_or, true, ℕ, ◌&&◌, ◌||◌, ◌<◌, ◌≡◌, ◌≤◌}
 use Rattle.std.specs.List.{list_all, list_any}
 use Rattle.poly_tiling.specs.Lists.{mem, same_list, tally}

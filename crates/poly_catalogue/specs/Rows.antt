@@ -25,7 +25,7 @@ span f i first end a b = cond (a == i && (nat_lt b first || nat_le end b)) None 
 abbrev pub half : (ℕ → ℕ → Option ℕ) → ℕ → ℕ → ℕ → ℕ → ℕ → Option ℕ
 half f from to n a b = cond (a == to) (cond (nat_lt b n) (f from b) None) (cond (a == from && nat_lt b n) None (f a b))
 
--- one row is read in place of another, and stays where it was
+-- one row takes the place of another, and stays at its own place too
 abbrev pub over : (ℕ → ℕ → Option ℕ) → ℕ → ℕ → ℕ → ℕ → Option ℕ
 over f from to a b = cond (a == to) (f from b) (f a b)
 

@@ -1,6 +1,6 @@
-//! The entries of the index: each tiling stands in the row of each of its numbers.
+//! The entries of the index: each tiling has an entry in the row of each of its numbers.
 //!
-//! To take an entry out, the last entry of its row moves into its position, so nothing else moves. The position that the
+//! To remove an entry, the last entry of its row moves into its position, so nothing else moves. The position that the
 //! moved tiling keeps for this number then changes too.
 ghost use Rattle.std.specs.Prelude.{◌≡◌, ◌≢◌, ◌+◌, ◌-◌, ◌^◌, ◌<◌, ◌≤◌, [], IfErr, IsSome, None, OnErr, OnOk, Option, Some, length, nat_lt, slice_get, true, ℕ};
 ghost use Rattle.std.specs.List.{list_all, swap_remove};
@@ -41,7 +41,7 @@ fn find(numbers: &[u32], number: u32) -> usize
     }
 }
 
-// Copies the last entry of a row over another entry, and notes the new position beside the tiling that stood last.
+// Copies the last entry of a row over another entry, and notes the new position for the tiling of that last entry.
 fn move_last_over(
     tilings: &[Tiling],
     positions: &mut [Row],

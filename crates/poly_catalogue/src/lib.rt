@@ -1,8 +1,8 @@
 //! The catalogue: the tilings of a design that are listed, kept under edits.
 //!
 //! An edit takes away the tilings that have a placement which the edit removes, and those that break a new pin or a
-//! bound. An index leads from each placement to the tilings that have it, so the others are not looked at. Beside each
-//! number of a tiling stands its position in the index, so a tiling is taken out without a search and without memory.
+//! bound. An index leads from each placement to the tilings that have it, so the others are not looked at. Each number
+//! of a tiling has its position in the index next to it, so a tiling is removed without a search and without memory.
 #![tactic(auto)]
 
 mod add;

@@ -15,7 +15,7 @@ use std::marker::Model;
 /// Tilings, found by index in the list and by the placements that they have.
 ///
 /// `rows` has for each placement number the indices of the tilings that have it, in any order. `positions` has for each
-/// tiling, in the order of its numbers, where in each number's row the tiling stands.
+/// tiling, in the order of its numbers, the tiling's position in each number's row.
 #[derive(Drop)]
 pub(crate) struct Listing {
     alloc: Global,

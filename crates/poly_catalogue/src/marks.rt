@@ -34,7 +34,7 @@ pub(crate) fn having(
     Ok(marks)
 }
 
-/// So many marks, none of them set. Fails only with `Memory`.
+/// Returns this many marks, none of them set. Fails only with `Memory`.
 pub(crate) fn unset(alloc: Global, count: usize) -> Result<Vec<bool>, Refusal>
     ensures ok { IfOk result (λ marks. marks.items ≡ replicate count false) }
     ensures why { IfErr result (λ e. e ≡ Refusal.Memory) }

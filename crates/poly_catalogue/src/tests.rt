@@ -1,4 +1,4 @@
-//! Tests over designs stand in poly_tests.
+//! Tests on designs are in poly_tests.
 
 use crate::{Catalogue, plans_lead};
 

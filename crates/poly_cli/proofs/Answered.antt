@@ -62,7 +62,7 @@ module _ {S : Type 0} (Says : S → Option (List ℕ) → List ℕ → S → Typ
         goes = goes_line Says old.limit start s t a.done n.piece a.out out n.finds.0.bytes said a.whole n.finds.0.whole here says a.goes;
       }
 
-  -- what was served, of which taken are the bytes
+  -- what was served; `taken` are its bytes
   abbrev pub Served : ℕ → Result (Unit {0}) Fault → Option (List ℕ) → Type 0
   Served most r held_last = (taken : List ℕ) × Consumes first last taken × Serves (limits_from most old) Says start (ahead old ++ taken) r last held_first held_last
 

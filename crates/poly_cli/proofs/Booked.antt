@@ -34,7 +34,7 @@ same_state : {d e : Layout} {m n : ℕ} {u v r q : List Change} {a b : Bool} →
     → ◌≡◌ {A = State} (record { design = d; edition = m; undo = u; redo = r; settled = a }) (record { design = e; edition = n; undo = v; redo = q; settled = b })
 same_state p s t w x = λ i. record { design = p i; edition = s i; undo = t i; redo = w i; settled = x i }
 
--- the newest way stands at the end of the changes
+-- the newest way is at the end of the changes
 changes_push : (way : Way) (ways : List Way) → changes_of (way ∷ ways) ≡ changes_of ways ++ way.change ∷ []
 changes_push way ways = reverse-append (way.change ∷ []) (map (λ w. w.change) ways)
 

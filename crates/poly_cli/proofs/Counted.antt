@@ -109,7 +109,7 @@ counted d v lists law well shows each =
     subst (λ m. lt (get_or up m z) (get_or up k z) ≡ false) next (steps_up lt up (ascends_ordered lt (below_either v) lists) k z (omega (arith, l))) in
     (map (placed v) up, law v d up well shows (λ T. tally_ordered lt (same_list T) lists ∙ each T) sorted, sym (length_ordered lt lists) ∙ sym (length-map up (placed v)))
 
--- the same of what a book has listed where nothing is pending
+-- the same for the tilings that a book has listed if nothing is pending
 pub book_counted : (s : Book) → Whole s → ListingsShow → s.pending ≡ [] → (n : ℕ) → n ≡ length s.listed → (all : List (List Placement)) × IsListOfTilings s.design all × (n ≡ length all)
 book_counted s whole law none n is =
     let c = counted s.design s.view s.listed law whole.consistent.well whole.consistent.shows (partition_each s whole.consistent.partition none) in

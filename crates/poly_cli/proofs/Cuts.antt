@@ -38,7 +38,7 @@ take_long (suc n) (y ∷ b) x h = ap (λ z. y ∷ z) (take_long n b x (omega (ar
 differs_is : (x : ℕ) → (x ≡ 10 → ⊥) → (x == 10) ≡ false
 differs_is x h = search (rules, h)
 
--- one byte more, which is no line feed
+-- one byte more, which isn't a line feed
 pub goes_on : (limit i : ℕ) (begun bytes line new : List ℕ) → i < length bytes → (get_or bytes i 0 ≡ 10 → ⊥) → EndsNone limit begun (take i bytes) line
     → ((b : List ℕ) → line ≡ kept limit b → new ≡ kept limit (b ++ get_or bytes i 0 ∷ [])) → EndsNone limit begun (take (i + 1) bytes) new
 goes_on limit i begun bytes line new lt differs e step =

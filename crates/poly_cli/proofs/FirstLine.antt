@@ -23,7 +23,7 @@ use Rattle.poly_cli.specs.Sessions.{or_empty, session_lines, Accepts, Refuses, O
 use Rattle.poly_cli.proofs.Known.{consumes_more, appends_none, appends_more}
 use Rattle.poly_cli.proofs.Going.{before_more, lines_more, take_heard}
 
--- the first of a list and so many more
+-- the first element of a list and n more
 take_first : {X : Type 0} (n : ℕ) (x : X) (xs : List X) → 0 < n → take n (x ∷ xs) ≡ x ∷ take (n - 1) xs
 take_first {X} n x xs some = let e : n ≡ suc (n - 1) = omega (arith, some) in subst (λ m. take m (x ∷ xs) ≡ x ∷ take (n - 1) xs) (sym e) refl
 

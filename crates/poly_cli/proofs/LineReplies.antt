@@ -1,4 +1,4 @@
--- What stands as the reply to a line, by what was asked of it.
+-- The reply to a line, by what the line asks for.
 use Rattle.std.proofs.Common.{false, ◌≡◌, ℕ, ◌+◌, List, [], ◌∷◌, refl, sym, ap, subst, inl, inr, Option, Some, None, Result, Ok, Err}
 use Rattle.std.specs.Prelude.{◌⊎◌, IfErr, IfOk, OnErr, OnOk}
 use Rattle.poly_grid.specs.declared.grid.Grid.{Grid}

@@ -9,7 +9,7 @@ use Rattle.poly_cli.specs.Buffered.{ahead, EndsLine, EndsNone, NextLine, Reads}
 use Rattle.poly_cli.proofs.Cuts.{then_line, then_none, parts_cut, parts_read}
 use Rattle.poly_cli.proofs.Known.{consumes_more}
 
--- what is known of the bytes that were cut so far, none of which ended a line
+-- what is known of the bytes that were cut so far, if none of them ended a line
 pub record SoFar (old now : Lines) (left_old left : Option (List ℕ)) : Type 0 where
   pub piece : List ℕ
   pub taken : List ℕ

@@ -1,4 +1,4 @@
--- What is kept between lines, and what came of looking for the next one.
+-- What is kept between lines, and the result of reading the next one.
 use Rattle.std.specs.Prelude.{◌≡◌, ◌≤◌, ◌<◌, ◌+◌, ◌-◌, ℕ, List, [], ◌∷◌, ◌++◌, take, drop, length, vec_capacity, Bool, true, false, Option}
 use Rattle.std.specs.Io.KnownBytes.{Consumes, IsAtEnd}
 use Rattle.poly_cli.specs.declared.lines.Lines.{Lines}
@@ -24,7 +24,7 @@ pub record IsReady (b : Lines) : Type 0 where
 abbrev pub kept : ℕ → List ℕ → List ℕ
 kept limit bytes = take (limit + 1) bytes
 
--- the piece ends the line that had begun and no other, of which text is kept, and nothing comes after it
+-- the piece ends the line that had begun and no other; text is what is kept of the line; nothing comes after it
 pub record EndsLine (limit : ℕ) (begun piece text : List ℕ) : Type 0 where
   pub bytes : List ℕ
   pub whole : whole_lines begun piece ≡ bytes ∷ []
@@ -41,14 +41,15 @@ abbrev pub Cuts : ℕ → Bool → List ℕ → List ℕ → List ℕ → List �
 Cuts limit true begun piece text rest = EndsLine limit begun piece text
 Cuts limit false begun piece text rest = EndsNone limit begun piece text × (rest ≡ [])
 
--- what a read gave where left bytes might still come: some bytes, which are ahead then, the end, or a fault. Only where none might
--- come any more does a fault take bytes.
+-- the result of a read if `left` bytes may still come: some bytes, which are ahead then, the end, or a fault. A fault takes bytes
+-- only if no more may come.
 abbrev pub Reads : Event → ℕ → ℕ → Option (List ℕ) → Option (List ℕ) → List ℕ → Type 0
 Reads Line left now old new rest = Consumes old new rest × (now + length rest ≡ left)
 Reads End left now old new rest = Consumes old new [] × IsAtEnd new × (rest ≡ []) × (now ≡ left)
 Reads Fault left now old new rest = (over : List ℕ) × Consumes old new over × (rest ≡ []) × (now ≡ left) × (0 < now → over ≡ [])
 
--- what came of looking for the next line: the piece of the stream that was cut, of which text is kept, and what was read over the limit
+-- the result of reading the next line: the piece of the stream that was cut, the text that is kept of it, and what was read over
+-- the limit
 abbrev pub Finds : Event → Lines → List ℕ → Option (List ℕ) → List ℕ → Type 0
 Finds Line now piece left over = EndsLine now.limit [] piece now.line.items × (over ≡ [])
 Finds End now piece left over = EndsNone now.limit [] piece now.line.items × (ahead now ≡ []) × IsAtEnd left × (over ≡ [])

@@ -22,7 +22,7 @@ pub record Limits : Type 0 where
   pub bytes : ℕ
   pub lines : ℕ
 
--- the limits from here on, with so many lines
+-- the limits from here on, with this many lines left
 abbrev pub limits_from : ℕ → Lines → Limits
 limits_from most b = record { line = b.limit; bytes = room b; lines = most }
 

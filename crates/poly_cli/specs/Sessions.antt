@@ -1,4 +1,4 @@
--- What a whole session writes: the first line is the puzzle line, and after a refusal of it nothing more is written.
+-- What a whole session writes: the first line is the puzzle line, and if it is refused, nothing more is written.
 use Rattle.std.specs.Prelude.{◌≡◌, ◌⊎◌, ◌≤◌, ℕ, List, [], ◌∷◌, ◌++◌, length, take, Option, Some, None, Result, Ok, Err}
 use Rattle.std.specs.Io.KnownBytes.{Appends, IsAtEnd}
 use Rattle.poly_grid.specs.declared.grid.Grid.{Grid}
@@ -45,7 +45,7 @@ abbrev pub opening_text : Result Grid Refusal → List ℕ
 opening_text (Ok x) = ok_text 0
 opening_text (Err e) = refusal_text e
 
--- a session whose first line was refused; only memory can be refused before a line is there
+-- a session whose first line was refused; before a line is complete only `Memory` is refused
 abbrev pub RunsRefused : List (Option (List ℕ)) → List ℕ → Type 0
 RunsRefused [] out = out ≡ refusal_text Memory
 RunsRefused (first ∷ lines) out = (e : Refusal) × Refuses first e × (out ≡ refusal_text e)

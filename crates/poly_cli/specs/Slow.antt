@@ -1,5 +1,5 @@
--- The slow session: what each line after the puzzle line answers, and which state comes next. It knows the definitions alone: no
--- engine, no numbers, no tables, no search. Of an engine it is given only the refusals by which that engine tells that it failed.
+-- The slow session: the answer to each line after the puzzle line, and the next state. It knows only the definitions: no engine,
+-- no numbers, no tables, no search. Of an engine it is given only the refusals by which that engine tells that it failed.
 use Rattle.std.specs.Prelude.{Bool, false, true, ◌≡◌, ◌⊎◌, ℕ, ◌+◌, List, [], ◌∷◌, Option, Some, None, Result, Ok, Err}
 use Rattle.poly_grid.specs.declared.refusal.Refusal.{Refusal}
 use Rattle.poly_grid.specs.declared.refusal.Refusal.TheVariants.{LineTooLong, Memory}
@@ -44,12 +44,12 @@ abbrev pub Replies : (Refusal → Type 0) → Result Command Refusal → State �
 Replies Failures (Ok c) s out t = Answers c s out t ⊎ ((is_status c ≡ false) × Fails Failures s out t)
 Replies Failures (Err e) s out t = IsRefusal e s out t
 
--- the reply to the words of a line: none, where it has no word. Want of memory may stand in place of any reply.
+-- the reply to the words of a line: none if it has no words. Running out of memory may take the place of any reply.
 abbrev pub WordsSay : (Refusal → Type 0) → List (List ℕ) → State → List ℕ → State → Type 0
 WordsSay Failures [] s out t = (t ≡ s) × (out ≡ [])
 WordsSay Failures (first ∷ words) s out t = ((c : Result Command Refusal) × CommandSays s.design.grid (first ∷ words) c × Replies Failures c s out t) ⊎ IsRefusal Memory s out t
 
--- the reply to a line, of which nothing is given where it is too long
+-- the reply to a line; its text is not given if it is too long
 abbrev pub Slow : (Refusal → Type 0) → State → Option (List ℕ) → List ℕ → State → Type 0
 Slow Failures s None out t = IsRefusal LineTooLong s out t
 Slow Failures s (Some line) out t = WordsSay Failures (words_of line) s out t

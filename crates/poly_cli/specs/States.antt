@@ -40,33 +40,33 @@ pub record Edits (s : State) (edit : Edit) (t : State) : Type 0 where
   pub narrow : IsNarrow s.design (changed s.design change)
   pub is : t ≡ after_edit s change
 
--- the change whose turn is next is made backwards, and can be redone then
+-- the last change is undone, and can be redone then
 pub record Undoes (s t : State) : Type 0 where
   pub change : Change
   pub left : List Change
   pub taken : s.undo ≡ left ++ change ∷ []
   pub is : t ≡ record { design = changed s.design (inverse_of change); edition = s.edition + 1; undo = left; redo = s.redo ++ change ∷ []; settled = false }
 
--- the change whose turn is next is made again, and can be undone then
+-- the last change that was undone is redone, and can be undone then
 pub record Redoes (s t : State) : Type 0 where
   pub change : Change
   pub left : List Change
   pub taken : s.redo ≡ left ++ change ∷ []
   pub is : t ≡ record { design = changed s.design change; edition = s.edition + 1; undo = s.undo ++ change ∷ []; redo = left; settled = false }
 
--- The edit is refused by what stands against it. If nothing does, its change may be too wide, or a counter used up.
+-- The edit is refused for one of its causes. If there is none, its change may be too wide, or a counter used up.
 abbrev pub EditRefused : State → Edit → Refusal → Type 0
 EditRefused s edit e = IsRefused s.design edit e ⊎ ((change : Change) × IsAccepted s.design edit change × (((e ≡ TooWide) × IsWide s.design (changed s.design change)) ⊎ (e ≡ Spent)))
 
--- why the change to the design isn't made backwards or again: a counter is used up, or the design has too many tilings
+-- why a change to the design isn't undone or redone: a counter is used up, or the design has too many tilings
 abbrev pub StepRefused : Layout → Refusal → Type 0
 StepRefused d e = (e ≡ Spent) ⊎ ((e ≡ CatalogueFull) × HasOverTilings 1000000 d)
 
--- there is no change to undo, or there is one, and it isn't made backwards
+-- there is no change to undo, or the last one isn't undone
 abbrev pub UndoRefused : State → Refusal → Type 0
 UndoRefused s e = ((e ≡ NothingToUndo) × (s.undo ≡ [])) ⊎ ((change : Change) × (left : List Change) × (s.undo ≡ left ++ change ∷ []) × StepRefused (changed s.design (inverse_of change)) e)
 
--- there is no change to redo, or there is one, and it isn't made again
+-- there is no change to redo, or the next one isn't redone
 abbrev pub RedoRefused : State → Refusal → Type 0
 RedoRefused s e = ((e ≡ NothingToRedo) × (s.redo ≡ [])) ⊎ ((change : Change) × (left : List Change) × (s.redo ≡ left ++ change ∷ []) × StepRefused (changed s.design change) e)
 

@@ -37,8 +37,8 @@ impl Answerer {
         })
     }
 
-    /// Answers a line of a session on a design of the grid; `None` stands for a line that is too long. Writes the whole answer and
-    /// flushes it. Fails with `Write` if the writer does.
+    /// Answers a line of a session on a design of the grid; `None` is a line that is too long. Writes the whole answer and flushes
+    /// it. Fails with `Write` if the writer does.
     pub fn respond<E: Engine, W: Write>(
         &mut self,
         grid: Grid,

@@ -54,7 +54,7 @@ impl Answerer {
         self.placements.clear();
         for number in numbers {
             if let Some(placement) = view.placement(*number) {
-                // This call says that no set of cells is empty, which bounds how many placements there are.
+                // The contract of this call tells that no set of cells is empty, which bounds the number of placements.
                 let _cells = placement.cells.as_slice();
                 self.placements.push_reserved(placement);
             }

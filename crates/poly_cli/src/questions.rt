@@ -51,7 +51,8 @@ impl Answerer {
     {
         match engine.settle() {
             Ok(quiet) => {
-                // These calls say that the tilings are those of the design, and that each fits a reply line.
+                // The contracts of these calls tell that the tilings are those of the design, and that each fits a
+                // reply line.
                 let _design = quiet.design();
                 listings_show();
                 numbers_show();
@@ -74,7 +75,7 @@ impl Answerer {
     {
         match engine.settle() {
             Ok(quiet) => {
-                // This call says that the tilings are those of the design.
+                // The contract of this call tells that the tilings are those of the design.
                 let _tilings = quiet.tilings();
                 match answer_of(self.alloc, &quiet, question) {
                     Ok(answer) => self.print_answer(&answer, writer),
@@ -116,7 +117,8 @@ fn answer_of(alloc: Global, quiet: &Quiet, question: Question) -> Result<Answer,
     ensures short { IfOk result (λ a. covered a.forced.items ≤ 256) }
     ensures why { IfErr result (λ e. e ≡ Refusal.Memory) }
 {
-    // These calls say that an answer doesn't go by the order of placements, and that no tiling covers over 256 cells.
+    // The contracts of these calls tell that an answer doesn't depend on the order of placements, and that no tiling
+    // covers over 256 cells.
     answers_go_by_sets();
     listings_show();
     numbers_show();

@@ -28,7 +28,7 @@ pub enum End {
 }
 
 /// Runs a whole session: the first line gives the design with which the engine begins, and each later line is answered by it. Each
-/// answer is written whole and flushed before the next line is looked at.
+/// answer is written whole and flushed before the next line is read.
 ///
 /// Returns `Done` at the end of the input and `Refused` after a puzzle line that was refused. Fails with `Read` if a read fails or the
 /// input goes over `INPUT_LIMIT` or `LINE_COUNT`, and with `Write` if a write or a flush fails; lines read whole before a read fault are

@@ -111,7 +111,7 @@ impl Engine for Solo {
     }
 
     fn redo(&mut self) -> Result<u64, Refusal> {
-        // This call says that at most 256 changes can be undone and redone.
+        // The contract of this call tells that at most 256 changes can be undone and redone.
         self.book.whole();
         let done = match self.book.redo() {
             Ok(done) => done,
@@ -131,7 +131,7 @@ impl Engine for Solo {
     fn count(&mut self) -> Result<u64, Refusal> {
         settle_book(&mut self.book, self.turns)?;
         self.settled = true;
-        // These calls say that what is listed are all tilings.
+        // The contracts of these calls tell that all tilings are listed.
         self.book.whole();
         listings_show();
         Ok(self.book.numbers().listed)
@@ -142,7 +142,7 @@ impl Engine for Solo {
     }
 }
 
-// Settles the book, if tasks are pending. What can be undone and redone stays.
+// Settles the book if tasks are pending. The changes that can be undone and redone stay the same.
 fn settle_book(book: &mut Book, turns: u64) -> Result<(), Refusal>
     ensures same { session_of book.new false ≡ session_of book.old false }
     ensures none { OnOk result (book.new.pending ≡ []) }
@@ -152,7 +152,8 @@ fn settle_book(book: &mut Book, turns: u64) -> Result<(), Refusal>
     if book.numbers().pending == 0 {
         return Ok(());
     }
-    // Before and after, this call says that the steps lead to what can be undone and redone.
+    // Before and after settling, the contract of this call tells that the steps lead to the changes that can be undone
+    // and redone.
     book.whole();
     let settled = book.settle(turns, NODES);
     book.whole();

@@ -7,7 +7,7 @@ use Rattle.poly_undo.specs.declared.step.Step.{Step}
 use Rattle.poly_undo.specs.Steps.{Moves, newest, next_of}
 
 module _ {X : Type 0} where
-  -- the step whose turn is next stands at the end
+  -- the step whose turn is next is at the end
   pub next_of_ends : (xs : List X) (x : X) → next_of xs ≡ Some x → xs ≡ take (length xs - 1) xs ++ x ∷ []
   next_of_ends xs x e =
       let i : ℕ = length xs - 1 in

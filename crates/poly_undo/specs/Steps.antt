@@ -16,8 +16,8 @@ newest xs = drop (length xs - 256) xs
 abbrev pub next_of : {X : Type 0} → List X → Option X
 next_of xs = slice_get xs (length xs - 1)
 
--- The step whose turn is next in one list goes to the end of the other, with `kept` beside it, and what stood beside it
--- is given out. Nothing else changes.
+-- The next step of one list moves to the end of the other. `kept` is kept with it now, and what was kept with it before
+-- is returned. Nothing else changes.
 pub record Moves {C K : Type 0} (from to left made : List (Step C K)) (kept stood : Option K) : Type 0 where
   pub step : Step C K
   pub taken : from ≡ left ++ step ∷ []

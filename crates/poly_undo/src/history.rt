@@ -1,5 +1,5 @@
 //! The steps to undo and the steps to redo. Both lists have room for all steps from the start, since a step only moves
-//! from one list to the other: so only `new` can run out of memory, and every change that was made can be noted.
+//! from one list to the other. So only `new` can run out of memory, and every change that was made can be recorded.
 
 ghost use Rattle.std.specs.Prelude.{◌≡◌, ◌+◌, ◌∷◌, ◌++◌, ◌<◌, ◌≤◌, ◌↔◌, [], IfErr, IfOk, IsSome, length, option_copied};
 ghost use Rattle.poly_undo.specs.Steps.{Moves, newest, next_of};
@@ -16,8 +16,8 @@ use std::mem::replace;
 /// The most steps that a history has, those to undo and those to redo together.
 pub const MAX_STEPS: usize = 256;
 
-/// The steps that can be undone and the steps that can be redone, at most 256 together. Of more changes the last 256
-/// can be undone.
+/// The steps that can be undone and the steps that can be redone, at most 256 together. If there are more changes, the
+/// last 256 can be undone.
 ///
 /// A `History` keeps changes of a design, each with its shelf if it has one. `History<C, K>` keeps changes of type `C`,
 /// each with a `K` if it has one.
@@ -48,8 +48,8 @@ impl<C: Drop, K: Drop> History<C, K> {
         Ok(History { undo, redo })
     }
 
-    /// Adds the step that was just made, with what is kept beside it. Drops the steps to redo, and the oldest step to undo
-    /// if there are 256 already.
+    /// Adds the step that was just made, with what is kept for it. Drops the steps to redo, and the oldest step to undo if
+    /// there are 256 already.
     pub fn push(&mut self, change: C, kept: Option<K>)
         ensures undo { self.new.undo ≡ newest (self.old.undo ++ (record { change = change; kept = kept }) ∷ []) }
         ensures redo { self.new.redo ≡ [] }
@@ -92,7 +92,7 @@ impl<C: Drop, K: Drop> History<C, K> {
         self.redo.last()
     }
 
-    /// Undoes the last step: it becomes the next one to redo, with `kept` beside it. Returns what was kept beside it
+    /// Undoes the last step: it becomes the next one to redo. Keeps `kept` with it, and returns what was kept with it
     /// before. Requires a step to undo.
     pub fn back(&mut self, kept: Option<K>) -> Option<K>
         requires { 0 < length self.old.undo }
@@ -104,7 +104,7 @@ impl<C: Drop, K: Drop> History<C, K> {
         stood
     }
 
-    /// Redoes the step ahead: it becomes the last one, with `kept` beside it. Returns what was kept beside it before.
+    /// Redoes the step ahead: it becomes the last one. Keeps `kept` with it, and returns what was kept with it before.
     /// Requires a step to redo.
     pub fn forward(&mut self, kept: Option<K>) -> Option<K>
         requires { 0 < length self.old.redo }

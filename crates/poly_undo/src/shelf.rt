@@ -1,4 +1,4 @@
-//! What a change leaves for its way back.
+//! What a change stores for its way back.
 
 use poly_atom::Atom;
 use poly_tiling::Tiling;

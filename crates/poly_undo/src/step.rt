@@ -1,10 +1,10 @@
 //! One step of a history.
 
-/// A change, and what is kept beside it for the day when it is undone or redone.
+/// A change, and what is kept with it until it is undone or redone.
 #[derive(Debug, Drop, PartialEq, Eq)]
 pub struct Step<C, K> {
     /// The change that the step makes.
     pub change: C,
-    /// What is kept beside the change, if anything is.
+    /// What is kept with the change, if anything is.
     pub kept: Option<K>,
 }

@@ -13,7 +13,7 @@ fn change(after: Mode) -> Change {
     }
 }
 
-// A shelf with so many frozen tasks.
+// A shelf with this many frozen tasks.
 fn shelf(rt: &(impl AllocGlobal + Abort), tasks: usize) -> Shelf {
     let mut frozen = Vec::new(rt.alloc());
     for _ in 0..tasks {
@@ -25,7 +25,7 @@ fn shelf(rt: &(impl AllocGlobal + Abort), tasks: usize) -> Shelf {
     }
 }
 
-// Whether a shelf with so many frozen tasks was handed out.
+// Whether a shelf with this many frozen tasks was returned.
 fn has_tasks(shelf: &Option<Shelf>, tasks: usize) -> bool {
     match shelf {
         Some(shelf) => shelf.frozen.len() == tasks,
