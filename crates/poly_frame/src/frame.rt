@@ -20,6 +20,7 @@ mod items;
 mod looks;
 mod matrix;
 mod members;
+mod notes;
 mod opened;
 mod sound;
 mod starved;
@@ -99,8 +100,9 @@ impl<'a> Frame<'a> {
         Ok(frame)
     }
 
-    /// A frame at the same place that begins there, if it would be much smaller than this one: fewer than a third of the
-    /// placements that this one was made for are open, and they were many.
+    /// A frame at the same place that begins there, if it would be much smaller than this one and there is still much to
+    /// search: fewer than a third of the placements that this one was made for are open, they were many, and some dozens
+    /// are open still.
     pub fn narrower(&self, alloc: Global) -> Result<Option<Frame<'a>>, Refusal>
         ensures made { IfOk result (λ o. IfSome o (λ f. f ≡ record { scene = self.now.scene; atoms = self.now.atoms; given = length self.now.atoms })) }
         ensures why { IfErr result (λ e. e ≡ Refusal.Memory) }

@@ -4,6 +4,9 @@ ghost use Rattle.std.specs.Prelude.{IfErr, ◌<◌, ◌≡◌};
 use poly_grid::Refusal;
 use std::alloc::Global;
 
+// The most words of a narrow row.
+const NARROW: usize = 16;
+
 /// A bit for each word of a row. A design has at most 20,000 placements, so a row has at most 313 words.
 #[derive(Clone, Copy)]
 pub(crate) struct Busy([u64; 5]);
@@ -15,8 +18,16 @@ impl Busy {
     }
 }
 
-/// The words of the row that have bits.
+/// Whether a row is so short that a count does best to take it whole.
+pub(crate) fn is_narrow(row: &[u64]) -> bool {
+    row.len() <= NARROW
+}
+
+/// The words of the row that have bits; of a narrow row all.
 pub(crate) fn busy_words(row: &[u64]) -> Busy {
+    if is_narrow(row) {
+        return Busy::all();
+    }
     let mut busy = [0u64; 5];
     for k in 0..row.len().min(320) {
         if row[k] != 0 {
@@ -26,7 +37,7 @@ pub(crate) fn busy_words(row: &[u64]) -> Busy {
     Busy(busy)
 }
 
-/// The words that have bits in each of a number of rows.
+/// The words that have bits in each of a number of rows; nothing is noted of narrow ones.
 pub(crate) fn busy_rows(
     alloc: Global,
     rows: &[u64],
@@ -35,6 +46,9 @@ pub(crate) fn busy_rows(
 ) -> Result<Vec<Busy>, Refusal>
     ensures { IfErr result (λ e. e ≡ Refusal.Memory) }
 {
+    if width <= NARROW {
+        return Ok(Vec::new(alloc));
+    }
     let mut all = Vec::with_capacity(alloc, count)?;
     let mut at = 0usize;
     for row in 0..count {
@@ -53,6 +67,15 @@ pub(crate) fn count_bits(row: &[u64]) -> usize {
     let mut all = 0usize;
     for word in row {
         all = all.saturating_add(word.count_ones() as usize);
+    }
+    all
+}
+
+/// How many numbers both rows have.
+pub(crate) fn count_common(some: &[u64], others: &[u64]) -> usize {
+    let mut all = 0usize;
+    for (word, other) in some.iter().zip(others) {
+        all = all.wrapping_add((word & other).count_ones() as usize);
     }
     all
 }

@@ -1,5 +1,5 @@
 //! What a frame is asked: which placements are open, and which item is due.
-ghost use Rattle.std.specs.Prelude.{Bool, IfSome, MatchOption, false, length, nat_lt, not, slice_index, true, vec_capacity, vec_len, ℕ, ◌&&◌, ◌*◌, ◌+◌, ◌<◌, ◌^◌, ◌≡◌, ◌≤◌};
+ghost use Rattle.std.specs.Prelude.{Bool, IfSome, List, MatchOption, false, length, nat_lt, not, slice_index, true, vec_capacity, vec_len, ℕ, ◌&&◌, ◌*◌, ◌+◌, ◌-◌, ◌<◌, ◌^◌, ◌≡◌, ◌≤◌};
 ghost use Rattle.std.specs.List.{filter, list_all};
 ghost use Rattle.poly_tiling.specs.declared.item.Item.{Item};
 ghost use Rattle.poly_tiling.specs.Lists.{mem};
@@ -11,8 +11,9 @@ ghost use Rattle.poly_frame.specs.Bits.{in_both};
 ghost use Rattle.poly_frame.specs.FrameItems.{item_of};
 ghost use Rattle.poly_frame.specs.FrameSound.{SoundShows};
 ghost use Rattle.poly_frame.specs.FrameSteps.{StepsKeep};
+ghost use Rattle.poly_tiling.specs.Puzzle.{View as Scene};
 
-use crate::frame::busy::{Busy, busy_words, common, count_bits};
+use crate::frame::busy::{Busy, busy_words, common, count_bits, count_common, is_narrow};
 use crate::frame::items::{guess_item, index_of};
 use crate::frame::steps::Steps;
 use crate::frame::table::Table;
@@ -100,14 +101,18 @@ pub(crate) fn first_open(view: &View, path: &[Atom], table: &Table, steps: &Step
     }
 }
 
-/// Whether few of many placements are open: a frame that begins here would be much smaller.
+// The fewest open placements for which a smaller frame saves more than it costs to make.
+const WORTH: usize = 32;
+
+/// Whether few of many placements are open, but not so few that little is left to search: a frame that begins here would
+/// be much smaller.
 pub(crate) fn is_sparse(table: &Table, steps: &Steps) -> bool {
     let width = table.matrix.width;
     if width <= 12 || steps.live.len() < width {
         return false;
     }
     let open = count_bits(&steps.live[steps.live.len() - width..]);
-    open < table.matrix.numbers.len() / 3
+    WORTH <= open && open < table.matrix.numbers.len() / 3
 }
 
 /// Whether the number's placement is known to be open.
@@ -200,11 +205,14 @@ fn spare(
     }
     let needed = (asked - have) as usize - 1;
     let from = table.matrix.width * b;
-    let filled = filled_words(table, b);
-    let most = fewest.saturating_add(needed);
     let live = &steps.live[at..at + table.matrix.width];
     let row = &table.matrix.rows[from..from + table.matrix.width];
-    let n = common(live, busy, row, &filled, most);
+    let n = if is_narrow(live) {
+        count_common(live, row)
+    } else {
+        let most = fewest.saturating_add(needed);
+        common(live, busy, row, &filled_words(table, b), most)
+    };
     Some(n.saturating_sub(needed))
 }
 
@@ -216,8 +224,102 @@ fn filled_words(table: &Table, b: usize) -> Busy {
     }
 }
 
-// An item of the view of which the base has too few, one with the fewest options beyond what it still needs.
+// The first 8,192 items are noted; a design has at most 320.
+const NOTED: usize = 128;
+
+// Where an item is due, and how many options it has beyond what it still needs, plus one.
+#[derive(Clone, Copy)]
+struct Scarce {
+    place: Option<usize>,
+    spare: usize,
+}
+
+// The item at `b`, if it is due and has fewer options to spare.
+fn scarcer(table: &Table, steps: &Steps, at: usize, busy: &Busy, b: usize, best: Scarce) -> Scarce
+    requires kept { (v : Scene) × (A : List Atom) × (first : ℕ) × StepsKeep v A first table.now steps.now }
+    requires at { at ≡ length steps.now.live.items - table.now.matrix.width }
+    requires low { b < length steps.now.have.items }
+    requires best { IfSome best.place (λ b. (b < length steps.now.have.items) × (nat_lt (slice_index steps.now.have.items b) (slice_index table.now.asked.items b) ≡ true)) }
+    ensures { IfSome result.place (λ b. (b < length steps.now.have.items) × (nat_lt (slice_index steps.now.have.items b) (slice_index table.now.asked.items b) ≡ true)) }
+{
+    match spare(table, steps, at, busy, b, best.spare) {
+        Some(n) => {
+            if n < best.spare {
+                Scarce {
+                    place: Some(b),
+                    spare: n,
+                }
+            } else {
+                best
+            }
+        }
+        None => best,
+    }
+}
+
+// The same of the items from `first` on whose bits are in the word. It stops at one that has too few options.
+fn scarcest_in(
+    table: &Table,
+    steps: &Steps,
+    at: usize,
+    busy: &Busy,
+    first: usize,
+    word: u64,
+    best: Scarce,
+) -> Scarce
+    requires kept { (v : Scene) × (A : List Atom) × (first : ℕ) × StepsKeep v A first table.now steps.now }
+    requires at { at ≡ length steps.now.live.items - table.now.matrix.width }
+    requires small { first < 8192 }
+    requires best { IfSome best.place (λ b. (b < length steps.now.have.items) × (nat_lt (slice_index steps.now.have.items b) (slice_index table.now.asked.items b) ≡ true)) }
+    ensures { IfSome result.place (λ b. (b < length steps.now.have.items) × (nat_lt (slice_index steps.now.have.items b) (slice_index table.now.asked.items b) ≡ true)) }
+{
+    let mut best = best;
+    let mut left = word;
+    for turn in 0..64u32 {
+        let _ = turn;
+        if left == 0 || best.spare == 0 {
+            return best;
+        }
+        let b = first + left.trailing_zeros() as usize;
+        left &= left - 1;
+        if b < steps.have.len() {
+            best = scarcer(table, steps, at, busy, b, best);
+        }
+    }
+    best
+}
+
+// Of the items that are noted as due, one of which the base has too few, with the fewest options beyond what it still
+// needs.
+fn next_noted(table: &Table, steps: &Steps) -> Option<usize>
+    requires kept { (v : Scene) × (A : List Atom) × (first : ℕ) × StepsKeep v A first table.now steps.now }
+    ensures { IfSome result (λ b. (b < length steps.now.have.items) × (nat_lt (slice_index steps.now.have.items b) (slice_index table.now.asked.items b) ≡ true)) }
+{
+    let at = steps.live.len() - table.matrix.width;
+    let busy = busy_words(&steps.live[at..]);
+    let mut best = Scarce {
+        place: None,
+        spare: usize::MAX,
+    };
+    for k in 0..steps.due.len().min(NOTED) {
+        best = scarcest_in(table, steps, at, &busy, 64 * k, steps.due[k], best);
+    }
+    best.place
+}
+
+// The same of the items of the view.
 fn next_listed(view: &View, path: &[Atom], table: &Table, steps: &Steps) -> Option<usize>
+    requires kept { (first : ℕ) × StepsKeep view.now path.now first table.now steps.now }
+    ensures { MatchOption result ((b : ℕ) → b < length view.now.bounds → nat_lt (count view.now (base view.now path.now) (item_of view.now b)) (asks view.now path.now (item_of view.now b)) ≡ false) (λ b. (b < length view.now.bounds) × (nat_lt (count view.now (base view.now path.now) (item_of view.now b)) (asks view.now path.now (item_of view.now b)) ≡ true)) }
+{
+    match next_noted(table, steps) {
+        Some(b) => Some(b),
+        None => next_unnoted(view, path, table, steps),
+    }
+}
+
+// The same, whatever is noted.
+fn next_unnoted(view: &View, path: &[Atom], table: &Table, steps: &Steps) -> Option<usize>
     requires kept { (first : ℕ) × StepsKeep view.now path.now first table.now steps.now }
     ensures { MatchOption result ((b : ℕ) → b < length view.now.bounds → nat_lt (count view.now (base view.now path.now) (item_of view.now b)) (asks view.now path.now (item_of view.now b)) ≡ false) (λ b. (b < length view.now.bounds) × (nat_lt (count view.now (base view.now path.now) (item_of view.now b)) (asks view.now path.now (item_of view.now b)) ≡ true)) }
 {

@@ -10,20 +10,22 @@ ghost use Rattle.poly_tiling.specs.Puzzle.{items};
 use crate::bits;
 use crate::frame::items::{lower, note_items, raise};
 use crate::frame::matrix::Matrix;
+use crate::frame::notes::{note_due, notes_of};
 use crate::frame::table::Table;
 use poly_atom::Atom;
 use poly_grid::Refusal;
 use poly_tiling::{View, has_number};
 use std::alloc::Global;
 
-/// A row for the given atoms and one for each step, the counts now, the places that were counted up by the steps, and
-/// how many of these there were before each step.
+/// A row for the given atoms and one for each step, the counts now, the places that were counted up by the steps, how many
+/// of these there were before each step, and notes of which items are due.
 #[derive(Drop)]
 pub(crate) struct Steps {
     pub(crate) live: Vec<u64>,
     pub(crate) have: Vec<u64>,
     pub(crate) raised: Vec<usize>,
     pub(crate) marks: Vec<usize>,
+    pub(crate) due: Vec<u64>,
 }
 
 ghost use Rattle.poly_frame.specs.Matrices.{IsMatrix, place};
@@ -119,6 +121,12 @@ pub(crate) fn pick(
         &mut steps.live,
         at,
     );
+    note_due(
+        &mut steps.due,
+        &table.asked,
+        &steps.have,
+        &steps.raised[mark..],
+    );
     if let Some(j) = place {
         bits::take_out(&mut steps.live, at, j);
     }
@@ -162,6 +170,12 @@ pub(crate) fn back(view: &View, path: &[Atom], first: usize, table: &Table, step
     let n = path.len() - 1 - first;
     let mark = steps.marks[n];
     lower(&mut steps.have, &steps.raised[mark..]);
+    note_due(
+        &mut steps.due,
+        &table.asked,
+        &steps.have,
+        &steps.raised[mark..],
+    );
     steps.raised.truncate(mark);
     steps.marks.truncate(n);
     steps.live.truncate(table.matrix.width * (n + 1));
@@ -205,10 +219,12 @@ pub(crate) fn start(
     let marks = Vec::with_capacity(alloc, 4096)?;
     let mut raised = raised;
     raised.clear();
+    let due = notes_of(alloc, &table.asked, &have)?;
     Ok(Steps {
         live,
         have,
         raised,
         marks,
+        due,
     })
 }
