@@ -27,7 +27,7 @@ asked_one f i (Lacks p) s h = absurd (cc)
 asked_one f i (AtLeast j n) s h = subst (λ k. f k ≡ true) (same_item_is j i s) h
 asked_one f i (AtMost j n) s h = absurd (cc)
 
--- where no item of the design and none that an atom asks for is due, none is
+-- if no item of the design and none that an atom asks for is due, no item is
 pub none_due : (v : View) (A : List Atom) (T : List ℕ) →
     list_all (λ b. not (nat_lt (count v T b.0) (asks v A b.0))) v.bounds ≡ true →
     list_all (of_asked (λ i. not (nat_lt (count v T i) (asks v A i)))) A ≡ true →

@@ -36,7 +36,7 @@ open_lives v A p m o =
 pub open_right : (v : View) (A : List Atom) (p : ℕ) → mem v.live p ≡ true → open_in v A p ≡ true → (mem v.live p && not (ruled_out v A p)) ≡ true
 open_right v A p m o = and_from _ _ m (and_parts (not (mem (base v A) p)) (not (ruled_out v A p)) o).1
 
--- a base that is short is no tiling that meets the atoms
+-- a base that is short isn't a tiling that meets the atoms
 pub short_none : (v : View) (A : List Atom) (T : List ℕ) (i : Item) → ltb (count v T i) (asks v A i) ≡ true → in_family v A T ≡ false
 short_none v A T i h = false_from_ne_true (in_family v A T) (λ f.
     let fs = and_parts (is_tiling v T) (meets_all v T A) f in

@@ -33,7 +33,7 @@ head_apart x bs b up h e =
     both_ways (is_lt (item_cmp x.0 x.0)) (never_below x.0)
     (subst (λ i. is_lt (item_cmp x.0 i) ≡ true) e (all_in (λ c. is_lt (item_cmp x.0 c.0)) bs (and_parts _ (items_ascend bs) up).0 (get_or bs b no_bound) (bound_in_list bs b h)))
 
--- an item stands at one place
+-- an item has one index
 pub item_once : (bs : List Bound) (a b : ℕ) → items_ascend bs ≡ true → a < length bs → b < length bs → item_at bs a ≡ item_at bs b → a ≡ b
 item_once [] a b up h k e = absurd (omega arith)
 item_once (x ∷ bs) zero zero up h k e = refl
@@ -45,7 +45,7 @@ or_false : (b : Bool) → (b || false) ≡ b
 or_false true = refl
 or_false false = refl
 
--- one item that stands at a place
+-- one item that has an index
 pub noted_one : (bs : List Bound) (i : Item) (a : ℕ) → items_ascend bs ≡ true → (a < length bs) × (same_item (item_at bs a) i ≡ true) → Noted bs (i ∷ []) (a ∷ [])
 noted_one bs i a up w = record {
   few = omega arith;
@@ -57,7 +57,7 @@ noted_one bs i a up w = record {
       omega (arith, ap one (e ∙ sym (or_false (same_item i (item_at bs b)))));
 }
 
--- one item that stands nowhere
+-- one item that has no index
 pub noted_none : (bs : List Bound) (i : Item) → ((b : ℕ) → b < length bs → same_item (item_at bs b) i ≡ false) → Noted bs (i ∷ []) []
 noted_none bs i n = record {
   few = omega arith;

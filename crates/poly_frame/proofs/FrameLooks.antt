@@ -30,7 +30,7 @@ all_bounds : (bs : List Bound) (f : Bound → Bool) → ((b : ℕ) → b < lengt
 all_bounds [] f h = refl
 all_bounds (x ∷ bs) f h = and_from _ _ (h zero (omega arith)) (all_bounds bs f (λ b l. h (suc b) (omega arith)))
 
--- where no item of the view is due, and none that an atom asks for is both due and elsewhere, the atoms ask for none that is due
+-- if no item of the view is due, and none that an atom asks for is both due and elsewhere, the atoms ask for none that is due
 none_elsewhere : (v : View) (A : List Atom) (T : List ℕ) (X : List Atom) → ((b : ℕ) → b < length v.bounds → nat_lt (count v T (item_of v b)) (asks v A (item_of v b)) ≡ false) →
     list_all (of_asked (λ i. list_any (λ b. same_item b.0 i) v.bounds || not (nat_lt (count v T i) (asks v A i)))) X ≡ true → list_all (of_asked (λ i. not (nat_lt (count v T i) (asks v A i)))) X ≡ true
 none_elsewhere v A T [] n h = refl
@@ -53,7 +53,7 @@ none_asked v A T e h n i =
     let h2 = subst (λ (xs : List ℕ). list_all (of_asked (λ i. list_any (λ b. same_item b.0 i) v.bounds || not (nat_lt (count v xs i) (asks v A i)))) A ≡ true) e h in
     none_due v A (base v A) (all_bounds v.bounds (λ b. not (nat_lt (count v (base v A) b.0) (asks v A b.0))) (λ b l. not_from_false _ (n b l))) (none_elsewhere v A (base v A) A n h2) i
 
--- none at all where none of the view's is due
+-- no item at all is due if none of the view's is
 pub all_due : (v : View) (A : List Atom) (o : Option Item) → MatchOption o ((b : ℕ) → b < length v.bounds → nat_lt (count v (base v A) (item_of v b)) (asks v A (item_of v b)) ≡ false) (λ i. nat_lt (count v (base v A) i) (asks v A i) ≡ true) →
     (((b : ℕ) → b < length v.bounds → nat_lt (count v (base v A) (item_of v b)) (asks v A (item_of v b)) ≡ false) → (i : Item) → nat_lt (count v (base v A) i) (asks v A i) ≡ false) →
     MatchOption o ((i : Item) → nat_lt (count v (base v A) i) (asks v A i) ≡ false) (λ i. nat_lt (count v (base v A) i) (asks v A i) ≡ true)
@@ -96,7 +96,7 @@ filter_gap f xs low j h l out =
 pub filter_rest : (f : ℕ → Bool) (xs : List ℕ) (low : ℕ) → low ≤ length xs → ((x : ℕ) → low ≤ x → x < length xs → f (get_or xs x 0) ≡ false) → filter f (take low xs) ≡ filter f xs
 filter_rest f xs low h out = sym (filter_gap f xs low (length xs) h (omega arith) out) ∙ ap (λ ys. filter f ys) (take_all (length xs) xs (omega arith))
 
--- a number that stands in one row twice over
+-- a number that one row has twice
 pub in_row : (ws : List ℕ) (at j : ℕ) → in_both ws at ws at j ≡ has_bit ws (64 * at + j)
 in_row ws at j = twice (has_bit ws (64 * at + j))
   where
@@ -151,7 +151,7 @@ module _ (v : View) (A : List Atom) (first : ℕ) (t : Table) (live have raised 
       let w = index_in t.matrix.numbers.items q (open_first q (in_mem v.live q i) o) in
       both_ways (open_in v A q) (subst (λ p. open_in v A p ≡ false) w.2 (n w.0 w.1)) o)))
 
-  -- the row on top, looked at beside itself
+  -- the last row, compared with itself
   module _ (ws rs : List ℕ) (at : ℕ) (same : ws ≡ live) (too : rs ≡ live) (e : at ≡ length live - t.matrix.width) where
     row_alone : (j : ℕ) → j < length t.matrix.numbers.items → open_in v A (get_or t.matrix.numbers.items j 0) ≡ in_both ws at rs at j
     row_alone j h = sym (ap (λ xs. in_both xs at rs at j) same ∙ ap (λ xs. in_both live at xs at j) too ∙ in_row live at j ∙ top_row at j e h)

@@ -138,7 +138,7 @@ sound_leave v A p s o =
       },
     ))
 
--- counts of a list in which a member stands once
+-- counts of a list that has a member once
 others_one : (v : View) (q : ℕ) (i : Item) (xs : List ℕ) → distinct xs ≡ true → count v xs i ≤ others v xs q i + 1
 others_one v q i [] d = omega arith
 others_one v q i (x ∷ xs) d = elim (cases_Bool (eqb x q)) [

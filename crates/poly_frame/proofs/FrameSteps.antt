@@ -58,7 +58,7 @@ asks_leave v (Lacks q ∷ A) p i = asks_leave v A p i
 asks_leave v (AtLeast k n ∷ A) p i = ap (λ u. cond (same_item k i) (max n u) u) (asks_leave v A p i)
 asks_leave v (AtMost k n ∷ A) p i = asks_leave v A p i
 
--- where a row's numbers stand
+-- the columns of a row's numbers
 pub row_below : (w k m j : ℕ) → k < m → j < 64 * w → place w k j < 64 * (w * m)
 row_below w k m j h l = let a = mul-le-mul_left {m = k + 1} {n = m} w (omega arith) in omega (arith, a)
 
@@ -404,7 +404,7 @@ marks_from marks raised marks2 k e f = f ∙ ap (λ n. marks ++ n ∷ []) e
 pub added : (xs ys all : List ℕ) (k : ℕ) → all ≡ xs ++ ys → k ≡ length xs → take (length all - k) (drop k all) ≡ ys
 added xs ys all k e f = take_rest all k ∙ ap (λ n. drop n all) f ∙ ap (λ zs. drop (length xs) zs) e ∙ drop-append_seam xs ys
 
--- a number that stands nowhere
+-- a number that has no column
 pub not_listed : (ns stands : List ℕ) (p : ℕ) → StandsShow ns stands → ((j : ℕ) → j < length ns → p < length stands → get_or stands p 0 ≡ j → get_or ns j 0 ≡ p → ⊥) → mem ns p ≡ false
 not_listed ns stands p s n = false_from_ne_true _ (λ m.
     let w = index_in ns p m in

@@ -76,7 +76,7 @@ lists_none v ns starts places e f = record {
   each = λ j h. absurd (omega (arith, h));
 }
 
--- a number that has a column stands where the list says
+-- a number that has a column has the one that the list says
 pub stand_of : (ns stands : List ℕ) (p : ℕ) → StandsShow ns stands → mem ns p ≡ true → (p < length stands) × (get_or stands p 0 < length ns) × (get_or ns (get_or stands p 0) 0 ≡ p)
 stand_of ns stands p s m =
     let w = index_in ns p m in

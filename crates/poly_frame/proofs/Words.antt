@@ -86,7 +86,7 @@ clear_one ws i j h =
       | inr n ↦ ap (λ y. eqb (bit_at y (j % 64)) 1) (other_at ws (i / 64) x (j / 64) n) ∙ and_yes _ _ (apart i j n)
     ]
 
--- where a number of a row stands
+-- the word and the bit of a number of a row
 pub row_word : (at j : ℕ) → (64 * at + j) / 64 ≡ at + j / 64
 row_word at j = omega arith
 

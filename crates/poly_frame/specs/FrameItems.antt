@@ -1,4 +1,4 @@
--- Items by their places among the items of a view.
+-- Items by their indices among the items of a view.
 use Rattle.std.specs.Prelude.{List, length, nat_lt, slice_index_or, true, ℕ, ◌<◌, ◌==◌, ◌≡◌, ◌≤◌}
 use Rattle.std.specs.List.{list_all, list_any}
 use Rattle.poly_tiling.specs.declared.item.Item.{Item}
@@ -16,7 +16,7 @@ item_at bounds b = (slice_index_or bounds b no_bound).0
 abbrev pub item_of : View → ℕ → Item
 item_of v b = item_at v.bounds b
 
--- how often a number stands in a list
+-- how often a list has a number
 abbrev pub times : List ℕ → ℕ → ℕ
 times xs b = tally (λ x. x == b) xs
 

@@ -4,7 +4,7 @@ use Rattle.poly_tiling.specs.Puzzle.{View}
 use Rattle.poly_atom.specs.declared.atom.Atom.{Atom}
 use Rattle.poly_atom.specs.Hopeless.{base}
 
--- the list without a number, where it first stands
+-- the list without the first occurrence of a number
 abbrev pub without : ℕ → List ℕ → List ℕ
 without p [] = []
 without p (q ∷ qs) = cond (p == q) qs (q ∷ without p qs)

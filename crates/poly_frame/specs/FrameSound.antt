@@ -1,4 +1,4 @@
--- When the base of a frame's atoms wants nothing but more members.
+-- When the base of a frame's atoms needs nothing but more members.
 use Rattle.std.specs.Prelude.{Bool, List, length, nat_le, not, slice_index, take, true, ℕ, ◌&&◌, ◌+◌, ◌<◌, ◌||◌, ◌≡◌, ◌≤◌}
 use Rattle.std.specs.List.{list_all}
 use Rattle.poly_tiling.specs.Lists.{mem}
@@ -13,7 +13,7 @@ use Rattle.poly_frame.specs.Open.{ruled_out}
 abbrev pub is_sound : View → List Atom → Bool
 is_sound v A = list_all (λ p. mem v.live p && not (ruled_out v A p)) (base v A)
 
--- the base was sound after each of the first steps, as many as are counted, the given atoms being the first
+-- the base was sound after the given atoms and after each of the first steps, as many as are counted
 pub record SoundShows (v : View) (A : List Atom) (first sound : ℕ) : Type 0 where
   pub few : sound + first ≤ length A + 1
   pub levels : (k : ℕ) → k < sound → is_sound v (take (first + k) A) ≡ true

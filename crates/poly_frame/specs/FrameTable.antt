@@ -1,4 +1,4 @@
--- What the words of a frame's table stand for.
+-- What the words of a frame's table mean.
 use Rattle.std.specs.Prelude.{Bool, List, length, nat_le, nat_lt, not, slice_index, true, ℕ, ◌&&◌, ◌<◌, ◌^◌, ◌||◌, ◌≡◌, cond}
 use Rattle.std.specs.List.{list_all, list_any}
 use Rattle.poly_tiling.specs.declared.item.Item.{Item}

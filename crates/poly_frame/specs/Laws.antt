@@ -6,7 +6,7 @@ use Rattle.poly_atom.specs.declared.atom.Atom.{Atom}
 use Rattle.poly_atom.specs.Hopeless.{base}
 use Rattle.poly_frame.specs.Walk.{Walk, back_to, is_option, step_back, with_step}
 
--- A step that is taken back leaves no trace: not in the path, the base, the options of an item or their number.
+-- A step that is undone leaves no trace: not in the path, the base, the options of an item or their number.
 pub record ComesBack (w : Walk) (a : Atom) : Type 0 where
   pub path : step_back (with_step w a) ≡ w
   pub mark : back_to (with_step w a) (length w.atoms) ≡ w

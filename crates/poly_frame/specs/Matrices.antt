@@ -1,4 +1,4 @@
--- What a cover matrix stands for.
+-- What a cover matrix means.
 use Rattle.std.specs.Prelude.{Bool, List, drop, false, length, slice_index, take, true, ℕ, zero, suc, ◌*◌, ◌+◌, ◌-◌, ◌<◌, ◌^◌, ◌||◌, ◌≡◌, ◌≤◌}
 use Rattle.poly_tiling.specs.Lists.{distinct, mem}
 use Rattle.poly_tiling.specs.Names.{WellNamed}
@@ -8,7 +8,7 @@ use Rattle.poly_frame.specs.FrameItems.{Noted, item_of}
 use Rattle.poly_frame.specs.declared.frame.matrix.Lists.{Lists}
 use Rattle.poly_frame.specs.declared.frame.matrix.Matrix.{Matrix}
 
--- where number j of row b stands, where a row has w words
+-- the bit of number j of row b, if a row has w words
 abbrev pub place : ℕ → ℕ → ℕ → ℕ
 place w b j = 64 * (w * b) + j
 
@@ -16,7 +16,7 @@ place w b j = 64 * (w * b) + j
 abbrev pub RowsShow : View → List ℕ → ℕ → List ℕ → Type 0
 RowsShow v ns w rows = (b j : ℕ) → b < length v.bounds → j < length ns → has_bit rows (place w b j) ≡ has_item v (slice_index ns j) (item_of v b)
 
--- each number stands where the list says
+-- each number has the column that the list says
 abbrev pub StandsShow : List ℕ → List ℕ → Type 0
 StandsShow ns stands = (j : ℕ) → j < length ns → (slice_index ns j < length stands) × (slice_index stands (slice_index ns j) ≡ j)
 

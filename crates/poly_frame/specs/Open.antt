@@ -25,7 +25,7 @@ asks v (Lacks p ∷ A) i = asks v A i
 asks v (AtLeast j n ∷ A) i = cond (same_item j i) (max n (asks v A i)) (asks v A i)
 asks v (AtMost j n ∷ A) i = asks v A i
 
--- the same and what the base has
+-- the greatest of these and what the base has
 abbrev pub lower : View → List Atom → Item → ℕ
 lower v A i = max (asks v A i) (count v (base v A) i)
 

@@ -1,4 +1,4 @@
--- What a frame stands for: a view, and the atoms on the path.
+-- What contracts see of a frame: a view, and the atoms on the path.
 use Rattle.std.specs.Prelude.{ℕ, Bool, ◌&&◌, List, [], ◌∷◌, ◌++◌, take, nat_lt, length, ◌-◌}
 use Rattle.poly_tiling.specs.declared.item.Item.{Item}
 use Rattle.poly_atom.specs.declared.atom.Atom.{Atom}
@@ -7,7 +7,7 @@ use Rattle.poly_tiling.specs.Puzzle.{View, has_item, count}
 use Rattle.poly_atom.specs.Hopeless.{base}
 use Rattle.poly_frame.specs.Open.{asks, open_in}
 
--- the atoms are the first `given` ones, and the steps that were not taken back
+-- the atoms are the first `given` ones, and the steps that were not undone
 pub record Walk : Type 0 where
   pub scene : View
   pub atoms : List Atom
@@ -19,11 +19,11 @@ with_step w a = record w { atoms = w.atoms ++ a ∷ [] }
 abbrev pub back_to : Walk → ℕ → Walk
 back_to w n = record w { atoms = take n w.atoms }
 
--- the last step taken back
+-- the last step is undone
 abbrev pub step_back : Walk → Walk
 step_back w = back_to w (length w.atoms - 1)
 
--- an item of which the base has too few
+-- an item that the base covers too seldom
 abbrev pub is_due : Walk → Item → Bool
 is_due w i = nat_lt (count w.scene (base w.scene w.atoms) i) (asks w.scene w.atoms i)
 

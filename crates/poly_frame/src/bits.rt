@@ -1,5 +1,5 @@
-//! Rows of bits: sets of small numbers, kept one after another in a list of words.
-//! The set that begins at word `at` has the number `j` where bit `64 * at + j` of the list is set.
+//! Rows of bits: sets of small numbers, kept one after another in a list of words. The set that begins at word `at` has
+//! the number `j` if bit `64 * at + j` of the list is set.
 ghost use Rattle.std.specs.Prelude.{MatchOption, length, not, vec_capacity, vec_len, ℕ, ◌&&◌, ◌^◌, ◌*◌, ◌+◌, ◌-◌, ◌/◌, ◌<◌, ◌==◌, ◌||◌, ◌≡◌, ◌≤◌};
 ghost use Rattle.std.specs.Int.{bit_at};
 ghost use Rattle.poly_frame.specs.Bits.{FirstIn, NoneIn, has_bit, in_both};
@@ -26,7 +26,7 @@ pub(crate) fn put_in(words: &mut Vec<u64>, at: usize, j: usize)
     words[k] = word | (1 << (j % 64));
 }
 
-/// Takes a number out of the row that begins at word `at`.
+/// Removes a number from the row that begins at word `at`.
 #[tactic(auto, using(crate::proofs::Words::clear_bit))]
 pub(crate) fn take_out(words: &mut Vec<u64>, at: usize, j: usize)
     requires { at + j / 64 < length words.old.items }
@@ -46,7 +46,7 @@ pub(crate) fn less(word: u64, row: u64) -> u64
     word & !row
 }
 
-/// Takes all numbers of a row of `rows` out of the row that begins at word `at`.
+/// Removes all numbers of a row of `rows` from the row that begins at word `at`.
 pub(crate) fn take_out_row(words: &mut Vec<u64>, at: usize, rows: &[u64], from: usize, width: usize)
     requires words { at + width ≤ length words.old.items }
     requires rows { from + width ≤ length rows.now }

@@ -1,6 +1,6 @@
-//! A place in a search, kept as bits: rows of words for the placements that were open at the start. A step copies the
-//! last row and takes out what it closes, so nothing is searched and no memory is taken after the start. Bits in place of
-//! the linked lists of Knuth's dancing links (The Art of Computer Programming, volume 4B, section 7.2.2.1).
+//! A node of a search, kept as bits: rows of words for the placements that were open at the start. A step copies the last
+//! row and removes what it closes, so it needs no search and, after the start, no memory. These bits replace the linked
+//! lists of Knuth's dancing links (The Art of Computer Programming, volume 4B, section 7.2.2.1).
 ghost use Rattle.std.specs.Prelude.{IfErr, IfOk, IfSome, MatchOption, [], false, length, not, true, ℕ, ◌&&◌, ◌++◌, ◌+◌, ◌-◌, ◌<◌, ◌∷◌, ◌≡◌, ◌≤◌};
 ghost use Rattle.std.specs.List.{list_all};
 ghost use Rattle.poly_tiling.specs.Lists.{distinct, mem, tally};
@@ -38,10 +38,10 @@ use poly_tiling::{Item, View};
 use std::alloc::Global;
 use std::marker::Model;
 
-/// The greatest number of steps that stand on a frame at one time.
+/// The most steps that a frame has at one time.
 pub const STEPS: usize = 4096;
 
-/// A place in a search. Steps are taken and taken back without memory.
+/// A node of a search. Steps are taken and undone without memory.
 #[derive(Drop)]
 pub struct Frame<'a> {
     view: &'a View,
@@ -284,7 +284,7 @@ impl<'a> Frame<'a> {
         &self.options
     }
 
-    /// Some open placement; none where no placement is open.
+    /// Some open placement; none if no placement is open.
     pub fn first_open(&self) -> Option<u32>
         ensures { MatchOption result (list_all (λ p. not (is_open self.now p)) self.now.scene.live ≡ true) (λ p. (mem self.now.scene.live p ≡ true) × (is_open self.now p ≡ true)) }
     {
@@ -301,9 +301,9 @@ impl<'a> Frame<'a> {
         }
     }
 
-    /// An item of which the base has fewer than the design and the atoms ask for; none if no item is short. An item that
-    /// an atom asks for and the view does not have comes first: it has no option. Of the others it is one with the fewest
-    /// options beyond what it still needs.
+    /// An item that the base covers less often than the design and the atoms ask for; none if there is no such item. An
+    /// item that an atom asks for and the view does not have comes first: it has no option. Of the others it is one with
+    /// the fewest options beyond what it still needs.
     pub fn next_due(&self) -> Option<Item>
         ensures { MatchOption result ((i : Item) → is_due self.now i ≡ false) (λ i. is_due self.now i ≡ true) }
     {
@@ -362,7 +362,7 @@ impl<'a> Frame<'a> {
     }
 
     /// How many members with the item each tiling that meets the atoms has at least: what the design and the atoms ask
-    /// for, or what the base has where that is more.
+    /// for, or what the base has if that is more.
     pub fn least(&self, item: Item) -> usize
         ensures { result ≡ lower self.now.scene self.now.atoms item }
     {
@@ -392,7 +392,7 @@ impl<'a> Frame<'a> {
         few
     }
 
-    /// The base, ascending, where it is a tiling that meets the atoms: all that a Found stands for.
+    /// The base, ascending, if it is a tiling that meets the atoms: the only tiling of a Found.
     pub fn found(&self) -> Option<&[u32]>
         ensures { MatchOption result (in_family self.now.scene self.now.atoms (base self.now.scene self.now.atoms) ≡ false) (λ t. (t.now ≡ base self.now.scene self.now.atoms) × (in_family self.now.scene self.now.atoms (base self.now.scene self.now.atoms) ≡ true)) }
     {
@@ -410,7 +410,7 @@ impl<'a> Frame<'a> {
         }
     }
 
-    // The base, where it is a tiling that meets the atoms, by asking the view.
+    // The base, if it is a tiling that meets the atoms, by asking the view.
     fn found_plainly(&self) -> Option<&[u32]>
         ensures { MatchOption result (in_family self.now.scene self.now.atoms (base self.now.scene self.now.atoms) ≡ false) (λ t. (t.now ≡ base self.now.scene self.now.atoms) × (in_family self.now.scene self.now.atoms (base self.now.scene self.now.atoms) ≡ true)) }
     {

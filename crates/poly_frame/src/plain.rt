@@ -1,4 +1,4 @@
-//! What is open, due and found after a list of atoms, asked of the view placement by placement. `members` is the base
+//! What is open, due and found after a list of atoms, read from the view placement by placement. `members` is the base
 //! of the atoms throughout.
 ghost use Rattle.std.specs.Prelude.{MatchOption, false, if◌then◌else◌, length, map, nat_le, nat_lt, not, true, vec_len, ◌&&◌, ◌||◌, ◌+◌, ◌==◌, ◌<◌, ◌≡◌, ◌≤◌, ◌∷◌};
 ghost use Rattle.std.specs.List.{filter, list_all, list_any};
@@ -224,7 +224,7 @@ fn is_listed(view: &View, item: &Item) -> bool
     view.items().iter().any(|b| b.0.is(item))
 }
 
-/// An item that an atom asks for, that is no item of the view, and of which the members have too few. It has no option.
+/// An item that an atom asks for, that is not in the view, and that the members cover too seldom. It has no option.
 pub(crate) fn due_elsewhere(view: &View, atoms: &[Atom], members: &[u32]) -> Option<Item>
     ensures { MatchOption result (list_all (of_asked (λ i. list_any (λ b. same_item b.0 i) view.now.bounds || not (nat_lt (count view.now members.now i) (asks view.now atoms.now i)))) atoms.now ≡ true) (λ i. nat_lt (count view.now members.now i) (asks view.now atoms.now i) ≡ true) }
 {

@@ -52,7 +52,7 @@ pub arm_rests : (v : View) (A : List Atom) (before : List ℕ) (p : ℕ) (t : Pl
 arm_rests v A before p t n =
     ap (λ b. cond b [] (rests v ((A ++ map (λ q. Lacks q) before) ++ Has p ∷ []) t)) (dead_behind v A before p n) ∙ ap (λ B. cond (dead v A p) [] (rests v B t)) (atoms_behind A before p)
 
--- one number stands once among the others
+-- the others have the number once
 pub apart_from : (xs : List ℕ) (p : ℕ) (ys : List ℕ) → distinct (xs ++ p ∷ ys) ≡ true → mem xs p ≡ false
 apart_from [] p ys d = refl
 apart_from (x ∷ xs) p ys d =
@@ -90,7 +90,7 @@ apart_at arms k a lt e d =
     apart_from (walked arms k) a.placement (heads (unwalked arms (k + 1)))
     (subst (λ xs. distinct xs ≡ true) (heads_parts arms k ∙ ap (λ r. walked arms k ++ heads r) (unwalked_at arms k a lt e)) d)
 
--- the atoms where the k-th arm is walked
+-- the atoms at the k-th arm
 abbrev pub at_arm : View → List Atom → ℕ → List Arm → ℕ → Walk
 at_arm v A g arms k = record { scene = v; atoms = A ++ map (λ q. Lacks q) (walked arms k); given = g }
 
@@ -145,7 +145,7 @@ pub branch_says : (v : View) (A : List Atom) (t : Plan) (i : Item) (arms : List 
     holds v A t ≡ (fit && arms_hold v A [] (arms_list arms))
 branch_says v A t i arms e fit h = ap (λ x. holds v A x) e ∙ ap (λ b. b && arms_hold v A [] (arms_list arms)) (sym h)
 
--- how many atoms stand where the k-th arm is walked
+-- how many atoms there are at the k-th arm
 pub length_at : (A : List Atom) (arms : List Arm) (k : ℕ) → length (A ++ map (λ q. Lacks q) (walked arms k)) ≤ length A + k
 length_at A arms k =
     let lacked : List Atom = map (λ q. Lacks q) (walked arms k) in

@@ -18,7 +18,7 @@ pub all_heads : (f : ℕ → Bool) (arms : List Arm) → list_all f (heads (arms
 all_heads f [] = refl
 all_heads f (a ∷ arms) = ap (λ b. f a.placement && b) (all_heads f arms)
 
--- a Branch's arms that do not stand once, or lack the item, do not fit
+-- a Branch's arms that repeat, or lack the item, do not fit
 pub not_once : (v : View) (A : List Atom) (i : Item) (arms : List Arm) → distinct (heads (arms_list arms)) ≡ false → false ≡ arms_fit v A i (heads (arms_list arms))
 not_once v A i arms n =
     let ps = heads (arms_list arms) in
@@ -45,7 +45,7 @@ tally_heads : (f : ℕ → Bool) (arms : List Arm) → tally f (heads (arms_list
 tally_heads f [] = refl
 tally_heads f (a ∷ arms) = ap (λ n. one (f a.placement) + n) (tally_heads f arms)
 
--- what is not ruled out is no placement of these, or it is one of them
+-- what is not ruled out isn't one of these placements, or it is
 allowed_apart : (v : View) (A : List Atom) (i : Item) (ps : List ℕ) → distinct v.live ≡ true → distinct ps ≡ true → list_all (λ p. has_item v p i) ps ≡ true →
     tally (λ p. has_item v p i && not (ruled_out v A p) && not (mem ps p)) v.live + tally (λ p. mem v.live p && not (ruled_out v A p)) ps
     ≡ tally (λ p. has_item v p i && not (ruled_out v A p)) v.live

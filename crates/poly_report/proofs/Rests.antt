@@ -54,7 +54,7 @@ count_others : (v : View) (A : List Atom) (p : ℕ) (i : Item) → mem (base v A
 count_others v A p i out = tally_within (λ q. has_item v q i) (λ q. has_item v q i && not (eqb q p)) (base v A) (base v A) (ascending_distinct (base v A) (base_up v A))
     (λ q k e. (k, and_from _ _ e (not_from_false _ (ne_eqb q p (λ s. both_ways (mem (base v A) p) out (in_mem (base v A) p (subst (λ z. In z (base v A)) s k)))))))
 
--- what is open where it stands may join each member of the family
+-- a placement that is open there may join each member of the family
 open_for : (v : View) (A : List Atom) (p : ℕ) → can_take v A p ≡ true → IsOpenFor v A p
 open_for v A p h =
     let hs = and_parts (mem v.live p) (open_in v A p) h in

@@ -1,4 +1,4 @@
--- Trees that take and leave only what is open where they stand, as those that `explore` grows.
+-- Trees that take and leave only placements that are open there, like those that `explore` grows.
 use Rattle.std.specs.Prelude.{Bool, List, [], cond, map, not, true, ℕ, ◌&&◌, ◌++◌, ◌∷◌}
 use Rattle.std.specs.List.{list_all}
 use Rattle.poly_tiling.specs.Lists.{mem}

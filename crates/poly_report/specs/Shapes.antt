@@ -1,4 +1,4 @@
--- What a tree of the program stands for.
+-- What contracts see of a tree of the program.
 use Rattle.std.specs.Prelude.{List, [], ◌∷◌}
 use Rattle.poly_report.specs.declared.tree.Arm.{Arm}
 use Rattle.poly_report.specs.declared.tree.Tree.{Tree, Rest, Found, Branch', Split', Row_of-Arm, end_of-Arm, more_of-Arm}

@@ -18,7 +18,8 @@ use poly_grid::Refusal;
 use poly_tiling::View;
 use std::alloc::Global;
 
-// Walks a tree at the frame's atoms. A tree that holds leaves the frame as it was, and its leaves are kept on demand.
+// Walks a tree at the frame's atoms, and keeps its leaves if they are asked for. If the tree holds, the frame stays as
+// it was.
 #[cycle(walk)]
 fn walk(
     alloc: Global,
@@ -78,7 +79,7 @@ fn walk(
     }
 }
 
-// Walks the trees of a Branch's arms, each behind the leaving of the arms before it.
+// Walks the trees of a Branch's arms, each after a step that leaves the arms before it.
 #[cycle(walk)]
 fn walk_arms(
     alloc: Global,
@@ -108,7 +109,7 @@ fn walk_arms(
     Ok(true)
 }
 
-// Walks the tree that hangs under a placement to take; what hangs under a dead one is not looked at. A Branch without arms
+// Walks the tree under a placement that is taken. The tree under a dead placement is not looked at. A Branch without arms
 // is judged without taking the placement.
 #[cycle(walk)]
 fn walk_taken(

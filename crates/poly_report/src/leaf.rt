@@ -13,7 +13,9 @@ use std::alloc::Global;
 /// The leaves of a tree: the tilings of its Found nodes, and for each Rest the atoms that say what is left there.
 #[derive(Drop)]
 pub struct Leaves {
+    /// The tilings of the Found nodes, in the order of the tree.
     pub tilings: Vec<Tiling>,
+    /// The atoms of each Rest, in the order of the tree.
     pub rests: Vec<Vec<Atom>>,
 }
 

@@ -5,14 +5,13 @@ ghost use Rattle.poly_report.specs.Sizes.{deep, fits, total};
 
 use crate::tree::Tree;
 
-/// The greatest number of nodes of a tree that is handed in.
+/// The most nodes of a tree that is handed in.
 pub const NODES: u32 = 4096;
 
 /// The greatest depth of a tree that is handed in; a tree of one node has depth 1.
 pub const DEPTH: u32 = 512;
 
-/// Whether a tree has at most 4,096 nodes and at most the depth 512. A tree that is larger is left where the limit is
-/// passed, however large it is.
+/// Whether a tree has at most 4,096 nodes and at most the depth 512. Stops at the limit, however large the tree is.
 pub fn fits(tree: &Tree) -> bool
     ensures { result ≡ fits (plan_of tree.now) }
 {
@@ -53,7 +52,7 @@ mod tests {
     use std::alloc::{AllocGlobal, Global};
     use std::process::Abort;
 
-    // A Branch of so many arms with a Rest.
+    // A Branch of this many arms with a Rest.
     fn wide(alloc: Global, count: u32) -> Result<Tree, Refusal> {
         let mut arms = Vec::new(alloc);
         for placement in 0..count {
@@ -64,7 +63,7 @@ mod tests {
         Ok(Tree::Branch { item, arms })
     }
 
-    // So many Splits, each to the left of the one before.
+    // This many Splits, each to the left of the one before.
     fn tall(alloc: Global, count: u32) -> Result<Tree, Refusal> {
         let mut tree = Tree::Rest;
         for placement in 0..count {

@@ -5,16 +5,16 @@ use poly_tiling::Item;
 #[derive(Debug, Drop)]
 #[cycle(tree)]
 pub enum Tree {
-    /// Left to another task.
+    /// The family is left to another task.
     Rest,
     /// No placement is open, so the family has at most one tiling.
     Found,
-    /// An item of which too little is left without the arms.
+    /// An item that the other placements can't cover often enough without those of the arms.
     Branch {
         item: Item,
         arms: Vec<Arm>,
     },
-    /// With a placement and without it.
+    /// The tilings with a placement, and those without it.
     Split {
         placement: u32,
         taken: Box<Tree>,
@@ -26,14 +26,19 @@ pub enum Tree {
 #[derive(Debug, Drop)]
 #[cycle(tree)]
 pub struct Arm {
+    /// The number of the placement.
     pub placement: u32,
+    /// The tree for the tilings that have it and none of the arms before.
     pub tree: Tree,
 }
 
 /// What a worker hands in: a tree for a task, made at an edition.
 #[derive(Debug, Drop)]
 pub struct Report {
+    /// The task's number.
     pub task: u32,
+    /// The edition at which the tree was made. It decides nothing.
     pub edition: u64,
+    /// How the family of the task is cut up.
     pub tree: Tree,
 }

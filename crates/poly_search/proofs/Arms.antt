@@ -19,7 +19,7 @@ use Rattle.poly_search.proofs.Swept.{partly_swept, partly_lighter, found_swept, 
 pub left_is : (w wp wq wb wl : Walk) (p : ℕ) → wp ≡ with_step w (Has p) → wq ≡ wp → wb ≡ step_back wq → wl ≡ with_step wb (Lacks p) → wl ≡ with_step w (Lacks p)
 left_is w wp wq wb wl p ep eq eb el = el ∙ ap (λ x. with_step x (Lacks p)) (eb ∙ ap step_back (eq ∙ ep) ∙ step_undone w (Has p))
 
--- the options that stand from a place of the list on
+-- the options from a place of the list on
 abbrev pub Options : Walk → Item → List ℕ → Type 0
 Options w i ps = (distinct ps ≡ true) × ((p : ℕ) → mem ps p ≡ (mem w.scene.live p && is_option w i p))
 

@@ -57,7 +57,7 @@ snoc_rests v A before (OneArm q u arms) p t =
     ∙ ap (λ ps. first ++ (more ++ cond (dead v A p) [] (rests v (A ++ arm_atoms ps p) t))) (append_assoc before (q ∷ []) (heads arms))
     ∙ sym (append_assoc first more (cond (dead v A p) [] (rests v (A ++ arm_atoms (before ++ q ∷ heads arms) p) t)))
 
--- where an arm's tree stands
+-- the atoms at an arm's tree
 pub arm_path : (w wl wp : Walk) (ps hs : List ℕ) (p : ℕ) → wl ≡ past w ps → wp ≡ with_step wl (Has p) → hs ≡ ps → wp ≡ record w { atoms = w.atoms ++ arm_atoms hs p }
 arm_path w wl wp ps hs p el ep e =
     ep ∙ ap (λ x. with_step x (Has p)) el ∙ ap (λ xs. record w { atoms = xs }) (append_assoc w.atoms (map (λ q. Lacks q) ps) (Has p ∷ []) ∙ ap (λ xs. w.atoms ++ arm_atoms xs p) (sym e))

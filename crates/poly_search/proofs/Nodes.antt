@@ -144,7 +144,7 @@ in_at [] j h = absurd (omega arith)
 in_at (x ∷ xs) zero h = inl refl
 in_at (x ∷ xs) (suc j) h = inr (in_at xs j (omega arith))
 
--- an option that stands at an index
+-- the option at an index
 pub option_at : (w : Walk) (i : Item) (ps : List ℕ) (j : ℕ) → j < length ps → ((p : ℕ) → mem ps p ≡ (mem w.scene.live p && is_option w i p)) → (mem w.scene.live (get_or ps j 0) ≡ true) × (is_open w (get_or ps j 0) ≡ true)
 option_at w i ps j h m =
     let p = get_or ps j 0 in

@@ -1,4 +1,4 @@
--- A chain of Splits: the arms of a Branch one after another, and a tree for what has none of them.
+-- A chain of Splits: the arms of a Branch one after another, and a tree for the tilings that have none of them.
 use Rattle.std.specs.Prelude.{◌≡◌, ℕ, ◌+◌, ◌≤◌, true, map, List, ◌++◌, length}
 use Rattle.poly_atom.specs.declared.atom.Atom.{Atom}
 use Rattle.poly_atom.specs.declared.atom.Atom.TheVariants.{Lacks}
@@ -18,12 +18,12 @@ pub record Serves (v : View) (A : List Atom) (depth : ℕ) (t : Plan) : Type 0 w
   pub low : deep t ≤ depth
   pub less : all_fewer v A (rests v A t) ≡ true
 
--- what any end of the chain has to be
+-- what any end of the chain must satisfy
 pub record Ends (v : View) (A : List Atom) (depth : ℕ) (ps : List ℕ) (end : Plan) : Type 0 where
   pub right : holds v (A ++ map (λ q. Lacks q) ps) end ≡ true
   pub low : deep end + length ps ≤ depth
   pub less : all_fewer v A (rests v (A ++ map (λ q. Lacks q) ps) end) ≡ true
 
--- the arms are such that a chain over them serves with each end that fits
+-- a chain over the arms is right with each end that fits
 abbrev pub Chains : View → List Atom → ℕ → Arms → Type 0
 Chains v A depth arms = (end : Plan) → Ends v A depth (heads arms) end → Serves v A depth (chain arms end)

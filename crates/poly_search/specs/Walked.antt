@@ -1,4 +1,4 @@
--- What a walk over the options of an item brings back.
+-- What a walk over the options of an item returns.
 use Rattle.std.specs.Prelude.{◌≡◌, ℕ, ◌+◌, ◌++◌, ◌-◌, ◌<◌, ◌≤◌, ◌∷◌, List, [], cond, length, map, nat_lt, take}
 use Rattle.poly_atom.specs.declared.atom.Atom.{Atom}
 use Rattle.poly_atom.specs.declared.atom.Atom.TheVariants.{Lacks}
@@ -9,7 +9,7 @@ use Rattle.poly_report.specs.Sizes.{ArmsGrown}
 use Rattle.poly_frame.specs.Walk.{Walk}
 use Rattle.poly_search.specs.Chains.{Chains}
 
--- where the walk stopped early: a chain over the arms can be paid for
+-- if the walk stopped early, a chain over the arms fits into the budget
 pub record CanChain (w : Walk) (depth kept nodes held : ℕ) (arms : List Arm) : Type 0 where
   pub some : 1 ≤ length arms
   pub paid : length arms ≤ held + 1
@@ -25,6 +25,6 @@ pub record Walked (w : Walk) (depth kept : ℕ) (options : List ℕ) (nodes held
   pub grown : ArmsGrown w.scene w.atoms (depth - 1) (arms_list arms)
   pub early : length arms < length options → CanChain w depth kept nodes held arms
 
--- the rest of the options that weren't walked, of so many: what has none of the arms
+-- the rest for the options that weren't walked: the tilings that have none of the arms
 abbrev pub left_over : List Atom → ℕ → List Arm → List (List Atom)
 left_over A n arms = cond (nat_lt (length arms) n) ((A ++ map (λ q. Lacks q) (heads (arms_list arms))) ∷ []) []

@@ -14,6 +14,6 @@ SharedOut v A found rests = (T : List ℕ) → is_tiling v T ≡ true → times 
 abbrev pub IsFamily : View → List Atom → List (List ℕ) → Type 0
 IsFamily v A found = (T : List ℕ) → tally (λ U. same_list U T) found ≡ one (in_family v A T)
 
--- members of the family, each once, that are more than the limit
+-- more members of the family than the limit, each once
 abbrev pub HasMore : View → List Atom → ℕ → Type 0
 HasMore v A limit = (found : List (List ℕ)) × ((T : List ℕ) → tally (λ U. same_list U T) found ≤ one (in_family v A T)) × (limit < length found)

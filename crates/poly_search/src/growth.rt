@@ -2,7 +2,7 @@
 //! volume 4B, section 7.2.2.1), until the budget of nodes is used up.
 //!
 //! A budget that ends in the middle of a Branch would leave many small tasks. So one node is held back for each arm after
-//! the first; where the budget ends with several arms untouched, the arms that were walked become a chain of Splits whose
+//! the first; if the budget ends with several arms untouched, the arms that were walked become a chain of Splits whose
 //! one Rest has all the others; and a small subtree that has a Rest becomes that Rest.
 ghost use Rattle.std.specs.Prelude.{◌≡◌, ◌&&◌, ◌^◌, ◌++◌, [], ◌∷◌, ℕ, true, false, ◌+◌, ◌-◌, ◌≤◌, ◌<◌, IfOk, IfErr, OnOk, length, if◌then◌else◌};
 ghost use Rattle.poly_tiling.specs.Lists.{distinct, mem};
@@ -102,7 +102,7 @@ pub fn grow(
     split(alloc, frame, growth, kept, depth, open)
 }
 
-// A tree below the root: where little of the budget went into it and it has a Rest, it becomes that Rest.
+// A tree below the root. If it used little of the budget and has a Rest, it becomes that Rest.
 #[cycle(grow)]
 fn child(
     alloc: Global,
@@ -147,7 +147,7 @@ struct Arms {
     held: u32,
 }
 
-// Walks the options one after another; it may stop before the last where the budget ends and a chain can be made.
+// Walks the options one after another. May stop before the last if the budget ends and a chain can be made.
 #[cycle(grow)]
 fn walk_arms(
     alloc: Global,

@@ -1,8 +1,8 @@
 //! Listing a whole family: sweeps over a frame, depth first on the item with the fewest options (Knuth, The Art of
 //! Computer Programming, volume 4B, section 7.2.2.1), that list the tilings as they go.
 //!
-//! No tree is built. A sweep ends early where the steps of its frame or the depth run out, or where too much is listed
-//! already; what is left of each place on the path is then kept as atoms, for a sweep of its own.
+//! No tree is built. A sweep ends early if the steps of its frame or the depth run out, or if too much is listed
+//! already. What is left at each node on the path is then kept as atoms, for a sweep of its own.
 ghost use Rattle.std.specs.Prelude.{◌≡◌, ◌&&◌, ◌+◌, ◌≤◌, ◌<◌, ◌++◌, ◌∷◌, [], ℕ, drop, false, true, length, IfOk, IfErr, OnOk};
 ghost use Rattle.poly_atom.specs.declared.atom.Atom.TheVariants.{Lacks};
 ghost use Rattle.poly_tiling.specs.Lists.{distinct, mem};
@@ -32,7 +32,7 @@ pub struct Listing {
     pub options: Vec<u32>,
 }
 
-// Lists the base of a place where nothing is open, if it is a tiling that meets the atoms.
+// Lists the base of a node without open placements, if it is a tiling that meets the atoms.
 #[tactic(auto, using(crate::proofs::Swept::family_ascends))]
 fn push_found(alloc: Global, frame: &Frame<'_>, list: &mut Listing) -> Result<(), Refusal>
     ensures found { OnOk result (list.new.found.items ≡ list.old.found.items ++ tilings frame.now.scene frame.now.atoms Finds) }
@@ -47,7 +47,7 @@ fn push_found(alloc: Global, frame: &Frame<'_>, list: &mut Listing) -> Result<()
     Ok(())
 }
 
-// Keeps the place for a later sweep.
+// Keeps the node for a later sweep.
 fn push_rest(alloc: Global, frame: &Frame<'_>, list: &mut Listing) -> Result<(), Refusal>
     ensures found { OnOk result (list.new.found.items ≡ list.old.found.items) }
     ensures rests { OnOk result (lists list.new.rests.items ≡ lists list.old.rests.items ++ frame.now.atoms ∷ []) }
@@ -191,7 +191,8 @@ fn sweep_open(
     Ok(true)
 }
 
-// Sweeps what has the open placement, and leaves it. Where that ended early, what doesn't have it is kept too.
+// Sweeps the tilings that have the open placement, and then leaves it. If that ended early, those without it are kept
+// too.
 #[cycle(sweep)]
 fn sweep_arm(
     alloc: Global,
@@ -227,8 +228,8 @@ fn sweep_arm(
     Ok(whole)
 }
 
-// Sweeps the place, or keeps it where that would go too far. Where little of a wide frame is open, a smaller frame takes
-// over from here.
+// Sweeps the node, or keeps it if that would go too far. If little of a wide frame is open, a smaller frame takes over
+// from here.
 #[cycle(sweep)]
 fn sweep_below(
     alloc: Global,

@@ -80,7 +80,7 @@ pub(crate) fn count_common(some: &[u64], others: &[u64]) -> usize {
     all
 }
 
-// How many numbers both rows have in those words of 64 from `first` on that are in the mask; at `most` it stops.
+// How many numbers both rows have in those of the 64 words from `first` on that are in the mask. Stops at `most`.
 fn count_in(some: &[u64], others: &[u64], first: usize, mask: u64, most: usize) -> usize
     requires { first < 320 }
 {
@@ -99,7 +99,7 @@ fn count_in(some: &[u64], others: &[u64], first: usize, mask: u64, most: usize) 
     all
 }
 
-/// How many numbers both rows have, or some number not below `most` where there are so many.
+/// How many numbers both rows have, or some number that is at least `most` if there are that many.
 pub(crate) fn common(
     some: &[u64],
     busy: &Busy,

@@ -1,5 +1,5 @@
-//! Items by their places among the items of a view. Where an item stands is guessed first and then tested, so a wrong
-//! guess costs time alone.
+//! Items by their index among the items of a view. The index of an item is guessed first and then tested, so a wrong
+//! guess only costs time.
 ghost use Rattle.std.specs.Prelude.{IfErr, List, MatchOption, false, length, map, nat_lt, slice_index, slice_index_or, true, vec_capacity, vec_len, ℕ, [], ◌++◌, ◌+◌, ◌<◌, ◌*◌, ◌==◌, ◌^◌, ◌∷◌, ◌≡◌, ◌≤◌};
 ghost use Rattle.std.specs.List.{list_all};
 ghost use Rattle.poly_shape.specs.Order.{IsAscending, spot_cmp};
@@ -12,7 +12,7 @@ use poly_grid::{Cell, Refusal};
 use poly_tiling::{Item, View};
 use std::alloc::Global;
 
-/// Where a cell stands in a list with an entry for each cell that a board can have.
+/// The index of a cell in a list with an entry for each cell that a board can have.
 pub(crate) fn cell_place(cell: Cell) -> usize
     ensures value { result ≡ 64 * cell.y + cell.x }
     ensures column { cell.x < 64 }
@@ -32,7 +32,7 @@ fn cells_room(bounds: &[(Item, u8, u8)]) -> usize {
     size
 }
 
-/// Guesses where cells stand among the items.
+/// Guesses the indices of cells among the items.
 pub(crate) fn guess_cells(alloc: Global, bounds: &[(Item, u8, u8)]) -> Result<Vec<usize>, Refusal>
     ensures { IfErr result (λ e. e ≡ Refusal.Memory) }
 {
@@ -48,13 +48,13 @@ pub(crate) fn guess_cells(alloc: Global, bounds: &[(Item, u8, u8)]) -> Result<Ve
     Ok(guesses)
 }
 
-/// A guess for a cell, 0 where there is none.
+/// A guess for a cell; 0 if there is none.
 pub(crate) fn guess_of(guesses: &[usize], cell: Cell) -> usize {
     let k = cell_place(cell);
     if k < guesses.len() { guesses[k] } else { 0 }
 }
 
-/// A guess for where an item stands.
+/// A guess for the index of an item.
 pub(crate) fn guess_item(cells: &[usize], item: &Item) -> usize {
     match item {
         Item::Cell(cell) => guess_of(cells, *cell),
@@ -62,7 +62,7 @@ pub(crate) fn guess_item(cells: &[usize], item: &Item) -> usize {
     }
 }
 
-/// Where an item stands. Without a guess it is mostly a piece, and these stand last.
+/// The index of an item. An item without a guess is mostly a piece, and pieces come last.
 pub(crate) fn index_of(bounds: &[(Item, u8, u8)], guess: usize, item: Item) -> Option<usize>
     ensures { MatchOption result ((b : ℕ) → b < length bounds.now → same_item (item_at bounds.now b) item ≡ false) (λ b. (b < length bounds.now) × (same_item (item_at bounds.now b) item ≡ true)) }
 {
@@ -98,7 +98,7 @@ fn cell_at(bounds: &[(Item, u8, u8)], guess: usize, cell: Cell) -> Option<usize>
     index_of(bounds, guess, Item::Cell(cell))
 }
 
-// Notes where a cell stands, if it does.
+// Notes the index of a cell, if it has one.
 fn note_cell(bounds: &[(Item, u8, u8)], guess: usize, cell: Cell, noted: &mut Vec<usize>)
     requires room { vec_len noted.old < vec_capacity noted.old }
     requires order { items_ascend bounds.now ≡ true }
@@ -111,7 +111,7 @@ fn note_cell(bounds: &[(Item, u8, u8)], guess: usize, cell: Cell, noted: &mut Ve
     }
 }
 
-// Notes where an item stands, if it does.
+// Notes the index of an item, if it has one.
 fn note_item(bounds: &[(Item, u8, u8)], guess: usize, item: Item, noted: &mut Vec<usize>)
     requires room { vec_len noted.old < vec_capacity noted.old }
     requires order { items_ascend bounds.now ≡ true }
@@ -137,7 +137,7 @@ fn note_cells(bounds: &[(Item, u8, u8)], guesses: &[usize], cells: &[Cell], note
     }
 }
 
-/// Notes where the items of a number's placement stand among the view's, `piece` being the guess for its piece.
+/// Notes the indices of the items of a number's placement among the view's items; `piece` is the guess for its piece.
 pub(crate) fn note_items(
     view: &View,
     cells: &[usize],

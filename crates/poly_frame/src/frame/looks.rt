@@ -83,7 +83,7 @@ pub(crate) fn list_options(
     }
 }
 
-/// Where some open number stands.
+/// The number of some open placement.
 pub(crate) fn first_open(view: &View, path: &[Atom], table: &Table, steps: &Steps) -> Option<u32>
     requires kept { (first : ℕ) × StepsKeep view.now path.now first table.now steps.now }
     ensures { MatchOption result (list_all (λ p. not (open_in view.now path.now p)) view.now.live ≡ true) (λ p. (mem view.now.live p ≡ true) × (open_in view.now path.now p ≡ true)) }
@@ -160,7 +160,7 @@ pub(crate) fn is_short(view: &View, path: &[Atom], table: &Table, steps: &Steps)
     false
 }
 
-/// Whether the base is a tiling that meets the atoms, where the rows tell that.
+/// Whether the base is a tiling that meets the atoms; none if the rows do not tell it.
 pub(crate) fn judge(
     view: &View,
     path: &[Atom],
@@ -182,8 +182,8 @@ pub(crate) fn judge(
     None
 }
 
-// How many options the item at a place has beyond what it still needs, plus one: 0 where they are too few; some number
-// not below `fewest` where it is not less than that. None where the base has enough.
+// How many options the item at a place has beyond what it still needs, plus one: 0 if they are too few; some number
+// that is at least `fewest` if it is not less than that. None if the base has enough.
 fn spare(
     table: &Table,
     steps: &Steps,
@@ -354,7 +354,7 @@ fn listed_due(view: &View, path: &[Atom], table: &Table, steps: &Steps) -> Optio
     }
 }
 
-/// An item that is due: one that is no item of the view first, since it has no option.
+/// An item that is due: first one that is not in the view, since it has no option.
 pub(crate) fn next_due(
     view: &View,
     path: &[Atom],

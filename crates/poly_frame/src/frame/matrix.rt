@@ -72,7 +72,7 @@ impl Matrix {
         })
     }
 
-    /// Where the number stands.
+    /// The column of the number.
     pub(crate) fn place_of(&self, number: u32) -> Option<usize>
         requires { StandsShow self.now.numbers.items self.now.stands.items }
         ensures { MatchOption result (mem self.now.numbers.items number ≡ false) (λ j. (j < length self.now.numbers.items) × (slice_index self.now.numbers.items j ≡ number)) }

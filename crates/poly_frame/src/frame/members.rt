@@ -1,5 +1,4 @@
-//! The base of a frame's atoms: an ascending list in which a step puts one number, and from which its taking back takes
-//! that number again.
+//! The base of a frame's atoms: an ascending list. A step adds one number, and undoing the step removes it.
 ghost use Rattle.std.specs.Prelude.{[], length, take, vec_capacity, vec_len, ℕ, ◌++◌, ◌+◌, ◌-◌, ◌<◌, ◌∷◌, ◌≡◌, ◌≢◌, ◌≤◌};
 ghost use Rattle.poly_atom.specs.Hopeless.{base};
 ghost use Rattle.poly_frame.specs.FrameMembers.{SizesShow, without};
@@ -8,7 +7,7 @@ use crate::plain::put_number;
 use poly_atom::Atom;
 use poly_tiling::View;
 
-// Takes a number out of a list, where it first stands.
+// Removes the first occurrence of a number from a list.
 fn take_number(numbers: &mut Vec<u32>, number: u32)
     ensures items { numbers.new.items ≡ without number numbers.old.items }
     ensures room { vec_capacity numbers.new ≡ vec_capacity numbers.old }

@@ -1,4 +1,4 @@
-//! How many steps of a frame left its base sound: each member a placement of the design that is not ruled out. Where all
+//! How many steps of a frame left its base sound: each member a placement of the design that is not ruled out. If all
 //! did, the base is a tiling that meets the atoms as soon as no item is short.
 ghost use Rattle.std.specs.Prelude.{[], ℕ, length, not, take, true, ◌&&◌, ◌++◌, ◌-◌, ◌<◌, ◌∷◌, ◌≡◌, ◌≤◌};
 ghost use Rattle.std.specs.List.{list_all, list_any};
@@ -75,8 +75,8 @@ fn are_kept(whole: &Matrix, atoms: &[Atom], members: &[u32]) -> bool
     true
 }
 
-/// For the given atoms alone: 1 where their base is known to be sound, and else 0. It may be known before. `uppers` and
-/// `have` are what each item may have at most, and how many members have it.
+/// For the given atoms alone: 1 if their base is known to be sound, else 0. It may be known before. `uppers` and `have`
+/// are what each item may have at most, and how many members have it.
 pub(crate) fn begin(
     view: &View,
     part: &Matrix,

@@ -32,7 +32,7 @@ ghost use Rattle.poly_frame.specs.Matrices.{IsMatrix, place};
 ghost use Rattle.poly_frame.specs.FrameTable.{HaveShows, TableShows};
 ghost use Rattle.poly_frame.specs.FrameSteps.{HasRoom, StepsKeep};
 
-// Notes where the items of a number stand, which may stand in the table.
+// Notes the indices of the number's items. `place` is the number's column, if it has one.
 fn note_number(
     view: &View,
     matrix: &Matrix,
