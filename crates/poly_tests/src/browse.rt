@@ -258,5 +258,3 @@ fn classes_go_by_the_board(rt: HostRuntime) {
         b"{\"format\":1,\"grid\":\"hex\",\"board\":[\"++\",\"+\"],\"pieces\":[{\"name\":\"A\",\"cells\":[[0,0],[1,0]],\"need\":\"optional\"}]}";
     assert_eq!(rt; classes(alloc, triangle, &[]).expect(&rt, "memory"), 2);
 }
-
-// The twelve pentominoes fill 3 by 20 in 2 ways up to the symmetry of the rectangle.

@@ -20,7 +20,7 @@ use std::alloc::{AllocError, Global};
 use std::test::Fail;
 
 // All tilings of the view.
-fn found(alloc: Global, view: &View) -> Result<Vec<Tiling>, Refusal>
+pub(crate) fn found(alloc: Global, view: &View) -> Result<Vec<Tiling>, Refusal>
     ensures tilings { IfOk result (λ list. list_all (is_tiling view.now) list.items ≡ true) }
     ensures once { IfOk result (λ list. AreOnce list.items) }
 {
@@ -40,7 +40,7 @@ fn settled(alloc: Global, table: &Table) -> Result<Catalogue, Refusal>
 }
 
 // Makes the change, keeps what is still a tiling, and returns what isn't.
-fn lead(
+pub(crate) fn lead(
     design: &mut Design,
     table: &mut Table,
     catalogue: &mut Catalogue,
@@ -73,7 +73,7 @@ fn is_listed(listed: &[Tiling], numbers: &[u32]) -> bool
 }
 
 // The tilings of the view that are not listed yet.
-fn fresh(alloc: Global, view: &View, listed: &[Tiling]) -> Result<Vec<Tiling>, Refusal>
+pub(crate) fn fresh(alloc: Global, view: &View, listed: &[Tiling]) -> Result<Vec<Tiling>, Refusal>
     requires { AreOnce listed.now }
     ensures tilings { IfOk result (λ list. list_all (is_tiling view.now) list.items ≡ true) }
     ensures once { IfOk result (λ list. AreOnce (listed.now ++ list.items)) }
@@ -104,7 +104,7 @@ fn count_tilings(view: &View, tilings: &[Tiling]) -> usize {
         .count()
 }
 
-fn copies(alloc: Global, tilings: &[Tiling]) -> Result<Vec<Tiling>, Refusal> {
+pub(crate) fn copies(alloc: Global, tilings: &[Tiling]) -> Result<Vec<Tiling>, Refusal> {
     let mut list = Vec::new(alloc);
     for tiling in tilings {
         list.push(tiling.copy()?)?;

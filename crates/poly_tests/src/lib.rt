@@ -16,9 +16,13 @@ mod designs;
 #[cfg(test)]
 mod frame;
 #[cfg(test)]
+mod full;
+#[cfg(test)]
 mod reports;
 #[cfg(test)]
 mod searches;
+#[cfg(test)]
+mod settled;
 #[cfg(test)]
 mod solvers;
 #[cfg(test)]

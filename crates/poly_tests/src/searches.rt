@@ -1,6 +1,6 @@
 //! What the solver lists: families by atoms, and the limit of a million tilings.
 
-use crate::designs::{DOMINOES, design, view};
+use crate::designs::{DOMINOES, NARROW, design, view};
 use poly_atom::Atom;
 use poly_grid::Refusal;
 use poly_search::search_all;
@@ -15,11 +15,6 @@ const SEVEN: &[u8] =
 // The same with eight of each: 1,441,729 tilings.
 const EIGHT: &[u8] =
     b"{\"format\":1,\"grid\":\"square\",\"board\":[\"++++++++\"],\"pieces\":[{\"name\":\"A\",\"cells\":[[0,0]],\"need\":\"optional\"},{\"name\":\"B\",\"cells\":[[0,0]],\"need\":\"optional\"},{\"name\":\"C\",\"cells\":[[0,0]],\"need\":\"optional\"},{\"name\":\"D\",\"cells\":[[0,0]],\"need\":\"optional\"},{\"name\":\"E\",\"cells\":[[0,0]],\"need\":\"optional\"},{\"name\":\"F\",\"cells\":[[0,0]],\"need\":\"optional\"},{\"name\":\"G\",\"cells\":[[0,0]],\"need\":\"optional\"},{\"name\":\"H\",\"cells\":[[0,0]],\"need\":\"optional\"}]}";
-
-// The rectangle of three by twenty cells and the twelve pentominoes: 8 tilings. It has enough placements for the solver to
-// go on in smaller frames.
-const NARROW: &[u8] =
-    b"{\"format\":1,\"grid\":\"square\",\"board\":[\"####################\",\"####################\",\"####################\"],\"pieces\":[{\"name\":\"F\",\"cells\":[[1,0],[2,0],[0,1],[1,1],[1,2]]},{\"name\":\"I\",\"cells\":[[0,0],[1,0],[2,0],[3,0],[4,0]]},{\"name\":\"L\",\"cells\":[[0,0],[0,1],[0,2],[0,3],[1,3]]},{\"name\":\"N\",\"cells\":[[1,0],[1,1],[0,2],[1,2],[0,3]]},{\"name\":\"P\",\"cells\":[[0,0],[1,0],[0,1],[1,1],[0,2]]},{\"name\":\"T\",\"cells\":[[0,0],[1,0],[2,0],[1,1],[1,2]]},{\"name\":\"U\",\"cells\":[[0,0],[2,0],[0,1],[1,1],[2,1]]},{\"name\":\"V\",\"cells\":[[0,0],[0,1],[0,2],[1,2],[2,2]]},{\"name\":\"W\",\"cells\":[[0,0],[0,1],[1,1],[1,2],[2,2]]},{\"name\":\"X\",\"cells\":[[1,0],[0,1],[1,1],[2,1],[1,2]]},{\"name\":\"Y\",\"cells\":[[1,0],[0,1],[1,1],[1,2],[1,3]]},{\"name\":\"Z\",\"cells\":[[0,0],[1,0],[1,1],[1,2],[2,2]]}]}";
 
 fn family(
     rt: &(impl AllocGlobal + Abort),

@@ -1,0 +1,95 @@
+//! Books that are settled: the classes of their tilings, and questions about them.
+
+use crate::designs::{DOMINOES, NARROW, design_of};
+use poly_book::{Book, Quiet};
+use poly_browse::{Query, browse, classes};
+use poly_grid::Refusal;
+use std::alloc::{AllocGlobal, Global};
+use std::process::Abort;
+
+// The seven tetrahexes on a parallelogram of hexagons: 18 tilings.
+const TETRAHEXES: &[u8] =
+    b"{\"format\":1,\"grid\":\"hex\",\"board\":[\"#######\",\"#######\",\"#######\",\"#######\"],\"pieces\":[{\"name\":\"Bar\",\"cells\":[[0,0],[1,0],[2,0],[3,0]]},{\"name\":\"Worm\",\"cells\":[[0,0],[0,1],[0,2],[1,2]]},{\"name\":\"Pistol\",\"cells\":[[0,0],[0,1],[1,1],[0,2]]},{\"name\":\"Wave\",\"cells\":[[0,0],[0,1],[1,1],[1,2]]},{\"name\":\"Bee\",\"cells\":[[0,0],[1,0],[0,1],[1,1]]},{\"name\":\"Arch\",\"cells\":[[0,0],[1,0],[1,1],[0,2]]},{\"name\":\"Propeller\",\"cells\":[[1,0],[1,1],[2,1],[0,2]]}]}";
+
+// The rectangle of six by ten cells and the twelve pentominoes: 9,356 tilings, 2,339 up to its four symmetries.
+const WIDER: &[u8] =
+    b"{\"format\":1,\"grid\":\"square\",\"board\":[\"##########\",\"##########\",\"##########\",\"##########\",\"##########\",\"##########\"],\"pieces\":[{\"name\":\"F\",\"cells\":[[1,0],[2,0],[0,1],[1,1],[1,2]]},{\"name\":\"I\",\"cells\":[[0,0],[1,0],[2,0],[3,0],[4,0]]},{\"name\":\"L\",\"cells\":[[0,0],[0,1],[0,2],[0,3],[1,3]]},{\"name\":\"N\",\"cells\":[[1,0],[1,1],[0,2],[1,2],[0,3]]},{\"name\":\"P\",\"cells\":[[0,0],[1,0],[0,1],[1,1],[0,2]]},{\"name\":\"T\",\"cells\":[[0,0],[1,0],[2,0],[1,1],[1,2]]},{\"name\":\"U\",\"cells\":[[0,0],[2,0],[0,1],[1,1],[2,1]]},{\"name\":\"V\",\"cells\":[[0,0],[0,1],[0,2],[1,2],[2,2]]},{\"name\":\"W\",\"cells\":[[0,0],[0,1],[1,1],[1,2],[2,2]]},{\"name\":\"X\",\"cells\":[[1,0],[0,1],[1,1],[2,1],[1,2]]},{\"name\":\"Y\",\"cells\":[[1,0],[0,1],[1,1],[1,2],[1,3]]},{\"name\":\"Z\",\"cells\":[[0,0],[1,0],[1,1],[1,2],[2,2]]}]}";
+
+// A corner of three cells, which one reflection carries to itself, a domino and a piece of one cell: 2 tilings, which the
+// reflection carries to each other.
+const CORNER: &[u8] =
+    b"{\"format\":1,\"grid\":\"square\",\"board\":[\"##\",\"#.\"],\"pieces\":[{\"name\":\"A\",\"cells\":[[0,0],[1,0]]},{\"name\":\"B\",\"cells\":[[0,0]]}]}";
+
+// Two optional cells in a row and an optional domino: the tiling without it, and the one with it.
+const OPTIONAL: &[u8] =
+    b"{\"format\":1,\"grid\":\"square\",\"board\":[\"++\"],\"pieces\":[{\"name\":\"A\",\"cells\":[[0,0],[1,0]],\"need\":\"optional\"}]}";
+
+// A board without cells. Without pieces it has the tiling that has nothing, and with a piece that has to lie there none.
+const NOWHERE: &[u8] = b"{\"format\":1,\"grid\":\"square\",\"board\":[\".\"],\"pieces\":[]}";
+
+const NO_ROOM: &[u8] =
+    b"{\"format\":1,\"grid\":\"square\",\"board\":[\".\"],\"pieces\":[{\"name\":\"A\",\"cells\":[[0,0]]}]}";
+
+// A hexagon and the six around it, all optional, and an optional domino. The domino lies in twelve ways: six from the
+// middle outwards, which turns carry to each other, and six along the edge, which they carry to each other too. With the
+// tiling without it these are three classes.
+const FLOWER: &[u8] =
+    b"{\"format\":1,\"grid\":\"hex\",\"board\":[\".++\",\"+++\",\"++.\"],\"pieces\":[{\"name\":\"A\",\"cells\":[[0,0],[1,0]],\"need\":\"optional\"}]}";
+
+// All tilings of the design of the puzzle line, by a book that is settled.
+fn settled(alloc: Global, puzzle: &[u8]) -> Result<Quiet, Refusal> {
+    let design = design_of(alloc, puzzle, &[])?;
+    let mut book = Book::begin(alloc, design)?;
+    let _ = book.settle(100_000, 256)?;
+    book.quiet()
+}
+
+// How many tilings a settled book has that meet the empty query.
+fn browsed(alloc: Global, quiet: &Quiet) -> Result<u64, Refusal> {
+    let query = Query {
+        has: Vec::new(alloc),
+        lacks: Vec::new(alloc),
+        covers: Vec::new(alloc),
+    };
+    let answer = browse(alloc, quiet.design(), quiet.tilings(), quiet.view(), &query)?;
+    Ok(answer.count)
+}
+
+// Asserts how many tilings a settled book has, how many `browse` counts, and how many classes they are.
+fn expect_classes(rt: &(impl AllocGlobal + Abort), puzzle: &[u8], tilings: u64, want: u64) {
+    let quiet = settled(rt.alloc(), puzzle).expect(rt, "it settles");
+    let count = browsed(rt.alloc(), &quiet).expect(rt, "memory");
+    assert!(rt; quiet.tilings().len() as u64 == tilings && count == tilings);
+    let found = classes(rt.alloc(), &quiet).expect(rt, "memory");
+    assert!(rt; found == want);
+}
+
+#[test]
+fn classes_of_rectangles(rt: HostRuntime) {
+    expect_classes(&rt, DOMINOES, 4, 1);
+    expect_classes(&rt, NARROW, 8, 2);
+    expect_classes(&rt, WIDER, 9356, 2339);
+}
+
+// The parallelogram has a turn by a half, and no reflection. No tiling is carried to itself, so the classes are pairs.
+#[test]
+fn classes_of_a_parallelogram_of_hexagons(rt: HostRuntime) {
+    expect_classes(&rt, TETRAHEXES, 18, 9);
+}
+
+#[test]
+fn classes_of_hexagons_around_one(rt: HostRuntime) {
+    expect_classes(&rt, FLOWER, 13, 3);
+}
+
+#[test]
+fn classes_where_little_is_to_be_placed(rt: HostRuntime) {
+    expect_classes(&rt, OPTIONAL, 2, 2);
+    expect_classes(&rt, NOWHERE, 1, 1);
+    expect_classes(&rt, NO_ROOM, 0, 0);
+}
+
+#[test]
+fn classes_of_a_board_with_one_reflection(rt: HostRuntime) {
+    expect_classes(&rt, CORNER, 2, 1);
+}
