@@ -11,7 +11,7 @@ use std::time::{Duration, Instant};
 // The nodes of a report, as a worker asks for them.
 const NODES: u32 = 256;
 
-// What came together until no task was left.
+// The sums over all reports until no task was left.
 #[derive(Drop)]
 struct Totals {
     reports: u64,

@@ -9,7 +9,7 @@ use poly_tiling::View;
 use std::io;
 use std::time::Instant;
 
-/// Measures the design's placements, its view, a frame at the root, the solver, and, where that came to its end, the
+/// Measures the design's placements, its view, a frame at the root, the solver, and, if the solver came to its end, the
 /// reports of a worker.
 pub fn measure(rt: &HostRuntime, design: &Design) -> io::Result<()> {
     let begin = Instant::now(rt)?;

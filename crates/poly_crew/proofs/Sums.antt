@@ -32,7 +32,7 @@ total_none : (f : Hand → ℕ) (views : List Hand) → ((by : ℕ) (u : Hand) �
 total_none f [] none = refl
 total_none f (u ∷ us) none = let here = none 0 u refl in let e = total_none f us (λ by w at. none (suc by) w at) in omega arith
 
--- where all other views have nothing, the total is what the one has
+-- if all other views have nothing, the total is what the one has
 pub total_lone : (f : Hand → ℕ) (views : List Hand) (port : ℕ) (v : Hand) → get_elem? views port ≡ some v
     → ((by : ℕ) (u : Hand) → by ≢ port → get_elem? views by ≡ some u → f u ≡ 0) → total f views ≡ f v
 total_lone f [] port v at others = absurd (some-ne-none v (sym at))

@@ -1,4 +1,4 @@
-//! Running a crew.
+//! Runs a crew.
 ghost use Rattle.std.specs.Prelude.{◌≡◌, ◌≤◌, ◌<◌, ◌*◌, ℕ, length, map, slice_index_or, sum_by, vec_len};
 ghost use Rattle.std.specs.List.{AllZip};
 ghost use Rattle.poly_crew.specs.Counts.{added};

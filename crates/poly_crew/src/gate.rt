@@ -1,6 +1,7 @@
-//! What stands before and behind each search of a crew.
+//! A gate that is told before and after each search of a crew.
 
-/// Is told when a worker begins to search a task, and when it has done so. Workers and their turns are counted from 0.
+/// A gate is told when a worker begins to search a task, and when it has searched it. Workers and their turns are
+/// counted from 0.
 pub trait Gate {
     /// The worker is about to search the task that it took in that turn.
     fn enter(&self, worker: u32, turn: u64);

@@ -29,7 +29,8 @@ impl Hints {
         Which::Any
     }
 
-    /// Pushes the tasks that a report opened. A number for which there is no memory is left out: taking any task finds it.
+    /// Pushes the tasks that a report opened. Skips a number if there is no memory for it: such a task is still found by
+    /// taking any task.
     pub(crate) fn push_opened(&mut self, applied: Applied) {
         let end = applied.first.saturating_add(applied.opened);
         for task in applied.first..end {
@@ -52,7 +53,7 @@ pub(crate) fn hints_of(alloc: Global, count: usize) -> Result<Vec<Hints>, Refusa
     Ok(all)
 }
 
-// So many lanes without thieves.
+// This many lanes without thieves.
 fn lanes(alloc: Global, count: usize) -> Result<Vec<Hints>, Refusal>
     ensures count { IfOk result (λ v. length v.items ≡ count) }
     ensures why { IfErr result (λ e. e ≡ Refusal.Memory) }

@@ -1,4 +1,4 @@
-//! The room that a crew needs: what is made before its workers begin, and how passes go in and come back.
+//! The room that a crew needs: what is allocated before its workers begin, and how passes go in and come back.
 ghost use Rattle.std.specs.Prelude.{◌≡◌, ◌≤◌, [], All, IfErr, IfOk, length, map, sum_by, vec_capacity, vec_len};
 ghost use Rattle.poly_grid.specs.declared.refusal.Refusal.TheVariants.{Memory};
 
@@ -9,7 +9,7 @@ use poly_desk::Receipt;
 use poly_grid::Refusal;
 use std::alloc::Global;
 
-/// The workers' hints, and empty lists with room for so many workers, passes and lists of receipts.
+/// The workers' hints, and empty lists with room for all workers, passes and lists of receipts.
 #[derive(Drop)]
 pub(crate) struct Room<P: Drop> {
     pub(crate) hints: Vec<Hints>,
@@ -18,7 +18,7 @@ pub(crate) struct Room<P: Drop> {
     pub(crate) receipts: Vec<Vec<Receipt>>,
 }
 
-/// Room for so many workers. Fails only when out of memory.
+/// Makes room for this many workers. Fails only when out of memory.
 pub(crate) fn room_for<P: Drop>(alloc: Global, count: usize) -> Result<Room<P>, Refusal>
     ensures hints { IfOk result (λ r. length r.hints.items ≡ count) }
     ensures workers { IfOk result (λ r. (r.workers.items ≡ []) × (count ≤ vec_capacity r.workers)) }

@@ -1,4 +1,4 @@
-//! Crews on the book of two dominoes on a board of two by two cells, which stands under a lock of the tests' own.
+//! Crews on the book of two dominoes on a board of two by two cells, under a lock that the tests have for it.
 ghost use Rattle.std.specs.Prelude.{◌≡◌, ◌≤◌, length};
 
 mod desk;
@@ -194,7 +194,7 @@ fn the_gate_test(rt: HostRuntime) {
     expect_tilings(&rt, shared.book.into_inner(), 4);
 }
 
-// Lets a crew of so many workers find all tilings.
+// Lets a crew of this many workers find all tilings.
 fn find_all<R: Threads + Wait + Sync + Abort>(rt: &R, alloc: Global, workers: usize)
     requires some { 1 ≤ workers }
     requires few { workers ≤ 16 }

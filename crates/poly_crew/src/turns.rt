@@ -76,7 +76,7 @@ fn take_turn<R: Wait, B: Bench, G: Gate>(
     Ok(true)
 }
 
-// Hands the report in, and keeps its receipt. A report on a task that has ended meanwhile is let go.
+// Hands the report in, and keeps its receipt. Drops a report on a task that has ended meanwhile.
 fn hand_in<R: Wait, B: Bench>(
     rt: &R,
     bench: &B,

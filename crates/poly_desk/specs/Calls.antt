@@ -5,8 +5,8 @@ use Rattle.poly_grid.specs.declared.refusal.Refusal.TheVariants.{Unsettled}
 use Rattle.poly_book.specs.States.{State}
 use Rattle.poly_desk.specs.Noted.{Held, held, numbers_of}
 
--- The floor's edition wasn't below the pass's; the pass has noted the floor's numbers after the call, and so many more changes
--- and cuts are its own.
+-- The floor's edition wasn't below the pass's; the pass has noted the floor's numbers after the call, and this many more
+-- changes and cuts are its own.
 pub record Met (s t : State) (p q : Held) (changes cuts : ℕ) : Type 0 where
   pub seen : p.noted.edition ≤ length s.steps
   pub pass : q ≡ held (numbers_of t) (p.changes + changes) (p.cuts + cuts) p.posts

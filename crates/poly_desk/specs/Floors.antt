@@ -16,7 +16,7 @@ pub record OnFloor : Type 0 where
 abbrev pub on_floor : State → ℕ → OnFloor
 on_floor book passes = record { book = book; passes = passes }
 
--- the book opened so, and the totals are its steps and cuts since then
+-- the book began with this opening, and the totals are its steps and cuts since then
 pub record Counts (o : Layout) (ss : List Step) (k : ℕ) (b : State) (changes cuts : ℕ) : Type 0 where
   pub opened : b.opened ≡ o
   pub begins : drop changes b.steps ≡ ss

@@ -1,4 +1,4 @@
--- Receipts and the book that they are of.
+-- Receipts, and what they say of a book.
 use Rattle.std.specs.Global.{Global}
 use Rattle.std.specs.List.{All, flat_map, list_any}
 use Rattle.std.specs.Prelude.{Bool, List, Some, Vec, false, length, reverse, slice_get, slice_index_or, take, true, ℕ, ◌++◌, ◌+◌, ◌<◌, ◌==◌, ◌∷◌, ◌≡◌, ◌⊎◌}
@@ -10,11 +10,11 @@ use Rattle.poly_book.specs.States.{State}
 use Rattle.poly_desk.specs.declared.receipt.Receipt.{Receipt}
 use Rattle.poly_desk.specs.declared.receipt.Receipt.TheVariants.{Changed, Cut}
 
--- the entry stands at the place, counted from 1
+-- the list has the entry at the place, counted from 1
 abbrev pub IsAt : {X : Type 0} → List X → ℕ → X → Type 0
 IsAt xs place x = (i : ℕ) × (place ≡ i + 1) × (slice_get xs i ≡ Some x)
 
--- the receipt stands at its place: among the steps, the oldest first, or among the endings
+-- the book has what the receipt says at its place: among the steps, the oldest first, or among the endings
 abbrev pub Stands : State → Receipt → Type 0
 Stands b (Changed place step) = IsAt (reverse b.steps) place step
 Stands b (Cut place task) = IsAt b.endings place (ending.Cut task)
@@ -43,12 +43,12 @@ is_taken rs r = list_any (λ q. same_place q r) rs
 abbrev pub AreApart : List Receipt → Type 0
 AreApart rs = (k : ℕ) (d : Receipt) → k < length rs → is_taken (take k rs) (slice_index_or rs k d) ≡ false
 
--- each receipt stands at its place, and no two of one kind at one place
+-- each receipt is right, and no two of one kind have one place
 pub record AreReceipts (b : State) (rs : List Receipt) : Type 0 where
   pub stand : All (Stands b) rs
   pub apart : AreApart rs
 
--- one of the receipts doesn't stand at its place; or it does, and is the second of its kind there
+-- one of the receipts isn't right, or it is the second of its kind for its place
 abbrev pub IsBadReceipt : State → List Receipt → Refusal → Type 0
 IsBadReceipt b rs e = (before : List Receipt) × (r : Receipt) × (after : List Receipt) × (rs ≡ before ++ r ∷ after) ×
     (((e ≡ Unsettled (place_of r) (entries b r)) × (¬ Stands b r))

@@ -21,7 +21,7 @@ pub record IsLaterOf (noted given later : Posted) : Type 0 where
   pub noted_up_to : IsUpTo noted later
   pub given_up_to : IsUpTo given later
 
--- the pass has noted an edition that isn't below the earlier one, and so many more changes and cuts are its own
+-- the pass has noted an edition that isn't below the earlier one, and it has made this many more changes and cuts
 pub record Later (p q : Held) (changes cuts : ℕ) : Type 0 where
   pub edition : p.noted.edition ≤ q.noted.edition
   pub changes_are : q.changes ≡ p.changes + changes

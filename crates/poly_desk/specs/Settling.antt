@@ -10,7 +10,7 @@ use Rattle.poly_desk.specs.Floors.{Counts}
 use Rattle.poly_desk.specs.Receipts.{IsBadReceipt}
 use Rattle.poly_desk.specs.declared.receipt.Receipt.{Receipt}
 
--- a sum as it is named: one over 2^64 - 1 is named as that
+-- a sum that saturates at 2^64 - 1
 abbrev pub named : ℕ → ℕ
 named sum = min sum 18446744073709551615
 
@@ -24,7 +24,7 @@ IsUneven b changes cuts changes_given cuts_given rs e =
     IsMismatch changes_given changes e
     ⊎ ((changes_given ≡ changes) × (IsMismatch cuts_given cuts e ⊎ ((cuts_given ≡ cuts) × IsBadReceipt b rs e)))
 
--- so it is for a book that opened so and has had so many changes and cuts since
+-- e is such a cause for a book that opened so, after the changes and cuts that it has had since
 pub record IsNotSettled (o : Layout) (ss : List Step) (k changes_given cuts_given : ℕ) (rs : List Receipt) (e : Refusal) : Type 0 where
   pub book : State
   pub changes : ℕ

@@ -20,7 +20,7 @@ flag_of m (Cut place task) = flag_at m.endings.items place
 abbrev pub HasFlags : State → Marks → Type 0
 HasFlags b m = (length b.steps ≤ length m.steps.items) × (length b.endings ≤ length m.endings.items)
 
--- the receipts are right, and just their flags are up
+-- the receipts are right, and exactly their flags are up
 pub record Taken (b : State) (m : Marks) (rs : List Receipt) : Type 0 where
   pub receipts : AreReceipts b rs
   pub ticked : (r : Receipt) → flag_of m r ≡ is_taken rs r

@@ -3,7 +3,8 @@
 //!
 //! - [`Opening`]: a type that names what a desk began with.
 //! - [`Desk`]: `begin`, `pass`; `edit`, `undo`, `redo`, `hand_in`; `next`, `take`, `browse`, `quiet`; `look`; `settle_up`.
-//! - [`Pass`]: the right to use a desk. [`Receipt`]: says where a change or a report stands in the desk's book.
+//! - [`Pass`]: the right to use a desk. [`Receipt`]: says at which place the desk's book has a change or the end of a
+//!   task.
 //! - [`Floor`]: what the lock protects. It does the whole work of a desk and never waits.
 //! - [`Bench`]: a desk as a worker sees it.
 //! - [`NotBegun`], [`NotSettled`]: hand back what a refused call was given.

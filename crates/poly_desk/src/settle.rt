@@ -1,4 +1,4 @@
-//! Settling a desk up.
+//! Settles a desk up.
 ghost use Rattle.std.specs.Prelude.{◌≡◌, IfErr, IfOk, OnOk, sum_by};
 ghost use Rattle.poly_desk.specs.Floors.{Counts};
 ghost use Rattle.poly_desk.specs.Receipts.{AreReceipts, all_of};
@@ -17,12 +17,12 @@ use std::sync::Mutex;
 use std::sync::ledger::Ledger;
 
 impl<C: Ledger, K: Ledger, O: Opening> Desk<C, K, O> {
-    /// The book, if the passes made all changes and cuts since the desk began, and each receipt stands at its place, no two
-    /// of one kind at one place. Never allocates or waits.
+    /// Returns the book if the passes made all changes and cuts since the desk began, each receipt is right, and no two of
+    /// one kind have one place. Never allocates or waits.
     ///
     /// Refused only with `Unsettled`, and then hands everything back: if the sum of the passes' changes (seen) isn't the
-    /// total (found); if not, for cuts likewise; then if a receipt (seen: its place) doesn't stand at its place (found: the
-    /// number of entries), or is the second of its kind there (found: 2). A sum over 2^64 - 1 is named as that.
+    /// total (found); if not, for cuts likewise; then if a receipt (seen: its place) isn't right (found: the number of
+    /// entries), or is the second of its kind for its place (found: 2). Sums saturate at 2^64 - 1.
     pub fn settle_up(
         self,
         passes: Vec<Pass<C, K, O>>,

@@ -8,7 +8,8 @@ use crate::pass::Pass;
 use poly_grid::Refusal;
 use std::sync::ledger::Ledger;
 
-/// Whether the passes made so many changes and cuts. If not, says which sum was found to be another one.
+/// Succeeds if the passes made this many changes and cuts. If not, the refusal names the sum that differs and what was
+/// expected.
 pub(crate) fn check_shares<C: Ledger, K: Ledger, O: Opening>(
     passes: &[Pass<C, K, O>],
     changes: u64,

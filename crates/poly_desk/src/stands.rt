@@ -1,4 +1,4 @@
-//! Whether a receipt stands at its place.
+//! Whether a receipt is right: the book has what it says at its place.
 ghost use Rattle.std.specs.Prelude.{◌≡◌, ◌↔◌, IsTrue};
 ghost use Rattle.poly_book.specs.declared.step.Ending.{Ending};
 ghost use Rattle.poly_desk.specs.Receipts.{IsAt, Stands, entries, place_of};
@@ -28,7 +28,7 @@ impl Receipt {
         }
     }
 
-    /// Whether it stands at its place in the book.
+    /// Whether the book has, at its place, what it says.
     pub(crate) fn stands(&self, book: &Book) -> bool
         ensures { IsTrue result ↔ Stands book.now self.now }
     {

@@ -1,4 +1,4 @@
-//! Going through receipts: each has to stand at its place, and its flag, which is put up for it, has to be down before.
+//! Goes through receipts. Each must be right, and its place's flag, which is raised for it, must be down before.
 ghost use Rattle.std.specs.Prelude.{◌≡◌, ◌<◌, ◌≤◌, ◌++◌, ◌||◌, ◌==◌, ◌⊎◌, ℕ, Bool, List, All, IfErr, OnOk, false, length, true};
 ghost use Rattle.poly_grid.specs.declared.refusal.Refusal.TheVariants.{Unsettled};
 ghost use Rattle.poly_desk.specs.Receipts.{AreReceipts, IsBadReceipt, Stands, all_of, entries, place_of, same_place};
@@ -10,8 +10,8 @@ use crate::receipt::Receipt;
 use poly_book::Book;
 use poly_grid::Refusal;
 
-/// Whether each receipt stands at its place, and no two of one kind at one place. If not, names one of them. All flags are
-/// down before.
+/// Succeeds if each receipt is right, and no two of one kind have one place. If not, the refusal names one of them. All
+/// flags are down before.
 pub(crate) fn check_receipts(
     book: &Book,
     marks: &mut Marks,
@@ -48,7 +48,7 @@ fn tick_list(book: &Book, marks: &mut Marks, receipts: &[Receipt]) -> Result<(),
     Ok(())
 }
 
-// Ticks one receipt off, if it stands at its place and its flag is down.
+// Ticks one receipt off, if it is right and its flag is down.
 fn tick_off(book: &Book, marks: &mut Marks, receipt: &Receipt) -> Result<(), Refusal>
     requires flags { HasFlags book.now marks.old }
     ensures flags { HasFlags book.now marks.new }
@@ -73,7 +73,7 @@ fn tick_off(book: &Book, marks: &mut Marks, receipt: &Receipt) -> Result<(), Ref
     Ok(())
 }
 
-// Puts the flag of the receipt's kind and place up, and returns whether it was.
+// Raises the flag of the receipt's kind and place, and returns whether it was up.
 fn raise(marks: &mut Marks, receipt: &Receipt) -> bool
     requires place { 0 < place_of receipt.now }
     requires step { (place : ℕ) (step : _) → receipt.now ≡ Receipt.Changed place step → place ≤ length marks.old.steps.items }
@@ -88,7 +88,7 @@ fn raise(marks: &mut Marks, receipt: &Receipt) -> bool
     }
 }
 
-// Puts the flag of the place up, and returns whether it was.
+// Raises the flag of the place, and returns whether it was up.
 fn raise_at(flags: &mut [bool], place: u64) -> bool
     requires { (0 < place) × (place ≤ length flags.old) }
     ensures length { length flags.new ≡ length flags.old }

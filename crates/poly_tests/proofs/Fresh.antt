@@ -15,7 +15,7 @@ and_not : (a b : Bool) → (a ≡ true → b ≡ false) → (a && b) ≡ false
 and_not true b h = h refl
 and_not false b h = refl
 
--- two lists of which one has nothing of the other
+-- two lists without a common element
 apart : (a b : List (List ℕ)) → AreOnce a → AreOnce b → ((T : List ℕ) → In T a → tally (same_list T) b ≡ 0) → AreOnce (a ++ b)
 apart a b x y none T = elim (cases_eq (tally (same_list T) a) 0) [
   | inl e ↦ omega (arith, tally_append (same_list T) a b, e, y T)

@@ -71,7 +71,8 @@ fn covering(rt: &impl Abort, alloc: Global, view: &View, item: &Item) -> Vec<u32
     numbers
 }
 
-// A Branch on the item whose arms are the placements that cover it, all but so many of the last ones, each with Rest.
+// A Branch on the item whose arms are the placements that cover it, without this many of the last ones. Each arm has a
+// Rest.
 fn branch_on(rt: &impl Abort, alloc: Global, view: &View, item: Item, less: usize) -> Tree {
     let mut numbers = covering(rt, alloc, view, &item);
     for _ in 0..less {
@@ -85,7 +86,7 @@ fn branch_on(rt: &impl Abort, alloc: Global, view: &View, item: Item, less: usiz
     Tree::Branch { item, arms }
 }
 
-// A report on task 1: a Branch on the cell with all its arms, but so many.
+// A report on task 1: a Branch on the cell with all its arms but this many.
 fn report_on(rt: &impl Abort, alloc: Global, book: &Book, cell: (u64, u64), less: usize) -> Report {
     Report {
         task: 1,
@@ -180,7 +181,7 @@ fn chain(rt: &impl Abort, alloc: Global, splits: usize, placement: u32) -> Tree 
     tree
 }
 
-// A Branch with so many arms on the first placement.
+// A Branch with this many arms on the first placement.
 fn wide_branch(rt: &impl Abort, alloc: Global, arms: usize) -> Tree {
     let item = cell_item(rt, 0, 0);
     let mut all = Vec::new(alloc);

@@ -1,4 +1,4 @@
-//! Answers about tilings beside a plain filter, and classes that were counted by hand.
+//! Answers about tilings, compared with a plain filter, and classes that were counted by hand.
 
 use crate::designs::{DOMINOES, design_of};
 use poly_browse::{Answer, Query, browse, classes_of};
@@ -229,7 +229,8 @@ fn classes_go_by_pins_and_forbidden_places(rt: HostRuntime) {
 
 // Two cells in a row, and one-cell pieces A and B. If no cell is required, the two cells can change places, and the classes
 // are nothing, A, B, and A with B. If the first cell is required, they can't, and each of the four tilings is a class: A or
-// B on that cell, with or without the other piece beside it. If both are required, A and B lie in two ways, which are alike.
+// B on that cell, with or without the other piece next to it. If both are required, A and B lie in two ways, which are
+// alike.
 #[test]
 fn classes_go_by_names_and_required_cells(rt: HostRuntime) {
     let alloc = rt.alloc();

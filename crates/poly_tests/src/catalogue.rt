@@ -1,4 +1,4 @@
-//! The catalogue under edits, beside the plain filter of all that was listed.
+//! The catalogue under edits, compared with the plain filter of all that was listed.
 ghost use Rattle.std.specs.Prelude.{◌≡◌, ◌++◌, IfOk, OnOk, filter, not, true};
 ghost use Rattle.std.specs.Cmp.Lexicographic.{pointwise};
 ghost use Rattle.std.specs.List.{list_all, list_any};
@@ -162,7 +162,7 @@ const LINES: [&[u8]; 16] = [
     b"add B required on 0,0 1,0",
 ];
 
-// Whether each of so many edits by chance does what the plain filter does.
+// Whether each of this many random edits does what the plain filter does.
 fn random_edits(alloc: Global, count: usize) -> Result<bool, Refusal> {
     let mut design = design_of(alloc, DOMINOES, &[])?;
     let mut table = Table::of(alloc, &design)?;

@@ -39,8 +39,8 @@ pub(crate) fn edited(rt: &(impl AllocGlobal + Abort), line: &[u8], edits: &[&[u8
     design_of(rt.alloc(), line, edits).expect(rt, "a puzzle line and edits")
 }
 
-/// The view of the design by itself. Its numbers are the places in `Design::places`; a pin that is no placement comes
-/// after them.
+/// The view of the design by itself. Its numbers are the indices in `Design::places`; a pin that isn't a placement
+/// comes after them.
 pub(crate) fn view(rt: &(impl AllocGlobal + Abort), design: &Design) -> View
     ensures shows { Shows result design.now }
     ensures plain { IsPlain result design.now }

@@ -1,4 +1,4 @@
-//! Tests that cross crates: what one crate answers is compared with what another one does. There is nothing else here.
+//! Tests that cross crates: they compare what one crate answers with what another one does. There is nothing else here.
 #![tactic(auto)]
 
 #[cfg(test)]

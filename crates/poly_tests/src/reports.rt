@@ -202,7 +202,7 @@ fn what_is_explored_is_a_report(rt: HostRuntime) {
     }
 }
 
-// How many arms the root has that is explored with one node; none if it is no Branch.
+// How many arms the root has that is explored with one node; none if it isn't a Branch.
 fn arms_of_root(alloc: Global, view: &View) -> Result<Option<usize>, Refusal> {
     match explore(alloc, view, &[], 1)? {
         Tree::Branch { arms, .. } => Ok(Some(arms.len())),

@@ -7,7 +7,7 @@ use poly_tiling::{View, list_tilings, sort_tilings};
 use std::alloc::Global;
 use std::test::Fail;
 
-// How many tilings both give, or none where they differ.
+// How many tilings both give, or none if they differ.
 fn both(alloc: Global, puzzle: &[u8], lines: &[&[u8]]) -> Result<Option<usize>, Refusal> {
     let design = design_of(alloc, puzzle, lines)?;
     let view = View::plain(alloc, &design)?;

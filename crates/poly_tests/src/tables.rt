@@ -73,7 +73,7 @@ fn is_as_new(alloc: Global, design: &Design, table: &Table) -> Result<bool, Refu
     )
 }
 
-// Whether the table is as new where the change is undone and made again. It leaves the change undone.
+// Whether the table is like a new one after the change is undone and made again. Leaves the change undone.
 fn is_as_new_back(
     alloc: Global,
     design: &mut Design,
@@ -102,7 +102,7 @@ fn both_ways(alloc: Global, design: &Design, line: &[u8]) -> Result<(Change, Cha
     ensures after { IfOk result (λ ways. IsDesign (changed design.now ways.0)) }
     ensures back { IfOk result (λ ways. changed (changed design.now ways.0) ways.1 ≡ design.now) }
 {
-    // That a design is within its limits is what this call says of it.
+    // The contract of this call tells that the design is within its limits.
     let _cells = design.cells();
     match change_of(alloc, design, line) {
         Ok(change) => match change.copy() {
