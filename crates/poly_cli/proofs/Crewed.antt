@@ -34,7 +34,7 @@ tells_unsettled o ss k changes cuts rs e n = go n.uneven
     go (inr (same, inl why)) = ap is_unsettled why.0
     go (inr (same, inr (both, receipt))) = bad n.book receipt
 
--- what an engine without failures answers stands for one with failures too
+-- an answer of an engine without failures is also one of an engine with failures
 pub without_failures : {A B : Type 0} → A ⊎ ⊥ → A ⊎ B
 without_failures (inl a) = inl a
 without_failures (inr none) = absurd none

@@ -24,7 +24,7 @@ same_refusal : (r : Result Command Refusal) (e : Refusal) → Err e ≡ (r >>= �
 same_refusal (Ok c) e h = absurd cc
 same_refusal (Err f) e h = cc
 
--- what comes of a command: its answer, want of memory or a failure
+-- the outcome of a command: its answer, a refusal because memory ran out, or a failure
 abbrev pub Comes : (Refusal → Type 0) → Command → State → List ℕ → State → Type 0
 Comes Failures c s out t = Answers c s out t ⊎ IsRefusal Memory s out t ⊎ ((is_status c ≡ false) × Fails Failures s out t)
 

@@ -50,7 +50,7 @@ abbrev pub RunsRefused : List (Option (List ℕ)) → List ℕ → Type 0
 RunsRefused [] out = out ≡ refusal_text Memory
 RunsRefused (first ∷ lines) out = (e : Refusal) × Refuses first e × (out ≡ refusal_text e)
 
--- a session whose first line was accepted, if there was one; its engine tells by one of these refusals that it failed
+-- a session whose first line was accepted, if there was one; one of these refusals means that its engine has failed
 abbrev pub RunsOpened : (Refusal → Type 0) → List (Option (List ℕ)) → List ℕ → Type 0
 RunsOpened Failures [] out = out ≡ []
 RunsOpened Failures (first ∷ lines) out = (s : State) × (rest : List ℕ) × Accepts first s × Runs (Slow Failures) s lines rest × (out ≡ ok_text 0 ++ rest)

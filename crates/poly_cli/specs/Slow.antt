@@ -1,5 +1,5 @@
 -- The slow session: the answer to each line after the puzzle line, and the next state. It knows only the definitions: no engine,
--- no numbers, no tables, no search. Of an engine it is given only the refusals by which that engine tells that it failed.
+-- no numbers, no tables, no search. All that it is given of an engine are the refusals that mean that the engine has failed.
 use Rattle.std.specs.Prelude.{Bool, false, true, ◌≡◌, ◌⊎◌, ℕ, ◌+◌, List, [], ◌∷◌, Option, Some, None, Result, Ok, Err}
 use Rattle.poly_grid.specs.declared.refusal.Refusal.{Refusal}
 use Rattle.poly_grid.specs.declared.refusal.Refusal.TheVariants.{LineTooLong, Memory}
@@ -30,12 +30,12 @@ Answers command.ListAll s out t = Tells ListSays s out t
 Answers (command.Browse question) s out t = Tells (BrowseSays question) s out t
 Answers command.Classes s out t = Tells ClassesSay s out t
 
--- the command asks for nothing but numbers, which every engine tells
+-- the command asks only for numbers, which every engine has
 abbrev pub is_status : Command → Bool
 is_status command.Status = true
 is_status _ = false
 
--- the engine tells that it failed, and nothing changes
+-- the engine has failed and says so, and nothing changes
 abbrev pub Fails : (Refusal → Type 0) → State → List ℕ → State → Type 0
 Fails Failures s out t = (e : Refusal) × Failures e × IsRefusal e s out t
 

@@ -170,7 +170,7 @@ fn remains_of(solo: &Solo) -> Remains
     }
 }
 
-// How the crew ended, if that stands for an answer. After any other end the book can be settled alone.
+// How the crew ended, if that is to be the answer. After any other end the book can be settled alone.
 fn stopped_by(end: Result<(), Refusal>) -> Result<(), Refusal>
     ensures { IfErr result (λ e. (d : Layout) → IsUnanswered d e ⊎ (is_unsettled e ≡ true)) }
 {
