@@ -1,4 +1,4 @@
--- Numbers that rise: the first one from a number on stands where a search by halving ends.
+-- In a list of rising numbers, a binary search ends at the first number that is at least the wanted one.
 use Rattle.std.proofs.Common.{List, None, Some, [], ap, arith, cond, false, get_or, inl, inr, length, nat_lt, refl, suc, sym, true, zero, ℕ, ◌+◌, ◌<◌, ◌∙◌, ◌∷◌, ◌≡◌, ◌≤◌}
 use Rattle.std.proofs.lemmas.Bool.{lt-ltb, ltb-true, true≢false}
 use Rattle.std.proofs.lemmas.Bool.Decides.{leb_tells}

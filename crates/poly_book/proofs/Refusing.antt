@@ -86,7 +86,7 @@ module _ (s : State) (h : Steps Change Kept) (x : Change) (w : View) (eb : s.bac
   full : (k : Kind) → IsTop k h x → 1000000 < length (filter (λ T. is_tiling w T) s.listed) + length (returned (stood_by k h)) → 1000000 < length (step s (event_of k x w)).listed
   full k t n = omega (arith, n, ap length (listed_after k s h x w eb ef t).listed, length-append (filter (λ T. is_tiling w T) s.listed) (returned (stood_by k h)))
 
-  -- there is no room for the tilings that are listed again
+  -- listing the shelf's tilings again would exceed the limit
   pub full_not_made : (k : Kind) → IsTop k h x → (e : Refusal) → e ≡ CatalogueFull → 0 < length (returned (stood_by k h)) → 1000000 < length (filter (λ T. is_tiling w T) s.listed) + length (returned (stood_by k h)) → IsNotMade k x s e
   full_not_made kind.Edit t e is some n = absurd (omega (arith, some))
   full_not_made kind.Undo t e is some n = inr (inl (is, (w, l, full kind.Undo t n)))

@@ -117,7 +117,7 @@ taken_by v d m f S T c g h a e =
     (subst (λ (w : Motion). TakesPlacement d.grid w z.place y.0) e y.2) z.taken in
     subst (λ q. In q T) (same_number v c.well r.0 k z.image (r.2 ∙ ap (λ (q : Placement). Some q) same) (ap (λ n. slice_get v.placements n) (sym n.2) ∙ z.taken_to)) r.1)
 
--- if all cells are blocked there is no placement
+-- a design whose cells are all blocked has no placement
 no_placement : (d : Layout) → d.cells ≡ [] → (p : Placement) → IsPlacement d p → ⊥
 no_placement d none p is =
     let c = some_cell d p is in
@@ -284,7 +284,7 @@ firsts_are_classes v d maps lists a once =
       counted = length-map kept (names v);
     }
 
--- if a pin isn't a placement there is no tiling
+-- a view with a pin that isn't live has no tiling, so no class
 pub no_classes : (v : View) (d : Layout) → WellNamed v → Shows v d → list_all (λ n. mem v.live n) v.pins ≡ false → AreClasses d 0
 no_classes v d wn s lost =
     let none : (T : List Placement) → IsTiling d T → ⊥ = λ T t.
