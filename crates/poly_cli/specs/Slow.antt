@@ -39,7 +39,8 @@ is_status _ = false
 abbrev pub Fails : (Refusal → Type 0) → State → List ℕ → State → Type 0
 Fails Failures s out t = (e : Refusal) × Failures e × IsRefusal e s out t
 
--- the reply to a command, in place of which a failure may stand, or its refusal
+-- The reply to a command that was read, or the refusal of one that was not. A failure of the engine may take the place of any
+-- reply but that of `status`.
 abbrev pub Replies : (Refusal → Type 0) → Result Command Refusal → State → List ℕ → State → Type 0
 Replies Failures (Ok c) s out t = Answers c s out t ⊎ ((is_status c ≡ false) × Fails Failures s out t)
 Replies Failures (Err e) s out t = IsRefusal e s out t

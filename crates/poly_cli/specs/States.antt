@@ -58,15 +58,15 @@ pub record Redoes (s t : State) : Type 0 where
 abbrev pub EditRefused : State → Edit → Refusal → Type 0
 EditRefused s edit e = IsRefused s.design edit e ⊎ ((change : Change) × IsAccepted s.design edit change × (((e ≡ TooWide) × IsWide s.design (changed s.design change)) ⊎ (e ≡ Spent)))
 
--- why a change to the design isn't undone or redone: a counter is used up, or the design has too many tilings
+-- why an undo or redo that leads to the design is refused: a counter is used up, or the design has too many tilings
 abbrev pub StepRefused : Layout → Refusal → Type 0
 StepRefused d e = (e ≡ Spent) ⊎ ((e ≡ CatalogueFull) × HasOverTilings 1000000 d)
 
--- there is no change to undo, or the last one isn't undone
+-- an undo is refused if there is no undo step, or if going back to the design before the last one is refused
 abbrev pub UndoRefused : State → Refusal → Type 0
 UndoRefused s e = ((e ≡ NothingToUndo) × (s.undo ≡ [])) ⊎ ((change : Change) × (left : List Change) × (s.undo ≡ left ++ change ∷ []) × StepRefused (changed s.design (inverse_of change)) e)
 
--- there is no change to redo, or the next one isn't redone
+-- a redo is refused if there is no redo step, or if going on to the design after the next one is refused
 abbrev pub RedoRefused : State → Refusal → Type 0
 RedoRefused s e = ((e ≡ NothingToRedo) × (s.redo ≡ [])) ⊎ ((change : Change) × (left : List Change) × (s.redo ≡ left ++ change ∷ []) × StepRefused (changed s.design change) e)
 

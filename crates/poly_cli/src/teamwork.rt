@@ -32,8 +32,8 @@ pub(crate) struct Crewing {
     ghost few_turns: { turns ≤ 1000000000 },
 }
 
-/// Lets a crew work on the book, which keeps its design and what can be undone and redone. If there is no memory for the desk or a pass,
-/// then no crew works. Fails with `Unsettled` if the desk isn't settled up; the book is lost then.
+/// Sets a crew to work on the book. The design and the undo and redo steps stay the same. If there is no memory for the desk or a
+/// pass, no crew works. Fails with `Unsettled` if the desk isn't settled up; the book is lost then.
 pub(crate) fn work_on<R: Threads + Wait + Sync>(
     rt: &R,
     alloc: Global,
@@ -125,7 +125,7 @@ struct Returned<C: Ledger, K: Ledger, O: Opening> {
     end: Result<(), Refusal>,
 }
 
-// Adds so many further passes.
+// Appends `count` further passes of the desk to the list.
 fn deal<C: Ledger, K: Ledger, O: Opening, R: Wait>(
     rt: &R,
     alloc: Global,

@@ -147,7 +147,7 @@ fn devices_fail(rt: HostRuntime) {
     expect_end(&rt, full, Err(Fault::Write), want);
 }
 
-// A session by so many workers writes the same bytes.
+// A session with a team of `workers` writes the same bytes as one thread.
 fn expect_team<R: Threads + Wait + Sync + AllocGlobal + Abort>(rt: &R, workers: usize)
     requires some { 1 ≤ workers }
     requires few { workers ≤ 16 }
