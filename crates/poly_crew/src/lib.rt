@@ -19,6 +19,7 @@ pub mod laws;
 mod outcome;
 mod room;
 mod rule;
+mod scene;
 mod thief;
 mod turns;
 mod worker;

@@ -3,6 +3,7 @@ ghost use Rattle.std.specs.Prelude.{◌≡◌, ◌≤◌, length};
 
 mod desk;
 
+use crate::scene::{Scene, explore_job};
 use crate::{Gate, OpenGate, crew};
 use poly_book::{Applied, Book, Job, Which};
 use poly_design::{Design, Edit, Mode, Name, Need};
@@ -242,4 +243,37 @@ fn another_refusal_ends_the_worker(rt: HostRuntime) {
         (after.applied, after.end),
         (0, Err(Refusal::CatalogueFull))
     );
+}
+
+// Explores the newest task as a worker does, and hands the report in. Returns whether a task was pending.
+fn cut_newest(rt: &impl Abort, alloc: Global, scene: &mut Option<Scene>, book: &mut Book) -> bool {
+    let Some(job) = book.take(Which::Any).expect(rt, "memory") else {
+        return false;
+    };
+    let report = Report {
+        task: job.task,
+        edition: job.edition,
+        tree: explore_job(alloc, scene, &job, 1).expect(rt, "memory"),
+    };
+    book.hand_in(report).expect(rt, "a tree that holds");
+    true
+}
+
+#[test]
+fn a_worker_takes_the_view_of_a_new_edition(rt: HostRuntime) {
+    let mut book = two_dominoes(&rt, rt.alloc());
+    let mut scene = None;
+    cut_newest(&rt, rt.alloc(), &mut scene, &mut book);
+    for (x, y) in [(1, 1), (2, 0)] {
+        let mode = Mode::Optional;
+        let cell = cell(&rt, x, y);
+        book.edit(Edit::Cell { cell, mode })
+            .expect(&rt, "an edit that is accepted");
+    }
+    for _ in 0..1000u32 {
+        if !cut_newest(&rt, rt.alloc(), &mut scene, &mut book) {
+            break;
+        }
+    }
+    expect_tilings(&rt, book, 6);
 }

@@ -3,12 +3,12 @@ ghost use Rattle.std.specs.Prelude.{◌≤◌};
 ghost use Rattle.poly_crew.specs.Worked.{IsWorked};
 
 use crate::gate::Gate;
+use crate::scene::{Scene, explore_job};
 use crate::worker::Worker;
 use poly_book::Which;
 use poly_desk::Bench;
 use poly_grid::Refusal;
 use poly_report::Report;
-use poly_search::explore;
 use std::alloc::Global;
 use std::sync::Wait;
 
@@ -35,8 +35,9 @@ pub(crate) fn run<R: Wait, B: Bench, G: Gate>(
     ensures { IsWorked B.changes B.cuts work.now.turns worker.old worker.new }
 {
     worker.end = Err(Refusal::Unfinished);
+    let mut scene: Option<Scene> = None;
     for turn in 0..work.turns {
-        match take_turn(rt, work, number, turn, worker) {
+        match take_turn(rt, work, number, turn, &mut scene, worker) {
             Ok(true) => {}
             Ok(false) => {
                 worker.end = Ok(());
@@ -56,6 +57,7 @@ fn take_turn<R: Wait, B: Bench, G: Gate>(
     work: &Work<B, G>,
     number: u32,
     turn: u64,
+    scene: &mut Option<Scene>,
     worker: &mut Worker<B::Pass>,
 ) -> Result<bool, Refusal>
     ensures { IsWorked B.changes B.cuts 1 worker.old worker.new }
@@ -65,7 +67,7 @@ fn take_turn<R: Wait, B: Bench, G: Gate>(
         return Ok(which != Which::Any);
     };
     work.gate.enter(number, turn);
-    let found = explore(work.alloc, &job.view, &job.atoms, work.nodes);
+    let found = explore_job(work.alloc, scene, &job, work.nodes);
     work.gate.leave(number, turn);
     let report = Report {
         task: job.task,
