@@ -183,7 +183,9 @@ pub(crate) fn judge(
 }
 
 // How many options the item at a place has beyond what it still needs, plus one: 0 if they are too few; some number
-// that is at least `fewest` if it is not less than that. None if the base has enough.
+// that is at least `fewest` if it is not less than that. None if the base has enough. It runs for each item that is due
+// at each node, where a call would cost as much as the count.
+#[inline(always)]
 fn spare(
     table: &Table,
     steps: &Steps,

@@ -177,8 +177,8 @@ fn copy_lists(alloc: Global, whole: &Matrix, numbers: &[u32]) -> Result<Lists, R
     ensures value { IfOk result (λ l. (v : Scene) → IsMatrix v whole.now → ListsShow v numbers.now l) }
     ensures why { IfErr result (λ e. e ≡ Refusal.Memory) }
 {
-    let mut starts = Vec::with_capacity(alloc, numbers.len())?;
-    let mut places = Vec::new(alloc);
+    let mut starts = Vec::with_capacity(alloc, numbers.len().saturating_add(1))?;
+    let mut places = Vec::with_capacity(alloc, whole.lists.places.len())?;
     starts.push(0usize)?;
     for p in numbers {
         let j = whole.stands[*p as usize];
@@ -233,7 +233,7 @@ fn empty_rows(alloc: Global, width: usize, count: usize) -> Result<Vec<u64>, Ref
     ensures why { IfErr result (λ e. e ≡ Refusal.Memory) }
 {
     let row = vec![in alloc; 0u64; width]?;
-    let mut rows = Vec::new(alloc);
+    let mut rows = Vec::with_capacity(alloc, width.saturating_mul(count))?;
     for b in 0..count {
         let _ = b;
         rows.extend_from_slice(&row)?;
