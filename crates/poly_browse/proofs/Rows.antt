@@ -1,7 +1,8 @@
 -- Lists as loops go through them, and tests over the placements that numbers name.
-use Rattle.std.proofs.Common.{Bool, Err, IfNone, IfOk, IfSome, Ok, Result, List, None, Option, Some, SomeIff, [], ap, arith, cond, eqb, false, get_or, inl, inr, length, not, refl, slice_get, subst, suc, sym, take, true, zero, ℕ, ◌&&◌, ◌++◌, ◌+◌, ◌<◌, ◌≤◌, ◌||◌, ◌∙◌, ◌∷◌, ◌≡◌}
+use Rattle.std.proofs.Common.{Bool, Err, IfNone, IfOk, IfSome, Ok, Result, List, None, Option, Some, SomeIff, [], ap, arith, cond, eqb, false, get_or, inl, inr, length, not, refl, set, slice_get, subst, suc, sym, take, true, zero, ℕ, ◌&&◌, ◌++◌, ◌+◌, ◌<◌, ◌≤◌, ◌||◌, ◌∙◌, ◌∷◌, ◌≡◌}
 use Rattle.std.proofs.lemmas.Bool.{and_from, and_parts, cases_eq, cases_lt, eq-eqb, ne_eqb, true≢false}
-use Rattle.std.proofs.lemmas.List.{get_or-take, get_or_past, get_or_read, take_more}
+use Rattle.std.proofs.lemmas.Grind.{get_or-set_at}
+use Rattle.std.proofs.lemmas.List.{get_or-set_other, get_or-take, get_or_past, get_or_read, take_more}
 use Rattle.std.proofs.lemmas.List.Elements.{filter_map-append}
 use Rattle.std.specs.Cmp.{IsEquivalence, tied_itself}
 use Rattle.std.specs.List.{AllWithin, Contains, cons_option, filter, list_all, list_any}
@@ -23,7 +24,7 @@ use Rattle.poly_tiling.specs.Tilings.{carries}
 use Rattle.poly_tiling.specs.declared.item.Item.{Item}
 use Rattle.poly_tiling.proofs.Ascending.{ascending_from, ascending_rest, ascending_same, below_all, in_put_all_left, put_all_in, put_all_up}
 use Rattle.poly_tiling.proofs.Contained.{low_get}
-use Rattle.poly_tiling.proofs.Lists.{In, filter_in, in_append_cases, in_filter, in_mem, mem_in, same_truth}
+use Rattle.poly_tiling.proofs.Lists.{In, any_append, filter_in, in_append_cases, in_filter, in_mem, mem_in, same_truth}
 use Rattle.poly_tiling.proofs.Sorting.{sorted_ascend, sorted_same}
 use Rattle.poly_browse.specs.Browsing.{Asked, is_covered, is_in, matches, same_placement}
 use Rattle.poly_browse.specs.Gathering.{has_it, names_it}
@@ -136,6 +137,35 @@ flag_more i flags b l e k = elim (cases_eq k i) [
     or_no true b = refl
     or_no false true = refl
     or_no false false = refl
+
+pub or_false : (b : Bool) → (b || false) ≡ b
+or_false true = refl
+or_false false = refl
+
+pub or_true : (b : Bool) → (b || true) ≡ true
+or_true true = refl
+or_true false = refl
+
+or_group : (a b c : Bool) → ((a || b) || c) ≡ (a || (b || (c || false)))
+or_group true b c = refl
+or_group false true c = refl
+or_group false false true = refl
+or_group false false false = refl
+
+-- one more number
+pub mem_more : (old : Bool) (xs : List ℕ) (i k : ℕ) → i < length xs → ((old || mem (take i xs) k) || eqb (get_or xs i 0) k) ≡ (old || mem (take (i + 1) xs) k)
+mem_more old xs i k low = or_group old (mem (take i xs) k) (eqb (get_or xs i 0) k)
+    ∙ ap (λ b. old || b) (sym (ap (λ z. mem z k) (take_more xs i 0 low) ∙ any_append (λ y. eqb y k) (take i xs) (get_or xs i 0 ∷ [])))
+
+-- the flag of a number is raised, and a number past the flags raises none
+pub set_up : (flags : List Bool) (at k : ℕ) → at < length flags → get_or (set flags at true) k false ≡ (get_or flags k false || eqb at k)
+set_up flags at k low = elim (cases_eq k at) [
+  | inl e ↦ get_or-set_at flags at k true false e low ∙ sym (ap (λ b. get_or flags k false || b) (eq-eqb at k (sym e)) ∙ or_true (get_or flags k false))
+  | inr n ↦ get_or-set_other flags at k true false n ∙ sym (ap (λ b. get_or flags k false || b) (ne_eqb at k (λ e. n (sym e))) ∙ or_false (get_or flags k false))
+]
+
+pub past_up : (flags : List Bool) (at k : ℕ) → length flags ≤ at → k < length flags → get_or flags k false ≡ (get_or flags k false || eqb at k)
+past_up flags at k high low = sym (ap (λ b. get_or flags k false || b) (ne_eqb at k (λ e. omega (arith, e, high, low))) ∙ or_false (get_or flags k false))
 
 -- ---- placements in order
 

@@ -1,12 +1,12 @@
 //! The one pass over a list of tilings: what is kept of those that meet a query.
-ghost use Rattle.std.specs.Prelude.{IfErr, IfOk, OnOk, ℕ, false, true, ◌++◌, ◌&&◌, ◌≡◌};
+ghost use Rattle.std.specs.Prelude.{IfErr, IfOk, OnOk, ℕ, false, length, true, ◌++◌, ◌&&◌, ◌≡◌};
 ghost use Rattle.std.specs.List.{filter};
 ghost use Rattle.poly_tiling.specs.Lists.{mem};
 ghost use Rattle.poly_tiling.specs.Names.{WellNamed};
 ghost use Rattle.poly_browse.specs.Gathering.{IsGathered, chosen};
 
-use crate::flags::{raise, raised};
-use crate::lines::{lines_of, meets};
+use crate::flags::{none_raised, raise, raised};
+use crate::lines::{known, well_named, words_of};
 use crate::query::Query;
 use poly_grid::Refusal;
 use poly_tiling::{Tiling, View, has_number};
@@ -19,7 +19,7 @@ pub(crate) struct Gathered {
     pub(crate) count: u64,
     /// The numbers that all of them have; none if no tiling meets the query.
     pub(crate) common: Vec<u32>,
-    /// The numbers that at least one of them has, each once.
+    /// The numbers of the view's placements that at least one of them has, each once.
     pub(crate) used: Vec<u32>,
 }
 
@@ -30,19 +30,21 @@ pub(crate) fn gather(
     view: &View,
     query: &Query,
 ) -> Result<Gathered, Refusal>
-    ensures ok { IfOk result (λ g. IsGathered (chosen view.now (record { has = query.now.has.items; lacks = query.now.lacks.items; covers = query.now.covers.items }) tilings.now) g.count g.common.items g.used.items) }
+    ensures ok { IfOk result (λ g. IsGathered (length view.now.placements) (chosen view.now (record { has = query.now.has.items; lacks = query.now.lacks.items; covers = query.now.covers.items }) tilings.now) g.count g.common.items g.used.items) }
     ensures well { OnOk result (WellNamed view.now) }
     ensures why { IfErr result (λ e. e ≡ Refusal.Memory) }
 {
-    let lines = lines_of(alloc, view, query)?;
+    well_named(view);
+    let words = words_of(alloc, view, query)?;
     let mut count = 0;
     let mut common = Vec::new(alloc);
-    let mut flags = Vec::with_capacity(alloc, view.live().len())?;
+    // A number without a flag names no placement.
+    let mut flags = none_raised(alloc, known(view))?;
     for tiling in tilings {
         let numbers = tiling.numbers();
-        if meets(&lines, numbers) {
+        if words.are_met(numbers) {
             share(&mut common, count == 0, numbers)?;
-            raise(&mut flags, numbers)?;
+            raise(&mut flags, numbers);
             count += 1;
         }
     }

@@ -1,26 +1,29 @@
 //! The words of a query by numbers: which numbers of the view each word speaks of.
 //!
-//! The lines are made once for a query, so the pass over the tilings looks at flags, and never at names or cells.
-ghost use Rattle.std.specs.Prelude.{IfErr, IfOk, List, OnOk, ℕ, false, length, min, slice_index_or, [], ◌&&◌, ◌^◌, ◌∷◌, ◌<◌, ◌≡◌};
+//! The words are looked up once for a query, so the pass over the tilings looks at numbers and flags, and never at names or
+//! cells. A long query takes little memory: a placement has one number, all placements to lack share one list of flags, and
+//! each item has one, however often it is asked for.
+ghost use Rattle.std.specs.Prelude.{IfErr, IfNone, IfOk, IfSome, List, OnOk, ℕ, false, length, min, nat_eq, slice_index_or, true, [], ◌^◌, ◌∷◌, ◌<◌, ◌≡◌, ◌||◌};
 ghost use Rattle.std.specs.List.{list_all, list_any};
-ghost use Rattle.poly_tiling.specs.Puzzle.{has_item};
+ghost use Rattle.poly_tiling.specs.Lists.{distinct, mem};
+ghost use Rattle.poly_tiling.specs.Names.{WellNamed};
+ghost use Rattle.poly_tiling.specs.Puzzle.{has_item, same_item};
 ghost use Rattle.poly_tiling.specs.Shows.{names};
 ghost use Rattle.poly_browse.specs.Browsing.{is_in, matches};
-ghost use Rattle.poly_browse.specs.Gathering.{AreSmall, as_wanted, has_it, names_it};
-ghost use Rattle.poly_browse.specs.Lines.{is_met};
+ghost use Rattle.poly_browse.specs.Gathering.{AreSmall, has_it, names_it};
+ghost use Rattle.poly_browse.specs.Lines.{AreDifferent, are_met, has_flagged, has_these};
 
 use crate::flags::raise_one;
 use crate::query::Query;
 use poly_design::Placement;
 use poly_grid::Refusal;
-use poly_tiling::{Item, View};
+use poly_tiling::{Item, View, has_all, has_number};
 use std::alloc::Global;
 
-/// A word of a query: a flag for each number that it speaks of, and whether a tiling is to have one of these numbers or none.
+/// A set of numbers: a flag for each number, up to the greatest one in the set.
 #[derive(Drop)]
 pub(crate) struct Line {
     flags: Vec<bool>,
-    wanted: bool,
 }
 
 impl Line {
@@ -33,7 +36,7 @@ impl Line {
     // Whether one of the numbers has its flag. All of them are looked at: a loop that ends early takes longer, since the
     // processor can't predict its end.
     fn has_one(&self, numbers: &[u32]) -> bool
-        ensures { result ≡ list_any (λ n. slice_index_or self.now.flags.items n false) numbers.now }
+        ensures { result ≡ has_flagged self.now numbers.now }
     {
         let mut found = false;
         for number in numbers {
@@ -41,93 +44,139 @@ impl Line {
         }
         found
     }
+}
 
+/// The placements that a tiling is to have.
+#[derive(Drop)]
+pub(crate) struct Has {
+    // Whether each of them has a number. A tiling has none that doesn't.
+    named: bool,
+    // Their numbers, each once.
+    numbers: Vec<u32>,
+}
+
+impl Has {
     fn is_met(&self, numbers: &[u32]) -> bool
-        ensures { result ≡ is_met self.now numbers.now }
+        ensures { result ≡ has_these self.now numbers.now }
     {
-        if self.wanted {
-            self.has_one(numbers)
-        } else {
-            !self.has_one(numbers)
-        }
+        self.named && has_all(numbers, &self.numbers)
     }
 }
 
-/// Whether a tiling of these numbers meets all words.
-pub(crate) fn meets(lines: &[Line], numbers: &[u32]) -> bool
-    ensures value { result ≡ list_all (λ l. is_met l numbers.now) lines.now }
-    ensures small { AreSmall numbers.now }
-{
-    lines.iter().all(|line| line.is_met(numbers))
+/// The words of a query.
+#[derive(Drop)]
+pub(crate) struct Words {
+    has: Has,
+    // The numbers of the placements that a tiling is to lack.
+    lacks: Line,
+    // For each item that a tiling is to cover, the numbers of the placements that have it.
+    covers: Vec<Line>,
 }
 
-/// The lines of a query. Fails with `Memory` only.
-pub(crate) fn lines_of(alloc: Global, view: &View, query: &Query) -> Result<Vec<Line>, Refusal>
-    ensures ok { IfOk result (λ lines. (T : List ℕ) → AreSmall T → list_all (λ l. is_met l T) lines.items ≡ matches (record { has = query.now.has.items; lacks = query.now.lacks.items; covers = query.now.covers.items }) (names view.now T)) }
-    ensures why { IfErr result (λ e. e ≡ Refusal.Memory) }
-{
-    let mut lines = Vec::new(alloc);
-    add_placements(alloc, &mut lines, view, &query.has, true)?;
-    add_placements(alloc, &mut lines, view, &query.lacks, false)?;
-    add_items(alloc, &mut lines, view, &query.covers)?;
-    Ok(lines)
+impl Words {
+    /// Whether a tiling of these numbers meets all words.
+    pub(crate) fn are_met(&self, numbers: &[u32]) -> bool
+        ensures value { result ≡ are_met self.now numbers.now }
+        ensures small { AreSmall numbers.now }
+    {
+        self.has.is_met(numbers)
+            && !self.lacks.has_one(numbers)
+            && each_has_one(&self.covers, numbers)
+    }
 }
 
-fn add_placements(
-    alloc: Global,
-    lines: &mut Vec<Line>,
-    view: &View,
-    placements: &[Placement],
-    wanted: bool,
-) -> Result<(), Refusal>
-    ensures ok { OnOk result ((T : List ℕ) → AreSmall T → list_all (λ l. is_met l T) lines.new.items ≡ (list_all (λ l. is_met l T) lines.old.items && list_all (λ p. as_wanted wanted (names_it view.now T p)) placements.now)) }
+fn each_has_one(lines: &[Line], numbers: &[u32]) -> bool
+    ensures { result ≡ list_all (λ l. has_flagged l numbers.now) lines.now }
+{
+    lines.iter().all(|line| line.has_one(numbers))
+}
+
+/// The words of a query, by the numbers of the view. Fails with `Memory` only.
+pub(crate) fn words_of(alloc: Global, view: &View, query: &Query) -> Result<Words, Refusal>
+    ensures ok { IfOk result (λ words. (T : List ℕ) → AreSmall T → are_met words T ≡ matches (record { has = query.now.has.items; lacks = query.now.lacks.items; covers = query.now.covers.items }) (names view.now T)) }
     ensures why { IfErr result (λ e. e ≡ Refusal.Memory) }
 {
+    let has = has_of(alloc, view, &query.has)?;
+    let lacks = line_of(alloc, view, &query.lacks)?;
+    let items = different(alloc, &query.covers)?;
+    let covers = lines_of(alloc, view, &items)?;
+    Ok(Words { has, lacks, covers })
+}
+
+fn has_of(alloc: Global, view: &View, placements: &[Placement]) -> Result<Has, Refusal>
+    ensures ok { IfOk result (λ has. (T : List ℕ) → AreSmall T → has_these has T ≡ list_all (λ p. names_it view.now T p) placements.now) }
+    ensures why { IfErr result (λ e. e ≡ Refusal.Memory) }
+{
+    let mut numbers = Vec::new(alloc);
     for placement in placements {
-        let flags = placement_flags(alloc, view, placement)?;
-        lines.push(Line { flags, wanted })?;
+        let Some(number) = number_of(view, placement) else {
+            return Ok(Has {
+                named: false,
+                numbers,
+            });
+        };
+        add_number(&mut numbers, number)?;
     }
-    Ok(())
+    Ok(Has {
+        named: true,
+        numbers,
+    })
 }
 
-fn add_items(
-    alloc: Global,
-    lines: &mut Vec<Line>,
-    view: &View,
-    items: &[Item],
-) -> Result<(), Refusal>
-    ensures ok { OnOk result ((T : List ℕ) → AreSmall T → list_all (λ l. is_met l T) lines.new.items ≡ (list_all (λ l. is_met l T) lines.old.items && list_all (λ i. has_it view.now T i) items.now)) }
+// Adds the number, unless it is there.
+fn add_number(numbers: &mut Vec<u32>, number: u32) -> Result<(), Refusal>
+    ensures ok { OnOk result ((k : ℕ) → mem numbers.new.items k ≡ (mem numbers.old.items k || nat_eq number k)) }
+    ensures once { distinct numbers.old.items ≡ true → distinct numbers.new.items ≡ true }
     ensures why { IfErr result (λ e. e ≡ Refusal.Memory) }
 {
-    for item in items {
-        let flags = item_flags(alloc, view, item)?;
-        lines.push(Line {
-            flags,
-            wanted: true,
-        })?;
+    if has_number(numbers, number) {
+        return Ok(());
     }
+    numbers.push(number)?;
     Ok(())
 }
 
-// How many numbers there are to look at: all that name a placement and are numbers of 32 bits.
-fn known(view: &View) -> usize
-    ensures { result ≡ min (length view.now.placements) (2 ^ 32) }
-{
-    view.number_count().min(1 << 32)
-}
-
-fn placement_flags(alloc: Global, view: &View, placement: &Placement) -> Result<Vec<bool>, Refusal>
-    ensures ok { IfOk result (λ flags. (n : ℕ) → n < 2 ^ 32 → slice_index_or flags.items n false ≡ is_in (names view.now (n ∷ [])) placement.now) }
+// Returns the numbers of the placements. One that has no number is left out.
+fn line_of(alloc: Global, view: &View, placements: &[Placement]) -> Result<Line, Refusal>
+    ensures ok { IfOk result (λ line. (T : List ℕ) → AreSmall T → has_flagged line T ≡ list_any (λ p. names_it view.now T p) placements.now) }
     ensures why { IfErr result (λ e. e ≡ Refusal.Memory) }
 {
     let mut flags = Vec::new(alloc);
-    for at in 0..known(view) {
-        let number = at as u32;
-        if is_named(view, number, placement) {
+    for placement in placements {
+        if let Some(number) = number_of(view, placement) {
             raise_one(&mut flags, number)?;
         }
     }
-    Ok(flags)
+    Ok(Line { flags })
+}
+
+// Returns the one number that names the placement.
+fn number_of(view: &View, placement: &Placement) -> Option<u32>
+    ensures some { IfSome result (λ k. (n : ℕ) → is_in (names view.now (n ∷ [])) placement.now ≡ nat_eq n k) }
+    ensures none { IfNone result ((n : ℕ) → n < 2 ^ 32 → is_in (names view.now (n ∷ [])) placement.now ≡ false) }
+{
+    well_named(view);
+    for at in 0..known(view) {
+        let number = at as u32;
+        if is_named(view, number, placement) {
+            return Some(number);
+        }
+    }
+    None
+}
+
+/// The placements of every view differ, so each has one number. This does nothing: a proof learns it from the contract.
+pub(crate) fn well_named(view: &View)
+    ensures { WellNamed view.now }
+{
+    let _live = view.live();
+}
+
+/// How many numbers there are to look at: all that name a placement and are numbers of 32 bits.
+pub(crate) fn known(view: &View) -> usize
+    ensures { result ≡ min (length view.now.placements) (2 ^ 32) }
+{
+    view.number_count().min(1 << 32)
 }
 
 fn is_named(view: &View, number: u32, placement: &Placement) -> bool
@@ -137,6 +186,40 @@ fn is_named(view: &View, number: u32, placement: &Placement) -> bool
         Some(named) => named == *placement,
         None => false,
     }
+}
+
+// Returns each of the items once.
+fn different(alloc: Global, items: &[Item]) -> Result<Vec<Item>, Refusal>
+    ensures ok { IfOk result (λ list. AreDifferent items.now list.items) }
+    ensures why { IfErr result (λ e. e ≡ Refusal.Memory) }
+{
+    let mut list = Vec::new(alloc);
+    for item in items {
+        if is_among(&list, item) {
+            continue;
+        }
+        list.push(*item)?;
+    }
+    Ok(list)
+}
+
+fn is_among(items: &[Item], item: &Item) -> bool
+    ensures { result ≡ list_any (λ i. same_item i item.now) items.now }
+{
+    items.iter().any(|other| other.is(item))
+}
+
+// Returns for each of the items the numbers of the placements that have it.
+fn lines_of(alloc: Global, view: &View, items: &[Item]) -> Result<Vec<Line>, Refusal>
+    ensures ok { IfOk result (λ lines. (T : List ℕ) → AreSmall T → list_all (λ l. has_flagged l T) lines.items ≡ list_all (λ i. has_it view.now T i) items.now) }
+    ensures why { IfErr result (λ e. e ≡ Refusal.Memory) }
+{
+    let mut lines = Vec::new(alloc);
+    for item in items {
+        let flags = item_flags(alloc, view, item)?;
+        lines.push(Line { flags })?;
+    }
+    Ok(lines)
 }
 
 fn item_flags(alloc: Global, view: &View, item: &Item) -> Result<Vec<bool>, Refusal>

@@ -6,7 +6,7 @@ use crate::{Answer, Query, browse, classes_of};
 use poly_design::{CellsSet, Copies, Design, Mode, Name, Placement, Spec};
 use poly_grid::{Cell, Grid, Refusal};
 use poly_shape::{Cells, Shape};
-use poly_tiling::{Item, View, list_tilings};
+use poly_tiling::{Item, Tiling, View, list_tilings};
 use std::alloc::Global;
 use std::collections::BTreeMap;
 
@@ -257,6 +257,30 @@ fn what_is_not_there(alloc: Global) -> Result<(Summary, Summary), Refusal> {
     ))
 }
 
+// With A on the upper row and not on the lower one, and with the first cell covered, as often as fits into a line.
+fn the_same_words_again(alloc: Global) -> Result<Summary, Refusal> {
+    let mut query = nothing(alloc);
+    let upper = placement(b"A", (0, 0), (1, 0))?;
+    let lower = placement(b"A", (0, 1), (1, 1))?;
+    let first = Item::Cell(cell(0, 0)?);
+    for _ in 0..5_000 {
+        query.has.push(upper)?;
+        query.lacks.push(lower)?;
+        query.covers.push(first)?;
+    }
+    Ok(summary_of(&answered(alloc, &query)?))
+}
+
+// Over a tiling of the first placement and of the greatest number that there is, which names nothing.
+fn with_a_number_of_nothing(alloc: Global) -> Result<Summary, Refusal> {
+    let design = design(alloc, &TWO_DOMINOES)?;
+    let view = View::plain(alloc, &design)?;
+    let mut tilings = Vec::new(alloc);
+    tilings.push(Tiling::new(vec![in alloc; 0, u32::MAX]?))?;
+    let answer = browse(alloc, &design, &tilings, &view, &nothing(alloc))?;
+    Ok(summary_of(&answer))
+}
+
 fn expected(count: u64, forced: usize, each: u64) -> Summary {
     Summary {
         count,
@@ -282,10 +306,30 @@ fn browses_two_dominoes(rt: HostRuntime) {
         without_the_upper_row(alloc).expect(&rt, "memory"),
         expected(3, 0, 3)
     );
+    assert_eq!(rt;
+        the_same_words_again(alloc).expect(&rt, "memory"),
+        expected(1, 2, 1)
+    );
     let none = expected(0, 0, 0);
     assert_eq!(rt;
         what_is_not_there(alloc).expect(&rt, "memory"),
         (none, none)
+    );
+}
+
+// A flag for each number up to this one would take 4 GiB.
+#[test]
+fn browses_over_a_number_of_nothing(rt: HostRuntime) {
+    let one = Summary {
+        count: 1,
+        forced: 1,
+        items: 6,
+        least: 0,
+        most: 1,
+    };
+    assert_eq!(rt;
+        with_a_number_of_nothing(rt.alloc()).expect(&rt, "memory"),
+        one
     );
 }
 
