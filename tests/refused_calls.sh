@@ -8,6 +8,7 @@
 # A crate, and the full name of one of its tests.
 tests='
 poly_desk tests::memory::a_day_without_memory
+poly_tests exchange::a_tiling_lost_and_back
 '
 
 if ! cc -O1 -shared -fPIC -o "$room/refuse.so" tests/refuse_allocation.c -ldl; then

@@ -14,6 +14,8 @@ mod design;
 #[cfg(test)]
 mod designs;
 #[cfg(test)]
+mod exchange;
+#[cfg(test)]
 mod frame;
 #[cfg(test)]
 mod full;

@@ -1,0 +1,120 @@
+//! A catalogue that loses a tiling and gets it back.
+//!
+//! With ample memory this is a worked example of a catalogue. The test is run again with each allocation refused in
+//! turn: then a call that runs out of memory has to leave the list as it was, and succeeds when it is made again.
+ghost use Rattle.std.specs.Prelude.{◌≡◌, [], OnOk, true};
+ghost use Rattle.std.specs.List.{list_all};
+ghost use Rattle.poly_tiling.specs.Puzzle.{is_tiling};
+ghost use Rattle.poly_place.specs.Right.{IsRight};
+
+use crate::catalogue::{copies, found, fresh, lead};
+use crate::designs::{DOMINOES, change_of, design_of};
+use poly_catalogue::Catalogue;
+use poly_design::Design;
+use poly_grid::Refusal;
+use poly_place::Table;
+use poly_tiling::{Tiling, View};
+use std::alloc::Global;
+use std::test::Fail;
+
+// How many tilings left, how many stayed, how many there are at the end, and whether each refused call left the list as
+// it was.
+#[derive(Debug, Clone, Copy, PartialEq, Eq)]
+struct Outcome {
+    left: usize,
+    stayed: usize,
+    at_last: usize,
+    kept: bool,
+}
+
+fn are_same(some: &[Tiling], others: &[Tiling]) -> bool {
+    if some.len() != others.len() {
+        return false;
+    }
+    for i in 0..some.len() {
+        if some[i].numbers() != others[i].numbers() {
+            return false;
+        }
+    }
+    true
+}
+
+// Lists all tilings of the view, at the second try if the first one is refused. Returns whether a refusal left the list
+// empty.
+fn list(alloc: Global, catalogue: &mut Catalogue, view: &View) -> Result<bool, Refusal>
+    requires { catalogue.old ≡ [] }
+    ensures { OnOk result (list_all (is_tiling view.now) catalogue.new ≡ true) }
+{
+    let tilings = found(alloc, view)?;
+    let refusal = catalogue.list_all(view, tilings).err();
+    if refusal.is_none() {
+        return Ok(true);
+    }
+    let kept = catalogue.is_empty();
+    let again = found(alloc, view)?;
+    catalogue.list_all(view, again)?;
+    Ok(kept)
+}
+
+// Gives the placement back and lists what it brings, at the second try if the first one is refused. Returns whether a
+// refusal left the list as it was.
+fn give_back(
+    alloc: Global,
+    design: &Design,
+    table: &mut Table,
+    catalogue: &mut Catalogue,
+) -> Result<bool, Refusal>
+    requires right { IsRight table.old design.now }
+    requires listed { list_all (is_tiling table.old) catalogue.old ≡ true }
+{
+    let change = change_of(alloc, design, b"allow A 0,0 1,0")?;
+    let plan = match table.plan(design, &change) {
+        Ok(plan) => plan,
+        Err(refusal) => return Err(refusal),
+    };
+    let before = copies(alloc, catalogue.all())?;
+    let more = fresh(alloc, &plan.view, catalogue.all())?;
+    match catalogue.exchange(&plan.view, &plan.delta, more) {
+        Ok(()) => Ok(true),
+        Err(_) => {
+            let kept = are_same(&before, catalogue.all());
+            let again = fresh(alloc, &plan.view, catalogue.all())?;
+            catalogue.exchange(&plan.view, &plan.delta, again)?;
+            Ok(kept)
+        }
+    }
+}
+
+fn there_and_back(alloc: Global) -> Result<Outcome, Refusal> {
+    let mut design = design_of(alloc, DOMINOES, &[])?;
+    let mut table = Table::of(alloc, &design)?;
+    let view = table.view()?;
+    let mut catalogue = Catalogue::new(alloc);
+    let listed = list(alloc, &mut catalogue, &view)?;
+    let change = change_of(alloc, &design, b"forbid A 0,0 1,0")?;
+    let gone = lead(&mut design, &mut table, &mut catalogue, &change)?;
+    let stayed = catalogue.len();
+    let given = give_back(alloc, &design, &mut table, &mut catalogue)?;
+    Ok(Outcome {
+        left: gone.len(),
+        stayed,
+        at_last: catalogue.len(),
+        kept: listed && given,
+    })
+}
+
+#[test]
+fn a_tiling_lost_and_back(rt: HostRuntime) -> Result<(), Fail> {
+    let outcome = match there_and_back(rt.alloc()) {
+        Ok(outcome) => outcome,
+        Err(_) => there_and_back(rt.alloc())?,
+    };
+    let want = Outcome {
+        left: 1,
+        stayed: 3,
+        at_last: 4,
+        kept: true,
+    };
+    assert_eq!(rt; outcome, want);
+    Ok(())
+}
