@@ -16,7 +16,7 @@ pub(crate) struct Hints {
 }
 
 impl Hints {
-    /// The task that the worker tries next: the oldest hint of its own lane, else one that it steals, else any.
+    /// The task that the worker tries next: the first hint of its own lane, else one that it steals, else any.
     pub(crate) fn next(&mut self) -> Which {
         if let Some(task) = self.lane.pop() {
             return Which::Task(task);
@@ -29,14 +29,30 @@ impl Hints {
         Which::Any
     }
 
-    /// Pushes the tasks that a report opened. Skips a number if there is no memory for it: such a task is still found by
-    /// taking any task.
+    /// Pushes the tasks that a report opened, and then moves the older hints behind them. A worker that takes its newest
+    /// tasks first leaves few tasks pending at a time. Skips a number if there is no memory for it: such a task is still
+    /// found by taking any task.
     pub(crate) fn push_opened(&mut self, applied: Applied) {
+        if applied.opened == 0 {
+            return;
+        }
+        let older = self.lane.left();
         let end = applied.first.saturating_add(applied.opened);
         for task in applied.first..end {
             if let Ok(hint) = u32::try_from(task) {
                 let _ = self.lane.push(hint);
             }
+        }
+        self.move_behind(older);
+    }
+
+    // Pops so many hints and pushes each again. Each push finds the room that a pop has left.
+    fn move_behind(&mut self, count: usize) {
+        for _ in 0..count {
+            let Some(hint) = self.lane.pop() else {
+                return;
+            };
+            let _ = self.lane.push(hint);
         }
     }
 }

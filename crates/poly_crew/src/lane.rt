@@ -100,7 +100,7 @@ impl Lane {
     }
 
     /// Returns how many hints the lane holds at one moment. They are the last of those that were pushed. While no thief is
-    /// out, the ones before them are those that were taken. This is for proofs: no other part of the product needs it.
+    /// out, the ones before them are those that were taken.
     pub(crate) fn left(&mut self) -> usize
         ensures same { self.new ≡ self.old }
         ensures left { (left : _) × (length left ≡ result) × Splits self.old.pushed self.old.taken self.old.thieves left }

@@ -2,7 +2,7 @@
 //!
 //! A lane has six kinds of step: making its view, a push, a pop, a steal, the split of its view for a thief, and the join
 //! of a thief's view when the thief's worker has ended. A join leaves a spent view; the rule says of it only that it has
-//! nothing. [`Lane::left`](crate::lane::Lane::left), which only the law uses, reads a length and changes no view.
+//! nothing. [`Lane::left`](crate::lane::Lane::left) reads a length and changes no view.
 
 ghost use Rattle.std.specs.Prelude.{◌≡◌, ◌+◌, ◌-◌, ◌++◌, [], true, false};
 ghost use Rattle.poly_crew.specs.Hints.{IsNext, SameHints, Splits};
