@@ -25,6 +25,9 @@ pub(crate) fn add(
     ensures flags { HasFlags listing.new (length flags.new.items) }
     ensures why { IfErr result (λ e. e ≡ Refusal.Memory) }
 {
+    if tilings.is_empty() {
+        return Ok(());
+    }
     reach_all(flags, view.live())?;
     push_all(listing, tilings)?;
     Ok(())
