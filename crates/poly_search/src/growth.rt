@@ -31,6 +31,26 @@ pub struct Growth {
     pub whole: u32,
     /// The leaves of what has grown, in the order of the tree.
     pub leaves: Leaves,
+    /// Lists of options whose arms are walked. The next Branch fills one of them again and takes no memory for its own.
+    pub spare: Vec<Vec<u32>>,
+}
+
+// The options of the item, in a list that is spare if there is one. The frame stays as it was.
+fn list_options(
+    alloc: Global,
+    frame: &mut Frame<'_>,
+    item: Item,
+    spare: &mut Vec<Vec<u32>>,
+) -> Result<Vec<u32>, Refusal>
+    ensures same { OnOk result (frame.new ≡ frame.old) }
+    ensures once { IfOk result (λ options. distinct options.items ≡ true) }
+    ensures members { IfOk result (λ options. (p : ℕ) → mem options.items p ≡ (mem frame.old.scene.live p && is_option frame.old item p)) }
+    ensures why { IfErr result (λ e. e ≡ Refusal.Memory) }
+{
+    let mut options = spare.pop().unwrap_or(Vec::new(alloc));
+    options.clear();
+    options.extend_from_slice(frame.options(item))?;
+    Ok(options)
 }
 
 fn rest(alloc: Global, frame: &Frame<'_>, growth: &mut Growth) -> Result<Tree, Refusal>
@@ -88,12 +108,14 @@ pub fn grow(
         return rest(alloc, frame, growth);
     }
     if let Some(item) = frame.next_due() {
-        let options = Vec::from_slice(alloc, frame.options(item))?;
+        let options = list_options(alloc, frame, item, &mut growth.spare)?;
         if options.len() < (growth.nodes - kept) as usize {
             if !root && growth.inner < 2 && !options.is_empty() {
                 return rest(alloc, frame, growth);
             }
-            return branch(alloc, frame, growth, kept, depth, &item, &options);
+            let tree = branch(alloc, frame, growth, kept, depth, &item, &options)?;
+            growth.spare.push(options)?;
+            return Ok(tree);
         }
     }
     if growth.nodes - kept < 3 {

@@ -73,6 +73,7 @@ pub fn explore_over(
         inner: nodes,
         whole: nodes,
         leaves: Leaves::none(alloc),
+        spare: Vec::new(alloc),
     };
     let tree = grow(alloc, &mut frame, &mut growth, 0, DEPTH, true)?;
     let Growth { leaves, .. } = growth;
