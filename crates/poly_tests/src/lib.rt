@@ -6,6 +6,8 @@ mod atoms;
 #[cfg(test)]
 mod book;
 #[cfg(test)]
+mod books;
+#[cfg(test)]
 mod browse;
 #[cfg(test)]
 mod catalogue;
@@ -22,9 +24,13 @@ mod full;
 #[cfg(test)]
 mod reports;
 #[cfg(test)]
+mod scripts;
+#[cfg(test)]
 mod searches;
 #[cfg(test)]
 mod settled;
+#[cfg(test)]
+mod shared_out;
 #[cfg(test)]
 mod solvers;
 #[cfg(test)]
