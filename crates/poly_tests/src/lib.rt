@@ -22,6 +22,8 @@ mod frame;
 #[cfg(test)]
 mod full;
 #[cfg(test)]
+mod laws;
+#[cfg(test)]
 mod limits;
 #[cfg(test)]
 mod memory;
