@@ -5,7 +5,7 @@ ghost use Rattle.std.specs.Prelude.{◌≡◌};
 ghost use Rattle.poly_desk.specs.Changes.{cut_count};
 
 use crate::tests::{HoldingGate, expect_tilings, two_dominoes};
-use crate::{Gate, OpenGate, crew};
+use crate::{Crew, Gate, OpenGate, crew};
 use poly_book::Book;
 use poly_desk::{Desk, Opening};
 use poly_grid::Refusal;
@@ -44,6 +44,15 @@ fn work_at_a_desk<
     requires steps { book.steps ≡ O.steps }
     requires endings { cut_count book.endings ≡ O.cuts }
 {
+    let mut passes = match Vec::with_capacity(alloc, 2) {
+        Ok(passes) => passes,
+        Err(_) => {
+            return Ok(Worked {
+                book,
+                end: Err(Refusal::Memory),
+            });
+        }
+    };
     let (desk, mut first) = match Desk::<C, K, O>::begin(alloc, changes, cuts, book) {
         Ok(both) => both,
         Err(not_begun) => {
@@ -53,11 +62,20 @@ fn work_at_a_desk<
             });
         }
     };
-    let mut passes = Vec::with_capacity(alloc, 2)?;
-    let second = desk.pass(rt, alloc, &mut first)?;
+    let dealt = desk.pass(rt, alloc, &mut first);
     passes.push_reserved(first);
-    passes.push_reserved(second);
-    let after = crew(rt, alloc, &desk, passes, 1000, 1, gate);
+    let after = match dealt {
+        Ok(second) => {
+            passes.push_reserved(second);
+            crew(rt, alloc, &desk, passes, 1000, 1, gate)
+        }
+        Err(why) => Crew {
+            passes,
+            receipts: Vec::new(alloc),
+            applied: 0,
+            end: Err(why),
+        },
+    };
     match desk.settle_up(after.passes, after.receipts) {
         Ok(book) => Ok(Worked {
             book,
@@ -86,4 +104,22 @@ fn the_gate_test_at_a_desk(rt: HostRuntime) {
     assert!(rt; gate.was_passed());
     assert_eq!(rt; worked.end, Ok(()));
     expect_tilings(&rt, worked.book, 4);
+}
+
+#[test]
+fn a_crew_without_memory(rt: HostRuntime) {
+    let book = two_dominoes(&rt, rt.alloc());
+    let first = work_by_two(&rt, rt.alloc(), book, &OpenGate).expect(&rt, "it is settled up");
+    assert!(rt; matches!(first.end, Ok(()) | Err(Refusal::Memory)));
+    let second = work_by_two(&rt, rt.alloc(), first.book, &OpenGate).expect(
+        &rt,
+        "it is settled up",
+    );
+    // Only one allocation is refused.
+    assert!(rt; second.end == Ok(()) || first.end == Ok(()));
+    let third = work_by_two(&rt, rt.alloc(), second.book, &OpenGate).expect(
+        &rt,
+        "it is settled up",
+    );
+    expect_tilings(&rt, third.book, 4);
 }
