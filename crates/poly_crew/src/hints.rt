@@ -46,7 +46,7 @@ impl Hints {
         self.move_behind(older);
     }
 
-    // Pops so many hints and pushes each again. Each push finds the room that a pop has left.
+    // Pops `count` hints and pushes each again. Each push finds the room that a pop has left.
     fn move_behind(&mut self, count: usize) {
         for _ in 0..count {
             let Some(hint) = self.lane.pop() else {
