@@ -62,11 +62,11 @@ EditRefused s edit e = IsRefused s.design edit e ⊎ ((change : Change) × IsAcc
 abbrev pub StepRefused : Layout → Refusal → Type 0
 StepRefused d e = (e ≡ Spent) ⊎ ((e ≡ CatalogueFull) × HasOverTilings 1000000 d)
 
--- an undo is refused if there is no undo step, or if going back to the design before the last one is refused
+-- why an undo is refused: there is no undo step, or the design that it leads to is refused
 abbrev pub UndoRefused : State → Refusal → Type 0
 UndoRefused s e = ((e ≡ NothingToUndo) × (s.undo ≡ [])) ⊎ ((change : Change) × (left : List Change) × (s.undo ≡ left ++ change ∷ []) × StepRefused (changed s.design (inverse_of change)) e)
 
--- a redo is refused if there is no redo step, or if going on to the design after the next one is refused
+-- why a redo is refused: there is no redo step, or the design that it leads to is refused
 abbrev pub RedoRefused : State → Refusal → Type 0
 RedoRefused s e = ((e ≡ NothingToRedo) × (s.redo ≡ [])) ⊎ ((change : Change) × (left : List Change) × (s.redo ≡ left ++ change ∷ []) × StepRefused (changed s.design change) e)
 

@@ -32,8 +32,8 @@ pub(crate) struct Crewing {
     ghost few_turns: { turns ≤ 1000000000 },
 }
 
-/// Sets a crew to work on the book. The design and the undo and redo steps stay the same. If there is no memory for the desk or a
-/// pass, no crew works. Fails with `Unsettled` if the desk isn't settled up; the book is lost then.
+/// Runs a crew on the book. The design, the undo steps and the redo steps don't change. If there is no memory for the desk or for
+/// a pass, no crew runs. Fails with `Unsettled` if the desk isn't settled up; the book is lost then.
 pub(crate) fn work_on<R: Threads + Wait + Sync>(
     rt: &R,
     alloc: Global,

@@ -29,9 +29,9 @@ impl Hints {
         Which::Any
     }
 
-    /// Pushes the tasks that a report opened, and then moves the older hints behind them. A worker that takes its newest
-    /// tasks first leaves few tasks pending at a time. Skips a number if there is no memory for it: such a task is still
-    /// found by taking any task.
+    /// Pushes the tasks that a report opened, and then moves the older hints behind them, so that the worker takes its
+    /// newest tasks first. That keeps the number of pending tasks small. A number for which there is no memory is skipped.
+    /// Taking any task still finds that task.
     pub(crate) fn push_opened(&mut self, applied: Applied) {
         if applied.opened == 0 {
             return;

@@ -192,7 +192,7 @@ fn events(rt: &impl Abort, alloc: Global, book: &Book) -> Vec<Event> {
     }
 }
 
-// Runs the events on an opening book, again if there is no memory for the replies.
+// Runs the events on an opening book. If there is no memory for the replies, runs them a second time.
 fn run_events(rt: &impl Abort, alloc: Global) -> Ran {
     let book = dominoes(rt, alloc);
     let all = events(rt, alloc, &book);

@@ -12,11 +12,12 @@ use poly_tiling::Item;
 use std::alloc::{AllocGlobal, Global};
 use std::process::Abort;
 
-// Five cells, of which two must be covered; one or two dominoes of one name, and at most one piece of one cell.
+// A board of five cells, two of them required. Piece A is a domino with one or two copies. Piece B has one cell and at most
+// one copy.
 const SQUARES: &[u8] =
     b"{\"format\":2,\"grid\":\"square\",\"board\":[\"+#+\",\"+#.\"],\"pieces\":[{\"name\":\"A\",\"cells\":[[0,0],[1,0]],\"least\":1,\"most\":2},{\"name\":\"B\",\"cells\":[[0,0]],\"least\":0,\"most\":1}]}";
 
-// Four cells, three of them to be covered, an optional piece of three cells and a piece of one cell.
+// A board of four cells, three of them required. Piece A has three cells and is optional. Piece B has one cell.
 const HEXES: &[u8] =
     b"{\"format\":1,\"grid\":\"hex\",\"board\":[\"##\",\"+#\"],\"pieces\":[{\"name\":\"A\",\"cells\":[[0,0],[1,0],[0,1]],\"need\":\"optional\"},{\"name\":\"B\",\"cells\":[[0,0]]}]}";
 
