@@ -15,11 +15,8 @@ ghost use Rattle.poly_search.specs.Sweeps.{IsLighter, Partly, Swept};
 use poly_atom::Atom;
 use poly_grid::Refusal;
 use poly_report::{Frame, STEPS};
-use poly_tiling::{Item, Tiling};
+use poly_tiling::{Item, MAX_TILINGS, Tiling};
 use std::alloc::Global;
-
-/// The most tilings that are listed.
-pub const LIMIT: usize = 1_000_000;
 
 /// What was listed, and what is left.
 #[derive(Drop)]
@@ -249,7 +246,7 @@ fn sweep_below(
     ensures options { OnOk result (list.new.options.items ≡ list.old.options.items) }
     ensures why { IfErr result (λ e. e ≡ Refusal.Memory) }
 {
-    if depth == 0 || frame.mark() >= end || list.found.len() > LIMIT {
+    if depth == 0 || frame.mark() >= end || list.found.len() > MAX_TILINGS {
         push_rest(alloc, frame, list)?;
         return Ok(false);
     }

@@ -2,11 +2,11 @@
 ghost use Rattle.std.specs.Prelude.{◌≡◌, ◌⊎◌, ◌≤◌, length, IfOk, IfErr, Err};
 ghost use Rattle.poly_search.specs.Whole.{HasMore, IsFamily};
 
-use crate::lister::{LIMIT, Listing, sweep};
+use crate::lister::{Listing, sweep};
 use poly_atom::Atom;
 use poly_grid::Refusal;
 use poly_report::{DEPTH, Frame, Matrix, STEPS};
-use poly_tiling::{Tiling, View};
+use poly_tiling::{MAX_TILINGS, Tiling, View};
 use std::alloc::Global;
 
 /// All tilings that meet the atoms, each once, in no order.
@@ -29,7 +29,7 @@ pub fn search_all(alloc: Global, view: &View, atoms: &[Atom]) -> Result<Vec<Tili
         let mut frame = Frame::over(alloc, view, &whole, &next)?;
         let end = frame.mark() + STEPS;
         sweep(alloc, &mut frame, &mut list, end, DEPTH)?;
-        if list.found.len() > LIMIT {
+        if list.found.len() > MAX_TILINGS {
             return Err(Refusal::CatalogueFull);
         }
     }

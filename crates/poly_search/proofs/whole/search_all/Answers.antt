@@ -6,8 +6,8 @@ use Rattle.poly_search.specs.Whole.{SharedOut}
 use Rattle.poly_search.proofs.Families.{at_most, last_rest, none_left, shared_next, weighs_less, whole_family}
 use Rattle.poly_search.proofs.whole.search_all.Goals as goal
 
-pub returns-then-len-gt-LIMIT-clause-too_many : goal.returns-then-len-gt-LIMIT-clause-too_many
-returns-then-len-gt-LIMIT-clause-too_many c =
+pub returns-then-len-gt-MAX_TILINGS-clause-too_many : goal.returns-then-len-gt-MAX_TILINGS-clause-too_many
+returns-then-len-gt-MAX_TILINGS-clause-too_many c =
     let v = c.args.view.now in
     let A = c.args.atoms.now in
     let i = c.loop-next.invariant in
