@@ -1,6 +1,5 @@
 pub mod Sharing
 pub mod Numbered
-pub mod Rests
 pub mod Moves
 pub mod Traces
 pub mod Lasting
