@@ -13,23 +13,23 @@ use thiserror::Error;
 pub enum Refusal {
     #[error("the puzzle line is not valid JSON")]
     BadJson,
-    #[error("a key is missing, unknown or of the wrong kind")]
+    #[error("a key is missing, unknown, or has a value of the wrong kind")]
     BadField,
-    #[error("the format number is not known")]
+    #[error("the format number is neither 1 nor 2")]
     BadFormat,
-    #[error("the grid's name is not known")]
+    #[error("the grid is neither square nor hex")]
     BadGrid,
-    #[error("the board is too large or has another character")]
+    #[error("the board has too many rows, too long a row, or an unknown character")]
     BadBoard,
-    #[error("not a name")]
+    #[error("a name must have 1 to 16 characters of A-Z a-z 0-9 _")]
     BadName,
-    #[error("not a shape of this grid")]
+    #[error("the cells are not a shape of this grid")]
     BadShape,
-    #[error("a piece of that name exists")]
+    #[error("a piece of that name exists already")]
     NameTaken,
-    #[error("no piece of that name")]
+    #[error("there is no piece of that name")]
     NoSuchPiece,
-    #[error("a coordinate outside 0 to 63")]
+    #[error("a coordinate is outside 0 to 63")]
     BadCell,
     #[error("there would be over 256 unblocked cells")]
     TooManyCells,
@@ -37,23 +37,23 @@ pub enum Refusal {
     TooManyPieces,
     #[error("there would be over 20,000 placements")]
     TooManyPlacements,
-    #[error("not a placement of the design")]
+    #[error("the cells are not a placement of the piece")]
     NotAPlacement,
     #[error("the edit would change nothing")]
     NoChange,
-    #[error("no undo step")]
+    #[error("there is no step to undo")]
     NothingToUndo,
-    #[error("no redo step")]
+    #[error("there is no step to redo")]
     NothingToRedo,
-    #[error("over 1,000,000 tilings would be listed")]
+    #[error("there would be over 1,000,000 listed tilings")]
     CatalogueFull,
-    #[error("the line is no command")]
+    #[error("the line is not a command")]
     BadCommand,
-    #[error("over 65,536 bytes")]
+    #[error("the line has over 65,536 bytes")]
     LineTooLong,
-    #[error("the turns are used up and a task is pending")]
+    #[error("the turns are used up while work is left")]
     Unfinished,
-    #[error("a growth was refused")]
+    #[error("out of memory")]
     Memory,
     #[error("the task is not pending")]
     Gone,
@@ -61,7 +61,7 @@ pub enum Refusal {
     DoesNotHold,
     #[error("the report's tree is over a limit")]
     TooLarge,
-    #[error("a counter would pass its last value")]
+    #[error("a counter has reached its last value")]
     Spent,
     #[error("seen {seen}, found {found}")]
     Unsettled {
@@ -70,7 +70,7 @@ pub enum Refusal {
         /// What is there.
         found: u64,
     },
-    #[error("the change or its inverse has too many guards")]
+    #[error("the change or its inverse has over 20,000 guards")]
     TooWide,
     #[error("{pending} tasks are pending")]
     Busy {
@@ -230,7 +230,7 @@ mod tests {
         );
         assert_eq!(rt;
             format!(in rt.alloc(); "{}", Refusal::Memory)?.as_str(),
-            "a growth was refused"
+            "out of memory"
         );
         Ok(())
     }

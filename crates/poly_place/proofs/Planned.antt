@@ -62,14 +62,3 @@ delta_for names old new before after x w v s t are =
       unpinned = subst (λ (l : List ℕ). AreNumbersFor view (λ p. IsPin before p × (¬ IsPin after p)) l) (sym are.unpinned)
           (others view v.apart old.pins.items new.pins.items (IsPin before) (IsPin after) pins t.pins w.pins_named (order_same (by_sides names old) view old.pins.items (λ n i. refl) ∙ w.pins_up));
     }
-
-pub order_for : (d : Layout) (places pins : List Placement) (bounds : List Bound) (old between new : List Placement) → ArePartsOf d places pins bounds → GoesOnWith old places between → GoesOnWith between pins new → GivesInOrder d old new
-order_for d places pins bounds old between new parts a b = record {
-  places = a.more;
-  pins = b.more;
-  all = b.appended ∙ ap (λ l. l ++ b.more) a.appended;
-  places_up = a.ordered parts.places.ascending;
-  are_places = λ p h. (parts.places.exact p).0 (a.lacked p h).1;
-  pins_up = b.ordered parts.pins.ascending;
-  are_pins = λ p h. (parts.pins.exact p).0 (b.lacked p h).1;
-}

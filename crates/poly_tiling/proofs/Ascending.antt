@@ -131,9 +131,6 @@ ascending_next x y ys l = same_truth _ _ (λ h. ascending_rest x (y ∷ ys) h) (
     above z (inl e) h = subst (λ k. x < k) e l
     above z (inr i) h = let b = below_all y ys h z i in omega arith
 
-ascending_broken : (x y : ℕ) (ys : List ℕ) → y ≤ x → ascending (x ∷ (y ∷ ys)) ≡ false
-ascending_broken x y ys l = false_from_ne_true _ (λ h. let b = below_all x (y ∷ ys) h y (inl refl) in absurd (omega arith))
-
 -- the two numbers before and at a place of a list
 two_at : (xs : List ℕ) (i : ℕ) → 1 ≤ i → i < length xs → ascending (drop (i - 1) xs) ≡ ascending (get_or xs (i - 1) 0 ∷ (get_or xs i 0 ∷ drop (i + 1) xs))
 two_at xs i low high =
