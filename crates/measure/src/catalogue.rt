@@ -87,10 +87,13 @@ fn measure_plan(
     if let Ok(gone) = leaving {
         println!(rt; "leaving: {} tilings, {taken} us", gone.len())?;
     }
+    let before = catalogue.len();
     let begin = Instant::now(rt)?;
     catalogue.keep_only(view, delta);
     let taken = begin.elapsed(rt)?.as_micros();
-    println!(rt; "keep_only: {} tilings stay, {taken} us", catalogue.len())
+    let stay = catalogue.len();
+    let gone = before.saturating_sub(stay);
+    println!(rt; "keep_only: {gone} tilings go and {stay} stay, {taken} us")
 }
 
 // The plan of the edit, if the listed tilings are tilings of the table.

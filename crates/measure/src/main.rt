@@ -1,33 +1,126 @@
-//! Measures what the workbench is built of, on one design: a puzzle line on standard input, then edits of that design, a
-//! line each.
+//! Measures the parts of the workbench on one design. Standard input has a puzzle line, and then further lines.
+//!
+//! Without an argument each further line is an edit of that design, and is measured by itself. With the argument `book`
+//! the further lines are a session on one book. With the argument `desk` there are none, and the calls of a desk are
+//! compared with the same calls of a book.
 #![tactic(auto)]
 
+mod books;
 mod catalogue;
+mod desks;
 mod edits;
+mod hand_in;
+mod questions;
 mod reports;
 mod searches;
 
+use poly_book::Book;
 use poly_design::Design;
 use poly_text::puzzle_of;
-use std::io;
+use std::env;
+use std::io::{self, Print};
+use std::sync::Wait;
+use std::time::Clock;
+
+// What is to be measured.
+enum Subject {
+    Parts,
+    Book,
+    Desk,
+}
 
 fn main(rt: HostRuntime) -> io::Result<()> {
+    match read_subject(&rt)? {
+        Subject::Parts => measure_parts(&rt),
+        Subject::Book => measure_book(&rt),
+        Subject::Desk => measure_desk(&rt, &rt),
+    }
+}
+
+// What the first argument names.
+fn read_subject(rt: &HostRuntime) -> io::Result<Subject> {
+    let words: Vec<String> = env::args(rt)?.collect(rt.alloc())?;
+    match words.get(1) {
+        Some(word) => match word.as_str() {
+            "book" => Ok(Subject::Book),
+            "desk" => Ok(Subject::Desk),
+            _ => Ok(Subject::Parts),
+        },
+        None => Ok(Subject::Parts),
+    }
+}
+
+// Measures the parts on the design, and then for each edit of it.
+fn measure_parts(rt: &HostRuntime) -> io::Result<()> {
     let mut design: Option<Design> = None;
     for line in rt.lines(rt.alloc()) {
         let line = line?;
         match &design {
             Some(design) => {
-                edits::measure(&rt, design, line.as_str())?;
-                catalogue::measure(&rt, design, line.as_str())?;
+                edits::measure(rt, design, line.as_str())?;
+                catalogue::measure(rt, design, line.as_str())?;
             }
-            None => match puzzle_of(rt.alloc(), line.as_bytes()) {
-                Ok(read) => {
-                    searches::measure(&rt, &read)?;
-                    design = Some(read);
+            None => {
+                design = read_design(rt, line.as_str())?;
+                if let Some(read) = &design {
+                    searches::measure(rt, read)?;
                 }
-                Err(refusal) => println!(rt; "refused: {}", refusal.name())?,
-            },
+            }
         }
     }
     Ok(())
+}
+
+// Measures a report on new books, and then each line on one book.
+fn measure_book(rt: &HostRuntime) -> io::Result<()> {
+    let mut book: Option<Book> = None;
+    for line in rt.lines(rt.alloc()) {
+        let line = line?;
+        measure_line(rt, &mut book, line.as_str())?;
+    }
+    Ok(())
+}
+
+// Measures the line on the book, or begins a book if there is none.
+fn measure_line(rt: &HostRuntime, book: &mut Option<Book>, line: &str) -> io::Result<()> {
+    match book {
+        Some(begun) => books::measure(rt, begun, line),
+        None => {
+            *book = open_book(rt, line)?;
+            Ok(())
+        }
+    }
+}
+
+// A book of the puzzle line's design, after a report on new books of it. `None` if there is no design or no book.
+fn open_book(rt: &HostRuntime, line: &str) -> io::Result<Option<Book>> {
+    match read_design(rt, line)? {
+        Some(design) => {
+            hand_in::measure(rt, &design)?;
+            books::begin(rt, design)
+        }
+        None => Ok(None),
+    }
+}
+
+// Measures a desk of each design.
+fn measure_desk<R: Clock + Print + Wait>(rt: &HostRuntime, desk_rt: &R) -> io::Result<()> {
+    for line in rt.lines(rt.alloc()) {
+        let line = line?;
+        if let Some(design) = read_design(rt, line.as_str())? {
+            desks::measure(desk_rt, rt.alloc(), &design)?;
+        }
+    }
+    Ok(())
+}
+
+// The design of the puzzle line, or `None` if it is refused.
+fn read_design(rt: &HostRuntime, line: &str) -> io::Result<Option<Design>> {
+    match puzzle_of(rt.alloc(), line.as_bytes()) {
+        Ok(design) => Ok(Some(design)),
+        Err(refusal) => {
+            println!(rt; "refused: {}", refusal.name())?;
+            Ok(None)
+        }
+    }
 }

@@ -91,8 +91,8 @@ fn settle(rt: &HostRuntime, view: &View, totals: &mut Totals) -> io::Result<Resu
     Ok(Ok(()))
 }
 
-// The nodes that aren't Rest.
-fn inner_nodes(tree: &Tree) -> u64 {
+/// Returns the number of nodes that aren't Rest.
+pub fn inner_nodes(tree: &Tree) -> u64 {
     match tree {
         Tree::Rest => 0,
         Tree::Found => 1,

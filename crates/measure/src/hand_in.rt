@@ -1,0 +1,211 @@
+//! What it costs a book to take a report, beyond the check of its tree.
+//!
+//! The report is on the opening task: a Branch whose last arm has a tree of its own, and whose other arms are left to new
+//! tasks. On the 6 by 10 rectangle it has about 100 nodes and 20 rests.
+ghost use Rattle.poly_frame.specs.Matrices.{IsWhole};
+
+use crate::reports::inner_nodes;
+use poly_atom::Atom;
+use poly_book::{Book, Job, Which};
+use poly_design::Design;
+use poly_grid::Refusal;
+use poly_report::{Arm, Matrix, Report, Tree, cut_up_over, fits};
+use poly_search::{Explored, explore_over};
+use poly_tiling::View;
+use std::alloc::Global;
+use std::io;
+use std::time::{Duration, Instant};
+
+/// How often the report is handed in, each time to a new book.
+const TIMES: u32 = 100;
+
+/// The most nodes that aren't Rest of the last arm's tree.
+const NODES: u32 = 80;
+
+// A new book, and a report on its opening task.
+#[derive(Drop)]
+struct Round {
+    book: Book,
+    job: Job,
+    tree: Tree,
+}
+
+// The size of the report, and the time of all checks and of all calls of `hand_in`.
+#[derive(Drop)]
+struct Totals {
+    inner: u64,
+    rests: usize,
+    checked: Duration,
+    handed: Duration,
+}
+
+/// Measures the check of the report's tree alone, and then `hand_in`, which checks the tree again.
+pub fn measure(rt: &HostRuntime, design: &Design) -> io::Result<()> {
+    let mut totals = Totals {
+        inner: 0,
+        rests: 0,
+        checked: Duration::ZERO,
+        handed: Duration::ZERO,
+    };
+    for _ in 0..TIMES {
+        if let Err(refusal) = measure_once(rt, design, &mut totals)? {
+            return println!(rt; "a report was refused: {}", refusal.name());
+        }
+    }
+    println!(rt;
+        "{TIMES} reports of {} nodes and {} rests: their checks took {} us, hand_in {} us",
+        totals.inner,
+        totals.rests,
+        totals.checked.as_micros(),
+        totals.handed.as_micros()
+    )
+}
+
+// One report on a new book.
+fn measure_once(
+    rt: &HostRuntime,
+    design: &Design,
+    totals: &mut Totals,
+) -> io::Result<Result<(), Refusal>> {
+    match begin_round(rt.alloc(), design) {
+        Ok(round) => measure_round(rt, round, totals),
+        Err(refusal) => Ok(Err(refusal)),
+    }
+}
+
+fn measure_round(
+    rt: &HostRuntime,
+    round: Round,
+    totals: &mut Totals,
+) -> io::Result<Result<(), Refusal>> {
+    match measure_check(rt, &round.job.view, &round.job.atoms, &round.tree, totals)? {
+        Ok(()) => measure_hand_in(rt, round, totals),
+        Err(refusal) => Ok(Err(refusal)),
+    }
+}
+
+// Measures the check of the tree alone.
+fn measure_check(
+    rt: &HostRuntime,
+    view: &View,
+    atoms: &[Atom],
+    tree: &Tree,
+    totals: &mut Totals,
+) -> io::Result<Result<(), Refusal>> {
+    let whole = match Matrix::new(rt.alloc(), view) {
+        Ok(whole) => whole,
+        Err(refusal) => return Ok(Err(refusal)),
+    };
+    if !fits(tree) {
+        return Ok(Err(Refusal::TooLarge));
+    }
+    let begin = Instant::now(rt)?;
+    let cut = cut_up_over(rt.alloc(), view, &whole, atoms, tree);
+    totals.checked = totals.checked.saturating_add(begin.elapsed(rt)?);
+    match cut {
+        Ok(Some(leaves)) => {
+            totals.inner = inner_nodes(tree);
+            totals.rests = leaves.rests.len();
+            Ok(Ok(()))
+        }
+        Ok(None) => Ok(Err(Refusal::DoesNotHold)),
+        Err(refusal) => Ok(Err(refusal)),
+    }
+}
+
+fn measure_hand_in(
+    rt: &HostRuntime,
+    round: Round,
+    totals: &mut Totals,
+) -> io::Result<Result<(), Refusal>> {
+    let Round { book, job, tree } = round;
+    let mut book = book;
+    let report = Report {
+        task: job.task,
+        edition: job.edition,
+        tree,
+    };
+    let begin = Instant::now(rt)?;
+    let applied = book.hand_in(report);
+    totals.handed = totals.handed.saturating_add(begin.elapsed(rt)?);
+    match applied {
+        Ok(_) => Ok(Ok(())),
+        Err(refusal) => Ok(Err(refusal)),
+    }
+}
+
+fn begin_round(alloc: Global, design: &Design) -> Result<Round, Refusal> {
+    let book = book_with_matrix(alloc, design)?;
+    let job = opening_job(&book)?;
+    let tree = grown_tree(alloc, &job.view, &job.atoms)?;
+    Ok(Round { book, job, tree })
+}
+
+fn opening_job(book: &Book) -> Result<Job, Refusal> {
+    match book.take(Which::Any) {
+        Ok(Some(job)) => Ok(job),
+        Ok(None) => Err(Refusal::Gone),
+        Err(refusal) => Err(refusal),
+    }
+}
+
+// A book that has made its matrix, since it has checked a report. It refuses that report, unless the only tiling is the
+// empty one.
+fn book_with_matrix(alloc: Global, design: &Design) -> Result<Book, Refusal> {
+    let copy = design.copy()?;
+    let mut book = Book::begin(alloc, copy)?;
+    let _ = book.hand_in(Report {
+        task: 1,
+        edition: 0,
+        tree: Tree::Found,
+    });
+    Ok(book)
+}
+
+// A Branch with a tree in its last arm, or the tree for one node if that isn't a Branch with arms.
+fn grown_tree(alloc: Global, view: &View, atoms: &[Atom]) -> Result<Tree, Refusal> {
+    let whole = Matrix::new(alloc, view)?;
+    let Explored { tree, leaves: _ } = explore_over(alloc, view, &whole, atoms, 1)?;
+    match tree {
+        Tree::Branch { item, arms } => {
+            let arms = last_grown(alloc, view, &whole, atoms, arms)?;
+            Ok(Tree::Branch { item, arms })
+        }
+        Tree::Split {
+            placement,
+            taken,
+            left,
+        } => Ok(Tree::Split {
+            placement,
+            taken,
+            left,
+        }),
+        Tree::Found => Ok(Tree::Found),
+        Tree::Rest => Ok(Tree::Rest),
+    }
+}
+
+// The arms, with a tree in the last for the tilings that have its placement and none of the earlier ones.
+fn last_grown(
+    alloc: Global,
+    view: &View,
+    whole: &Matrix,
+    atoms: &[Atom],
+    arms: Vec<Arm>,
+) -> Result<Vec<Arm>, Refusal>
+    requires { IsWhole view.now whole.now }
+{
+    let mut arms = arms;
+    let Some(last) = arms.pop() else {
+        return Ok(arms);
+    };
+    let placement = last.placement;
+    let mut given = Vec::from_slice(alloc, atoms)?;
+    for arm in &arms {
+        given.push(Atom::Lacks(arm.placement))?;
+    }
+    given.push(Atom::Has(placement))?;
+    let Explored { tree, leaves: _ } = explore_over(alloc, view, whole, &given, NODES)?;
+    arms.push(Arm { placement, tree })?;
+    Ok(arms)
+}
