@@ -1,15 +1,13 @@
 //! What it costs a book to take a report, beyond the check of its tree.
 //!
-//! The report is on the opening task: a Branch whose last arm has a tree of its own, and whose other arms are left to new
-//! tasks. On the 6 by 10 rectangle it has about 100 nodes and 20 rests.
-ghost use Rattle.poly_frame.specs.Matrices.{IsWhole};
+//! The report is on the opening task, with the tree that a worker makes of 100 nodes.
 
 use crate::reports::inner_nodes;
 use poly_atom::Atom;
 use poly_book::{Book, Job, Which};
 use poly_design::Design;
 use poly_grid::Refusal;
-use poly_report::{Arm, Matrix, Report, Tree, cut_up_over, fits};
+use poly_report::{Matrix, Report, Tree, cut_up_over, fits};
 use poly_search::{Explored, explore_over};
 use poly_tiling::View;
 use std::alloc::Global;
@@ -19,8 +17,8 @@ use std::time::{Duration, Instant};
 /// How often the report is handed in, each time to a new book.
 const TIMES: u32 = 100;
 
-/// The most nodes that aren't Rest of the last arm's tree.
-const NODES: u32 = 80;
+/// The most nodes that aren't Rest of the report's tree.
+const NODES: u32 = 100;
 
 // A new book, and a report on its opening task.
 #[derive(Drop)]
@@ -162,50 +160,9 @@ fn book_with_matrix(alloc: Global, design: &Design) -> Result<Book, Refusal> {
     Ok(book)
 }
 
-// A Branch with a tree in its last arm, or the tree for one node if that isn't a Branch with arms.
+// The tree of a worker with this many nodes.
 fn grown_tree(alloc: Global, view: &View, atoms: &[Atom]) -> Result<Tree, Refusal> {
     let whole = Matrix::new(alloc, view)?;
-    let Explored { tree, leaves: _ } = explore_over(alloc, view, &whole, atoms, 1)?;
-    match tree {
-        Tree::Branch { item, arms } => {
-            let arms = last_grown(alloc, view, &whole, atoms, arms)?;
-            Ok(Tree::Branch { item, arms })
-        }
-        Tree::Split {
-            placement,
-            taken,
-            left,
-        } => Ok(Tree::Split {
-            placement,
-            taken,
-            left,
-        }),
-        Tree::Found => Ok(Tree::Found),
-        Tree::Rest => Ok(Tree::Rest),
-    }
-}
-
-// The arms, with a tree in the last for the tilings that have its placement and none of the earlier ones.
-fn last_grown(
-    alloc: Global,
-    view: &View,
-    whole: &Matrix,
-    atoms: &[Atom],
-    arms: Vec<Arm>,
-) -> Result<Vec<Arm>, Refusal>
-    requires { IsWhole view.now whole.now }
-{
-    let mut arms = arms;
-    let Some(last) = arms.pop() else {
-        return Ok(arms);
-    };
-    let placement = last.placement;
-    let mut given = Vec::from_slice(alloc, atoms)?;
-    for arm in &arms {
-        given.push(Atom::Lacks(arm.placement))?;
-    }
-    given.push(Atom::Has(placement))?;
-    let Explored { tree, leaves: _ } = explore_over(alloc, view, whole, &given, NODES)?;
-    arms.push(Arm { placement, tree })?;
-    Ok(arms)
+    let Explored { tree, leaves: _ } = explore_over(alloc, view, &whole, atoms, NODES)?;
+    Ok(tree)
 }
