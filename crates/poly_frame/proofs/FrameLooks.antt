@@ -1,9 +1,9 @@
 -- What the rows of a frame answer.
-use Rattle.std.proofs.Common.{◌≡◌, ℕ, zero, suc, ◌+◌, ◌-◌, ◌*◌, ◌<◌, ◌≤◌, MatchOption, None, Option, Some, ◌||◌, Bool, true, false, cond, not, ◌&&◌, nat_lt, List, [], ◌∷◌, ◌++◌, inl, inr, refl, sym, ap, subst, ◌∙◌, arith, length, get_or, take, drop}
+use Rattle.std.proofs.Common.{◌≡◌, ℕ, zero, suc, ◌+◌, ◌-◌, ◌*◌, ◌<◌, ◌≤◌, min, MatchOption, None, Option, Some, ◌||◌, Bool, true, false, cond, not, ◌&&◌, nat_lt, List, [], ◌∷◌, ◌++◌, inl, inr, refl, sym, ap, subst, ◌∙◌, arith, length, get_or, take, drop}
 use Rattle.std.specs.List.{filter, list_any, list_all}
 use Rattle.std.proofs.Math.Nat.{mul-le-mul_left}
 use Rattle.std.proofs.lemmas.List.{take_more, take_all, take-append-drop}
-use Rattle.std.proofs.lemmas.Bool.{and_from, and_parts, both_ways, false_from_ne_true, not_from_false, not-true, or_cases}
+use Rattle.std.proofs.lemmas.Bool.{and_from, and_parts, both_ways, cases_lt, false_from_ne_true, le-ltb, not_from_false, not-true, or_cases}
 use Rattle.poly_tiling.specs.declared.item.Item.{Item}
 use Rattle.poly_tiling.specs.Lists.{distinct, mem}
 use Rattle.poly_tiling.specs.Puzzle.{Bound, View, count, has_item, same_item}
@@ -165,6 +165,13 @@ module _ (v : View) (A : List Atom) (first : ℕ) (t : Table) (live have raised 
   -- too few of the item at a place
   pub due_says : (b : ℕ) → b < length v.bounds → nat_lt (count v (base v A) (item_of v b)) (asks v A (item_of v b)) ≡ nat_lt (get_or have b 0) (get_or t.asked.items b 0)
   due_says b h = ap (λ n. nat_lt n (asks v A (item_of v b))) (sym (top_have v A first t live have raised marks K b h)) ∙ ap (λ n. nat_lt (get_or have b 0) n) ((top_level v A first t live have raised marks K).asked (item_of v b) ∙ sym (K.table.asked b h))
+
+  -- none is due from the place on where none is asked for
+  pub none_short : (n : ℕ) → min t.asked_end (length have) ≤ n → ((b : ℕ) → b < n → nat_lt (get_or have b 0) (get_or t.asked.items b 0) ≡ false) → (b : ℕ) → b < length v.bounds → nat_lt (count v (base v A) (item_of v b)) (asks v A (item_of v b)) ≡ false
+  none_short n l h b m = due_says b m ∙ elim (cases_lt b t.asked_end) [
+    | inl i ↦ h b (omega (arith, l, i, m, K.have_len))
+    | inr i ↦ le-ltb (get_or have b 0) (get_or t.asked.items b 0) (omega (arith, K.table.quiet b i m))
+  ]
 
   pub none_else : t.listed ≡ true → ((b : ℕ) → b < length v.bounds → nat_lt (count v (base v A) (item_of v b)) (asks v A (item_of v b)) ≡ false) → (i : Item) → nat_lt (count v (base v A) i) (asks v A i) ≡ false
   none_else y n i =

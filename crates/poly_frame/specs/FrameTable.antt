@@ -1,5 +1,5 @@
 -- What the words of a frame's table mean.
-use Rattle.std.specs.Prelude.{Bool, List, length, nat_le, nat_lt, not, slice_index, true, ℕ, ◌&&◌, ◌<◌, ◌^◌, ◌||◌, ◌≡◌, cond}
+use Rattle.std.specs.Prelude.{Bool, List, length, nat_le, nat_lt, not, slice_index, true, ℕ, ◌&&◌, ◌<◌, ◌^◌, ◌||◌, ◌≡◌, ◌≤◌, cond}
 use Rattle.std.specs.List.{list_all, list_any}
 use Rattle.poly_tiling.specs.declared.item.Item.{Item}
 use Rattle.poly_tiling.specs.Lists.{mem}
@@ -44,4 +44,5 @@ pub record TableShows (v : View) (A : List Atom) (t : Table) : Type 0 where
   pub asked : AskedShow v A t.asked.items
   pub asked_len : length t.asked.items ≡ length v.bounds
   pub listed : t.listed ≡ true → list_all (of_asked (λ i. list_any (λ b. same_item b.0 i) v.bounds)) A ≡ true
+  pub quiet : (b : ℕ) → t.asked_end ≤ b → b < length v.bounds → slice_index t.asked.items b ≡ 0
   pub small : (i : Item) → count v (base v A) i < 2 ^ 63

@@ -152,7 +152,7 @@ pub(crate) fn is_short(view: &View, path: &[Atom], table: &Table, steps: &Steps)
 {
     let _ = view;
     let _ = path;
-    for b in 0..steps.have.len() {
+    for b in 0..table.asked_end.min(steps.have.len()) {
         if is_below(table, steps, b) {
             return true;
         }
@@ -331,7 +331,7 @@ fn next_unnoted(view: &View, path: &[Atom], table: &Table, steps: &Steps) -> Opt
     let busy = busy_words(&steps.live[at..]);
     let mut best = None;
     let mut fewest = usize::MAX;
-    for b in 0..steps.have.len() {
+    for b in 0..table.asked_end.min(steps.have.len()) {
         if let Some(n) = spare(table, steps, at, &busy, b, fewest) {
             if n == 0 {
                 return Some(b);

@@ -17,7 +17,7 @@ use poly_tiling::{Item, View};
 use std::alloc::Global;
 
 /// The columns of the view's matrix that were open at the start, and for each item how many members shut it and how many
-/// the atoms ask for.
+/// the atoms ask for; from the place `asked_end` on they ask for none.
 #[derive(Drop)]
 pub(crate) struct Table {
     pub(crate) matrix: Matrix,
@@ -25,6 +25,7 @@ pub(crate) struct Table {
     pub(crate) limits: Vec<u8>,
     pub(crate) asked: Vec<u8>,
     pub(crate) listed: bool,
+    pub(crate) asked_end: usize,
 }
 
 ghost use Rattle.poly_frame.specs.Matrices.{IsMatrix};
@@ -184,6 +185,21 @@ fn all_listed(bounds: &[(Item, u8, u8)], atoms: &[Atom]) -> bool
     atoms.iter().all(|a| asks_listed(bounds, a))
 }
 
+// Where the last item that is asked for ends: none is asked for from there on.
+fn end_of(asked: &[u8]) -> usize
+    ensures { (b : ℕ) → result ≤ b → b < length asked.now → slice_index asked.now b ≡ 0 }
+{
+    let mut end = asked.len();
+    while end > 0 {
+        let n = asked[end - 1];
+        if n > 0 {
+            return end;
+        }
+        end -= 1;
+    }
+    0
+}
+
 /// The table of what is open at the atoms, from a matrix with a column for each placement that is open there. `members` is
 /// their base, `uppers` and `have` are what each item may have at most and has there.
 pub(crate) fn table_of(
@@ -213,11 +229,13 @@ pub(crate) fn table_of(
     let limits = limits_of(alloc, bounds, uppers)?;
     let asked = asked_of(alloc, view, atoms, &part.cells)?;
     let listed = all_listed(bounds, atoms);
+    let asked_end = end_of(&asked);
     Ok(Table {
         matrix,
         busy,
         limits,
         asked,
         listed,
+        asked_end,
     })
 }

@@ -2,7 +2,7 @@ use Rattle.std.proofs.Common.{arith, length, sym, ◌<◌, ◌∙◌}
 use Rattle.poly_atom.specs.Hopeless.{base}
 use Rattle.poly_frame.specs.FrameItems.{item_of}
 use Rattle.poly_frame.proofs.FrameArms.{short_none}
-use Rattle.poly_frame.proofs.FrameLooks.{due_says}
+use Rattle.poly_frame.proofs.FrameLooks.{due_says, none_short}
 use Rattle.poly_frame.proofs.frame.looks.is_short.Goals as goal
 
 pub returns-then-is_below-clause-short : goal.returns-then-is_below-clause-short
@@ -12,12 +12,10 @@ returns-then-is_below-clause-short c = λ _.
     let A = c.args.path.now in
     let K = c.requires.kept.1 in
     let b = c.loop-b.b in
-    let low : b < length v.bounds = omega (arith, c.loop-b-test.true, c.len-b-end.ensures, s.have.ok.0, K.have_len) in
+    let low : b < length v.bounds = omega (arith, c.loop-b-test.true, c.min-b-end.ensures, c.len.ensures, s.have.ok.0, K.have_len) in
     short_none v A (base v A) (item_of v b) (due_says v A c.requires.kept.0 c.args.table.now s.live.items s.have.items s.raised.items s.marks.items K b low ∙ sym c.is_below.ensures ∙ c.if-is_below.true)
 
 pub returns-clause-enough : goal.returns-clause-enough
-returns-clause-enough c = λ _ b h.
+returns-clause-enough c = λ _.
     let s = c.args.steps.now in
-    let K = c.requires.kept.1 in
-    due_says c.args.view.now c.args.path.now c.requires.kept.0 c.args.table.now s.live.items s.have.items s.raised.items s.marks.items K b h
-    ∙ c.loop-b.invariant b (omega (arith, h, c.loop-b-test.false, c.len-b-end.ensures, s.have.ok.0, K.have_len))
+    none_short c.args.view.now c.args.path.now c.requires.kept.0 c.args.table.now s.live.items s.have.items s.raised.items s.marks.items c.requires.kept.1 c.loop-b.b (omega (arith, c.loop-b-test.false, c.min-b-end.ensures, c.len.ensures, s.have.ok.0)) c.loop-b.invariant

@@ -32,5 +32,6 @@ returns-clause-value c =
       asked = c.in_ok-asked.ensures.value;
       asked_len = c.in_ok-asked.ensures.len;
       listed = λ y. subst (λ (bs : List Bound). list_all (of_asked (λ i. list_any (λ b. same_item b.0 i) bs)) A ≡ true) c.items-bounds.ensures.value (sym c.all_listed-listed.ensures ∙ y);
+      quiet = λ b l h. ap (λ xs. get_or xs b 0) (sym c.deref-4.ensures.value) ∙ c.end_of-asked_end.ensures b l (omega (arith, h, ap length c.deref-4.ensures.value, c.in_ok-asked.ensures.len));
       small = λ i. omega (arith, count_le v c.args.members.now i, c.requires.few, ap (λ xs. count v xs i) c.requires.base);
     }
