@@ -14,6 +14,7 @@ use crate::floor::{Floor, NotBegun};
 use crate::opening::Opening;
 use crate::pass::Pass;
 use crate::receipt::Receipt;
+use crate::waiting::{self, OFTEN, SELDOM};
 use poly_board::Posted;
 use poly_book::{Applied, Book, Job, Quiet, Which};
 use poly_browse::{Answer, Query};
@@ -151,7 +152,7 @@ impl<C: Ledger, K: Ledger, O: Opening> Desk<C, K, O> {
         ensures receipt { IfOk result (λ r. r.1 ≡ Receipt.Cut r.0.place report.task) }
         ensures why { IfErr result (λ e. IsTurnedDown pass.old pass.new e) }
     {
-        let mut floor = self.floor.lock(rt);
+        let mut floor = waiting::lock(rt, &self.floor, SELDOM);
         match floor.hand_in(pass, report) {
             Ok(both) => Ok(both),
             Err(refusal) => Err(refusal),
@@ -189,7 +190,7 @@ impl<C: Ledger, K: Ledger, O: Opening> Desk<C, K, O> {
         ensures edition { IfOk result (λ o. IfSome o (λ j. pass.old.noted.edition ≤ j.edition)) }
         ensures why { IfErr result (λ e. IsTurnedDown pass.old pass.new e) }
     {
-        let floor = self.floor.lock(rt);
+        let floor = waiting::lock(rt, &self.floor, OFTEN);
         match floor.take(pass, which) {
             Ok(taken) => Ok(taken),
             Err(refusal) => Err(refusal),

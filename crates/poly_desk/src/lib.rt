@@ -24,6 +24,7 @@ mod settle;
 mod shares;
 mod stands;
 mod tick;
+mod waiting;
 
 pub use bench::Bench;
 pub use desk::{Desk, NotSettled};
