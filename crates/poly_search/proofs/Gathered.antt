@@ -99,7 +99,7 @@ pub some_over : (A : List Atom) (n : ℕ) (arms : List Arm) → length arms < n 
 some_over A n arms h = ap (λ b. cond b ((A ++ map (λ q. Lacks q) (heads (arms_list arms))) ∷ []) []) (lt-ltb (length arms) n h)
 
 -- a chain leaves what its arms leave, and then what its end leaves
-behind_next : (A : List Atom) (before : List ℕ) (p : ℕ) → (A ++ map (λ q. Lacks q) before) ++ Lacks p ∷ [] ≡ A ++ map (λ q. Lacks q) (before ++ p ∷ [])
+pub behind_next : (A : List Atom) (before : List ℕ) (p : ℕ) → (A ++ map (λ q. Lacks q) before) ++ Lacks p ∷ [] ≡ A ++ map (λ q. Lacks q) (before ++ p ∷ [])
 behind_next A before p = append_assoc A (map (λ q. Lacks q) before) (Lacks p ∷ []) ∙ ap (λ xs. A ++ xs) (sym (map-append (λ q. Lacks q) before (p ∷ [])))
 
 chain_tilings : (v : View) (A : List Atom) (before : List ℕ) (arms : Arms) (end : Plan) → distinct (before ++ heads arms) ≡ true →

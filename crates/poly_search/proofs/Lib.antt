@@ -5,3 +5,4 @@ pub mod Swept
 pub mod Arms
 pub mod Families
 pub mod Gathered
+pub mod Paths

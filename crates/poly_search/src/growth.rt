@@ -10,6 +10,7 @@ ghost use Rattle.poly_report.specs.Trees.{Rests};
 ghost use Rattle.poly_report.specs.Shapes.{plan_of, arms_list};
 ghost use Rattle.poly_report.specs.Gather.{lists};
 ghost use Rattle.poly_report.specs.Leaves.{arms_rests, arms_tilings, rests, tilings};
+ghost use Rattle.poly_report.specs.Opened.{arms_opened, opened};
 ghost use Rattle.poly_report.specs.Sizes.{total, arms_total, inner, arms_inner, is_rest, Grown};
 ghost use Rattle.poly_frame.specs.Walk.{is_due, is_open, is_option};
 ghost use Rattle.poly_search.specs.Chains.{chain};
@@ -84,6 +85,7 @@ pub fn grow(
     requires once { distinct frame.old.scene.live ≡ true }
     ensures same { OnOk result (frame.new ≡ frame.old) }
     ensures grown { IfOk result (λ t. Grown frame.old.scene frame.old.atoms depth (plan_of t)) }
+    ensures opened { IfOk result (λ t. opened frame.old.scene frame.old.atoms (plan_of t) ≡ true) }
     ensures nodes { IfOk result (λ t. growth.new.nodes + total (plan_of t) ≡ growth.old.nodes) }
     ensures inner { IfOk result (λ t. growth.new.inner + inner (plan_of t) ≤ growth.old.inner) }
     ensures tilings { IfOk result (λ t. growth.new.leaves.tilings.items ≡ growth.old.leaves.tilings.items ++ tilings frame.old.scene frame.old.atoms (plan_of t)) }
@@ -140,6 +142,7 @@ fn child(
     requires once { distinct frame.old.scene.live ≡ true }
     ensures same { OnOk result (frame.new ≡ frame.old) }
     ensures grown { IfOk result (λ t. Grown frame.old.scene frame.old.atoms depth (plan_of t)) }
+    ensures opened { IfOk result (λ t. opened frame.old.scene frame.old.atoms (plan_of t) ≡ true) }
     ensures nodes { IfOk result (λ t. growth.new.nodes + total (plan_of t) ≡ growth.old.nodes) }
     ensures inner { IfOk result (λ t. growth.new.inner + inner (plan_of t) ≤ growth.old.inner) }
     ensures tilings { IfOk result (λ t. growth.new.leaves.tilings.items ≡ growth.old.leaves.tilings.items ++ tilings frame.old.scene frame.old.atoms (plan_of t)) }
@@ -185,9 +188,11 @@ fn walk_arms(
     requires steps { length frame.old.atoms + growth.old.nodes + 1 ≤ frame.old.given + 4096 + kept }
     requires begun { frame.old.given ≤ length frame.old.atoms }
     requires once { distinct frame.old.scene.live ≡ true }
+    requires each_once { distinct options.now ≡ true }
     requires members { (p : ℕ) → mem options.now p ≡ (mem frame.old.scene.live p && is_option frame.old item.now p) }
     ensures same { OnOk result (frame.new ≡ frame.old) }
     ensures walked { IfOk result (λ a. Walked frame.old depth kept options.now growth.new.nodes a.held a.arms.items) }
+    ensures opened { IfOk result (λ a. arms_opened frame.old.scene frame.old.atoms [] (arms_list a.arms.items) ≡ true) }
     ensures nodes { IfOk result (λ a. growth.new.nodes + arms_total (arms_list a.arms.items) ≡ growth.old.nodes) }
     ensures inner { IfOk result (λ a. growth.new.inner + arms_inner (arms_list a.arms.items) + a.held ≤ growth.old.inner) }
     ensures tilings { IfOk result (λ a. growth.new.leaves.tilings.items ≡ growth.old.leaves.tilings.items ++ arms_tilings frame.old.scene frame.old.atoms [] (arms_list a.arms.items)) }
@@ -252,6 +257,7 @@ fn branch(
     requires members { (p : ℕ) → mem options.now p ≡ (mem frame.old.scene.live p && is_option frame.old item.now p) }
     ensures same { OnOk result (frame.new ≡ frame.old) }
     ensures grown { IfOk result (λ t. Grown frame.old.scene frame.old.atoms depth (plan_of t)) }
+    ensures opened { IfOk result (λ t. opened frame.old.scene frame.old.atoms (plan_of t) ≡ true) }
     ensures nodes { IfOk result (λ t. growth.new.nodes + total (plan_of t) ≡ growth.old.nodes) }
     ensures inner { IfOk result (λ t. growth.new.inner + inner (plan_of t) ≤ growth.old.inner) }
     ensures tilings { IfOk result (λ t. growth.new.leaves.tilings.items ≡ growth.old.leaves.tilings.items ++ tilings frame.old.scene frame.old.atoms (plan_of t)) }
@@ -316,6 +322,7 @@ fn split(
     requires open { is_open frame.old placement ≡ true }
     ensures same { OnOk result (frame.new ≡ frame.old) }
     ensures grown { IfOk result (λ t. Grown frame.old.scene frame.old.atoms depth (plan_of t)) }
+    ensures opened { IfOk result (λ t. opened frame.old.scene frame.old.atoms (plan_of t) ≡ true) }
     ensures nodes { IfOk result (λ t. growth.new.nodes + total (plan_of t) ≡ growth.old.nodes) }
     ensures inner { IfOk result (λ t. growth.new.inner + inner (plan_of t) ≤ growth.old.inner) }
     ensures tilings { IfOk result (λ t. growth.new.leaves.tilings.items ≡ growth.old.leaves.tilings.items ++ tilings frame.old.scene frame.old.atoms (plan_of t)) }

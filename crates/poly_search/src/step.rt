@@ -4,6 +4,7 @@ ghost use Rattle.poly_frame.specs.Matrices.{IsWhole};
 ghost use Rattle.poly_report.specs.Holds.{holds};
 ghost use Rattle.poly_report.specs.Gather.{lists};
 ghost use Rattle.poly_report.specs.Leaves.{rests, tilings};
+ghost use Rattle.poly_report.specs.Opened.{opened};
 ghost use Rattle.poly_report.specs.Shapes.{plan_of};
 ghost use Rattle.poly_report.specs.Sizes.{all_fewer, fits, inner, is_rest};
 
@@ -24,7 +25,8 @@ pub struct Explored {
 }
 
 /// Cuts the family of the atoms up as `explore` does, and gathers the leaves of the tree on the way: the same tilings and
-/// rests as `poly_report::leaves` finds in it, in the same order. The only refusal is `Memory`.
+/// rests as `poly_report::leaves` finds in it, in the same order. The tree takes and leaves only placements that are open
+/// there. The only refusal is `Memory`.
 pub fn explore_with_leaves(
     alloc: Global,
     view: &View,
@@ -35,6 +37,7 @@ pub fn explore_with_leaves(
     requires few { nodes ≤ 4096 }
     ensures fits { IfOk result (λ e. fits (plan_of e.tree) ≡ true) }
     ensures holds { IfOk result (λ e. holds view.now atoms.now (plan_of e.tree) ≡ true) }
+    ensures opened { IfOk result (λ e. opened view.now atoms.now (plan_of e.tree) ≡ true) }
     ensures inner { IfOk result (λ e. inner (plan_of e.tree) ≤ nodes) }
     ensures root { IfOk result (λ e. is_rest (plan_of e.tree) ≡ false) }
     ensures smaller { IfOk result (λ e. all_fewer view.now atoms.now (rests view.now atoms.now (plan_of e.tree)) ≡ true) }
@@ -60,6 +63,7 @@ pub fn explore_over(
     requires few { nodes ≤ 4096 }
     ensures fits { IfOk result (λ e. fits (plan_of e.tree) ≡ true) }
     ensures holds { IfOk result (λ e. holds view.now atoms.now (plan_of e.tree) ≡ true) }
+    ensures opened { IfOk result (λ e. opened view.now atoms.now (plan_of e.tree) ≡ true) }
     ensures inner { IfOk result (λ e. inner (plan_of e.tree) ≤ nodes) }
     ensures root { IfOk result (λ e. is_rest (plan_of e.tree) ≡ false) }
     ensures smaller { IfOk result (λ e. all_fewer view.now atoms.now (rests view.now atoms.now (plan_of e.tree)) ≡ true) }

@@ -14,6 +14,7 @@ use Rattle.poly_search.specs.declared.growth.Growth.{Growth}
 use Rattle.poly_search.proofs.Gathered.{arm_path, branch_rests, branch_tilings, linked_rests, linked_tilings, named_once, rests_cut, rests_next, split_rests, split_tilings, tilings_next}
 use Rattle.poly_search.proofs.Nodes.{back_is, branch_of, option_at, take_whole, split_of, past_next, names_next, total_next, inner_next, grown_next, total_some}
 use Rattle.poly_search.proofs.Links.{chain_grown, chain_inner, chain_no_rest, chain_total, grown_deeper, linked_next}
+use Rattle.poly_search.proofs.Paths.{branch_opened, linked_opened, opened_next, split_opened}
 use Rattle.poly_search.proofs.growth.+grow.Goals as goal
 use Rattle.poly_search.proofs.growth.+grow.Goals.{walk_arms-then-chained+then-j-gt0+then-growth-gt1, walk_arms-then-chained+then-j-gt0+else-growth-gt1+else-options-j-gt1, walk_arms-else-chained, walk_arms-then-chained-2, walk_arms-else-chained-2}
 
@@ -25,6 +26,15 @@ split-returns-clause-grown t c =
     let back = back_is w c.pick.new.self c.child.new.frame c.back_to.new.self (Has p) c.mark-mark.result c.mark-mark.ensures c.pick.ensures c.in_ok-taken.ensures.same c.back_to.ensures in
     let left : c.leave.new.self ≡ record w { atoms = w.atoms ++ Lacks p ∷ [] } = c.leave.ensures ∙ ap (λ (x : Walk). record x { atoms = x.atoms ++ Lacks p ∷ [] }) back in
     let a = split_of w c.pick.new.self c.leave.new.self c.args.depth p (plan_of c.in_ok-taken.taken) (plan_of c.in_ok-left.left) r.low r.once r.place r.open c.pick.ensures left c.in_ok-taken.ensures.grown c.in_ok-left.ensures.grown in
+    rw (c.in_ok-taken-2.ensures.ok, c.in_ok-left-2.ensures.ok) a
+
+pub split-returns-clause-opened : goal.split-returns-clause-opened
+split-returns-clause-opened t c =
+    let w = c.args.frame.now in
+    let r = c.requires in
+    let back = back_is w c.pick.new.self c.child.new.frame c.back_to.new.self (Has c.args.placement) c.mark-mark.result c.mark-mark.ensures c.pick.ensures c.in_ok-taken.ensures.same c.back_to.ensures in
+    let left : c.leave.new.self ≡ record w { atoms = w.atoms ++ Lacks c.args.placement ∷ [] } = c.leave.ensures ∙ ap (λ (x : Walk). record x { atoms = x.atoms ++ Lacks c.args.placement ∷ [] }) back in
+    let a = split_opened w c.pick.new.self c.leave.new.self c.args.placement (plan_of c.in_ok-taken.taken) (plan_of c.in_ok-left.left) r.place r.open c.pick.ensures left c.in_ok-taken.ensures.opened c.in_ok-left.ensures.opened in
     rw (c.in_ok-taken-2.ensures.ok, c.in_ok-left-2.ensures.ok) a
 
 pub split-returns-clause-tilings : goal.split-returns-clause-tilings
@@ -89,6 +99,7 @@ walk_arms-loop-j-preserved t c =
       counted = omega (arith, tn, some, i.counted);
       room = omega (arith, g.kept, i.room);
       grown = grown_next w c.loop-j.frame c.pick.new.self _ c.args.item.now c.loop-j.arms.items c.push.new.self.items a ps j lt r.once r.members i.path c.pick.ensures i.names more refl i.grown (grown_deeper _ _ _ _ _ shallow g.grown);
+      opened = opened_next w c.pick.new.self c.args.item.now c.loop-j.arms.items c.push.new.self.items a ps j lt r.each_once r.members under i.names more refl i.opened g.opened;
       linked = λ h.
           let at : c.if-chained-2.deeper ≡ c.args.depth - 1 - j = elim c.if-chained-2.branch [
             | walk_arms-then-chained-2 k ↦ k.deeper-is
@@ -117,6 +128,11 @@ branch-returns-then-len-options-clause-grown t c =
     let all = take_whole c.args.options.now (length arms.items) (omega (arith, c.len.ensures, c.if-len-options.true, arms.ok)) in
     branch_of c.args.frame.now c.args.depth c.args.item.now arms.items c.args.options.now _ r.low r.once r.each_once r.members r.due (e.walked.names ∙ all) e.walked.grown (plan_of-Branch c.args.item.now arms)
 
+pub branch-returns-then-len-options-clause-opened : goal.branch-returns-then-len-options-clause-opened
+branch-returns-then-len-options-clause-opened t c =
+    let arms = c.in_ok-walked.walked.arms in
+    branch_opened c.args.frame.now c.args.item.now arms.items _ (plan_of-Branch c.args.item.now arms) c.in_ok-walked.ensures.opened
+
 pub branch-returns-then-len-options-clause-nodes : goal.branch-returns-then-len-options-clause-nodes
 branch-returns-then-len-options-clause-nodes t c = omega (arith, ap total (plan_of-Branch c.args.item.now c.in_ok-walked.walked.arms), c.in_ok-walked.ensures.nodes, c.requires.room)
 
@@ -142,6 +158,9 @@ branch-returns-clause-grown t c =
     let early = few.early (omega (arith, c.len.ensures, c.if-len-options.false, arms.ok, few.few)) in
     subst (λ (p : Plan). Grown c.args.frame.now.scene c.args.frame.now.atoms c.args.depth p) (sym c.in_ok-tree.ensures.tree)
     (chain_grown c.args.frame.now c.args.depth c.args.item.now arms.items c.args.options.now r.once r.members few.names few.few early.some early.shallow early.linked)
+
+pub branch-returns-clause-opened : goal.branch-returns-clause-opened
+branch-returns-clause-opened t c = linked_opened c.args.frame.now c.in_ok-walked.walked.arms.items (plan_of c.in_ok-tree.tree) c.in_ok-tree.ensures.tree c.in_ok-walked.ensures.opened
 
 pub branch-returns-clause-nodes : goal.branch-returns-clause-nodes
 branch-returns-clause-nodes t c =

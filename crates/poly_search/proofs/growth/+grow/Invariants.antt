@@ -4,6 +4,7 @@ use Rattle.poly_report.specs.Trees.{heads}
 use Rattle.poly_report.specs.Shapes.{arms_list}
 use Rattle.poly_report.specs.Gather.{lists}
 use Rattle.poly_report.specs.Leaves.{arms_rests, arms_tilings}
+use Rattle.poly_report.specs.Opened.{arms_opened}
 use Rattle.poly_report.specs.Sizes.{arms_total, arms_inner, ArmsGrown}
 use Rattle.poly_search.specs.Chains.{Chains}
 use Rattle.poly_search.proofs.growth.+grow.Given as goal
@@ -36,6 +37,7 @@ invariant-walk_arms-loop-j l = record {
   counted : l.j ≤ arms_total (arms_list l.arms.items);
   room : l.kept + length l.options ≤ l.growth.nodes + l.j;
   grown : ArmsGrown l.fn.frame.scene l.fn.frame.atoms (l.depth - 1) (arms_list l.arms.items);
+  opened : arms_opened l.fn.frame.scene l.fn.frame.atoms [] (arms_list l.arms.items) ≡ true;
   linked : l.chained ≡ true → Chains l.fn.frame.scene l.fn.frame.atoms l.depth (arms_list l.arms.items);
   short : l.chained ≡ true → length l.options + 2 ≤ l.depth;
   held : l.held ≤ l.j;
