@@ -25,3 +25,4 @@ pub mod Leading
 pub mod Cataloguing
 pub mod Amounts
 pub mod Refusing
+pub mod Hoping

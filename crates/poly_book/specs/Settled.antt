@@ -1,13 +1,16 @@
 -- What settling leaves.
-use Rattle.std.specs.Prelude.{Bool, List, [], false, length, map, true, ℕ, ◌++◌, ◌<◌, ◌≡◌, ◌⊎◌}
+use Rattle.std.specs.List.{list_all}
+use Rattle.std.specs.Prelude.{Bool, List, [], drop, false, length, map, not, true, ℕ, ◌++◌, ◌<◌, ◌≡◌, ◌⊎◌}
 use Rattle.poly_grid.specs.declared.refusal.Refusal.{Refusal}
 use Rattle.poly_grid.specs.declared.refusal.Refusal.TheVariants.{Memory, Unfinished}
+use Rattle.poly_atom.specs.Hopeless.{hopeless}
 use Rattle.poly_report.specs.Sizes.{fits}
 use Rattle.poly_report.specs.Trees.{Plan}
 use Rattle.poly_book.specs.declared.step.Ending.TheVariants.{Cut}
 use Rattle.poly_book.specs.Happenings.{HoldsNow}
 use Rattle.poly_book.specs.Refused.{IsOver}
 use Rattle.poly_book.specs.States.{State}
+use Rattle.poly_book.specs.Tasks.{atoms_of}
 
 -- this many tasks were cut; the opening design, the design and the steps are the same
 pub record Cuts (s t : State) (n : ℕ) : Type 0 where
@@ -36,3 +39,7 @@ pub record IsSettled (s t : State) (n : ℕ) : Type 0 where
 -- All turns cut a task, and one is pending still; or fewer did, and the next report was refused.
 abbrev pub IsNotSettled : ℕ → State → State → Refusal → Type 0
 IsNotSettled turns s t e = ((e ≡ Unfinished) × Cuts s t turns × (0 < length t.pending)) ⊎ ((n : ℕ) × (n < turns) × Cuts s t n × IsNotTurned t e)
+
+-- no task from that place on is hopeless
+abbrev pub AreHopefulFrom : ℕ → State → Type 0
+AreHopefulFrom n s = list_all (λ t. not (hopeless s.view (atoms_of t))) (drop n s.pending) ≡ true

@@ -1,6 +1,6 @@
 //! New tasks: the stairs of a change, the frozen lists crossed with them, and the rests of a report. A hopeless list
 //! gets no task.
-ghost use Rattle.std.specs.Prelude.{◌≡◌, ◌≤◌, ◌<◌, ◌++◌, ◌+◌, ◌∷◌, ◌⊎◌, ℕ, [], IfErr, IfOk, OnOk, List, length, map, option_copied};
+ghost use Rattle.std.specs.Prelude.{◌≡◌, ◌≤◌, ◌<◌, ◌++◌, ◌+◌, ◌∷◌, ◌⊎◌, ℕ, [], IfErr, IfOk, OnOk, List, false, length, map, not, option_copied, true};
 ghost use Rattle.std.specs.List.{flat_map};
 ghost use Rattle.poly_atom.specs.declared.atom.Atom.{Atom as AtomOf};
 ghost use Rattle.poly_atom.specs.Atoms.{AllSmall, IsSmall, negated};
@@ -10,7 +10,7 @@ ghost use Rattle.poly_report.specs.Gather.{lists};
 ghost use Rattle.poly_book.specs.Opens.{Opens};
 ghost use Rattle.poly_book.specs.Meaning.{stored_of};
 ghost use Rattle.poly_book.specs.Shelves.{crossed, openings};
-ghost use Rattle.poly_book.specs.Tasks.{hopeful};
+ghost use Rattle.poly_book.specs.Tasks.{AreHopeful, hopeful};
 
 use crate::task::{Own, Pending};
 use poly_atom::{Atom, Stair, hopeless, staircase};
@@ -22,15 +22,17 @@ use std::alloc::Global;
 /// The greatest task number.
 const LAST: u64 = 4_294_967_295;
 
-/// The lists that are opened, as tasks under the next numbers.
+/// The lists that are opened, as tasks under the next numbers. If `sure`, none of the lists is hopeless.
 pub(crate) fn opened(
     alloc: Global,
     view: &View,
     all: Vec<Vec<Atom>>,
     next: u64,
     made: u64,
+    sure: bool,
 ) -> Result<Vec<Pending>, Refusal>
-    requires { next ≤ 4294967296 }
+    requires next { next ≤ 4294967296 }
+    requires sure { sure ≡ true → AreHopeful view.now (lists all.items) }
     ensures ok { IfOk result (λ ps. (log : List (List AtomOf)) → length log ≡ made → Opens log next view.now (lists all.items) ps.items) }
     ensures few { IfOk result (λ ps. next + length ps.items ≤ 4294967296) }
     ensures why { IfErr result (λ e. ((e ≡ Refusal.Spent) × (4294967296 < next + length (hopeful view.now (lists all.items)))) ⊎ (e ≡ Refusal.Memory)) }
@@ -38,7 +40,7 @@ pub(crate) fn opened(
     let mut tasks = Vec::new(alloc);
     let mut number = next;
     for own in all {
-        if !hopeless(view, &own) {
+        if is_opened(view, &own, sure) {
             if number > LAST {
                 return Err(Refusal::Spent);
             }
@@ -51,6 +53,14 @@ pub(crate) fn opened(
         }
     }
     Ok(tasks)
+}
+
+// Whether the list isn't hopeless, which takes no time if that is sure.
+fn is_opened(view: &View, own: &[Atom], sure: bool) -> bool
+    requires { sure ≡ true → hopeless view.now own.now ≡ false }
+    ensures { result ≡ not (hopeless view.now own.now) }
+{
+    sure || !hopeless(view, own)
 }
 
 /// The stairs of the guards that led from the edition, as tasks under the next numbers.
@@ -187,5 +197,5 @@ fn fresh_crossed(
     ensures why { IfErr result (λ e. ((e ≡ Refusal.Spent) × (4294967296 < next + length (hopeful view.now (crossed (lists frozen.now) (stairs guards.now))))) ⊎ (e ≡ Refusal.Memory)) }
 {
     let all = crossed_lists(alloc, frozen, guards)?;
-    opened(alloc, view, all, next, edition + 1)
+    opened(alloc, view, all, next, edition + 1, false)
 }

@@ -9,6 +9,7 @@ ghost use Rattle.poly_tiling.specs.Listings.{HasOverTilings};
 ghost use Rattle.poly_book.specs.Keeps.{Keeps, state_of};
 ghost use Rattle.poly_book.specs.Refused.{IsNotApplied, IsOver};
 ghost use Rattle.poly_book.specs.Reports.{AreLeaves, IsApplied};
+ghost use Rattle.poly_book.specs.Tasks.{AreHopeful};
 
 use crate::apply::push_tasks;
 use crate::book::Book;
@@ -51,7 +52,7 @@ fn apply_report(parts: &mut Parts, report: &Report) -> Result<Applied, Refusal>
         return Err(Refusal::TooLarge);
     }
     let leaves = checked_leaves(parts, at, report)?;
-    apply_leaves(parts, at, report.edition, leaves)
+    apply_leaves(parts, at, report.edition, leaves, false)
 }
 
 // The leaves of the report's tree, if it holds for the task at the place.
@@ -70,15 +71,18 @@ fn checked_leaves(parts: &mut Parts, at: usize, report: &Report) -> Result<Leave
     Ok(leaves)
 }
 
-/// Ends the task at the place, lists the tilings and opens the rests: the leaves of a tree that fits and holds for it.
+/// Ends the task at the place, lists the tilings and opens the rests: the leaves of a tree that fits and holds for it. If
+/// `sure`, no rest is hopeless.
 pub(crate) fn apply_leaves(
     parts: &mut Parts,
     at: usize,
     edition: u64,
     leaves: Leaves,
+    sure: bool,
 ) -> Result<Applied, Refusal>
     requires keeps { Keeps parts.old }
     requires leaves { (k : ℕ) × (tree : Plan) × AreLeaves parts.old k at tree leaves.tilings.items (lists leaves.rests.items) }
+    requires sure { sure ≡ true → AreHopeful parts.old.scene (lists leaves.rests.items) }
     ensures keeps { Keeps parts.new }
     ensures ok { IfOk result (λ a. (k : ℕ) (tree : Plan) → AreLeaves parts.old k at tree leaves.tilings.items (lists leaves.rests.items) → IsApplied k edition tree (state_of parts.old) (state_of parts.new) a) }
     ensures err { OnErr result (state_of parts.new ≡ state_of parts.old) }
@@ -87,7 +91,7 @@ pub(crate) fn apply_leaves(
     let Leaves { tilings, rests } = leaves;
     let now = parts.log.len() as u64;
     let start = parts.next;
-    let fresh = opened(parts.alloc, parts.scene.view(), rests, start, now)?;
+    let fresh = opened(parts.alloc, parts.scene.view(), rests, start, now, sure)?;
     let more = fresh.len();
     let found = tilings.len() as u64;
     let place = parts.endings.len() as u64 + 1;

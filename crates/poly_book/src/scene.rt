@@ -5,6 +5,7 @@ ghost use Rattle.poly_frame.specs.Matrices.{IsWhole};
 ghost use Rattle.poly_report.specs.Gather.{IsCutUp, lists};
 ghost use Rattle.poly_report.specs.Holds.{holds};
 ghost use Rattle.poly_report.specs.Leaves.{rests, tilings};
+ghost use Rattle.poly_report.specs.Opened.{opened};
 ghost use Rattle.poly_report.specs.Shapes.{plan_of};
 ghost use Rattle.poly_report.specs.Sizes.{fits};
 ghost use Rattle.poly_book.specs.Scenes.{IsMatrixOf};
@@ -71,6 +72,7 @@ impl Scene {
         ensures stays { self.new ≡ self.old }
         ensures fits { IfOk result (λ e. fits (plan_of e.tree) ≡ true) }
         ensures holds { IfOk result (λ e. holds self.old atoms.now (plan_of e.tree) ≡ true) }
+        ensures opened { IfOk result (λ e. opened self.old atoms.now (plan_of e.tree) ≡ true) }
         ensures tilings { IfOk result (λ e. e.leaves.tilings.items ≡ tilings self.old atoms.now (plan_of e.tree)) }
         ensures rests { IfOk result (λ e. lists e.leaves.rests.items ≡ rests self.old atoms.now (plan_of e.tree)) }
         ensures why { IfErr result (λ e. e ≡ Refusal.Memory) }
@@ -108,6 +110,7 @@ fn explore_from(
     ensures matrix { IsMatrixOf view.now slot.new }
     ensures fits { IfOk result (λ e. fits (plan_of e.tree) ≡ true) }
     ensures holds { IfOk result (λ e. holds view.now atoms.now (plan_of e.tree) ≡ true) }
+    ensures opened { IfOk result (λ e. opened view.now atoms.now (plan_of e.tree) ≡ true) }
     ensures tilings { IfOk result (λ e. e.leaves.tilings.items ≡ tilings view.now atoms.now (plan_of e.tree)) }
     ensures rests { IfOk result (λ e. lists e.leaves.rests.items ≡ rests view.now atoms.now (plan_of e.tree)) }
     ensures why { IfErr result (λ e. e ≡ Refusal.Memory) }

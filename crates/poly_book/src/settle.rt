@@ -1,11 +1,12 @@
 //! Settling: taking tasks, exploring them and handing the results in until nothing is pending.
-ghost use Rattle.std.specs.Prelude.{◌≡◌, ◌≤◌, ◌<◌, IfErr, IfOk, OnErr, length, ℕ};
+ghost use Rattle.std.specs.Prelude.{◌≡◌, ◌≤◌, ◌<◌, IfErr, IfOk, OnErr, OnOk, length, ℕ};
 ghost use Rattle.poly_tiling.specs.Listings.{HasOverTilings};
 ghost use Rattle.poly_report.specs.Gather.{lists};
 ghost use Rattle.poly_report.specs.Trees.{Plan};
 ghost use Rattle.poly_book.specs.Keeps.{Keeps, state_of};
 ghost use Rattle.poly_book.specs.Reports.{AreLeaves};
-ghost use Rattle.poly_book.specs.Settled.{IsNotSettled, IsNotTurned, IsSettled, IsTurn};
+ghost use Rattle.poly_book.specs.Settled.{AreHopefulFrom, IsNotSettled, IsNotTurned, IsSettled, IsTurn};
+ghost use Rattle.poly_book.specs.Tasks.{AreHopeful};
 
 use crate::book::Book;
 use crate::hand_in::apply_leaves;
@@ -40,8 +41,9 @@ fn settle_all(parts: &mut Parts, turns: u64, nodes: u32) -> Result<u64, Refusal>
     ensures ok { IfOk result (λ n. IsSettled (state_of parts.old) (state_of parts.new) n) }
     ensures why { IfErr result (λ e. IsNotSettled turns (state_of parts.old) (state_of parts.new) e) }
 {
+    let mut unsure = parts.tasks.len();
     for applied in 0..turns {
-        match settle_one(parts, nodes) {
+        match settle_one(parts, nodes, &mut unsure) {
             Ok(true) => {}
             Ok(false) => return Ok(applied),
             Err(refusal) => return Err(refusal),
@@ -53,12 +55,15 @@ fn settle_all(parts: &mut Parts, turns: u64, nodes: u32) -> Result<u64, Refusal>
     Err(Refusal::Unfinished)
 }
 
-// One turn: whether there was a task. The tree that is found holds, so its leaves are applied without a check.
-fn settle_one(parts: &mut Parts, nodes: u32) -> Result<bool, Refusal>
+// One turn: whether there was a task. The tree that is found holds, so its leaves are applied without a check. Only the
+// first `unsure` tasks may be hopeless, so the rests of another one are opened without a check.
+fn settle_one(parts: &mut Parts, nodes: u32, unsure: &mut usize) -> Result<bool, Refusal>
     requires some { 1 ≤ nodes }
     requires few { nodes ≤ 4096 }
     requires keeps { Keeps parts.old }
+    requires sure { AreHopefulFrom unsure.old (state_of parts.old) }
     ensures keeps { Keeps parts.new }
+    ensures sure { OnOk result (AreHopefulFrom unsure.new (state_of parts.new)) }
     ensures ok { IfOk result (λ more. IsTurn (state_of parts.old) (state_of parts.new) more) }
     ensures err { OnErr result (state_of parts.new ≡ state_of parts.old) }
     ensures why { IfErr result (λ e. IsNotTurned (state_of parts.old) e) }
@@ -67,15 +72,19 @@ fn settle_one(parts: &mut Parts, nodes: u32) -> Result<bool, Refusal>
         return Ok(false);
     }
     let at = parts.tasks.len() - 1;
+    let sure = *unsure <= at;
     let leaves = explored_leaves(parts, at, nodes)?;
     let edition = parts.log.len() as u64;
-    match apply_leaves(parts, at, edition, leaves) {
-        Ok(_) => Ok(true),
+    match apply_leaves(parts, at, edition, leaves, sure) {
+        Ok(_) => {
+            *unsure = (*unsure).min(at);
+            Ok(true)
+        }
         Err(refusal) => Err(refusal),
     }
 }
 
-// The leaves of a tree that fits and holds for the task at the place.
+// The leaves of a tree that fits and holds for the task at the place. If the task isn't hopeless, no rest is.
 fn explored_leaves(parts: &mut Parts, at: usize, nodes: u32) -> Result<Leaves, Refusal>
     requires some { 1 ≤ nodes }
     requires few { nodes ≤ 4096 }
@@ -83,6 +92,7 @@ fn explored_leaves(parts: &mut Parts, at: usize, nodes: u32) -> Result<Leaves, R
     requires place { at < length parts.old.tasks.items }
     ensures stays { parts.new ≡ parts.old }
     ensures leaves { IfOk result (λ l. (k : ℕ) × (tree : Plan) × AreLeaves parts.old k at tree l.tilings.items (lists l.rests.items)) }
+    ensures sure { IfOk result (λ l. (n : ℕ) → n ≤ at → AreHopefulFrom n (state_of parts.old) → AreHopeful parts.old.scene (lists l.rests.items)) }
     ensures why { IfErr result (λ e. e ≡ Refusal.Memory) }
 {
     let atoms = all_atoms(parts.alloc, &parts.log, &parts.tasks[at])?;

@@ -2,10 +2,12 @@ use Rattle.std.proofs.Common.{ap, get_or, rules, subst, sym, true, ◌∙◌, �
 use Rattle.poly_report.specs.Gather.{lists}
 use Rattle.poly_report.specs.Holds.{holds}
 use Rattle.poly_report.specs.Leaves.{rests, tilings}
+use Rattle.poly_report.specs.Opened.{opened}
 use Rattle.poly_report.specs.Shapes.{plan_of}
 use Rattle.poly_book.specs.Meaning.{IsTask, task_of}
-use Rattle.poly_book.specs.Tasks.{atoms_of}
+use Rattle.poly_book.specs.Tasks.{AreHopeful, atoms_of}
 use Rattle.poly_book.proofs.Held.{task_at}
+use Rattle.poly_book.proofs.Hoping.{hopeful_at, rests_hopeful}
 use Rattle.poly_book.proofs.Taking.{leaves_at}
 use Rattle.poly_book.proofs.settle.explored_leaves.Goals as goal
 
@@ -30,3 +32,17 @@ returns-clause-leaves c =
     let found : c.in_ok-found.found.leaves.tilings.items ≡ tilings v (atoms_of u) tree = c.in_ok-found.ensures.tilings ∙ ap (λ A. tilings v A tree) atoms in
     let left : lists c.in_ok-found.found.leaves.rests.items ≡ rests v (atoms_of u) tree = c.in_ok-found.ensures.rests ∙ ap (λ A. rests v A tree) atoms in
     (x.number, tree, leaves_at a x c.args.at tree c.in_ok-found.found.leaves.tilings.items (lists c.in_ok-found.found.leaves.rests.items) c.requires.keeps c.requires.place is c.in_ok-found.ensures.fits right found left)
+
+pub returns-clause-sure : goal.returns-clause-sure
+returns-clause-sure c =
+    let a = c.args.parts.now in
+    let ps = a.tasks.items in
+    let v = a.scene in
+    let x = c.index.result.now in
+    let u = task_of a.log x in
+    let tree = plan_of c.in_ok-found.found.tree in
+    let is : x ≡ get_or ps c.args.at x = search rules in
+    let atoms : c.deref.result.now ≡ atoms_of u = c.deref.ensures.value ∙ c.in_ok-atoms.ensures.ok in
+    let free : opened v (atoms_of u) tree ≡ true = sym (ap (λ A. opened v A tree) atoms) ∙ c.in_ok-found.ensures.opened in
+    let left : lists c.in_ok-found.found.leaves.rests.items ≡ rests v (atoms_of u) tree = c.in_ok-found.ensures.rests ∙ ap (λ A. rests v A tree) atoms in
+    λ n low from. subst (λ L. AreHopeful v L) (sym left) (rests_hopeful v (atoms_of u) tree free (hopeful_at a x c.args.at n low c.requires.place is from))

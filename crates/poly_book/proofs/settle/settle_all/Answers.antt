@@ -18,6 +18,7 @@ loop-applied-preserved c =
     record {
       keeps = c.settle_one.ensures.keeps;
       cuts = cuts_on (state_of c.args.parts.now) before after c.loop-applied.applied c.loop-applied.invariant.cuts (subst (λ b. IsTurn before after b) test c.in-Ok-true.ensures.ok);
+      sure = c.in-Ok-true.ensures.sure;
     }
 
 pub returns-then-is_empty-clause-ok : goal.returns-then-is_empty-clause-ok

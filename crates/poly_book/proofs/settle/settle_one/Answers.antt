@@ -1,10 +1,13 @@
-use Rattle.std.proofs.Common.{ap, inr, subst, sym, ℕ, ◌-◌, ◌∙◌, ◌≡◌}
+use Rattle.std.proofs.Common.{ap, arith, inr, length, subst, sym, ℕ, ◌+◌, ◌-◌, ◌∙◌, ◌≡◌, ◌≤◌}
+use Rattle.std.proofs.lemmas.Bool.{leb-true}
 use Rattle.poly_report.specs.Gather.{lists}
 use Rattle.poly_report.specs.Trees.{Plan}
 use Rattle.poly_book.specs.declared.parts.Parts.{Parts}
 use Rattle.poly_book.specs.Keeps.{Keeps, state_of}
 use Rattle.poly_book.specs.Reports.{AreLeaves}
-use Rattle.poly_book.specs.Settled.{Cuts, IsNotTurned}
+use Rattle.poly_book.specs.Settled.{AreHopefulFrom, Cuts, IsNotTurned}
+use Rattle.poly_book.specs.Tasks.{AreHopeful}
+use Rattle.poly_book.proofs.Hoping.{hopeful_on}
 use Rattle.poly_book.proofs.Settles.{applied_cuts}
 use Rattle.poly_book.proofs.settle.settle_one.Goals as goal
 
@@ -15,6 +18,26 @@ pub apply_leaves-requires-clause-leaves : goal.apply_leaves-requires-clause-leav
 apply_leaves-requires-clause-leaves c =
     let l = c.in_ok-leaves.leaves in
     subst (λ (p : Parts). (k : ℕ) × (tree : Plan) × AreLeaves p k (c.len-at.result - 1) tree l.tilings.items (lists l.rests.items)) (sym c.in_ok-leaves.ensures.stays) c.in_ok-leaves.ensures.leaves
+
+pub apply_leaves-requires-clause-sure : goal.apply_leaves-requires-clause-sure
+apply_leaves-requires-clause-sure c = λ yes.
+    let l = c.in_ok-leaves.leaves in
+    let low : c.args.unsure.now ≤ c.len-at.result - 1 = leb-true _ _ yes in
+    subst (λ (p : Parts). AreHopeful p.scene (lists l.rests.items)) (sym c.in_ok-leaves.ensures.stays) (c.in_ok-leaves.ensures.sure c.args.unsure.now low c.requires.sure)
+
+pub returns-in-Ok-clause-sure : goal.returns-in-Ok-clause-sure
+returns-in-Ok-clause-sure c =
+    let b = c.explored_leaves.new.parts in
+    let f = c.in_ok-leaves.leaves in
+    let l = c.in_ok-leaves.ensures.leaves in
+    let same = c.in_ok-leaves.ensures.stays in
+    let n = c.args.unsure.now in
+    let at = c.len-at.result - 1 in
+    let there : AreLeaves b l.0 at l.1 f.tilings.items (lists f.rests.items) = subst (λ (p : Parts). AreLeaves p l.0 at l.1 f.tilings.items (lists f.rests.items)) (sym same) l.2 in
+    let before : AreHopefulFrom n (state_of b) = subst (λ (p : Parts). AreHopefulFrom n (state_of p)) (sym same) c.requires.sure in
+    let last : length b.tasks.items ≤ at + 1 = omega (arith, c.len-at.ensures, ap (λ (p : Parts). length p.tasks.items) same) in
+    subst (λ m. AreHopefulFrom m (state_of c.apply_leaves.new.parts)) (sym c.min.ensures)
+    (hopeful_on b (state_of c.apply_leaves.new.parts) l.0 c.len-edition.result l.1 c.in-Ok.field-0 at n f.tilings.items (lists f.rests.items) there last (c.in-Ok.ensures.ok l.0 l.1 there) before)
 
 pub returns-in-Ok-clause-ok : goal.returns-in-Ok-clause-ok
 returns-in-Ok-clause-ok c =
