@@ -92,7 +92,8 @@ fn measure_line(rt: &HostRuntime, book: &mut Option<Book>, line: &str) -> io::Re
     }
 }
 
-// A book of the puzzle line's design, after a report on new books of it. `None` if there is no design or no book.
+// Measures a report on the design of the puzzle line. Then begins a book of that design. Returns `None` if the line or the
+// book is refused.
 fn open_book(rt: &HostRuntime, line: &str) -> io::Result<Option<Book>> {
     match read_design(rt, line)? {
         Some(design) => {
