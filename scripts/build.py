@@ -79,9 +79,10 @@ def prove(uses, name, jobs):
     with tempfile.TemporaryDirectory(prefix=".room-", dir=out) as room:
         lay_out(room, uses, name)
         verb = "run" if name == PROGRAM else "lib"
-        # `rt run` proves, builds and then runs the program; without input it ends at once
+        # `rt run` proves, builds and then runs the program; without input it ends at once. Nobody edits the room, so
+        # the sources need to be summed up only once.
         ran = subprocess.run(
-            ["rt", verb, "--jobs", str(jobs)],
+            [sys.executable, f"{ROOT}/scripts/rt_once.py", verb, "--jobs", str(jobs)],
             cwd=f"{room}/crates/{name}",
             stdin=subprocess.DEVNULL,
             stdout=subprocess.PIPE,
