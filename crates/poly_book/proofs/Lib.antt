@@ -26,3 +26,5 @@ pub mod Cataloguing
 pub mod Amounts
 pub mod Refusing
 pub mod Hoping
+pub mod Searched
+pub mod Exact

@@ -19,6 +19,7 @@ pub mod Refused
 pub mod Reports
 pub mod Happenings
 pub mod Jobs
+pub mod Findings
 pub mod Settled
 pub mod AllTilings
 pub mod Nexts

@@ -37,8 +37,8 @@ impl Book {
     }
 }
 
-// Checks the report, and applies what it leaves.
-fn apply_report(parts: &mut Parts, report: &Report) -> Result<Applied, Refusal>
+/// Checks the report, and applies what it leaves.
+pub(crate) fn apply_report(parts: &mut Parts, report: &Report) -> Result<Applied, Refusal>
     requires keeps { Keeps parts.old }
     ensures keeps { Keeps parts.new }
     ensures ok { IfOk result (λ a. IsApplied report.now.task report.now.edition (plan_of report.now.tree) (state_of parts.old) (state_of parts.new) a) }

@@ -3,10 +3,10 @@
 //! Whatever happens, each tiling of the design is listed once or belongs to exactly one pending task, and nothing else is
 //! listed. So with no task pending the catalogue has all tilings.
 //!
-//! - [`Book`]: `begin`; `edit`, `undo`, `redo`; `next`, `take`, `hand_in`; `quiet`, `settle`, `vouch`; and what it holds:
-//!   `numbers`, `design`, `catalogue`, `view`, `steps`, `endings`.
+//! - [`Book`]: `begin`; `edit`, `undo`, `redo`; `next`, `take`, `hand_in`, `hand_in_found`; `quiet`, `settle`, `vouch`; and
+//!   what it holds: `numbers`, `design`, `catalogue`, `view`, `steps`, `endings`.
 //! - [`Done`], [`Step`], [`Kind`]: a change that was made. [`Applied`], [`Ending`]: how a task ended.
-//! - [`Which`], [`Job`]: a task to be worked on.
+//! - [`Which`], [`Job`]: a task to be worked on. [`Found`]: what a search found for it.
 //! - [`Quiet`]: all tilings of a design.
 //! - [`laws`]: what holds of whole runs of events.
 #![tactic(auto)]
@@ -15,6 +15,7 @@ mod apply;
 mod begin;
 mod book;
 mod edit;
+mod found;
 mod fresh;
 mod hand_in;
 pub mod laws;
@@ -30,6 +31,7 @@ mod task;
 mod vouch;
 
 pub use book::{Book, Numbers};
+pub use found::Found;
 pub use quiet::Quiet;
 pub use shelf::Kept;
 pub use step::{Applied, Done, Ending, Kind, Step};

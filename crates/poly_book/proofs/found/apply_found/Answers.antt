@@ -1,0 +1,44 @@
+use Rattle.std.proofs.Common.{None, Some, inl, inr, refl, rules, subst, true, ◌≡◌}
+use Rattle.std.proofs.lemmas.Result.{IfErr-weaker, IfOk-weaker}
+use Rattle.std.specs.Arc.{arc_value}
+use Rattle.std.specs.List.{position_from}
+use Rattle.std.specs.Prelude.{◌==◌}
+use Rattle.poly_report.specs.Gather.{lists}
+use Rattle.poly_report.specs.Shapes.{plan_of}
+use Rattle.poly_book.specs.declared.task.Pending.{Pending}
+use Rattle.poly_book.specs.Findings.{HasAtoms}
+use Rattle.poly_book.specs.Keeps.{state_of}
+use Rattle.poly_book.specs.Refused.{IsNotApplied}
+use Rattle.poly_book.specs.Reports.{AreLeaves, IsApplied}
+use Rattle.poly_book.proofs.Places.{nowhere}
+use Rattle.poly_book.proofs.Searched.{found_leaves}
+use Rattle.poly_book.proofs.found.apply_found.Goals as goal
+
+pub returns-in_default-clause-why : goal.returns-in_default-clause-why
+returns-in_default-clause-why c =
+    let e : position_from (λ (p : Pending). p.number == c.args.found.report.task) 0 c.args.parts.now.tasks.items ≡ None = search rules in
+    inl (refl, nowhere c.args.found.report.task 0 c.args.parts.now.log c.args.parts.now.tasks.items e)
+
+pub returns-then-branch-clause-ok : goal.returns-then-branch-clause-ok
+returns-then-branch-clause-ok c =
+    let a = c.args.parts.now in
+    let f = c.args.found in
+    let k = f.report.task in
+    let tree = plan_of f.report.tree in
+    let first : position_from (λ (p : Pending). p.number == k) 0 a.tasks.items ≡ Some c.in-Some.at = search rules in
+    let same : c.in_ok-has_atoms.field-0 ≡ true = search rules in
+    let has = subst (λ A. HasAtoms (state_of a).pending k A) c.deref-2.ensures.value (c.in_ok-has_atoms.ensures.same.0 same) in
+    let l : AreLeaves a k c.in-Some.at tree f.leaves.tilings.items (lists f.leaves.rests.items) = found_leaves a k c.in-Some.at (arc_value f.view) f.atoms.items tree f.leaves.tilings.items (lists f.leaves.rests.items) c.requires.view f.right first has in
+    IfOk-weaker c.apply_leaves.result _ (λ x. IsApplied k f.report.edition tree (state_of a) (state_of c.apply_leaves.new.parts) x) (λ x h. h k tree l) c.apply_leaves.ensures.ok
+
+pub returns-then-branch-clause-why : goal.returns-then-branch-clause-why
+returns-then-branch-clause-why c =
+    let a = c.args.parts.now in
+    let f = c.args.found in
+    let k = f.report.task in
+    let tree = plan_of f.report.tree in
+    let first : position_from (λ (p : Pending). p.number == k) 0 a.tasks.items ≡ Some c.in-Some.at = search rules in
+    let same : c.in_ok-has_atoms.field-0 ≡ true = search rules in
+    let has = subst (λ A. HasAtoms (state_of a).pending k A) c.deref-2.ensures.value (c.in_ok-has_atoms.ensures.same.0 same) in
+    let l : AreLeaves a k c.in-Some.at tree f.leaves.tilings.items (lists f.leaves.rests.items) = found_leaves a k c.in-Some.at (arc_value f.view) f.atoms.items tree f.leaves.tilings.items (lists f.leaves.rests.items) c.requires.view f.right first has in
+    IfErr-weaker c.apply_leaves.result _ (λ e. IsNotApplied k tree (state_of a) e) (λ e h. inr (inr (h k tree l))) c.apply_leaves.ensures.why

@@ -1,0 +1,136 @@
+//! Reports that a search made. Their trees fit and hold for the atoms and the view that were searched, and their leaves were
+//! gathered as they grew. So a check finds nothing new if the task has these atoms and the book this view.
+ghost use Rattle.std.specs.Prelude.{◌≡◌, ◌≤◌, ◌↔◌, ◌==◌, IfErr, IfOk, IsTrue, OnErr, Some};
+ghost use Rattle.std.specs.Arc.{arc_value};
+ghost use Rattle.std.specs.List.{position_from};
+ghost use Rattle.poly_tiling.specs.Listings.{HasOverTilings};
+ghost use Rattle.poly_frame.specs.Matrices.{IsWhole};
+ghost use Rattle.poly_report.specs.Gather.{lists};
+ghost use Rattle.poly_report.specs.Shapes.{plan_of};
+ghost use Rattle.poly_book.specs.Findings.{HasAtoms, IsFound};
+ghost use Rattle.poly_book.specs.Keeps.{Keeps, state_of};
+ghost use Rattle.poly_book.specs.Refused.{IsNotApplied};
+ghost use Rattle.poly_book.specs.Reports.{IsApplied};
+
+use crate::book::Book;
+use crate::hand_in::{apply_leaves, apply_report, place_of};
+use crate::parts::Parts;
+use crate::step::Applied;
+use crate::take::Job;
+use crate::task::all_atoms;
+use poly_atom::Atom;
+use poly_grid::Refusal;
+use poly_report::{Leaves, Matrix, Report};
+use poly_search::{Explored, explore_over};
+use poly_tiling::View;
+use std::alloc::Global;
+use std::sync::Arc;
+
+/// A report that a search made, with what the search knows of it.
+#[derive(Drop)]
+pub struct Found {
+    /// The report.
+    pub report: Report,
+    /// The atoms that were searched.
+    pub atoms: Vec<Atom>,
+    /// The view in which they were searched.
+    pub view: Arc<View>,
+    /// The leaves of the report's tree.
+    pub leaves: Leaves,
+    ghost right: { IsFound (arc_value view) atoms.items (plan_of report.tree) leaves.tilings.items (lists leaves.rests.items) },
+}
+
+impl Found {
+    /// Searches the job's task in the view with at most `nodes` nodes, which is from 1 to 4,096. The matrix is that of the
+    /// view. Fails only when out of memory.
+    pub fn explore(
+        alloc: Global,
+        view: Arc<View>,
+        matrix: &Matrix,
+        job: Job,
+        nodes: u32,
+    ) -> Result<Found, Refusal>
+        requires whole { IsWhole (arc_value view) matrix.now }
+        requires some { 1 ≤ nodes }
+        requires few { nodes ≤ 4096 }
+        ensures task { IfOk result (λ f. f.report.task ≡ job.task) }
+        ensures edition { IfOk result (λ f. f.report.edition ≡ job.edition) }
+        ensures atoms { IfOk result (λ f. f.atoms.items ≡ job.atoms.items) }
+        ensures view { IfOk result (λ f. arc_value f.view ≡ arc_value view) }
+        ensures why { IfErr result (λ e. e ≡ Refusal.Memory) }
+    {
+        let Job {
+            task,
+            edition,
+            atoms,
+            view: _,
+        } = job;
+        let Explored { tree, leaves } = explore_over(alloc, &view, matrix, &atoms, nodes)?;
+        Ok(Found {
+            report: Report {
+                task,
+                edition,
+                tree,
+            },
+            atoms,
+            view,
+            leaves,
+        })
+    }
+}
+
+impl Book {
+    /// `hand_in` for a report that a search made in the book's view. If the task has the atoms that were searched, the leaves
+    /// are applied without a check. If it has others, as after a change and its undo, the tree is checked. The result is that
+    /// of `hand_in`.
+    pub fn hand_in_found(&mut self, found: Found) -> Result<Applied, Refusal>
+        requires view { arc_value found.view ≡ self.old.view }
+        ensures ok { IfOk result (λ a. IsApplied found.report.task found.report.edition (plan_of found.report.tree) self.old self.new a) }
+        ensures err { OnErr result (self.new ≡ self.old) }
+        ensures why { IfErr result (λ e. IsNotApplied found.report.task (plan_of found.report.tree) self.old e) }
+        ensures full { IfErr result (λ e. e ≡ Refusal.CatalogueFull → HasOverTilings 1000000 self.old.design) }
+    {
+        apply_found(&mut self.parts, found)
+    }
+}
+
+// Applies what was found, without a check if the task has the atoms that were searched.
+fn apply_found(parts: &mut Parts, found: Found) -> Result<Applied, Refusal>
+    requires keeps { Keeps parts.old }
+    requires view { arc_value found.view ≡ parts.old.scene }
+    ensures keeps { Keeps parts.new }
+    ensures ok { IfOk result (λ a. IsApplied found.report.task found.report.edition (plan_of found.report.tree) (state_of parts.old) (state_of parts.new) a) }
+    ensures err { OnErr result (state_of parts.new ≡ state_of parts.old) }
+    ensures why { IfErr result (λ e. IsNotApplied found.report.task (plan_of found.report.tree) (state_of parts.old) e) }
+{
+    let Found {
+        report,
+        atoms,
+        view: _,
+        leaves,
+    } = found;
+    let Some(at) = place_of(&parts.tasks, report.task) else {
+        return Err(Refusal::Gone);
+    };
+    if has_atoms(parts, at, report.task, &atoms)? {
+        return apply_leaves(parts, at, report.edition, leaves, false);
+    }
+    apply_report(parts, &report)
+}
+
+// Whether the task of the number, which stands at the place, has exactly these atoms.
+fn has_atoms(parts: &Parts, at: usize, number: u32, atoms: &[Atom]) -> Result<bool, Refusal>
+    requires keeps { Keeps parts.now }
+    requires place { position_from (λ q. q.number == number) 0 parts.now.tasks.items ≡ Some at }
+    ensures same { IfOk result (λ yes. IsTrue yes ↔ HasAtoms (state_of parts.now).pending number atoms.now) }
+    ensures why { IfErr result (λ e. e ≡ Refusal.Memory) }
+{
+    let own = all_atoms(parts.alloc, &parts.log, &parts.tasks[at])?;
+    Ok(is_same_list(&own, atoms))
+}
+
+fn is_same_list(one: &[Atom], other: &[Atom]) -> bool
+    ensures { IsTrue result ↔ (one.now ≡ other.now) }
+{
+    one == other
+}
