@@ -28,6 +28,7 @@ use Rattle.poly_book.specs.Partition.{Becomes}
 use Rattle.poly_book.specs.Shelves.{is_kept, newest, way_back}
 use Rattle.poly_book.specs.States.{State, Way}
 use Rattle.poly_book.specs.Changing.{CanNote, IsTop, Noted, event_of, shelf_at, stood_by}
+use Rattle.poly_book.proofs.Alive.{becomes_lives}
 use Rattle.poly_book.proofs.Changes.{Did, all_numbered, changed_by_way, kept_way, moved_shown, new_tasks, newest_all, ways_newest, ways_push}
 use Rattle.poly_book.proofs.Proved.{steps_keep_whole_lem}
 
@@ -139,11 +140,13 @@ pub did_keeps : {o d d2 : Layout} {v t w t2 : View} {ls ls2 : List (List ℕ)} {
 did_keeps {o} {d} {d2} {v} {t} {w} {t2} {ls} {ls2} {log} {log2} {ps} {ps2} {fresh} {flags} {n} {n2} {h} {h2} {ss} {ss2} {es} {es2} {x} {kept} k p c has is top =
     let s = shown o d v ls log ps n h ss es in
     let g = leads_top k s h x w refl refl top (did_leads k c has is) in
+    let b = did_becomes k c p.tasks p.log_length top in
     record {
-      whole = steps_keep_whole_lem s (shown o d2 w ls2 log2 ps2 n2 h2 ss2 es2) (event_of k x w) p.whole g (did_becomes k c p.tasks p.log_length top);
+      whole = steps_keep_whole_lem s (shown o d2 w ls2 log2 ps2 n2 h2 ss2 es2) (event_of k x w) p.whole g b;
       right = subst (λ z. IsRight t2 z) (sym c.design_is) c.right;
       grown = subst (λ z. Grown w z) (sym c.table_is) (grown_self w);
       tasks = new_tasks c p.tasks;
+      alive = becomes_lives s (shown o d2 w ls2 log2 ps2 n2 h2 ss2 es2) (event_of k x w) b p.alive;
       log_length = ap length c.log_is ∙ length_push log (guards v w) ∙ ap (λ m. m + 1) p.log_length ∙ sym (ap length c.steps_are ∙ length_push ss _);
       few_steps = omega (arith, c.few_steps, ap length c.steps_are ∙ length_push ss _);
       few_tasks = c.few_tasks;
@@ -154,4 +157,4 @@ did_keeps {o} {d} {d2} {v} {t} {w} {t2} {ls} {ls2} {log} {log2} {ps} {ps2} {fres
 -- the same fields, but for numbers that the table gave out
 pub still_keeps : {o d : Layout} {v t t2 : View} {ls : List (List ℕ)} {log : List (List Atom)} {ps : List Pending} {n : ℕ} {h : Steps Change Kept} {ss : List Step} {es : List Ending} →
     KeepsOf o d v t ls log ps n h ss es → Grown t t2 → IsRight t2 d → KeepsOf o d v t2 ls log ps n h ss es
-still_keeps {v = v} {t = t} {t2 = t2} p g r = record { whole = p.whole; right = r; grown = grown_on v t t2 p.grown g; tasks = p.tasks; log_length = p.log_length; few_steps = p.few_steps; few_tasks = p.few_tasks; numbered = p.numbered; few_ways = p.few_ways }
+still_keeps {v = v} {t = t} {t2 = t2} p g r = record { whole = p.whole; right = r; grown = grown_on v t t2 p.grown g; tasks = p.tasks; alive = p.alive; log_length = p.log_length; few_steps = p.few_steps; few_tasks = p.few_tasks; numbered = p.numbered; few_ways = p.few_ways }

@@ -13,6 +13,8 @@ pub mod Regained
 pub mod Proved
 pub mod Held
 pub mod Changes
+pub mod Alive
+pub mod Fronts
 pub mod Applying
 pub mod Tops
 pub mod Places

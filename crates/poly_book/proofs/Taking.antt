@@ -29,6 +29,7 @@ use Rattle.poly_book.specs.Partition.{Becomes}
 use Rattle.poly_book.specs.Reports.{AreLeaves}
 use Rattle.poly_book.specs.States.{State}
 use Rattle.poly_book.specs.Tasks.{Task, atoms_of, drop_task, find_task, hopeful, tasks_from}
+use Rattle.poly_book.proofs.Alive.{becomes_lives}
 use Rattle.poly_book.proofs.Held.{are_append, opened_length, tasks_append}
 use Rattle.poly_book.proofs.Numbered.{found_in}
 use Rattle.poly_book.proofs.Places.{At, at_left, at_drop, at_find, at_tasks, find_where, first_at, found_where}
@@ -93,6 +94,7 @@ module _ {o d : Layout} {v t : View} {ls ls2 : List (List ℕ)} {log : List (Lis
         right = keeps.right;
         grown = keeps.grown;
         tasks = subst (λ y. AreTasks log y) (sym c.tasks_are) (are_append log left fresh (at_tasks log k ps place c.there keeps.tasks) c.fresh_are.are);
+        alive = becomes_lives (shown o d v ls log ps n h ss es) (shown o d v ls2 log ps2 n2 h ss es2) (Report k tree) took_becomes keeps.alive;
         log_length = keeps.log_length;
         few_steps = keeps.few_steps;
         few_tasks = c.few_tasks;

@@ -1,5 +1,5 @@
 -- The changes that can be undone or redone, and how a book begins.
-use Rattle.std.proofs.Common.{Global, List, Some, Vec, [], ap, arith, inr, length, refl, subst, sym, take, ℕ, ◌-◌, ◌∙◌, ◌∷◌, ◌≡◌}
+use Rattle.std.proofs.Common.{Global, List, Some, Vec, [], ap, arith, inr, length, not, refl, subst, sym, take, true, ℕ, ◌&&◌, ◌-◌, ◌∙◌, ◌∷◌, ◌≡◌}
 use Rattle.poly_grid.specs.declared.refusal.Refusal.{Refusal}
 use Rattle.poly_design.specs.Changes.{HasBefore, changed, inverse_of}
 use Rattle.poly_design.specs.Layout.{Layout}
@@ -9,6 +9,7 @@ use Rattle.poly_tiling.specs.Puzzle.{View}
 use Rattle.poly_tiling.specs.Names.{Grown}
 use Rattle.poly_tiling.proofs.Grown.{grown_self}
 use Rattle.poly_atom.specs.declared.atom.Atom.{Atom}
+use Rattle.poly_atom.specs.Hopeless.{hopeless}
 use Rattle.poly_place.specs.Right.{IsRight}
 use Rattle.poly_undo.specs.declared.step.Step.{Step as Beside}
 use Rattle.poly_undo.specs.Steps.{Steps, next_of}
@@ -68,6 +69,7 @@ begin_keeps d v t own none is r e =
       right = r;
       grown = subst (λ z. Grown v z) e (grown_self v);
       tasks = (record { own = tt; made = omega arith }, tt);
+      alive = ap (λ A. not (hopeless v A) && true) none;
       log_length = refl;
       few_steps = omega arith;
       few_tasks = omega arith;

@@ -13,18 +13,21 @@ use Rattle.poly_book.specs.declared.shelf.Kept.{Kept}
 use Rattle.poly_book.specs.declared.step.Step.{Step}
 use Rattle.poly_book.specs.declared.step.Ending.{Ending}
 use Rattle.poly_book.specs.declared.task.Pending.{Pending}
-use Rattle.poly_book.specs.Meaning.{AreTasks, shown}
+use Rattle.poly_book.specs.Meaning.{AreTasks, shown, tasks_of}
 use Rattle.poly_book.specs.States.{State}
+use Rattle.poly_book.specs.Tasks.{AreAlive}
 use Rattle.poly_book.specs.Whole.{Whole}
 
 -- What the fields show is whole; the table is right for the design and has at least the view's numbers; each task was
--- made by now; the log has the guards of each step; numbers and editions are within their limits; each task number below
--- the next one is of a task that is pending or has ended; the history has at most 256 steps.
+-- made by now, and none is hopeless by its own atoms; the log has the guards of each step; numbers and editions are within
+-- their limits; each task number below the next one is of a task that is pending or has ended; the history has at most
+-- 256 steps.
 pub record KeepsOf (o d : Layout) (v table : View) (ls : List (List ℕ)) (log : List (List Atom)) (ps : List Pending) (n : ℕ) (h : Steps Change Kept) (ss : List Step) (es : List Ending) : Type 0 where
   pub whole : Whole (shown o d v ls log ps n h ss es)
   pub right : IsRight table d
   pub grown : Grown v table
   pub tasks : AreTasks log ps
+  pub alive : AreAlive v (tasks_of log ps)
   pub log_length : length log ≡ length ss
   pub few_steps : length ss ≤ 100000
   pub few_tasks : n ≤ 4294967296

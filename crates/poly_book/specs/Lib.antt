@@ -11,6 +11,7 @@ pub mod Whole
 pub mod Laws
 pub mod Scenes
 pub mod Meaning
+pub mod Touching
 pub mod Opens
 pub mod Changing
 pub mod Keeps

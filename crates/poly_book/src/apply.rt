@@ -51,7 +51,7 @@ pub(crate) fn apply_change(parts: &mut Parts, kind: Kind, change: Change) -> Res
     parts.steps.reserve(1)?;
     let after = changed_design(&parts.design, &change)?;
     let plan = plan_of_change(&mut parts.table, &parts.design, &change, &after)?;
-    let ready = gather(parts, kind, after, plan)?;
+    let ready = gather(parts, kind, &change, after, plan)?;
     let Prepared {
         after,
         plan,

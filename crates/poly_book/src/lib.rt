@@ -28,6 +28,8 @@ mod shelf;
 mod step;
 mod take;
 mod task;
+mod touch;
+mod touching;
 mod vouch;
 
 pub use book::{Book, Numbers};

@@ -1,28 +1,30 @@
 //! Prepares all that a change needs before anything is changed, so that every refusal comes first.
 ghost use Rattle.std.specs.Prelude.{◌≡◌, ◌↔◌, ◌≤◌, ◌<◌, ◌*◌, ◌+◌, ◌++◌, ◌⊎◌, ◌∷◌, [], IfErr, IfOk, OnOk, List, None, Some, cond, length, map, nat_le, not, option_copied, true};
 ghost use Rattle.std.specs.Arc.{arc_value};
-ghost use Rattle.std.specs.List.{filter};
+ghost use Rattle.std.specs.List.{filter, list_any};
 ghost use Rattle.poly_tiling.specs.Puzzle.{View as ViewOf, is_tiling};
 ghost use Rattle.poly_atom.specs.declared.atom.Atom.{Atom as AtomOf};
 ghost use Rattle.poly_atom.specs.Guards.{guards};
 ghost use Rattle.poly_atom.specs.Hopeless.{hopeless};
 ghost use Rattle.poly_atom.specs.Stairs.{stairs};
 ghost use Rattle.poly_catalogue.specs.Listed.{AreOfEither};
-ghost use Rattle.poly_place.specs.Between.{IsChangeOf};
 ghost use Rattle.poly_report.specs.Gather.{lists};
 ghost use Rattle.poly_book.specs.Changing.{IsGathered, IsNotGathered, shelf_at, shelf_by, shelved_by, stood_by};
 ghost use Rattle.poly_book.specs.Events.{hopeless_endings};
 ghost use Rattle.poly_book.specs.Keeps.{Keeps};
-ghost use Rattle.poly_book.specs.Meaning.{AreTasks, own_of, stored_of, tasks_of};
+ghost use Rattle.poly_book.specs.Meaning.{AreTasks, IsOwn, own_of, stored_of, tasks_of};
 ghost use Rattle.poly_book.specs.Shelves.{openings, returned};
 ghost use Rattle.poly_book.specs.Tasks.{atoms_of, hopeful};
+ghost use Rattle.poly_book.specs.Touching.{AreTouched, IsFront, IsMadeBy, touches};
 
 use crate::fresh::fresh_tasks;
 use crate::parts::Parts;
 use crate::quiet::copies;
 use crate::shelf::Kept;
 use crate::step::{Ending, Kind};
-use crate::task::{Pending, all_atoms, is_hopeless};
+use crate::task::{Own, Pending, all_atoms, is_hopeless};
+use crate::touch::Touch;
+use crate::touching::Front;
 use poly_atom::{Atom, BothGuards, GuardLog, both_guards};
 use poly_design::{Change, Design};
 use poly_grid::Refusal;
@@ -66,15 +68,16 @@ pub(crate) struct Prepared {
     pub room: Vec<Pending>,
 }
 
-/// Prepares a change to the design after, whose plan the table made.
+/// Prepares the change to the design after, whose plan the table made.
 pub(crate) fn gather(
     parts: &Parts,
     kind: Kind,
+    change: &Change,
     after: Design,
     plan: Plan,
 ) -> Result<Prepared, Refusal>
     requires keeps { Keeps parts.now }
-    requires change { IsChangeOf parts.now.scene (arc_value plan.view) plan.delta }
+    requires made { IsMadeBy parts.now.scene (arc_value plan.view) plan.delta change.now }
     requires either { AreOfEither (arc_value plan.view) plan.delta parts.now.listed }
     ensures ok { IfOk result (λ r. IsGathered parts.now.scene parts.now.listed parts.now.log parts.now.tasks.items (stood_by kind parts.now.history) after plan parts.now.next r) }
     ensures few { IfOk result (λ r. length parts.now.steps.items < 100000) }
@@ -93,7 +96,7 @@ pub(crate) fn gather(
     let stood = shelf_ahead(&parts.history, kind);
     let edition = parts.log.len() as u64;
     let fresh = fresh_tasks(alloc, &view, &laid, stood, parts.next, edition)?;
-    let flags = surviving(alloc, &view, &parts.log, &parts.tasks)?;
+    let flags = going_on(parts, &view, &plan.delta, change)?;
     let ended = endings_of(alloc, &parts.tasks, &flags, edition + 1)?;
     let returned = returning(alloc, stood)?;
     let shelf = shelve(parts, &view, &plan.delta, width)?;
@@ -123,23 +126,63 @@ fn check_width(kind: Kind, forth: usize, back: usize) -> Result<(), Refusal>
     Ok(())
 }
 
-// Which tasks go on.
+// Which tasks go on after the change.
+fn going_on(
+    parts: &Parts,
+    view: &View,
+    delta: &Delta,
+    change: &Change,
+) -> Result<Vec<bool>, Refusal>
+    requires keeps { Keeps parts.now }
+    requires made { IsMadeBy parts.now.scene view.now delta.now change.now }
+    ensures ok { IfOk result (λ v. v.items ≡ map (λ p. not (hopeless view.now (own_of parts.now.log p.own))) parts.now.tasks.items) }
+    ensures why { IfErr result (λ e. e ≡ Refusal.Memory) }
+{
+    let touch = Touch::new(parts.alloc, view, delta, change)?;
+    let flags = surviving(parts.alloc, &touch, &parts.log, &parts.tasks)?;
+    Ok(flags)
+}
+
+// Which tasks go on. Only those are asked that the change touches.
 fn surviving(
     alloc: Global,
-    view: &View,
+    touch: &Touch,
     log: &GuardLog,
     tasks: &[Pending],
 ) -> Result<Vec<bool>, Refusal>
-    requires { AreTasks log.now tasks.now }
-    ensures ok { IfOk result (λ v. v.items ≡ map (λ p. not (hopeless view.now (own_of log.now p.own))) tasks.now) }
+    requires tasks { AreTasks log.now tasks.now }
+    requires touched { AreTouched touch.now log.now tasks.now }
+    ensures ok { IfOk result (λ v. v.items ≡ map (λ p. not (hopeless touch.now.view.now (own_of log.now p.own))) tasks.now) }
     ensures why { IfErr result (λ e. e ≡ Refusal.Memory) }
 {
     let mut flags = Vec::new(alloc);
+    let mut front = Front::new();
     for task in tasks {
-        let ends = is_hopeless(alloc, view, log, &task.own)?;
+        let ends = ends_by(alloc, touch, log, &task.own, &mut front)?;
         flags.push(!ends)?;
     }
     Ok(flags)
+}
+
+// Whether the own atoms are hopeless after the change, which they are only if it touches one of them.
+fn ends_by(
+    alloc: Global,
+    touch: &Touch,
+    log: &GuardLog,
+    own: &Own,
+    front: &mut Front,
+) -> Result<bool, Refusal>
+    requires own { IsOwn log.now own.now }
+    requires front { IsFront touch.now log.now front.old }
+    requires touched { hopeless touch.now.view.now (own_of log.now own.now) ≡ true → list_any (touches touch.now) (own_of log.now own.now) ≡ true }
+    ensures front { IsFront touch.now log.now front.new }
+    ensures ok { IfOk result (λ yes. yes ≡ hopeless touch.now.view.now (own_of log.now own.now)) }
+    ensures why { IfErr result (λ e. e ≡ Refusal.Memory) }
+{
+    if !touch.has_own(log, own, front) {
+        return Ok(false);
+    }
+    is_hopeless(alloc, touch.view, log, own)
 }
 
 // The endings of the tasks that don't go on.

@@ -1,4 +1,4 @@
-//! Each public call once on its way, on the book of two dominoes on a board of two by two cells.
+//! Each public call once on its way, on books of dominoes on a board of two by two cells.
 use crate::laws::{Event, run, still_holds};
 use crate::{Book, Kind, Which};
 use poly_design::{Design, Edit, Mode, Name, Need};
@@ -12,16 +12,15 @@ fn cell(rt: &impl Abort, x: u64, y: u64) -> Cell {
     Cell::new(x, y).expect(rt, "a coordinate below 64")
 }
 
-// Adds a required domino of the name.
-fn add_domino(rt: &impl Abort, design: &mut Design, name: &[u8]) {
+// The edit that adds a domino of the name.
+fn domino(rt: &impl Abort, name: &[u8], need: Need) -> Edit {
     let shape = Shape::from_cells(Grid::Square, &[cell(rt, 0, 0), cell(rt, 1, 0)]);
-    let add = Edit::Add {
+    Edit::Add {
         name: Name::new(name).expect(rt, "a name"),
         shape: shape.expect(rt, "a shape"),
-        need: Need::Required,
+        need,
         mirror: true,
-    };
-    change(rt, design, &add);
+    }
 }
 
 fn change(rt: &impl Abort, design: &mut Design, edit: &Edit) {
@@ -38,8 +37,9 @@ fn two_dominoes(rt: &impl Abort, alloc: Global) -> Book {
             change(rt, &mut design, &Edit::Cell { cell, mode });
         }
     }
-    add_domino(rt, &mut design, b"A");
-    add_domino(rt, &mut design, b"B");
+    for name in [b"A", b"B"] {
+        change(rt, &mut design, &domino(rt, name, Need::Required));
+    }
     Book::begin(alloc, design).expect(rt, "memory")
 }
 
@@ -76,4 +76,28 @@ fn forbids_undoes_and_redoes(rt: HostRuntime) {
     let done = book.redo().expect(&rt, "it was undone");
     assert!(rt; done.place == 3 && done.step.kind == Kind::Redo && done.step.shelved);
     expect_numbers(&rt, &book, (3, 3, 0));
+}
+
+#[test]
+fn ends_the_stairs_of_placements_that_are_gone(rt: HostRuntime) {
+    let mut design = Design::empty(rt.alloc(), Grid::Square);
+    for y in 0..2 {
+        for x in 0..2 {
+            let mode = Mode::Optional;
+            let cell = cell(&rt, x, y);
+            change(&rt, &mut design, &Edit::Cell { cell, mode });
+        }
+    }
+    let mut book = Book::begin(rt.alloc(), design).expect(&rt, "memory");
+    let added = book.edit(domino(&rt, b"A", Need::Optional));
+    let _ = added.expect(&rt, "it is accepted");
+    expect_numbers(&rt, &book, (1, 0, 5));
+    let blocked = book.edit(Edit::Cell {
+        cell: cell(&rt, 0, 0),
+        mode: Mode::Blocked,
+    });
+    let _ = blocked.expect(&rt, "it is accepted");
+    expect_numbers(&rt, &book, (2, 0, 3));
+    settle(&rt, &mut book);
+    expect_numbers(&rt, &book, (2, 3, 0));
 }

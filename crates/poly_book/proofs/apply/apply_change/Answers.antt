@@ -69,8 +69,8 @@ widths_by : (p : Parts) (x : Change) (r : Plan) → Keeps p → IsDesign (change
     HasWidth p.design (changed p.design x) (length (guards p.scene (arc_value r.view))) × HasWidth (changed p.design x) p.design (length (guards (arc_value r.view) p.scene))
 widths_by p x r k is q = widths_show_lem p.scene (arc_value r.view) r.delta (change_by p x r k is q)
 
-pub gather-requires-clause-change : goal.gather-requires-clause-change
-gather-requires-clause-change c = change_by c.args.parts.now c.args.change c.in_ok-plan.plan c.requires.keeps c.requires.design c.in_ok-plan.ensures.ok
+pub gather-requires-clause-made : goal.gather-requires-clause-made
+gather-requires-clause-made c = (change_by c.args.parts.now c.args.change c.in_ok-plan.plan c.requires.keeps c.requires.design c.in_ok-plan.ensures.ok, refl)
 
 pub gather-requires-clause-either : goal.gather-requires-clause-either
 gather-requires-clause-either c = either_by c.args.parts.now c.args.change c.in_ok-plan.plan c.requires.keeps c.in_ok-plan.ensures.ok

@@ -10,6 +10,7 @@ use Rattle.poly_book.specs.Events.{hopeless_endings}
 use Rattle.poly_book.specs.Meaning.{own_of, stored_of, tasks_of}
 use Rattle.poly_book.specs.Opens.{Opens}
 use Rattle.poly_book.specs.Shelves.{openings, returned}
+use Rattle.poly_book.specs.Touching.{IsMadeBy}
 use Rattle.poly_book.proofs.prepare.gather.Goals as goal
 
 pub both_guards-requires : goal.both_guards-requires
@@ -17,7 +18,13 @@ both_guards-requires c =
     let at1 : c.view.result.now ≡ c.args.parts.now.scene = c.view.ensures in
     let shown : arc_value c.in_ok-view.view ≡ arc_value c.args.plan.view = search rules in
     let at2 : c.deref.result.now ≡ arc_value c.args.plan.view = c.deref.ensures ∙ shown in
-    subst (λ v. IsChangeOf v c.deref.result.now c.args.plan.delta) (sym at1) (subst (λ w. IsChangeOf c.args.parts.now.scene w c.args.plan.delta) (sym at2) c.requires.change)
+    subst (λ v. IsChangeOf v c.deref.result.now c.args.plan.delta) (sym at1) (subst (λ w. IsChangeOf c.args.parts.now.scene w c.args.plan.delta) (sym at2) c.requires.made.0)
+
+pub going_on-requires-clause-made : goal.going_on-requires-clause-made
+going_on-requires-clause-made c =
+    let shown : arc_value c.in_ok-view.view ≡ arc_value c.args.plan.view = search rules in
+    let at : c.deref-4.result.now ≡ arc_value c.args.plan.view = c.deref-4.ensures ∙ shown in
+    subst (λ w. IsMadeBy c.args.parts.now.scene w c.args.plan.delta c.args.change.now) (sym at) c.requires.made
 
 pub returns-clause-ok : goal.returns-clause-ok
 returns-clause-ok c =
@@ -35,21 +42,20 @@ returns-clause-ok c =
     let at5 : c.deref-2.result.now ≡ w = c.deref-2.ensures ∙ shown in
     let g6 : c.deref-3.result.now ≡ c.in_ok-both.both.forth.items = c.deref-3.ensures.value in
     let at7 : c.deref-4.result.now ≡ w = c.deref-4.ensures ∙ shown in
-    let ps8 : c.deref-5.result.now ≡ ps = c.deref-5.ensures.value in
-    let ps9 : c.deref-6.result.now ≡ ps = c.deref-6.ensures.value in
-    let at11 : c.deref-8.result.now ≡ w = c.deref-8.ensures ∙ shown in
+    let ps9 : c.deref-5.result.now ≡ ps = c.deref-5.ensures.value in
+    let at11 : c.deref-7.result.now ≡ w = c.deref-7.ensures ∙ shown in
     let ed : c.len-edition.result ≡ length log = c.len-edition.ensures in
     let laid : c.in_ok-both.both.forth.items ≡ guards v w = c.in_ok-both.ensures.forth ∙ ap (λ z. guards z c.deref.result.now) at1 ∙ ap (λ z. guards v z) at2 in
     let f0 : Opens (log ++ c.deref-3.result.now ∷ []) n c.deref-2.result.now (openings (stored_of (option_copied c.shelf_ahead-stood.result)) (stairs c.deref-3.result.now)) c.in_ok-fresh.fresh.items = c.in_ok-fresh.ensures.ok log (sym ed) in
     let f1 = subst (λ z. Opens (log ++ c.deref-3.result.now ∷ []) n z (openings (stored_of (option_copied c.shelf_ahead-stood.result)) (stairs c.deref-3.result.now)) c.in_ok-fresh.fresh.items) at5 f0 in
     let f2 = subst (λ z. Opens (log ++ c.deref-3.result.now ∷ []) n w (openings z (stairs c.deref-3.result.now)) c.in_ok-fresh.fresh.items) stood f1 in
-    let flags : c.in_ok-flags.flags.items ≡ map (λ p. not (hopeless w (own_of log p.own))) ps = c.in_ok-flags.ensures.ok ∙ ap (λ z. map (λ p. not (hopeless z (own_of log p.own))) c.deref-5.result.now) at7 ∙ ap (λ qs. map (λ p. not (hopeless w (own_of log p.own))) qs) ps8 in
-    let flags9 : c.deref-7.result.now ≡ map (λ p. not (hopeless w (own_of log p.own))) c.deref-6.result.now = c.deref-7.ensures.value ∙ flags ∙ ap (λ qs. map (λ p. not (hopeless w (own_of log p.own))) qs) (sym ps9) in
-    let e0 : c.in_ok-ended.ended.items ≡ hopeless_endings w (c.len-edition.result + 1) (tasks_of log c.deref-6.result.now) = c.in_ok-ended.ensures.ok log w flags9 in
+    let flags : c.in_ok-flags.flags.items ≡ map (λ p. not (hopeless w (own_of log p.own))) ps = c.in_ok-flags.ensures.ok ∙ ap (λ z. map (λ p. not (hopeless z (own_of log p.own))) ps) at7 in
+    let flags9 : c.deref-6.result.now ≡ map (λ p. not (hopeless w (own_of log p.own))) c.deref-5.result.now = c.deref-6.ensures.value ∙ flags ∙ ap (λ qs. map (λ p. not (hopeless w (own_of log p.own))) qs) (sym ps9) in
+    let e0 : c.in_ok-ended.ended.items ≡ hopeless_endings w (c.len-edition.result + 1) (tasks_of log c.deref-5.result.now) = c.in_ok-ended.ensures.ok log w flags9 in
     let back : c.in_ok-both.both.back.items ≡ guards w v = c.in_ok-both.ensures.back ∙ ap (λ z. guards z c.view.result.now) at2 ∙ ap (λ z. guards w z) at1 in
     let wide : c.len-width.result ≡ length c.in_ok-both.both.back.items = search rules in
     let width : c.len-width.result ≡ length (guards w v) = wide ∙ ap length back in
-    let s0 : stored_of c.in_ok-shelf.shelf ≡ shelf_by c.deref-8.result.now ls log ps c.len-width.result = c.in_ok-shelf.ensures.ok in
+    let s0 : stored_of c.in_ok-shelf.shelf ≡ shelf_by c.deref-7.result.now ls log ps c.len-width.result = c.in_ok-shelf.ensures.ok in
     record {
       after_is = refl;
       plan_is = refl;

@@ -1,0 +1,86 @@
+//! What a change touches, made ready for the comparison with many atoms.
+ghost use Rattle.std.specs.Prelude.{◌≡◌, ◌<◌, IfErr, IfOk, false, length, nat_lt, replicate, slice_index_or, slice_set, true, ℕ};
+ghost use Rattle.std.specs.List.{list_all};
+ghost use Rattle.poly_tiling.specs.Lists.{mem};
+ghost use Rattle.poly_place.specs.Index.{item_of};
+
+use poly_design::Change;
+use poly_grid::Refusal;
+use poly_place::Delta;
+use poly_tiling::{Item, View};
+use std::alloc::Global;
+
+/// What a change touches.
+#[derive(Drop)]
+pub(crate) struct Touch<'a> {
+    /// The design after it.
+    pub view: &'a View,
+    /// How it differs from the design before it.
+    pub delta: &'a Delta,
+    /// The cell or the piece that changes.
+    pub item: Item,
+    /// A mark for each number that is gone. A change may take thousands away, and each atom is compared with them.
+    pub gone: Vec<bool>,
+    ghost marked: { (n : ℕ) → slice_index_or gone.items n false ≡ mem delta.now.gone.items n },
+}
+
+impl<'a> Touch<'a> {
+    /// What the change touches that leads to the view with these differences. Fails only when out of memory.
+    pub(crate) fn new(
+        alloc: Global,
+        view: &'a View,
+        delta: &'a Delta,
+        change: &Change,
+    ) -> Result<Touch<'a>, Refusal>
+        requires { list_all (λ n. nat_lt n (length view.now.placements)) delta.now.gone.items ≡ true }
+        ensures view { IfOk result (λ t. t.view.now ≡ view.now) }
+        ensures delta { IfOk result (λ t. t.delta.now ≡ delta.now) }
+        ensures item { IfOk result (λ t. t.item ≡ item_of change.now) }
+        ensures why { IfErr result (λ e. e ≡ Refusal.Memory) }
+    {
+        let gone = marks_of(alloc, view.number_count(), &delta.gone)?;
+        Ok(Touch {
+            view,
+            delta,
+            item: changed_item(change),
+            gone,
+        })
+    }
+}
+
+// The cell or the piece that changes.
+fn changed_item(change: &Change) -> Item
+    ensures { result ≡ item_of change.now }
+{
+    match change {
+        Change::Cell { cell, .. } => Item::Cell(*cell),
+        Change::Piece { name, .. } => Item::Piece(*name),
+    }
+}
+
+// A mark for each number of the list. All numbers are below the count.
+fn marks_of(alloc: Global, count: usize, numbers: &[u32]) -> Result<Vec<bool>, Refusal>
+    requires { list_all (λ n. nat_lt n count) numbers.now ≡ true }
+    ensures ok { IfOk result (λ marks. (n : ℕ) → slice_index_or marks.items n false ≡ mem numbers.now n) }
+    ensures why { IfErr result (λ e. e ≡ Refusal.Memory) }
+{
+    let mut marks = unset(alloc, count)?;
+    for number in numbers {
+        mark(&mut marks, *number);
+    }
+    Ok(marks)
+}
+
+fn unset(alloc: Global, count: usize) -> Result<Vec<bool>, Refusal>
+    ensures ok { IfOk result (λ marks. marks.items ≡ replicate count false) }
+    ensures why { IfErr result (λ e. e ≡ Refusal.Memory) }
+{
+    Ok(vec![in alloc; false; count]?)
+}
+
+fn mark(marks: &mut Vec<bool>, number: u32)
+    requires { number < length marks.old.items }
+    ensures { marks.new.items ≡ slice_set marks.old.items number true }
+{
+    marks[number as usize] = true;
+}
