@@ -20,8 +20,7 @@ use Rattle.poly_tiling.proofs.Tilings.{same_item_is, same_item_self}
 use Rattle.poly_browse.proofs.Rows.{or_false, or_true}
 use Rattle.poly_browse.specs.Browsing.{is_in, same_placement}
 use Rattle.poly_browse.specs.Gathering.{AreSmall, names_it}
-use Rattle.poly_browse.specs.Lines.{AreDifferent, has_flagged}
-use Rattle.poly_browse.specs.declared.lines.Line.{Line}
+use Rattle.poly_browse.specs.Lines.{AreDifferent}
 
 -- numbers as a program holds them are small
 pub small_from : (T : List ℕ) → ((k : ℕ) → Fits w32 (get_or T k 0)) → AreSmall T
@@ -120,12 +119,6 @@ any_more f xs i x low is = ap (list_any f) (take_more xs i x low ∙ ap (λ z. t
 -- one that fails the test
 pub all_not : {X : Type 0} (f : X → Bool) (xs : List X) (i : ℕ) (x : X) → i < length xs → x ≡ get_or xs i x → f x ≡ false → list_all f xs ≡ false
 all_not f xs i x low is fails = false_from_ne_true (list_all f xs) (λ h. both_ways (f x) fails (all_in f xs h x (subst (λ z. In z xs) (sym is) (at_in xs i x low))))
-
-pub line_more : (lines new : List Line) (l : Line) (T : List ℕ) (test : Item → Bool) (xs : List Item) (i : ℕ) (x : Item) → new ≡ lines ++ l ∷ [] → i < length xs → x ≡ get_or xs i x → has_flagged l T ≡ test x
-    → list_all (λ m. has_flagged m T) lines ≡ list_all test (take i xs) → list_all (λ m. has_flagged m T) new ≡ list_all test (take (i + 1) xs)
-line_more lines new l T test xs i x is low here says so =
-    ap (λ z. list_all (λ m. has_flagged m T) z) is ∙ all_append (λ m. has_flagged m T) lines (l ∷ []) ∙ ap (λ b. list_all (λ m. has_flagged m T) lines && b) (sym (and_true (has_flagged l T)))
-    ∙ ap (λ b. b && has_flagged l T) so ∙ ap (λ b. list_all test (take i xs) && b) says ∙ sym (all_more test xs i x low here)
 
 -- ---- the one number of a placement
 

@@ -7,6 +7,7 @@
 
 mod board;
 mod browsing;
+mod covers;
 mod flags;
 mod gather;
 pub mod laws;

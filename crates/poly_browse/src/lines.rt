@@ -1,23 +1,25 @@
 //! The words of a query by numbers: which numbers of the view each word speaks of.
 //!
 //! The words are looked up once for a query, so the pass over the tilings looks at numbers and flags, and never at names or
-//! cells. A long query takes little memory: a placement has one number, all placements to lack share one list of flags, and
-//! each item has one, however often it is asked for.
-ghost use Rattle.std.specs.Prelude.{IfErr, IfNone, IfOk, IfSome, List, OnOk, ℕ, false, length, min, nat_eq, slice_index_or, true, [], ◌^◌, ◌∷◌, ◌<◌, ◌≡◌, ◌||◌};
+//! cells. The time for a tiling depends on its placements and not on the number of words: all placements to have share one
+//! list of flags, so do all placements to lack, and up to 64 items to cover share one list of masks. For the same reason a
+//! long query takes little memory.
+ghost use Rattle.std.specs.Prelude.{IfErr, IfNone, IfOk, IfSome, List, OnOk, ℕ, false, length, min, nat_eq, slice_index_or, true, [], ◌^◌, ◌∷◌, ◌<◌, ◌≡◌, ◌≤◌, ◌||◌};
 ghost use Rattle.std.specs.List.{list_all, list_any};
-ghost use Rattle.poly_tiling.specs.Lists.{distinct, mem};
+ghost use Rattle.poly_tiling.specs.Lists.{distinct, mem, tally};
 ghost use Rattle.poly_tiling.specs.Names.{WellNamed};
-ghost use Rattle.poly_tiling.specs.Puzzle.{has_item, same_item};
+ghost use Rattle.poly_tiling.specs.Puzzle.{same_item};
 ghost use Rattle.poly_tiling.specs.Shows.{names};
 ghost use Rattle.poly_browse.specs.Browsing.{is_in, matches};
-ghost use Rattle.poly_browse.specs.Gathering.{AreSmall, has_it, names_it};
+ghost use Rattle.poly_browse.specs.Gathering.{AreSmall, names_it};
 ghost use Rattle.poly_browse.specs.Lines.{AreDifferent, are_met, has_flagged, has_these};
 
+use crate::covers::{Covers, covers_of};
 use crate::flags::raise_one;
 use crate::query::Query;
 use poly_design::Placement;
 use poly_grid::Refusal;
-use poly_tiling::{Item, View, has_all, has_number};
+use poly_tiling::{Item, View, has_number};
 use std::alloc::Global;
 
 /// A set of numbers: a flag for each number, up to the greatest one in the set.
@@ -44,6 +46,20 @@ impl Line {
         }
         found
     }
+
+    // How many of the numbers have their flag.
+    fn count(&self, numbers: &[u32]) -> usize
+        ensures value { result ≡ tally (λ n. slice_index_or self.now.flags.items n false) numbers.now }
+        ensures most { result ≤ length numbers.now }
+    {
+        let mut count = 0;
+        for number in numbers {
+            if self.is_flagged(*number) {
+                count += 1;
+            }
+        }
+        count
+    }
 }
 
 /// The placements that a tiling is to have.
@@ -51,15 +67,17 @@ impl Line {
 pub(crate) struct Has {
     // Whether each of them has a number. A tiling has none that doesn't.
     named: bool,
-    // Their numbers, each once.
-    numbers: Vec<u32>,
+    // Their numbers.
+    line: Line,
+    // How many different numbers these are. A tiling has each of its numbers once, so it has all of these if it has this many.
+    count: usize,
 }
 
 impl Has {
     fn is_met(&self, numbers: &[u32]) -> bool
         ensures { result ≡ has_these self.now numbers.now }
     {
-        self.named && has_all(numbers, &self.numbers)
+        self.named && self.line.count(numbers) == self.count
     }
 }
 
@@ -69,8 +87,8 @@ pub(crate) struct Words {
     has: Has,
     // The numbers of the placements that a tiling is to lack.
     lacks: Line,
-    // For each item that a tiling is to cover, the numbers of the placements that have it.
-    covers: Vec<Line>,
+    // The items that a tiling is to cover.
+    covers: Covers,
 }
 
 impl Words {
@@ -79,32 +97,24 @@ impl Words {
         ensures value { result ≡ are_met self.now numbers.now }
         ensures small { AreSmall numbers.now }
     {
-        self.has.is_met(numbers)
-            && !self.lacks.has_one(numbers)
-            && each_has_one(&self.covers, numbers)
+        self.has.is_met(numbers) && !self.lacks.has_one(numbers) && self.covers.are_met(numbers)
     }
-}
-
-fn each_has_one(lines: &[Line], numbers: &[u32]) -> bool
-    ensures { result ≡ list_all (λ l. has_flagged l numbers.now) lines.now }
-{
-    lines.iter().all(|line| line.has_one(numbers))
 }
 
 /// The words of a query, by the numbers of the view. Fails with `Memory` only.
 pub(crate) fn words_of(alloc: Global, view: &View, query: &Query) -> Result<Words, Refusal>
-    ensures ok { IfOk result (λ words. (T : List ℕ) → AreSmall T → are_met words T ≡ matches (record { has = query.now.has.items; lacks = query.now.lacks.items; covers = query.now.covers.items }) (names view.now T)) }
+    ensures ok { IfOk result (λ words. (T : List ℕ) → AreSmall T → distinct T ≡ true → are_met words T ≡ matches (record { has = query.now.has.items; lacks = query.now.lacks.items; covers = query.now.covers.items }) (names view.now T)) }
     ensures why { IfErr result (λ e. e ≡ Refusal.Memory) }
 {
     let has = has_of(alloc, view, &query.has)?;
     let lacks = line_of(alloc, view, &query.lacks)?;
     let items = different(alloc, &query.covers)?;
-    let covers = lines_of(alloc, view, &items)?;
+    let covers = covers_of(alloc, view, &items)?;
     Ok(Words { has, lacks, covers })
 }
 
 fn has_of(alloc: Global, view: &View, placements: &[Placement]) -> Result<Has, Refusal>
-    ensures ok { IfOk result (λ has. (T : List ℕ) → AreSmall T → has_these has T ≡ list_all (λ p. names_it view.now T p) placements.now) }
+    ensures ok { IfOk result (λ has. (T : List ℕ) → AreSmall T → distinct T ≡ true → has_these has T ≡ list_all (λ p. names_it view.now T p) placements.now) }
     ensures why { IfErr result (λ e. e ≡ Refusal.Memory) }
 {
     let mut numbers = Vec::new(alloc);
@@ -112,15 +122,32 @@ fn has_of(alloc: Global, view: &View, placements: &[Placement]) -> Result<Has, R
         let Some(number) = number_of(view, placement) else {
             return Ok(Has {
                 named: false,
-                numbers,
+                line: Line {
+                    flags: Vec::new(alloc),
+                },
+                count: 0,
             });
         };
         add_number(&mut numbers, number)?;
     }
+    let flags = flags_of(alloc, &numbers)?;
     Ok(Has {
         named: true,
-        numbers,
+        line: Line { flags },
+        count: numbers.len(),
     })
+}
+
+// Returns a flag for each number up to the greatest one in the list, raised if the list has the number.
+fn flags_of(alloc: Global, numbers: &[u32]) -> Result<Vec<bool>, Refusal>
+    ensures ok { IfOk result (λ flags. (k : ℕ) → slice_index_or flags.items k false ≡ mem numbers.now k) }
+    ensures why { IfErr result (λ e. e ≡ Refusal.Memory) }
+{
+    let mut flags = Vec::new(alloc);
+    for number in numbers {
+        raise_one(&mut flags, *number)?;
+    }
+    Ok(flags)
 }
 
 // Adds the number, unless it is there.
@@ -207,31 +234,4 @@ fn is_among(items: &[Item], item: &Item) -> bool
     ensures { result ≡ list_any (λ i. same_item i item.now) items.now }
 {
     items.iter().any(|other| other.is(item))
-}
-
-// Returns for each of the items the numbers of the placements that have it.
-fn lines_of(alloc: Global, view: &View, items: &[Item]) -> Result<Vec<Line>, Refusal>
-    ensures ok { IfOk result (λ lines. (T : List ℕ) → AreSmall T → list_all (λ l. has_flagged l T) lines.items ≡ list_all (λ i. has_it view.now T i) items.now) }
-    ensures why { IfErr result (λ e. e ≡ Refusal.Memory) }
-{
-    let mut lines = Vec::new(alloc);
-    for item in items {
-        let flags = item_flags(alloc, view, item)?;
-        lines.push(Line { flags })?;
-    }
-    Ok(lines)
-}
-
-fn item_flags(alloc: Global, view: &View, item: &Item) -> Result<Vec<bool>, Refusal>
-    ensures ok { IfOk result (λ flags. (n : ℕ) → n < 2 ^ 32 → slice_index_or flags.items n false ≡ has_item view.now n item.now) }
-    ensures why { IfErr result (λ e. e ≡ Refusal.Memory) }
-{
-    let mut flags = Vec::new(alloc);
-    for at in 0..known(view) {
-        let number = at as u32;
-        if view.covers(number, *item) {
-            raise_one(&mut flags, number)?;
-        }
-    }
-    Ok(flags)
 }

@@ -1,8 +1,8 @@
 use Rattle.std.proofs.Common.{◌≤◌, Bool, ℕ, ap, length, subst, sym, ◌+◌, ◌∙◌}
 use Rattle.poly_tiling.specs.Puzzle.{has_item}
 use Rattle.poly_browse.proofs.Worded.{AreFlags, no_flags, flag_up, flag_down, all_flags, none_covered}
-use Rattle.poly_browse.proofs.lines.item_flags.Goals.{then-covers+in_ok-raise_one, else-covers}
-use Rattle.poly_browse.proofs.lines.item_flags.Goals as goal
+use Rattle.poly_browse.proofs.covers.item_flags.Goals.{then-covers+in_ok-raise_one, else-covers}
+use Rattle.poly_browse.proofs.covers.item_flags.Goals as goal
 
 pub loop-at-init : goal.loop-at-init
 loop-at-init c = no_flags _ _ c.new-flags.ensures.items
