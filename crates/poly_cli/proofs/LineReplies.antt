@@ -1,5 +1,5 @@
 -- The reply to a line, by what the line asks for.
-use Rattle.std.proofs.Common.{false, ◌≡◌, ℕ, ◌+◌, List, [], ◌∷◌, refl, sym, ap, subst, inl, inr, Option, Some, None, Result, Ok, Err}
+use Rattle.std.proofs.Common.{false, true, ◌≡◌, ℕ, ◌+◌, List, [], ◌∷◌, refl, sym, ap, subst, inl, inr, Option, Some, None, Result, Ok, Err}
 use Rattle.std.specs.Prelude.{◌⊎◌, IfErr, IfOk, OnErr, OnOk}
 use Rattle.poly_grid.specs.declared.grid.Grid.{Grid}
 use Rattle.poly_grid.specs.declared.refusal.Refusal.{Refusal}
@@ -7,12 +7,14 @@ use Rattle.poly_grid.specs.declared.refusal.Refusal.TheVariants.{Memory}
 use Rattle.poly_design.specs.Layout.{Layout}
 use Rattle.poly_design.specs.declared.placement.Placement.{Placement}
 use Rattle.poly_tiling.specs.Listings.{IsListOfTilings}
+use Rattle.poly_book.specs.AllTilings.{AllTilings}
 use Rattle.poly_text.specs.declared.command.Command.{Command}
 use Rattle.poly_text.specs.Commands.{AskedBy, Asks, CommandSays}
 use Rattle.poly_text.specs.Gives.{◌>>=◌}
 use Rattle.poly_text.specs.Replies.{ok_text, refusal_text, step_text}
 use Rattle.poly_cli.specs.Slow.{Answers, Fails, IsRefusal, Replies, Steps, WordsSay, is_status}
 use Rattle.poly_cli.specs.Questions.{Tells}
+use Rattle.poly_cli.specs.Standing.{IsStanding}
 use Rattle.poly_cli.specs.States.{IsUnanswered, State, answered}
 use Rattle.poly_text.specs.Words.{words_of}
 
@@ -71,6 +73,16 @@ pub told : (Failures : Refusal → Type 0) (Says : Layout → List (List Placeme
     → Tells Says s out t ⊎ Fails Failures s out t
 told Failures Says s t all out is list says = inl (inl (is, (all, list, says)))
 
+-- a question that was answered by the design's tilings, unless memory ran out then
+pub told_in_memory : (Failures : Refusal → Type 0) (Says : Layout → List (List Placement) → List ℕ → Type 0) (s t : State) (d : Layout) (all : List (List Placement)) (out : List ℕ) → t ≡ answered s → d ≡ s.design → IsListOfTilings d all →
+    Says d all out ⊎ (out ≡ refusal_text Memory) → Tells Says s out t ⊎ Fails Failures s out t
+told_in_memory Failures Says s t d all out is same list (inl says) = told Failures Says s t all out is (subst (λ e. IsListOfTilings e all) same list) (subst (λ e. Says e all out) same says)
+told_in_memory Failures Says s t d all out is same list (inr none) = inl (inr (Memory, inr (inr (inl refl)), inr is, none))
+
+-- a state in which a question was answered stays the same if one is answered again
+pub answered_again : (s : State) → s.settled ≡ true → s ≡ answered s
+answered_again s e = λ i. record { design = s.design; edition = s.edition; undo = s.undo; redo = s.redo; settled = e i }
+
 -- a question that the engine didn't answer
 pub untold : (Failures : Refusal → Type 0) (Says : Layout → List (List Placement) → List ℕ → Type 0) (s t : State) (e : Refusal) → t ≡ s → IsUnanswered s.design e ⊎ Failures e
     → Tells Says s (refusal_text e) t ⊎ Fails Failures s (refusal_text e) t
@@ -80,3 +92,21 @@ untold Failures Says s t e same (inr failed) = inr (e, failed, (same, refl))
 -- a question that the engine answered, when memory ran out
 pub untold_late : (Failures : Refusal → Type 0) (Says : Layout → List (List Placement) → List ℕ → Type 0) (s t : State) (e : Refusal) → t ≡ answered s → e ≡ Memory → Tells Says s (refusal_text e) t ⊎ Fails Failures s (refusal_text e) t
 untold_late Failures Says s t e is memory = inl (inr (e, inr (inr (inl memory)), inr is, refl))
+
+-- ---- what a session keeps
+
+-- nothing is kept
+pub stands_none : (o : Option AllTilings) (s : State) → o ≡ None → IsStanding o s
+stands_none o s none = subst (λ z. IsStanding z s) (sym none) tt
+
+-- the tilings of a question that was answered
+pub stands_new : (q : AllTilings) (s t : State) → t ≡ answered s → q.design ≡ s.design → IsStanding (Some q) t
+stands_new q s t is same = subst (IsStanding (Some q)) (sym is) (same, refl)
+
+-- what is kept still stands after a question that was answered
+pub stands_answered : (o : Option AllTilings) (s t : State) → t ≡ answered s → IsStanding o s → IsStanding o t
+stands_answered None s t is h = tt
+stands_answered (Some q) s t is h = stands_new q s t is h.0
+
+pub stands_same : (o : Option AllTilings) (s t : State) → t ≡ s → IsStanding o s → IsStanding o t
+stands_same o s t is h = subst (IsStanding o) (sym is) h

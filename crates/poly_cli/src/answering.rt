@@ -1,12 +1,17 @@
 //! Answers to the lines after the puzzle line.
-ghost use Rattle.std.specs.Prelude.{false, ◌≡◌, ◌⊎◌, ◌≤◌, ℕ, List, IfErr, option_map, vec_capacity};
+//!
+//! To put all tilings into their order takes about as long as to answer a question about them, so a session keeps the tilings
+//! from one such question to the next. Before a change they are dropped, so their memory is free while the engine works.
+ghost use Rattle.std.specs.Prelude.{false, ◌≡◌, ◌⊎◌, ◌≤◌, ℕ, List, None, IfErr, IfOk, option_map, vec_capacity};
 ghost use Rattle.poly_text.specs.Replies.{refusal_text, step_text};
 ghost use Rattle.poly_cli.specs.Questions.{TellsNumbers};
 ghost use Rattle.poly_cli.specs.Runs.{Writes};
 ghost use Rattle.poly_cli.specs.Slow.{Answers, Fails, IsRefusal, Slow, is_status};
+ghost use Rattle.poly_cli.specs.Standing.{IsStanding};
 
 use crate::engine::Engine;
 use crate::writing::{Fault, write_whole};
+use poly_book::Quiet;
 use poly_design::Placement;
 use poly_grid::{Grid, Refusal};
 use poly_text::{Command, ReplyLine, asked, refusal_line};
@@ -22,23 +27,29 @@ pub struct Answerer {
     pub(crate) alloc: Global,
     pub(crate) reply: ReplyLine,
     pub(crate) placements: Vec<Placement>,
+    // All tilings of the design, if a question asked for them since the last change.
+    pub(crate) kept: Option<Quiet>,
     ghost room: { 256 ≤ vec_capacity placements },
 }
 
 impl Answerer {
     /// An answerer that hasn't answered yet. Fails only with `Memory`.
     pub fn new(alloc: Global) -> Result<Answerer, Refusal>
-        ensures { IfErr result (λ e. e ≡ Refusal.Memory) }
+        ensures fresh { IfOk result (λ a. a.kept ≡ None) }
+        ensures why { IfErr result (λ e. e ≡ Refusal.Memory) }
     {
         Ok(Answerer {
             alloc,
             reply: ReplyLine::new(alloc)?,
             placements: Vec::with_capacity(alloc, MOST_PLACED)?,
+            kept: None,
         })
     }
 
     /// Answers a line of a session on a design of the grid; `None` is a line that is too long. Writes the whole answer and flushes
     /// it. Fails with `Write` if the writer does.
+    ///
+    /// Requires that what is kept is of the design as it stands, and keeps this so.
     pub fn respond<E: Engine, W: Write>(
         &mut self,
         grid: Grid,
@@ -47,8 +58,10 @@ impl Answerer {
         writer: &mut W,
     ) -> Result<(), Fault>
         requires ready { E.ready engine.old }
+        requires kept { IsStanding self.old.kept (E.state engine.old) }
         requires grid { grid ≡ (E.state engine.old).design.grid }
         ensures ready { E.ready engine.new }
+        ensures kept { IsStanding self.new.kept (E.state engine.new) }
         ensures says { (out : List ℕ) × Slow E.failures (E.state engine.old) (option_map (λ l. l.now) line.entry) out (E.state engine.new) × Writes result (W.contents writer.old) (W.contents writer.new) out }
     {
         let Some(text) = line else {
@@ -68,21 +81,26 @@ impl Answerer {
         writer: &mut W,
     ) -> Result<(), Fault>
         requires ready { E.ready engine.old }
+        requires kept { IsStanding self.old.kept (E.state engine.old) }
         ensures ready { E.ready engine.new }
+        ensures kept { IsStanding self.new.kept (E.state engine.new) }
         ensures says { (out : List ℕ) × (Answers command (E.state engine.old) out (E.state engine.new) ⊎ IsRefusal Refusal.Memory (E.state engine.old) out (E.state engine.new)
             ⊎ ((is_status command ≡ false) × Fails E.failures (E.state engine.old) out (E.state engine.new)))
             × Writes result (W.contents writer.old) (W.contents writer.new) out }
     {
         match command {
             Command::Edit(edit) => {
+                self.kept = None;
                 let stepped = engine.edit(edit);
                 self.step(stepped, writer)
             }
             Command::Undo => {
+                self.kept = None;
                 let stepped = engine.undo();
                 self.step(stepped, writer)
             }
             Command::Redo => {
+                self.kept = None;
                 let stepped = engine.redo();
                 self.step(stepped, writer)
             }
@@ -96,7 +114,8 @@ impl Answerer {
 
     // Writes the edition after a step, or its refusal.
     fn step<W: Write>(&mut self, stepped: Result<u64, Refusal>, writer: &mut W) -> Result<(), Fault>
-        ensures { Writes result (W.contents writer.old) (W.contents writer.new) (step_text stepped) }
+        ensures says { Writes result (W.contents writer.old) (W.contents writer.new) (step_text stepped) }
+        ensures kept { self.new.kept ≡ self.old.kept }
     {
         match stepped {
             Ok(edition) => {
@@ -110,6 +129,7 @@ impl Answerer {
     fn status<E: Engine, W: Write>(&mut self, engine: &E, writer: &mut W) -> Result<(), Fault>
         requires ready { E.ready engine.now }
         ensures says { (out : List ℕ) × TellsNumbers (E.state engine.now) out (E.state engine.now) × Writes result (W.contents writer.old) (W.contents writer.new) out }
+        ensures kept { self.new.kept ≡ self.old.kept }
     {
         let numbers = engine.numbers();
         self.reply

@@ -1,11 +1,15 @@
 //! Answers to questions about all tilings of the design. Nothing is written before the engine has settled and all memory is taken.
-ghost use Rattle.std.specs.Prelude.{◌≡◌, ◌⊎◌, ◌≤◌, ℕ, List, IfErr, IfOk, map};
+ghost use Rattle.std.specs.Prelude.{◌≡◌, ◌⊎◌, ◌≤◌, ℕ, List, None, IfErr, IfOk, OnErr, OnOk, map};
+ghost use Rattle.poly_tiling.specs.Listings.{IsListOfTilings};
 ghost use Rattle.poly_tiling.specs.TilingOrder.{placed};
 ghost use Rattle.poly_browse.specs.Browsing.{IsAnswer};
-ghost use Rattle.poly_text.specs.Replies.{covered};
-ghost use Rattle.poly_cli.specs.Questions.{BrowseSays, ClassesSay, CountSays, ListSays, Tells, asked_of};
+ghost use Rattle.poly_grid.specs.declared.refusal.Refusal.TheVariants.{Memory};
+ghost use Rattle.poly_text.specs.Replies.{covered, refusal_text};
+ghost use Rattle.poly_cli.specs.Questions.{BrowseSays, ClassesSay, CountSays, ListSays, Tells, asked_of, list_text};
 ghost use Rattle.poly_cli.specs.Runs.{Writes};
 ghost use Rattle.poly_cli.specs.Slow.{Fails};
+ghost use Rattle.poly_cli.specs.Standing.{IsStanding};
+ghost use Rattle.poly_cli.specs.States.{IsUnanswered, answered};
 
 use crate::answering::{Answerer, refuse};
 use crate::engine::Engine;
@@ -27,7 +31,9 @@ impl Answerer {
         writer: &mut W,
     ) -> Result<(), Fault>
         requires ready { E.ready engine.old }
+        requires kept { IsStanding self.old.kept (E.state engine.old) }
         ensures ready { E.ready engine.new }
+        ensures kept { IsStanding self.new.kept (E.state engine.new) }
         ensures says { (out : List ℕ) × (Tells CountSays (E.state engine.old) out (E.state engine.new) ⊎ Fails E.failures (E.state engine.old) out (E.state engine.new)) × Writes result (W.contents writer.old) (W.contents writer.new) out }
     {
         match engine.count() {
@@ -46,17 +52,16 @@ impl Answerer {
         writer: &mut W,
     ) -> Result<(), Fault>
         requires ready { E.ready engine.old }
+        requires kept { IsStanding self.old.kept (E.state engine.old) }
         ensures ready { E.ready engine.new }
+        ensures kept { IsStanding self.new.kept (E.state engine.new) }
         ensures says { (out : List ℕ) × (Tells ListSays (E.state engine.old) out (E.state engine.new) ⊎ Fails E.failures (E.state engine.old) out (E.state engine.new)) × Writes result (W.contents writer.old) (W.contents writer.new) out }
     {
-        match engine.settle() {
+        match self.all_tilings(engine) {
             Ok(quiet) => {
-                // The contracts of these calls tell that the tilings are those of the design, and that each fits a
-                // reply line.
-                let _design = quiet.design();
-                listings_show();
-                numbers_show();
-                self.print(quiet.view(), quiet.tilings(), writer)
+                let written = self.list_all(&quiet, writer);
+                self.kept = Some(quiet);
+                written
             }
             Err(refusal) => refuse(refusal, writer),
         }
@@ -70,17 +75,16 @@ impl Answerer {
         writer: &mut W,
     ) -> Result<(), Fault>
         requires ready { E.ready engine.old }
+        requires kept { IsStanding self.old.kept (E.state engine.old) }
         ensures ready { E.ready engine.new }
+        ensures kept { IsStanding self.new.kept (E.state engine.new) }
         ensures says { (out : List ℕ) × (Tells (BrowseSays question) (E.state engine.old) out (E.state engine.new) ⊎ Fails E.failures (E.state engine.old) out (E.state engine.new)) × Writes result (W.contents writer.old) (W.contents writer.new) out }
     {
-        match engine.settle() {
+        match self.all_tilings(engine) {
             Ok(quiet) => {
-                // The contract of this call tells that the tilings are those of the design.
-                let _tilings = quiet.tilings();
-                match answer_of(self.alloc, &quiet, question) {
-                    Ok(answer) => self.print_answer(&answer, writer),
-                    Err(refusal) => refuse(refusal, writer),
-                }
+                let written = self.browse_all(&quiet, question, writer);
+                self.kept = Some(quiet);
+                written
             }
             Err(refusal) => refuse(refusal, writer),
         }
@@ -93,18 +97,77 @@ impl Answerer {
         writer: &mut W,
     ) -> Result<(), Fault>
         requires ready { E.ready engine.old }
+        requires kept { IsStanding self.old.kept (E.state engine.old) }
         ensures ready { E.ready engine.new }
+        ensures kept { IsStanding self.new.kept (E.state engine.new) }
         ensures says { (out : List ℕ) × (Tells ClassesSay (E.state engine.old) out (E.state engine.new) ⊎ Fails E.failures (E.state engine.old) out (E.state engine.new)) × Writes result (W.contents writer.old) (W.contents writer.new) out }
     {
-        match engine.settle() {
+        match self.all_tilings(engine) {
             Ok(quiet) => {
-                match classes_of(self.alloc, quiet.design(), quiet.view(), quiet.tilings()) {
-                    Ok(count) => {
-                        self.reply.classes(count);
-                        write_whole(writer, self.reply.as_bytes())
-                    }
-                    Err(refusal) => refuse(refusal, writer),
-                }
+                let written = self.count_classes(&quiet, writer);
+                self.kept = Some(quiet);
+                written
+            }
+            Err(refusal) => refuse(refusal, writer),
+        }
+    }
+
+    // Returns the tilings that are kept, or else asks the engine for them. Fails as `Engine::settle` does.
+    fn all_tilings<E: Engine>(&mut self, engine: &mut E) -> Result<Quiet, Refusal>
+        requires ready { E.ready engine.old }
+        requires kept { IsStanding self.old.kept (E.state engine.old) }
+        ensures ready { E.ready engine.new }
+        ensures none { self.new.kept ≡ None }
+        ensures ok { OnOk result (E.state engine.new ≡ answered (E.state engine.old)) }
+        ensures design { IfOk result (λ quiet. quiet.design ≡ (E.state engine.old).design) }
+        ensures err { OnErr result (E.state engine.new ≡ E.state engine.old) }
+        ensures why { IfErr result (λ e. IsUnanswered (E.state engine.old).design e ⊎ E.failures e) }
+    {
+        match self.kept.take() {
+            Some(quiet) => Ok(quiet),
+            None => match engine.settle() {
+                Ok(quiet) => Ok(quiet),
+                Err(refusal) => Err(refusal),
+            },
+        }
+    }
+
+    fn list_all<W: Write>(&mut self, quiet: &Quiet, writer: &mut W) -> Result<(), Fault>
+        ensures says { Writes result (W.contents writer.old) (W.contents writer.new) (list_text (map (placed quiet.now.view) quiet.now.tilings)) }
+        ensures all { IsListOfTilings quiet.now.design (map (placed quiet.now.view) quiet.now.tilings) }
+    {
+        // The contracts of these calls tell that the tilings are those of the design, and that each fits a reply line.
+        let _design = quiet.design();
+        listings_show();
+        numbers_show();
+        self.print(quiet.view(), quiet.tilings(), writer)
+    }
+
+    fn browse_all<W: Write>(
+        &mut self,
+        quiet: &Quiet,
+        question: Question,
+        writer: &mut W,
+    ) -> Result<(), Fault>
+        ensures says { (out : List ℕ) × (BrowseSays question quiet.now.design (map (placed quiet.now.view) quiet.now.tilings) out ⊎ (out ≡ refusal_text Memory)) × Writes result (W.contents writer.old) (W.contents writer.new) out }
+        ensures all { IsListOfTilings quiet.now.design (map (placed quiet.now.view) quiet.now.tilings) }
+    {
+        // The contract of this call tells that the tilings are those of the design.
+        let _tilings = quiet.tilings();
+        match answer_of(self.alloc, quiet, question) {
+            Ok(answer) => self.print_answer(&answer, writer),
+            Err(refusal) => refuse(refusal, writer),
+        }
+    }
+
+    fn count_classes<W: Write>(&mut self, quiet: &Quiet, writer: &mut W) -> Result<(), Fault>
+        ensures says { (out : List ℕ) × (ClassesSay quiet.now.design (map (placed quiet.now.view) quiet.now.tilings) out ⊎ (out ≡ refusal_text Memory)) × Writes result (W.contents writer.old) (W.contents writer.new) out }
+        ensures all { IsListOfTilings quiet.now.design (map (placed quiet.now.view) quiet.now.tilings) }
+    {
+        match classes_of(self.alloc, quiet.design(), quiet.view(), quiet.tilings()) {
+            Ok(count) => {
+                self.reply.classes(count);
+                write_whole(writer, self.reply.as_bytes())
             }
             Err(refusal) => refuse(refusal, writer),
         }

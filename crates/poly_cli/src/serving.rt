@@ -4,6 +4,7 @@ ghost use Rattle.std.specs.Io.KnownBytes.{Consumes};
 ghost use Rattle.poly_cli.specs.Buffered.{ahead, IsReady};
 ghost use Rattle.poly_cli.specs.Runs.{Serves, limits_from};
 ghost use Rattle.poly_cli.specs.Slow.{Slow};
+ghost use Rattle.poly_cli.specs.Standing.{IsStanding};
 
 use crate::answering::Answerer;
 use crate::engine::Engine;
@@ -25,6 +26,7 @@ pub fn serve<R: Read, W: Write, E: Engine>(
 ) -> Result<(), Fault>
     requires buffer { IsReady lines.old }
     requires ready { E.ready engine.old }
+    requires kept { IsStanding answerer.old.kept (E.state engine.old) }
     requires grid { grid ≡ (E.state engine.old).design.grid }
     ensures ready { E.ready engine.new }
     ensures run { (taken : List ℕ) × Consumes (R.remaining reader.old) (R.remaining reader.new) taken

@@ -1,5 +1,5 @@
 //! A whole session: the puzzle line, and a reply to each line after it.
-ghost use Rattle.std.specs.Prelude.{◌≡◌, ◌<◌, ◌++◌, [], ℕ, List, IfOk, option_map};
+ghost use Rattle.std.specs.Prelude.{◌≡◌, ◌<◌, ◌++◌, [], ℕ, List, None, IfOk, option_map};
 ghost use Rattle.std.specs.Io.KnownBytes.{Consumes};
 ghost use Rattle.poly_cli.specs.Buffered.{ahead, IsReady};
 ghost use Rattle.poly_cli.specs.Runs.{Writes, limits_from};
@@ -71,6 +71,7 @@ fn buffers(alloc: Global) -> Result<(Lines, Answerer), Refusal>
     ensures ready { IfOk result (λ b. IsReady b.0) }
     ensures limits { IfOk result (λ b. (b.0.limit ≡ 65536) × (b.0.left ≡ 1073741824)) }
     ensures fresh { IfOk result (λ b. ahead b.0 ≡ []) }
+    ensures none { IfOk result (λ b. b.1.kept ≡ None) }
 {
     let lines = Lines::new(alloc, LINE_LIMIT, INPUT_LIMIT)?;
     let answerer = Answerer::new(alloc)?;
@@ -90,6 +91,7 @@ fn run<R: Read, W: Write, E: Engine>(
     requires some { 0 < most }
     requires buffer { IsReady lines.old }
     requires fresh { ahead lines.old ≡ [] }
+    requires none { answerer.old.kept ≡ None }
     requires ready { E.ready engine.old }
     ensures ready { E.ready engine.new }
     ensures run { (taken : List ℕ) × Consumes (R.remaining reader.old) (R.remaining reader.new) taken

@@ -12,6 +12,7 @@ pub loop-answered-init : goal.loop-answered-init
 loop-answered-init g c = record {
   buffer = c.requires.buffer;
   ready = c.requires.ready;
+  kept = c.requires.kept;
   grid = c.requires.grid;
   so_far = record {
     done = [];
@@ -36,6 +37,7 @@ loop-answered-preserved g c =
     record {
       buffer = n.ready;
       ready = r.ready;
+      kept = r.kept;
       grid = i.grid ∙ sym (same_grid g.E.Engine.failures (g.E.Engine.state c.loop-answered.engine) (option_map (λ (l : Bor (List ℕ)). l.now) c.ended.result) r.says.0 (g.E.Engine.state c.respond.new.engine) r.says.1);
       so_far = line_answered (Slow g.E.Engine.failures) _ _ _ _ _ _ _ _ _ _ _ i.so_far n.next n.limit _ c.ended.ensures _ r.says.0 _ r.says.1 r.says.2;
     }

@@ -7,16 +7,16 @@ pub returns-in-Edit-clause-says : goal.returns-in-Edit-clause-says
 returns-in-Edit-clause-says g c =
     let s = g.E.Engine.state c.args.engine.now in
     let r = c.edit-stepped in
-    (step_text r.result, rw c.in-Edit.is (step_says g.E.Engine.failures (Edits s c.in-Edit.edit) (EditRefused s c.in-Edit.edit) s (g.E.Engine.state r.new.self) r.result r.ensures.ok r.ensures.next r.ensures.err r.ensures.why), c.step.ensures)
+    (step_text r.result, rw c.in-Edit.is (step_says g.E.Engine.failures (Edits s c.in-Edit.edit) (EditRefused s c.in-Edit.edit) s (g.E.Engine.state r.new.self) r.result r.ensures.ok r.ensures.next r.ensures.err r.ensures.why), c.step.ensures.says)
 
 pub returns-in-Undo-clause-says : goal.returns-in-Undo-clause-says
 returns-in-Undo-clause-says g c =
     let s = g.E.Engine.state c.args.engine.now in
     let r = c.undo-stepped in
-    (step_text r.result, rw c.in-Undo.is (step_says g.E.Engine.failures (Undoes s) (UndoRefused s) s (g.E.Engine.state r.new.self) r.result r.ensures.ok r.ensures.next r.ensures.err r.ensures.why), c.step-in-Undo.ensures)
+    (step_text r.result, rw c.in-Undo.is (step_says g.E.Engine.failures (Undoes s) (UndoRefused s) s (g.E.Engine.state r.new.self) r.result r.ensures.ok r.ensures.next r.ensures.err r.ensures.why), c.step-in-Undo.ensures.says)
 
 pub returns-in-Redo-clause-says : goal.returns-in-Redo-clause-says
 returns-in-Redo-clause-says g c =
     let s = g.E.Engine.state c.args.engine.now in
     let r = c.redo-stepped in
-    (step_text r.result, rw c.in-Redo.is (step_says g.E.Engine.failures (Redoes s) (RedoRefused s) s (g.E.Engine.state r.new.self) r.result r.ensures.ok r.ensures.next r.ensures.err r.ensures.why), c.step-in-Redo.ensures)
+    (step_text r.result, rw c.in-Redo.is (step_says g.E.Engine.failures (Redoes s) (RedoRefused s) s (g.E.Engine.state r.new.self) r.result r.ensures.ok r.ensures.next r.ensures.err r.ensures.why), c.step-in-Redo.ensures.says)

@@ -1,21 +1,19 @@
-use Rattle.std.proofs.Common.{map, refl, subst}
-use Rattle.poly_tiling.specs.Listings.{IsListOfTilings}
+use Rattle.std.proofs.Common.{map}
 use Rattle.poly_tiling.specs.TilingOrder.{placed}
-use Rattle.poly_browse.specs.Browsing.{IsAnswer}
-use Rattle.poly_cli.specs.Questions.{BrowseSays, answer_text, asked_of}
-use Rattle.poly_cli.proofs.LineReplies.{told}
+use Rattle.poly_cli.specs.Questions.{BrowseSays}
+use Rattle.poly_cli.proofs.LineReplies.{stands_new, stands_none, told_in_memory}
 use Rattle.poly_cli.proofs.answering.Answerer.browse.Goals as goal
 
-pub returns-in-Ok-answer_of-clause-says : goal.returns-in-Ok-answer_of-clause-says
-returns-in-Ok-answer_of-clause-says g c =
+pub returns-in-Ok-clause-says : goal.returns-in-Ok-clause-says
+returns-in-Ok-clause-says g c =
     let q = c.in-Ok.quiet in
-    let a = c.in-Ok-answer_of.answer in
-    let asked = asked_of c.args.question in
     let s = g.E.Engine.state c.args.engine.now in
     let all = map (placed q.view) q.tilings in
-    let out = answer_text a.forced.items a.options.items a.count in
-    let answer = subst (λ d. IsAnswer d all asked a.count a.forced.items a.options.items) c.in-Ok.ensures.design c.in-Ok-answer_of.ensures.ok in (
-      out,
-      told g.E.Engine.failures (BrowseSays c.args.question) s (g.E.Engine.state c.settle.new.self) all out c.in-Ok.ensures.ok (subst (λ d. IsListOfTilings d all) c.in-Ok.ensures.design c.tilings-tilings.ensures.all) (a.count, a.forced.items, a.options.items, answer, refl),
-      c.print_answer.ensures,
-    )
+    let said = c.browse_all-written.ensures.says in
+    (said.0, told_in_memory g.E.Engine.failures (BrowseSays c.args.question) s (g.E.Engine.state c.all_tilings.new.engine) q.design all said.0 c.in-Ok.ensures.ok c.in-Ok.ensures.design c.browse_all-written.ensures.all said.1, said.2)
+
+pub returns-in-Ok-clause-kept : goal.returns-in-Ok-clause-kept
+returns-in-Ok-clause-kept g c = stands_new c.in-Ok.quiet (g.E.Engine.state c.args.engine.now) (g.E.Engine.state c.all_tilings.new.engine) c.in-Ok.ensures.ok c.in-Ok.ensures.design
+
+pub returns-in-Err-clause-kept : goal.returns-in-Err-clause-kept
+returns-in-Err-clause-kept g c = stands_none c.all_tilings.new.self.kept (g.E.Engine.state c.all_tilings.new.engine) c.all_tilings.ensures.none
