@@ -18,6 +18,7 @@ use Rattle.poly_frame.specs.Open.{asks, dead, lower, open_in, others, ruled_out,
 use Rattle.poly_frame.specs.Bits.{in_both}
 use Rattle.poly_frame.specs.FrameItems.{item_of}
 use Rattle.poly_frame.specs.FrameSteps.{Kept}
+use Rattle.poly_frame.specs.declared.frame.matrix.Matrix.{Matrix}
 use Rattle.poly_frame.specs.declared.frame.table.Table.{Table}
 use Rattle.poly_frame.proofs.Ruled.{asks_is}
 use Rattle.poly_frame.proofs.FrameSteps.{top_have, top_level}
@@ -79,15 +80,15 @@ apart f g [] = omega arith
 apart f g (x ∷ xs) = omega (arith, parted (f x) (g x), apart f g xs)
 
 -- what is not ruled out is open, or it is a member of the base
-pub loose_parts : (v : View) (A : List Atom) (first : ℕ) (t : Table) (live have raised marks : List ℕ) → Kept v A first t live have raised marks → (i : Item) →
-    tally (λ p. open_in v A p && has_item v p i) t.matrix.numbers.items + tally (λ p. has_item v p i && (mem v.live p && not (ruled_out v A p))) (base v A)
+pub loose_parts : (v : View) (A : List Atom) (first : ℕ) (matrix : Matrix) (t : Table) (live have raised marks : List ℕ) → Kept v A first matrix t live have raised marks → (i : Item) →
+    tally (λ p. open_in v A p && has_item v p i) matrix.numbers.items + tally (λ p. has_item v p i && (mem v.live p && not (ruled_out v A p))) (base v A)
     ≡ tally (λ p. has_item v p i && not (ruled_out v A p)) v.live
-loose_parts v A first t live have raised marks K i =
+loose_parts v A first matrix t live have raised marks K i =
     omega (
       arith,
       apart f (λ p. mem T p) v.live,
-      tally_within g out t.matrix.numbers.items v.live K.table.matrix.once down,
-      tally_within out g v.live t.matrix.numbers.items once up,
+      tally_within g out matrix.numbers.items v.live K.table.matrix.once down,
+      tally_within out g v.live matrix.numbers.items once up,
       tally_within h in' T v.live (ascending_distinct T (base_up v A)) here,
       tally_within in' h v.live T once there,
     )
@@ -113,18 +114,18 @@ loose_parts v A first t live have raised marks K i =
     in' : ℕ → Bool
     in' p = f p && mem T p
 
-    down : (x : ℕ) → In x t.matrix.numbers.items → g x ≡ true → In x v.live × (out x ≡ true)
+    down : (x : ℕ) → In x matrix.numbers.items → g x ≡ true → In x v.live × (out x ≡ true)
     down x k e =
         let one' = and_parts (open_in v A x) (has_item v x i) e in
         let free = and_parts (not (mem T x)) (not (ruled_out v A x)) one'.0 in
-        (mem_in v.live x (K.table.begun x (in_mem t.matrix.numbers.items x k)).0, and_from _ _ (and_from _ _ one'.1 free.1) free.0)
+        (mem_in v.live x (K.table.matrix.live x (in_mem matrix.numbers.items x k)), and_from _ _ (and_from _ _ one'.1 free.1) free.0)
 
-    up : (x : ℕ) → In x v.live → out x ≡ true → In x t.matrix.numbers.items × (g x ≡ true)
+    up : (x : ℕ) → In x v.live → out x ≡ true → In x matrix.numbers.items × (g x ≡ true)
     up x k e =
         let three = and_parts (f x) (not (mem T x)) e in
         let one' = and_parts (has_item v x i) (not (ruled_out v A x)) three.0 in
         let opened : open_in v A x ≡ true = and_from _ _ three.1 one'.1 in
-        (mem_in _ x (open_first v A first t live have raised marks K x (in_mem v.live x k) opened), and_from _ _ opened one'.0)
+        (mem_in _ x (open_first v A first matrix t live have raised marks K x (in_mem v.live x k) opened), and_from _ _ opened one'.0)
 
     here : (x : ℕ) → In x T → h x ≡ true → In x v.live × (in' x ≡ true)
     here x k e =
@@ -139,16 +140,16 @@ loose_parts v A first t live have raised marks K i =
         (mem_in T x three.1, and_from _ _ one'.0 (and_from _ _ (in_mem v.live x k) one'.1))
 
 -- a number that is in both rows
-pub loose_says : (v : View) (A : List Atom) (first : ℕ) (t : Table) (live have raised marks : List ℕ) → Kept v A first t live have raised marks → (i : Item) (at b : ℕ) → at ≡ length live - t.matrix.width → b < length v.bounds → same_item (item_of v b) i ≡ true →
-    (j : ℕ) → j < length t.matrix.numbers.items → (open_in v A (get_or t.matrix.numbers.items j 0) && has_item v (get_or t.matrix.numbers.items j 0) i) ≡ in_both live at t.matrix.rows.items (t.matrix.width * b) j
-loose_says v A first t live have raised marks K i at b e l s j h =
-    ap (λ k. open_in v A (get_or t.matrix.numbers.items j 0) && has_item v (get_or t.matrix.numbers.items j 0) k) (sym (same_item_is (item_of v b) i s))
-    ∙ row_says v A first t live have raised marks K at b e l j h
+pub loose_says : (v : View) (A : List Atom) (first : ℕ) (matrix : Matrix) (t : Table) (live have raised marks : List ℕ) → Kept v A first matrix t live have raised marks → (i : Item) (at b : ℕ) → at ≡ length live - matrix.width → b < length v.bounds → same_item (item_of v b) i ≡ true →
+    (j : ℕ) → j < length matrix.numbers.items → (open_in v A (get_or matrix.numbers.items j 0) && has_item v (get_or matrix.numbers.items j 0) i) ≡ in_both live at matrix.rows.items (matrix.width * b) j
+loose_says v A first matrix t live have raised marks K i at b e l s j h =
+    ap (λ k. open_in v A (get_or matrix.numbers.items j 0) && has_item v (get_or matrix.numbers.items j 0) k) (sym (same_item_is (item_of v b) i s))
+    ∙ row_says v A first matrix t live have raised marks K at b e l j h
 
 -- what a Branch needs is the greater of what is asked for and what the base has
-pub lower_says : (v : View) (A : List Atom) (first : ℕ) (t : Table) (live have raised marks : List ℕ) → Kept v A first t live have raised marks → (i : Item) (b : ℕ) → b < length v.bounds → same_item (item_of v b) i ≡ true →
+pub lower_says : (v : View) (A : List Atom) (first : ℕ) (matrix : Matrix) (t : Table) (live have raised marks : List ℕ) → Kept v A first matrix t live have raised marks → (i : Item) (b : ℕ) → b < length v.bounds → same_item (item_of v b) i ≡ true →
     max (get_or t.asked.items b 0) (get_or have b 0) ≡ lower v A i
-lower_says v A first t live have raised marks K i b h s =
-    let held = top_have v A first t live have raised marks K b h in
-    let asked = K.table.asked b h ∙ sym ((top_level v A first t live have raised marks K).asked (item_of v b)) in
+lower_says v A first matrix t live have raised marks K i b h s =
+    let held = top_have v A first matrix t live have raised marks K b h in
+    let asked = K.table.asked b h ∙ sym ((top_level v A first matrix t live have raised marks K).asked (item_of v b)) in
     ap (λ n. max n (get_or have b 0)) asked ∙ ap (λ n. max (asks v A (item_of v b)) n) held ∙ ap (λ k. lower v A k) (same_item_is (item_of v b) i s)

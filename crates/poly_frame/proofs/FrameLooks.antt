@@ -2,7 +2,7 @@
 use Rattle.std.proofs.Common.{◌≡◌, ℕ, zero, suc, ◌+◌, ◌-◌, ◌*◌, ◌<◌, ◌≤◌, min, MatchOption, None, Option, Some, ◌||◌, Bool, true, false, cond, not, ◌&&◌, nat_lt, List, [], ◌∷◌, ◌++◌, inl, inr, refl, sym, ap, subst, ◌∙◌, arith, length, get_or, take, drop}
 use Rattle.std.specs.List.{filter, list_any, list_all}
 use Rattle.std.proofs.Math.Nat.{mul-le-mul_left}
-use Rattle.std.proofs.lemmas.List.{take_more, take_all, take-append-drop}
+use Rattle.std.proofs.lemmas.List.{length-drop, take_more, take_all, take_rest, take-append-drop}
 use Rattle.std.proofs.lemmas.Bool.{and_from, and_parts, both_ways, cases_lt, false_from_ne_true, le-ltb, not_from_false, not-true, or_cases}
 use Rattle.poly_tiling.specs.declared.item.Item.{Item}
 use Rattle.poly_tiling.specs.Lists.{distinct, mem}
@@ -19,10 +19,12 @@ use Rattle.poly_frame.specs.Plain.{of_asked}
 use Rattle.poly_frame.specs.Bits.{NoneIn, has_bit, in_both}
 use Rattle.poly_frame.specs.FrameItems.{item_of, no_bound}
 use Rattle.poly_frame.specs.FrameSteps.{Kept}
+use Rattle.poly_frame.specs.declared.frame.matrix.Matrix.{Matrix}
 use Rattle.poly_frame.specs.declared.frame.table.Table.{Table}
 use Rattle.poly_frame.proofs.Due.{none_due}
 use Rattle.poly_frame.proofs.Opens.{open_before}
 use Rattle.poly_frame.proofs.Walks.{distinct_filter, mem_filter}
+use Rattle.poly_frame.proofs.Words.{drop_bits}
 use Rattle.poly_frame.proofs.FramePicks.{place_of}
 use Rattle.poly_frame.proofs.FrameSteps.{index_in, listed_at, top_have, top_level}
 
@@ -104,30 +106,37 @@ in_row ws at j = twice (has_bit ws (64 * at + j))
     twice true = refl
     twice false = refl
 
-module _ (v : View) (A : List Atom) (first : ℕ) (t : Table) (live have raised marks : List ℕ) (K : Kept v A first t live have raised marks) where
+module _ (v : View) (A : List Atom) (first : ℕ) (matrix : Matrix) (t : Table) (live have raised marks : List ℕ) (K : Kept v A first matrix t live have raised marks) where
   -- the row on top
-  pub top_row : (at j : ℕ) → at ≡ length live - t.matrix.width → j < length t.matrix.numbers.items → has_bit live (64 * at + j) ≡ open_in v A (get_or t.matrix.numbers.items j 0)
-  top_row at j e h = ap (λ x. has_bit live x) (omega (arith, K.live_len)) ∙ (top_level v A first t live have raised marks K).row.opened j h
+  pub top_row : (at j : ℕ) → at ≡ length live - matrix.width → j < length matrix.numbers.items → has_bit live (64 * at + j) ≡ open_in v A (get_or matrix.numbers.items j 0)
+  top_row at j e h = ap (λ x. has_bit live x) (omega (arith, K.live_len)) ∙ (top_level v A first matrix t live have raised marks K).row.opened j h
 
-  pub top_room : t.matrix.width ≤ length live
-  top_room = let m = mul-le-mul_left {m = 1} {n = length marks + 1} t.matrix.width (omega arith) in omega (arith, K.live_len)
+  pub top_room : matrix.width ≤ length live
+  top_room = let m = mul-le-mul_left {m = 1} {n = length marks + 1} matrix.width (omega arith) in omega (arith, K.live_len)
 
-  pub rows_room : (b : ℕ) → b < length v.bounds → t.matrix.width * b + t.matrix.width ≤ length t.matrix.rows.items
-  rows_room b h = let m = mul-le-mul_left {m = b + 1} {n = length v.bounds} t.matrix.width (omega arith) in omega (arith, K.table.matrix.rows_len)
+  -- the row on top, cut out
+  pub top_slice : (ws : List ℕ) (at : ℕ) → ws ≡ live → at ≡ length live - matrix.width → length (take (length ws - at) (drop at ws)) ≡ matrix.width
+  top_slice ws at e f = ap length (take_rest ws at) ∙ length-drop at ws ∙ omega (arith, ap length e, f, top_room)
 
-  pub row_says : (at b : ℕ) → at ≡ length live - t.matrix.width → b < length v.bounds → (j : ℕ) → j < length t.matrix.numbers.items →
-      (open_in v A (get_or t.matrix.numbers.items j 0) && has_item v (get_or t.matrix.numbers.items j 0) (item_of v b)) ≡ (has_bit live (64 * at + j) && has_bit t.matrix.rows.items (64 * (t.matrix.width * b) + j))
-  row_says at b e l j h = sym (ap (λ x. x && has_bit t.matrix.rows.items (64 * (t.matrix.width * b) + j)) (top_row at j e h) ∙ ap (λ x. open_in v A (get_or t.matrix.numbers.items j 0) && x) (K.table.matrix.rows b j l h))
+  pub top_bits : (ws : List ℕ) (at j : ℕ) → ws ≡ live → at ≡ length live - matrix.width → j < length matrix.numbers.items → open_in v A (get_or matrix.numbers.items j 0) ≡ has_bit (take (length ws - at) (drop at ws)) j
+  top_bits ws at j e f h = sym (ap (λ xs. has_bit xs j) (take_rest ws at ∙ ap (λ xs. drop at xs) e) ∙ drop_bits live at j ∙ top_row at j f h)
 
-  pub open_first : (q : ℕ) → mem v.live q ≡ true → open_in v A q ≡ true → mem t.matrix.numbers.items q ≡ true
+  pub rows_room : (b : ℕ) → b < length v.bounds → matrix.width * b + matrix.width ≤ length matrix.rows.items
+  rows_room b h = let m = mul-le-mul_left {m = b + 1} {n = length v.bounds} matrix.width (omega arith) in omega (arith, K.table.matrix.rows_len)
+
+  pub row_says : (at b : ℕ) → at ≡ length live - matrix.width → b < length v.bounds → (j : ℕ) → j < length matrix.numbers.items →
+      (open_in v A (get_or matrix.numbers.items j 0) && has_item v (get_or matrix.numbers.items j 0) (item_of v b)) ≡ (has_bit live (64 * at + j) && has_bit matrix.rows.items (64 * (matrix.width * b) + j))
+  row_says at b e l j h = sym (ap (λ x. x && has_bit matrix.rows.items (64 * (matrix.width * b) + j)) (top_row at j e h) ∙ ap (λ x. open_in v A (get_or matrix.numbers.items j 0) && x) (K.table.matrix.rows b j l h))
+
+  pub open_first : (q : ℕ) → mem v.live q ≡ true → open_in v A q ≡ true → mem matrix.numbers.items q ≡ true
   open_first q m o = K.table.all q m (open_before v (take first A) (drop first A) q (live_once v K.table.matrix.well) (mem_in _ q m) (subst (λ xs. open_in v xs q ≡ true) (sym (take-append-drop first A)) o))
 
-  pub options_once : (f : ℕ → Bool) → distinct (filter f t.matrix.numbers.items) ≡ true
-  options_once f = distinct_filter f t.matrix.numbers.items K.table.matrix.once
+  pub options_once : (f : ℕ → Bool) → distinct (filter f matrix.numbers.items) ≡ true
+  options_once f = distinct_filter f matrix.numbers.items K.table.matrix.once
 
-  pub options_members : (i : Item) (p : ℕ) → mem (filter (λ p. open_in v A p && has_item v p i) t.matrix.numbers.items) p ≡ (mem v.live p && (open_in v A p && has_item v p i))
-  options_members i p = mem_filter (λ p. open_in v A p && has_item v p i) t.matrix.numbers.items p ∙ same_truth _ _
-      (λ e. let r = and_parts (mem t.matrix.numbers.items p) _ e in and_from _ _ (K.table.begun p r.0).0 r.1)
+  pub options_members : (i : Item) (p : ℕ) → mem (filter (λ p. open_in v A p && has_item v p i) matrix.numbers.items) p ≡ (mem v.live p && (open_in v A p && has_item v p i))
+  options_members i p = mem_filter (λ p. open_in v A p && has_item v p i) matrix.numbers.items p ∙ same_truth _ _
+      (λ e. let r = and_parts (mem matrix.numbers.items p) _ e in and_from _ _ (K.table.matrix.live p r.0) r.1)
       (λ e. let r = and_parts (mem v.live p) _ e in and_from _ _ (open_first p r.0 (and_parts (open_in v A p) _ r.1).0) r.1)
 
   none_in : (i : Item) → ((b : ℕ) → b < length v.bounds → same_item (item_of v b) i ≡ false) → (xs : List ℕ) → ((x : ℕ) → In x xs → In x v.live) → filter (λ p. open_in v A p && has_item v p i) xs ≡ []
@@ -140,31 +149,31 @@ module _ (v : View) (A : List Atom) (first : ℕ) (t : Table) (live have raised 
       never true xs ys = refl
       never false xs ys = refl
 
-  pub none_has : (i : Item) → ((b : ℕ) → b < length v.bounds → same_item (item_of v b) i ≡ false) → [] ≡ filter (λ p. open_in v A p && has_item v p i) t.matrix.numbers.items
-  none_has i n = sym (none_in i n t.matrix.numbers.items (λ x k. mem_in v.live x (K.table.begun x (in_mem t.matrix.numbers.items x k)).0))
+  pub none_has : (i : Item) → ((b : ℕ) → b < length v.bounds → same_item (item_of v b) i ≡ false) → [] ≡ filter (λ p. open_in v A p && has_item v p i) matrix.numbers.items
+  none_has i n = sym (none_in i n matrix.numbers.items (λ x k. mem_in v.live x (K.table.matrix.live x (in_mem matrix.numbers.items x k))))
 
-  pub open_one : (j : ℕ) → j < length t.matrix.numbers.items → open_in v A (get_or t.matrix.numbers.items j 0) ≡ true → (mem v.live (get_or t.matrix.numbers.items j 0) ≡ true) × (open_in v A (get_or t.matrix.numbers.items j 0) ≡ true)
-  open_one j h o = ((K.table.begun _ (listed_at t.matrix.numbers.items j h)).0, o)
+  pub open_one : (j : ℕ) → j < length matrix.numbers.items → open_in v A (get_or matrix.numbers.items j 0) ≡ true → (mem v.live (get_or matrix.numbers.items j 0) ≡ true) × (open_in v A (get_or matrix.numbers.items j 0) ≡ true)
+  open_one j h o = ((K.table.matrix.live _ (listed_at matrix.numbers.items j h)), o)
 
-  pub open_none : ((j : ℕ) → j < length t.matrix.numbers.items → open_in v A (get_or t.matrix.numbers.items j 0) ≡ false) → list_all (λ p. not (open_in v A p)) v.live ≡ true
+  pub open_none : ((j : ℕ) → j < length matrix.numbers.items → open_in v A (get_or matrix.numbers.items j 0) ≡ false) → list_all (λ p. not (open_in v A p)) v.live ≡ true
   open_none n = all_from (λ p. not (open_in v A p)) v.live (λ q i. not_from_false _ (false_from_ne_true (open_in v A q) (λ o.
-      let w = index_in t.matrix.numbers.items q (open_first q (in_mem v.live q i) o) in
+      let w = index_in matrix.numbers.items q (open_first q (in_mem v.live q i) o) in
       both_ways (open_in v A q) (subst (λ p. open_in v A p ≡ false) w.2 (n w.0 w.1)) o)))
 
   -- the last row, compared with itself
-  module _ (ws rs : List ℕ) (at : ℕ) (same : ws ≡ live) (too : rs ≡ live) (e : at ≡ length live - t.matrix.width) where
-    row_alone : (j : ℕ) → j < length t.matrix.numbers.items → open_in v A (get_or t.matrix.numbers.items j 0) ≡ in_both ws at rs at j
+  module _ (ws rs : List ℕ) (at : ℕ) (same : ws ≡ live) (too : rs ≡ live) (e : at ≡ length live - matrix.width) where
+    row_alone : (j : ℕ) → j < length matrix.numbers.items → open_in v A (get_or matrix.numbers.items j 0) ≡ in_both ws at rs at j
     row_alone j h = sym (ap (λ xs. in_both xs at rs at j) same ∙ ap (λ xs. in_both live at xs at j) too ∙ in_row live at j ∙ top_row at j e h)
 
-    pub none_to : (high : ℕ) → length t.matrix.numbers.items ≤ high → NoneIn (in_both ws at rs at) 0 high → list_all (λ p. not (open_in v A p)) v.live ≡ true
+    pub none_to : (high : ℕ) → length matrix.numbers.items ≤ high → NoneIn (in_both ws at rs at) 0 high → list_all (λ p. not (open_in v A p)) v.live ≡ true
     none_to high h none = open_none (λ j l. row_alone j l ∙ none j (omega arith) (omega arith))
 
-    pub one_at : (j p : ℕ) → j < length t.matrix.numbers.items → in_both ws at rs at j ≡ true → p ≡ get_or t.matrix.numbers.items j 0 → (mem v.live p ≡ true) × (open_in v A p ≡ true)
+    pub one_at : (j p : ℕ) → j < length matrix.numbers.items → in_both ws at rs at j ≡ true → p ≡ get_or matrix.numbers.items j 0 → (mem v.live p ≡ true) × (open_in v A p ≡ true)
     one_at j p h is at' = subst (λ (q : ℕ). (mem v.live q ≡ true) × (open_in v A q ≡ true)) (sym at') (open_one j h (row_alone j h ∙ is))
 
   -- too few of the item at a place
   pub due_says : (b : ℕ) → b < length v.bounds → nat_lt (count v (base v A) (item_of v b)) (asks v A (item_of v b)) ≡ nat_lt (get_or have b 0) (get_or t.asked.items b 0)
-  due_says b h = ap (λ n. nat_lt n (asks v A (item_of v b))) (sym (top_have v A first t live have raised marks K b h)) ∙ ap (λ n. nat_lt (get_or have b 0) n) ((top_level v A first t live have raised marks K).asked (item_of v b) ∙ sym (K.table.asked b h))
+  due_says b h = ap (λ n. nat_lt n (asks v A (item_of v b))) (sym (top_have v A first matrix t live have raised marks K b h)) ∙ ap (λ n. nat_lt (get_or have b 0) n) ((top_level v A first matrix t live have raised marks K).asked (item_of v b) ∙ sym (K.table.asked b h))
 
   -- none is due from the place on where none is asked for
   pub none_short : (n : ℕ) → min t.asked_end (length have) ≤ n → ((b : ℕ) → b < n → nat_lt (get_or have b 0) (get_or t.asked.items b 0) ≡ false) → (b : ℕ) → b < length v.bounds → nat_lt (count v (base v A) (item_of v b)) (asks v A (item_of v b)) ≡ false
@@ -175,7 +184,7 @@ module _ (v : View) (A : List Atom) (first : ℕ) (t : Table) (live have raised 
 
   pub none_else : t.listed ≡ true → ((b : ℕ) → b < length v.bounds → nat_lt (count v (base v A) (item_of v b)) (asks v A (item_of v b)) ≡ false) → (i : Item) → nat_lt (count v (base v A) i) (asks v A i) ≡ false
   none_else y n i =
-      let same = λ (k : Item). (top_level v A first t live have raised marks K).asked k in
+      let same = λ (k : Item). (top_level v A first matrix t live have raised marks K).asked k in
       ap (λ m. nat_lt (count v (base v A) i) m) (same i) ∙ none_due v (take first A) (base v A)
       (all_bounds v.bounds (λ b. not (nat_lt (count v (base v A) b.0) (asks v (take first A) b.0))) (λ b h. not_from_false _ (ap (λ m. nat_lt (count v (base v A) (item_of v b)) m) (sym (same (item_of v b))) ∙ n b h)))
       (due_atoms v (λ k. not (nat_lt (count v (base v A) k) (asks v (take first A) k))) (take first A) (K.table.listed y) (λ k w. not_from_false _ (subst (λ j. nat_lt (count v (base v A) j) (asks v (take first A) j) ≡ false) w.2 (ap (λ m. nat_lt (count v (base v A) (item_of v w.0)) m) (sym (same (item_of v w.0))) ∙ n w.0 w.1)))) i

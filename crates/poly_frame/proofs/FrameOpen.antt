@@ -1,9 +1,9 @@
 -- How the rows of a matrix are made.
-use Rattle.std.proofs.Common.{◌≡◌, ℕ, zero, suc, ◌+◌, ◌*◌, ◌<◌, ◌≤◌, Bool, true, false, max, ◌&&◌, ◌||◌, eqb, ltb, List, [], ◌∷◌, inl, inr, refl, sym, ap, subst, ◌∙◌, arith, length, get_or, take, replicate}
+use Rattle.std.proofs.Common.{◌≡◌, ℕ, zero, suc, ◌+◌, ◌*◌, ◌<◌, ◌≤◌, Bool, true, false, max, not, ◌&&◌, ◌||◌, eqb, ltb, List, [], ◌∷◌, inl, inr, refl, sym, ap, subst, ◌∙◌, arith, length, get_or, take, replicate}
 use Rattle.std.specs.List.{list_any, list_all}
 use Rattle.std.proofs.Math.ListN.{set}
 use Rattle.std.proofs.Math.Nat.{mul-le-mul_left}
-use Rattle.std.proofs.lemmas.Bool.{and_from, and_parts, cases_eq, cases_lt, eq-eqb, eqb-true, false_from_ne_true, lt-ltb, ltb-true, ne_eqb, or_cases, or_left, or_right, true≢false}
+use Rattle.std.proofs.lemmas.Bool.{and_from, and_parts, cases_eq, cases_lt, eq-eqb, eqb-true, false_from_ne_true, lt-ltb, ltb-true, ne_eqb, true≢false}
 use Rattle.std.proofs.lemmas.List.{get_or-set_other, get_or-set_same, take_more}
 use Rattle.poly_tiling.specs.Lists.{distinct, one}
 use Rattle.poly_tiling.specs.Puzzle.{View, has_item, items}
@@ -13,7 +13,7 @@ use Rattle.poly_frame.specs.FrameItems.{Noted, item_of, times}
 use Rattle.poly_frame.specs.Matrices.{RowsShow, place}
 use Rattle.poly_frame.proofs.Words.{no_bits}
 use Rattle.poly_frame.proofs.FramePicks.{one_true, some_times, times_some}
-use Rattle.poly_frame.proofs.FrameSteps.{distinct_at}
+use Rattle.poly_frame.proofs.FrameSteps.{distinct_at, none_and, own_gone, own_spared}
 
 -- a place says which row and which number
 pub place_once : (w a b i j : ℕ) → i < 64 * w → j < 64 * w → place w a i ≡ place w b j → (a ≡ b) × (i ≡ j)
@@ -84,10 +84,12 @@ size_step ns k s u h e a = ap (λ xs. list_all (λ p. ltb p u) xs) (take_more ns
 pub rows_start : (rows : List ℕ) (n x i : ℕ) (h : Bool) → rows ≡ replicate n 0 → has_bit rows x ≡ (ltb i 0 && h)
 rows_start rows n x i h e = ap (λ ws. has_bit ws x) e ∙ no_bits n x ∙ sym (ap (λ b. b && h) (false_from_ne_true (ltb i 0) (λ y. let l = ltb-true i 0 y in absurd (omega arith))))
 
-pub first_start : (row : List ℕ) (n i : ℕ) → row ≡ replicate n 0 → has_bit row i ≡ ltb i 0
-first_start row n i e = ap (λ ws. has_bit ws i) e ∙ no_bits n i ∙ sym (false_from_ne_true (ltb i 0) (λ y. let l = ltb-true i 0 y in absurd (omega arith)))
+-- one more number cut off
+pub cut_kept : (old new : List ℕ) (j i : ℕ) → ((x : ℕ) → has_bit new x ≡ (has_bit old x && not (eqb (64 * 0 + j) x))) → i < j → has_bit new i ≡ has_bit old i
+cut_kept old new j i taken h = taken i ∙ own_spared (has_bit old i) (eqb (64 * 0 + j) i) (ne_eqb (64 * 0 + j) i (λ e. absurd (omega (arith, e, h))))
 
-pub first_step : (row new : List ℕ) (j i : ℕ) → ((i : ℕ) → has_bit row i ≡ ltb i j) → ((x : ℕ) → has_bit new x ≡ (has_bit row x || eqb (64 * 0 + j) x)) → has_bit new i ≡ ltb i (j + 1)
-first_step row new j i inv bits = bits i ∙ ap (λ b. b || eqb (64 * 0 + j) i) (inv i) ∙ ap (λ n. ltb i j || eqb n i) (omega arith) ∙ same_truth _ _
-    (λ t. elim (or_cases (ltb i j) (eqb j i) t) [ inl y ↦ let l = ltb-true i j y in lt-ltb i (j + 1) (omega arith) | inr e ↦ let l = eqb-true j i e in lt-ltb i (j + 1) (omega arith) ])
-    (λ t. let l = ltb-true i (j + 1) t in elim (cases_eq j i) [ inl e ↦ or_right (ltb i j) (eqb j i) (eq-eqb j i e) | inr n ↦ or_left (ltb i j) (eqb j i) (lt-ltb i j (omega arith)) ])
+pub cut_past : (old new : List ℕ) (j i : ℕ) → ((x : ℕ) → has_bit new x ≡ (has_bit old x && not (eqb (64 * 0 + j) x))) → (i < j → has_bit old i ≡ false) → i < j + 1 → has_bit new i ≡ false
+cut_past old new j i taken before h = elim (cases_eq j i) [
+  | inl e ↦ taken i ∙ own_gone (has_bit old i) (eqb (64 * 0 + j) i) (eq-eqb (64 * 0 + j) i (omega (arith, e)))
+  | inr d ↦ taken i ∙ none_and (has_bit old i) (not (eqb (64 * 0 + j) i)) (before (omega (arith, d, h)))
+]

@@ -16,9 +16,10 @@ use Rattle.poly_atom.specs.Hopeless.{base}
 use Rattle.poly_frame.specs.Open.{asks, open_in, upper}
 use Rattle.poly_frame.specs.Bits.{has_bit}
 use Rattle.poly_frame.specs.FrameItems.{Noted, item_of, times}
-use Rattle.poly_frame.specs.Matrices.{StandsShow, place}
+use Rattle.poly_frame.specs.Matrices.{RowOf, StandsShow, place}
 use Rattle.poly_frame.specs.FrameTable.{HaveShows, TableShows, limit_at}
 use Rattle.poly_frame.specs.FrameSteps.{Kept, LevelShows, RowShows, mark_of}
+use Rattle.poly_frame.specs.declared.frame.matrix.Matrix.{Matrix}
 use Rattle.poly_frame.specs.declared.frame.table.Table.{Table}
 use Rattle.poly_frame.proofs.Steps.{open_leave, upper_leave, upper_pick}
 use Rattle.poly_frame.proofs.Words.{take_bits}
@@ -28,15 +29,15 @@ yes_and : (b : Bool) → (b && true) ≡ b
 yes_and true = refl
 yes_and false = refl
 
-own_gone : (a b : Bool) → b ≡ true → (a && not b) ≡ false
+pub own_gone : (a b : Bool) → b ≡ true → (a && not b) ≡ false
 own_gone true b e = ap not e
 own_gone false b e = refl
 
-own_spared : (a b : Bool) → b ≡ false → (a && not b) ≡ a
+pub own_spared : (a b : Bool) → b ≡ false → (a && not b) ≡ a
 own_spared true b e = ap not e
 own_spared false b e = refl
 
-none_and : (a b : Bool) → a ≡ false → (a && b) ≡ false
+pub none_and : (a b : Bool) → a ≡ false → (a && b) ≡ false
 none_and true b e = absurd (true≢false e)
 none_and false b e = refl
 
@@ -79,22 +80,22 @@ mark_new marks raised rs = get_or_past (marks ++ length raised ∷ []) (length m
 mark_top : (marks raised : List ℕ) → mark_of marks raised (length marks) ≡ length raised
 mark_top marks raised = get_or_past marks (length marks) (length raised) (omega arith)
 
-pub record Stepped (v : View) (A : List Atom) (a : Atom) (t : Table) (live have raised marks live2 have2 rs : List ℕ) : Type 0 where
-  pub live_len : length live2 ≡ length live + t.matrix.width
+pub record Stepped (v : View) (A : List Atom) (a : Atom) (matrix : Matrix) (t : Table) (live have raised marks live2 have2 rs : List ℕ) : Type 0 where
+  pub live_len : length live2 ≡ length live + matrix.width
   pub have_len : length have2 ≡ length have
   pub before : (x : ℕ) → x < 64 * length live → has_bit live2 x ≡ has_bit live x
   pub more : (b : ℕ) → b < length v.bounds → get_or have2 b 0 ≡ get_or have b 0 + times rs b
   pub few : length rs ≤ 17
   pub low : list_all (λ b. ltb b (length v.bounds)) rs ≡ true
-  pub row : RowShows v (A ++ a ∷ []) t.matrix.numbers.items t.matrix.width live2 (length marks + 1)
+  pub row : RowShows v (A ++ a ∷ []) matrix.numbers.items matrix.width live2 (length marks + 1)
   pub counts : (b : ℕ) → b < length v.bounds → get_or have2 b 0 ≡ count v (base v (A ++ a ∷ [])) (item_of v b)
   pub uppers : (i : Item) → upper v (A ++ a ∷ []) i ≡ upper v A i
   pub asked : (i : Item) → asks v (A ++ a ∷ []) i ≡ asks v A i
 
-module _ (v : View) (A : List Atom) (first : ℕ) (t : Table) (live have raised marks : List ℕ) (K : Kept v A first t live have raised marks) where
+module _ (v : View) (A : List Atom) (first : ℕ) (matrix : Matrix) (t : Table) (live have raised marks : List ℕ) (K : Kept v A first matrix t live have raised marks) where
   -- the level on top
-  pub top_level : LevelShows v (take first A) A t live have raised marks (length marks)
-  top_level = subst (λ (B : List Atom). LevelShows v (take first A) B t live have raised marks (length marks)) (take_all (first + length marks) A (omega (arith, K.steps))) (K.levels (length marks) (omega arith))
+  pub top_level : LevelShows v (take first A) A matrix t live have raised marks (length marks)
+  top_level = subst (λ (B : List Atom). LevelShows v (take first A) B matrix t live have raised marks (length marks)) (take_all (first + length marks) A (omega (arith, K.steps))) (K.levels (length marks) (omega arith))
 
   pub top_have : (b : ℕ) → b < length v.bounds → get_or have b 0 ≡ count v (base v A) (item_of v b)
   top_have b h = top_level.counted b h ∙ ap (λ n. count v (base v A) (item_of v b) + times (drop n raised) b) (mark_top marks raised) ∙ ap (λ xs. count v (base v A) (item_of v b) + times xs b) (drop-length raised) ∙ omega arith
@@ -118,17 +119,17 @@ module _ (v : View) (A : List Atom) (first : ℕ) (t : Table) (live have raised 
       length_drop_le (suc n) [] = omega arith
       length_drop_le (suc n) (x ∷ xs) = omega (arith, length_drop_le n xs)
 
-  pub kept_step : (a : Atom) (live2 have2 rs : List ℕ) → Stepped v A a t live have raised marks live2 have2 rs → Kept v (A ++ a ∷ []) first t live2 have2 (raised ++ rs) (marks ++ length raised ∷ [])
+  pub kept_step : (a : Atom) (live2 have2 rs : List ℕ) → Stepped v A a matrix t live have raised marks live2 have2 rs → Kept v (A ++ a ∷ []) first matrix t live2 have2 (raised ++ rs) (marks ++ length raised ∷ [])
   kept_step a live2 have2 rs S =
       let given : take first (A ++ a ∷ []) ≡ take first A = take-append-le first A (a ∷ []) K.low in
       let longer = length-append marks (length raised ∷ []) in
       let more = length-append raised rs in
       record {
         low = omega (arith, K.low, length-append A (a ∷ []));
-        table = subst (λ (B : List Atom). TableShows v B t) (sym given) K.table;
+        table = subst (λ (B : List Atom). TableShows v B matrix t) (sym given) K.table;
         steps = omega (arith, longer, length-append A (a ∷ []), K.steps);
         have_len = S.have_len ∙ K.have_len;
-        live_len = omega (arith, S.live_len, K.live_len, ap (λ n. t.matrix.width * (n + 1)) longer);
+        live_len = omega (arith, S.live_len, K.live_len, ap (λ n. matrix.width * (n + 1)) longer);
         places = all_append (λ b. ltb b (length v.bounds)) raised rs ∙ and_from _ _ K.places S.low;
         up = λ k l h g. elim (cases_lt (length marks) l) [
           | inl y ↦
@@ -139,13 +140,13 @@ module _ (v : View) (A : List Atom) (first : ℕ) (t : Table) (live have raised 
               ]
           | inr y ↦ omega (arith, mark_kept marks raised rs k (omega arith), mark_kept marks raised rs l y, K.up k l h y)
         ];
-        levels = λ k h. subst (λ (B : List Atom). LevelShows v B (take (first + k) (A ++ a ∷ [])) t live2 have2 (raised ++ rs) (marks ++ length raised ∷ []) k) (sym given) (elim (cases_lt (length marks) k) [
+        levels = λ k h. subst (λ (B : List Atom). LevelShows v B (take (first + k) (A ++ a ∷ [])) matrix t live2 have2 (raised ++ rs) (marks ++ length raised ∷ []) k) (sym given) (elim (cases_lt (length marks) k) [
           | inl y ↦
               let top : k ≡ length marks + 1 = omega (arith, longer) in
               let whole : take (first + k) (A ++ a ∷ []) ≡ A ++ a ∷ [] = take_all (first + k) (A ++ a ∷ []) (omega (arith, length-append A (a ∷ []), K.steps)) in
               let mark : mark_of (marks ++ length raised ∷ []) (raised ++ rs) k ≡ length (raised ++ rs) = ap (λ n. mark_of (marks ++ length raised ∷ []) (raised ++ rs) n) top ∙ mark_new marks raised rs in
-              subst (λ (B : List Atom). LevelShows v (take first A) B t live2 have2 (raised ++ rs) (marks ++ length raised ∷ []) k) (sym whole) (record {
-                row = subst (λ (n : ℕ). RowShows v (A ++ a ∷ []) t.matrix.numbers.items t.matrix.width live2 n) (sym top) S.row;
+              subst (λ (B : List Atom). LevelShows v (take first A) B matrix t live2 have2 (raised ++ rs) (marks ++ length raised ∷ []) k) (sym whole) (record {
+                row = subst (λ (n : ℕ). RowShows v (A ++ a ∷ []) matrix.numbers.items matrix.width live2 n) (sym top) S.row;
                 counted = λ b l. S.counts b l ∙ sym (ap (λ n. count v (base v (A ++ a ∷ [])) (item_of v b) + times (drop n (raised ++ rs)) b) mark ∙ ap (λ xs. count v (base v (A ++ a ∷ [])) (item_of v b) + times xs b) (drop-length (raised ++ rs)) ∙ omega arith);
                 uppers = λ i. S.uppers i ∙ top_level.uppers i;
                 asked = λ i. S.asked i ∙ top_level.asked i;
@@ -156,8 +157,8 @@ module _ (v : View) (A : List Atom) (first : ℕ) (t : Table) (live have raised 
               let L = K.levels k y in
               let mark = mark_kept marks raised rs k y in
               let same : take (first + k) (A ++ a ∷ []) ≡ take (first + k) A = take-append-le (first + k) A (a ∷ []) (omega (arith, K.steps)) in
-              let inside : (j : ℕ) → j < 64 * t.matrix.width → has_bit live2 (place t.matrix.width k j) ≡ has_bit live (place t.matrix.width k j) = λ j l. S.before (place t.matrix.width k j) (omega (arith, row_below t.matrix.width k (length marks + 1) j (omega arith) l, K.live_len)) in
-              subst (λ (B : List Atom). LevelShows v (take first A) B t live2 have2 (raised ++ rs) (marks ++ length raised ∷ []) k) (sym same) (record {
+              let inside : (j : ℕ) → j < 64 * matrix.width → has_bit live2 (place matrix.width k j) ≡ has_bit live (place matrix.width k j) = λ j l. S.before (place matrix.width k j) (omega (arith, row_below matrix.width k (length marks + 1) j (omega arith) l, K.live_len)) in
+              subst (λ (B : List Atom). LevelShows v (take first A) B matrix t live2 have2 (raised ++ rs) (marks ++ length raised ∷ []) k) (sym same) (record {
                 row = record {
                   opened = λ j l. inside j (omega (arith, K.table.matrix.wide)) ∙ L.row.opened j l;
                   past = λ j l g. inside j g ∙ L.row.past j l g;
@@ -174,8 +175,8 @@ module _ (v : View) (A : List Atom) (first : ℕ) (t : Table) (live have raised 
       }
 
 -- the lists that the code made
-pub kept_as : (v : View) (A : List Atom) (first : ℕ) (t : Table) (live have raised marks raised2 marks2 : List ℕ) → raised2 ≡ raised → marks2 ≡ marks → Kept v A first t live have raised marks → Kept v A first t live have raised2 marks2
-kept_as v A first t live have raised marks raised2 marks2 e f K = subst (λ (xs : List ℕ). Kept v A first t live have xs marks2) (sym e) (subst (λ (xs : List ℕ). Kept v A first t live have raised xs) (sym f) K)
+pub kept_as : (v : View) (A : List Atom) (first : ℕ) (matrix : Matrix) (t : Table) (live have raised marks raised2 marks2 : List ℕ) → raised2 ≡ raised → marks2 ≡ marks → Kept v A first matrix t live have raised marks → Kept v A first matrix t live have raised2 marks2
+kept_as v A first matrix t live have raised marks raised2 marks2 e f K = subst (λ (xs : List ℕ). Kept v A first matrix t live have xs marks2) (sym e) (subst (λ (xs : List ℕ). Kept v A first matrix t live have raised xs) (sym f) K)
 
 at_in : (xs : List ℕ) (j : ℕ) → j < length xs → In (get_or xs j 0) xs
 at_in [] j h = absurd (omega arith)
@@ -209,31 +210,31 @@ pub record Copied (w : ℕ) (live live2 : List ℕ) : Type 0 where
 same_in_row : (at i j : ℕ) → eqb (64 * at + i) (64 * at + j) ≡ eqb i j
 same_in_row at i j = same_truth _ _ (λ e. let f = eqb-true (64 * at + i) (64 * at + j) e in eq-eqb i j (omega arith)) (λ e. eq-eqb _ _ (ap (λ n. 64 * at + n) (eqb-true i j e)))
 
-module _ (v : View) (A : List Atom) (first : ℕ) (t : Table) (live have raised marks live1 : List ℕ) (K : Kept v A first t live have raised marks) (C : Copied t.matrix.width live live1) where
-  top_place : (j : ℕ) → place t.matrix.width (length marks + 1) j ≡ 64 * length live + j
+module _ (v : View) (A : List Atom) (first : ℕ) (matrix : Matrix) (t : Table) (live have raised marks live1 : List ℕ) (K : Kept v A first matrix t live have raised marks) (C : Copied matrix.width live live1) where
+  top_place : (j : ℕ) → place matrix.width (length marks + 1) j ≡ 64 * length live + j
   top_place j = omega (arith, K.live_len)
 
-  old_place : (j : ℕ) → place t.matrix.width (length marks) j ≡ 64 * (length live - t.matrix.width) + j
+  old_place : (j : ℕ) → place matrix.width (length marks) j ≡ 64 * (length live - matrix.width) + j
   old_place j = omega (arith, K.live_len)
 
-  copied_open : (j : ℕ) → j < length t.matrix.numbers.items → has_bit live1 (64 * length live + j) ≡ open_in v A (get_or t.matrix.numbers.items j 0)
-  copied_open j h = C.row j (omega (arith, K.table.matrix.wide)) ∙ ap (λ x. has_bit live x) (sym (old_place j)) ∙ (top_level v A first t live have raised marks K).row.opened j h
+  copied_open : (j : ℕ) → j < length matrix.numbers.items → has_bit live1 (64 * length live + j) ≡ open_in v A (get_or matrix.numbers.items j 0)
+  copied_open j h = C.row j (omega (arith, K.table.matrix.wide)) ∙ ap (λ x. has_bit live x) (sym (old_place j)) ∙ (top_level v A first matrix t live have raised marks K).row.opened j h
 
-  copied_past : (j : ℕ) → length t.matrix.numbers.items ≤ j → j < 64 * t.matrix.width → has_bit live1 (64 * length live + j) ≡ false
-  copied_past j h l = C.row j l ∙ ap (λ x. has_bit live x) (sym (old_place j)) ∙ (top_level v A first t live have raised marks K).row.past j h l
+  copied_past : (j : ℕ) → length matrix.numbers.items ≤ j → j < 64 * matrix.width → has_bit live1 (64 * length live + j) ≡ false
+  copied_past j h l = C.row j l ∙ ap (λ x. has_bit live x) (sym (old_place j)) ∙ (top_level v A first matrix t live have raised marks K).row.past j h l
 
   none_raised : (b : ℕ) → b < length v.bounds → get_or have b 0 ≡ get_or have b 0 + times [] b
   none_raised b h = omega arith
 
   -- nothing but the row's own change: a step that leaves the base as it is
   quiet : (a : Atom) (live2 : List ℕ) → length live2 ≡ length live1 → ((x : ℕ) → x < 64 * length live → has_bit live2 x ≡ has_bit live1 x) →
-      ((j : ℕ) → j < length t.matrix.numbers.items → has_bit live2 (64 * length live + j) ≡ open_in v (A ++ a ∷ []) (get_or t.matrix.numbers.items j 0)) →
-      ((j : ℕ) → length t.matrix.numbers.items ≤ j → j < 64 * t.matrix.width → has_bit live2 (64 * length live + j) ≡ false) →
+      ((j : ℕ) → j < length matrix.numbers.items → has_bit live2 (64 * length live + j) ≡ open_in v (A ++ a ∷ []) (get_or matrix.numbers.items j 0)) →
+      ((j : ℕ) → length matrix.numbers.items ≤ j → j < 64 * matrix.width → has_bit live2 (64 * length live + j) ≡ false) →
       ((i : Item) → count v (base v (A ++ a ∷ [])) i ≡ count v (base v A) i) → ((i : Item) → upper v (A ++ a ∷ []) i ≡ upper v A i) → ((i : Item) → asks v (A ++ a ∷ []) i ≡ asks v A i) →
-      Kept v (A ++ a ∷ []) first t live2 have raised (marks ++ length raised ∷ [])
+      Kept v (A ++ a ∷ []) first matrix t live2 have raised (marks ++ length raised ∷ [])
   quiet a live2 len before opened past counts uppers asked =
-      kept_as v (A ++ a ∷ []) first t live2 have (raised ++ []) (marks ++ length raised ∷ []) raised (marks ++ length raised ∷ []) (sym (nothing_more raised)) refl
-      (kept_step v A first t live have raised marks K a live2 have [] (record {
+      kept_as v (A ++ a ∷ []) first matrix t live2 have (raised ++ []) (marks ++ length raised ∷ []) raised (marks ++ length raised ∷ []) (sym (nothing_more raised)) refl
+      (kept_step v A first matrix t live have raised marks K a live2 have [] (record {
         live_len = len ∙ C.len;
         have_len = refl;
         before = λ x h. before x h ∙ C.before x h;
@@ -244,7 +245,7 @@ module _ (v : View) (A : List Atom) (first : ℕ) (t : Table) (live have raised 
           opened = λ j h. ap (λ x. has_bit live2 x) (top_place j) ∙ opened j h;
           past = λ j h l. ap (λ x. has_bit live2 x) (top_place j) ∙ past j h l;
         };
-        counts = λ b h. top_have v A first t live have raised marks K b h ∙ sym (counts (item_of v b));
+        counts = λ b h. top_have v A first matrix t live have raised marks K b h ∙ sym (counts (item_of v b));
         uppers = uppers;
         asked = asked;
       }))
@@ -253,53 +254,53 @@ module _ (v : View) (A : List Atom) (first : ℕ) (t : Table) (live have raised 
       nothing_more [] = refl
       nothing_more (x ∷ xs) = ap (λ ys. x ∷ ys) (nothing_more xs)
 
-  apart_at : (j : ℕ) (q : ℕ) → mem t.matrix.numbers.items q ≡ false → j < length t.matrix.numbers.items → eqb q (get_or t.matrix.numbers.items j 0) ≡ false
-  apart_at j q m h = ne_eqb q _ (λ e. both_ways (mem t.matrix.numbers.items q) m (ap (λ n. mem t.matrix.numbers.items n) e ∙ listed_at t.matrix.numbers.items j h))
+  apart_at : (j : ℕ) (q : ℕ) → mem matrix.numbers.items q ≡ false → j < length matrix.numbers.items → eqb q (get_or matrix.numbers.items j 0) ≡ false
+  apart_at j q m h = ne_eqb q _ (λ e. both_ways (mem matrix.numbers.items q) m (ap (λ n. mem matrix.numbers.items n) e ∙ listed_at matrix.numbers.items j h))
 
   -- leaving a number that was not open at the start
-  pub leave_other : (p : ℕ) → mem t.matrix.numbers.items p ≡ false → Kept v (A ++ Lacks p ∷ []) first t live1 have raised (marks ++ length raised ∷ [])
+  pub leave_other : (p : ℕ) → mem matrix.numbers.items p ≡ false → Kept v (A ++ Lacks p ∷ []) first matrix t live1 have raised (marks ++ length raised ∷ [])
   leave_other p m = quiet (Lacks p) live1 refl (λ x h. refl)
-      (λ j h. copied_open j h ∙ sym (open_leave v A p (get_or t.matrix.numbers.items j 0) ∙ ap (λ b. open_in v A (get_or t.matrix.numbers.items j 0) && not b) (apart_at j p m h) ∙ yes_and (open_in v A (get_or t.matrix.numbers.items j 0))))
+      (λ j h. copied_open j h ∙ sym (open_leave v A p (get_or matrix.numbers.items j 0) ∙ ap (λ b. open_in v A (get_or matrix.numbers.items j 0) && not b) (apart_at j p m h) ∙ yes_and (open_in v A (get_or matrix.numbers.items j 0))))
       copied_past (λ i. count_leave v A p i) (λ i. upper_leave v A p i) (λ i. asks_leave v A p i)
 
-  own_number : (i j p : ℕ) → i < length t.matrix.numbers.items → get_or t.matrix.numbers.items i 0 ≡ p → j < length t.matrix.numbers.items → eqb i j ≡ eqb p (get_or t.matrix.numbers.items j 0)
+  own_number : (i j p : ℕ) → i < length matrix.numbers.items → get_or matrix.numbers.items i 0 ≡ p → j < length matrix.numbers.items → eqb i j ≡ eqb p (get_or matrix.numbers.items j 0)
   own_number i j p low own h = same_truth _ _
-      (λ e. eq-eqb p _ (sym own ∙ ap (λ n. get_or t.matrix.numbers.items n 0) (eqb-true i j e)))
-      (λ e. eq-eqb i j (distinct_at t.matrix.numbers.items i j K.table.matrix.once low h (own ∙ eqb-true p _ e)))
+      (λ e. eq-eqb p _ (sym own ∙ ap (λ n. get_or matrix.numbers.items n 0) (eqb-true i j e)))
+      (λ e. eq-eqb i j (distinct_at matrix.numbers.items i j K.table.matrix.once low h (own ∙ eqb-true p _ e)))
 
   -- leaving number i
-  pub leave_own : (p i : ℕ) (live2 : List ℕ) → i < length t.matrix.numbers.items → get_or t.matrix.numbers.items i 0 ≡ p → length live2 ≡ length live1 → ((x : ℕ) → has_bit live2 x ≡ (has_bit live1 x && not (eqb (64 * length live + i) x))) →
-      Kept v (A ++ Lacks p ∷ []) first t live2 have raised (marks ++ length raised ∷ [])
+  pub leave_own : (p i : ℕ) (live2 : List ℕ) → i < length matrix.numbers.items → get_or matrix.numbers.items i 0 ≡ p → length live2 ≡ length live1 → ((x : ℕ) → has_bit live2 x ≡ (has_bit live1 x && not (eqb (64 * length live + i) x))) →
+      Kept v (A ++ Lacks p ∷ []) first matrix t live2 have raised (marks ++ length raised ∷ [])
   leave_own p i live2 low own len taken = quiet (Lacks p) live2 len
       (λ x h. taken x ∙ ap (λ b. has_bit live1 x && not b) (ne_eqb (64 * length live + i) x (λ e. absurd (omega (arith, e)))) ∙ yes_and (has_bit live1 x))
       (λ j h. taken (64 * length live + j) ∙ ap (λ b. b && not (eqb (64 * length live + i) (64 * length live + j))) (copied_open j h)
-      ∙ ap (λ b. open_in v A (get_or t.matrix.numbers.items j 0) && not b) (same_in_row (length live) i j ∙ own_number i j p low own h) ∙ sym (open_leave v A p (get_or t.matrix.numbers.items j 0)))
+      ∙ ap (λ b. open_in v A (get_or matrix.numbers.items j 0) && not b) (same_in_row (length live) i j ∙ own_number i j p low own h) ∙ sym (open_leave v A p (get_or matrix.numbers.items j 0)))
       (λ j h l. taken (64 * length live + j) ∙ ap (λ b. b && not (eqb (64 * length live + i) (64 * length live + j))) (copied_past j h l))
       (λ k. count_leave v A p k) (λ k. upper_leave v A p k) (λ k. asks_leave v A p k)
 
   -- picking a member of the base
-  pub pick_again : (p : ℕ) → mem (base v A) p ≡ true → Kept v (A ++ Has p ∷ []) first t live1 have raised (marks ++ length raised ∷ [])
+  pub pick_again : (p : ℕ) → mem (base v A) p ≡ true → Kept v (A ++ Has p ∷ []) first matrix t live1 have raised (marks ++ length raised ∷ [])
   pick_again p m = quiet (Has p) live1 refl (λ x h. refl)
-      (λ j h. copied_open j h ∙ sym (open_again v A p (get_or t.matrix.numbers.items j 0) m))
+      (λ j h. copied_open j h ∙ sym (open_again v A p (get_or matrix.numbers.items j 0) m))
       copied_past (λ i. ap (λ xs. count v xs i) (base_again v A p m)) (λ i. upper_pick v A p i) (λ i. asks_pick v A p i)
 
   -- picking another number
   pub pick_new : (p : ℕ) (live2 live3 have2 rs : List ℕ) → mem (base v A) p ≡ false → Noted v.bounds (items v p) rs → length rs ≤ 17 → length have2 ≡ length have →
       ((b : ℕ) → b < length v.bounds → get_or have2 b 0 ≡ get_or have b 0 + times rs b) →
       length live2 ≡ length live1 → ((x : ℕ) → x < 64 * length live → has_bit live2 x ≡ has_bit live1 x) →
-      ((j : ℕ) → j < 64 * t.matrix.width → has_bit live2 (64 * length live + j) ≡ (has_bit live1 (64 * length live + j) && not (list_any (λ b. leb (get_or t.limits.items b 0) (get_or have2 b 0) && has_bit t.matrix.rows.items (place t.matrix.width b j)) rs))) →
+      ((j : ℕ) → j < 64 * matrix.width → has_bit live2 (64 * length live + j) ≡ (has_bit live1 (64 * length live + j) && not (list_any (λ b. leb (get_or t.limits.items b 0) (get_or have2 b 0) && has_bit matrix.rows.items (place matrix.width b j)) rs))) →
       length live3 ≡ length live2 → ((x : ℕ) → x < 64 * length live → has_bit live3 x ≡ has_bit live2 x) →
-      ((j : ℕ) → j < length t.matrix.numbers.items → has_bit live3 (64 * length live + j) ≡ (has_bit live2 (64 * length live + j) && not (is_own t.matrix.numbers.items p j))) →
+      ((j : ℕ) → j < length matrix.numbers.items → has_bit live3 (64 * length live + j) ≡ (has_bit live2 (64 * length live + j) && not (is_own matrix.numbers.items p j))) →
       ((j : ℕ) → has_bit live2 (64 * length live + j) ≡ false → has_bit live3 (64 * length live + j) ≡ false) →
-      Kept v (A ++ Has p ∷ []) first t live3 have2 (raised ++ rs) (marks ++ length raised ∷ [])
+      Kept v (A ++ Has p ∷ []) first matrix t live3 have2 (raised ++ rs) (marks ++ length raised ∷ [])
   pick_new p live2 live3 have2 rs m noted few len2 more len before closed len3 before3 own past3 =
-      let top = top_have v A first t live have raised marks K in
+      let top = top_have v A first matrix t live have raised marks K in
       let lims : (b : ℕ) → b < length v.bounds → get_or t.limits.items b 0 ≡ limit_at (item_of v b) (upper v A (item_of v b)) =
-      λ b h. K.table.limits b h ∙ ap (λ n. limit_at (item_of v b) n) (sym ((top_level v A first t live have raised marks K).uppers (item_of v b))) in
+      λ b h. K.table.limits b h ∙ ap (λ n. limit_at (item_of v b) n) (sym ((top_level v A first matrix t live have raised marks K).uppers (item_of v b))) in
       let counts : (b : ℕ) → b < length v.bounds → get_or have2 b 0 ≡ count v (base v A) (item_of v b) + times rs b = λ b h. more b h ∙ ap (λ n. n + times rs b) (top b h) in
-      let bit : (j : ℕ) → j < length t.matrix.numbers.items → has_bit live3 (64 * length live + j) ≡ ((has_bit live1 (64 * length live + j) && not (list_any (λ b. leb (get_or t.limits.items b 0) (get_or have2 b 0) && has_bit t.matrix.rows.items (place t.matrix.width b j)) rs)) && not (is_own t.matrix.numbers.items p j)) =
-      λ j h. own j h ∙ ap (λ b. b && not (is_own t.matrix.numbers.items p j)) (closed j (omega (arith, K.table.matrix.wide))) in
-      kept_step v A first t live have raised marks K (Has p) live3 have2 rs (record {
+      let bit : (j : ℕ) → j < length matrix.numbers.items → has_bit live3 (64 * length live + j) ≡ ((has_bit live1 (64 * length live + j) && not (list_any (λ b. leb (get_or t.limits.items b 0) (get_or have2 b 0) && has_bit matrix.rows.items (place matrix.width b j)) rs)) && not (is_own matrix.numbers.items p j)) =
+      λ j h. own j h ∙ ap (λ b. b && not (is_own matrix.numbers.items p j)) (closed j (omega (arith, K.table.matrix.wide))) in
+      kept_step v A first matrix t live have raised marks K (Has p) live3 have2 rs (record {
         live_len = len3 ∙ len ∙ C.len;
         have_len = len2;
         before = λ x h. before3 x h ∙ before x h ∙ C.before x h;
@@ -308,14 +309,14 @@ module _ (v : View) (A : List Atom) (first : ℕ) (t : Table) (live have raised 
         low = noted.low;
         row = record {
           opened = λ j h.
-              let live_q = mem_in v.live _ (K.table.begun _ (listed_at t.matrix.numbers.items j h)).0 in
-              ap (λ x. has_bit live3 x) (top_place j) ∙ bit j h ∙ (elim (cases_eq p (get_or t.matrix.numbers.items j 0)) [
+              let live_q = mem_in v.live _ (K.table.matrix.live _ (listed_at matrix.numbers.items j h)) in
+              ap (λ x. has_bit live3 x) (top_place j) ∙ bit j h ∙ (elim (cases_eq p (get_or matrix.numbers.items j 0)) [
                 | inl e ↦ own_gone _ _ (eq-eqb p _ e) ∙ sym (pick_self v A p) ∙ ap (λ n. open_in v (A ++ Has p ∷ []) n) e
                 | inr n ↦
                     own_spared _ _ (ne_eqb p _ n)
-                    ∙ ap (λ b. b && not (list_any (λ b. leb (get_or t.limits.items b 0) (get_or have2 b 0) && has_bit t.matrix.rows.items (place t.matrix.width b j)) rs)) (copied_open j h)
-                    ∙ ap (λ b. open_in v A (get_or t.matrix.numbers.items j 0) && not b) (places_say v A p (get_or t.matrix.numbers.items j 0) j t.matrix.width t.matrix.numbers.items t.matrix.rows.items t.limits.items have2 rs K.table.matrix.well live_q noted K.table.matrix.rows h refl lims counts)
-                    ∙ sym (pick_open v A p (get_or t.matrix.numbers.items j 0) m (ne_eqb p _ n))
+                    ∙ ap (λ b. b && not (list_any (λ b. leb (get_or t.limits.items b 0) (get_or have2 b 0) && has_bit matrix.rows.items (place matrix.width b j)) rs)) (copied_open j h)
+                    ∙ ap (λ b. open_in v A (get_or matrix.numbers.items j 0) && not b) (places_say v A p (get_or matrix.numbers.items j 0) j matrix.width matrix.numbers.items matrix.rows.items t.limits.items have2 rs K.table.matrix.well live_q noted K.table.matrix.rows h refl lims counts)
+                    ∙ sym (pick_open v A p (get_or matrix.numbers.items j 0) m (ne_eqb p _ n))
               ]);
           past = λ j h l. ap (λ x. has_bit live3 x) (top_place j) ∙ past3 j (closed j l ∙ none_and _ _ (copied_past j h l));
         };
@@ -331,7 +332,7 @@ take_take (suc m) (suc n) [] h = refl
 take_take (suc m) (suc n) (x ∷ xs) h = ap (λ ys. x ∷ ys) (take_take m n xs (omega arith))
 
 -- taking steps back
-module _ (v : View) (A : List Atom) (first : ℕ) (t : Table) (live have raised marks : List ℕ) (K : Kept v A first t live have raised marks) (n : ℕ) (h : n < length marks) where
+module _ (v : View) (A : List Atom) (first : ℕ) (matrix : Matrix) (t : Table) (live have raised marks : List ℕ) (K : Kept v A first matrix t live have raised marks) (n : ℕ) (h : n < length marks) where
   front_mark : (m : ℕ) → m ≡ mark_of marks raised n → (k : ℕ) → k ≤ n → mark_of (take n marks) (take m raised) k ≡ mark_of marks raised k
   front_mark m e k l = elim (cases_eq k n) [
     | inl s ↦ ap (λ i. get_or (take n marks) i (length (take m raised))) s ∙ get_or_past (take n marks) n (length (take m raised)) (omega (arith, length-take n marks)) ∙ length-take m raised ∙ omega (arith, e, (K.levels n (omega arith)).begun, ap (λ i. mark_of marks raised i) s)
@@ -345,19 +346,19 @@ module _ (v : View) (A : List Atom) (first : ℕ) (t : Table) (live have raised 
   back_enough m e b l = omega (arith, (K.levels n (omega arith)).counted b (omega (arith, K.have_len)), ap (λ k. times (drop k raised) b) e)
 
   pub kept_back : (m : ℕ) (have2 : List ℕ) → m ≡ mark_of marks raised n → length have2 ≡ length have → ((b : ℕ) → b < length have → get_or have2 b 0 + times (drop m raised) b ≡ get_or have b 0) →
-      Kept v (take (first + n) A) first t (take (t.matrix.width * (n + 1)) live) have2 (take m raised) (take n marks)
+      Kept v (take (first + n) A) first matrix t (take (matrix.width * (n + 1)) live) have2 (take m raised) (take n marks)
   kept_back m have2 e len less =
       let given : take first (take (first + n) A) ≡ take first A = take_take first (first + n) A (omega arith) in
       let marks_len : length (take n marks) ≡ n = length-take n marks ∙ omega arith in
       let under : m ≤ length raised = omega (arith, e, (K.levels n (omega arith)).begun) in
       let raised_len : length (take m raised) ≡ m = length-take m raised ∙ omega arith in
-      let room = mul-le-mul_left {m = n + 1} {n = length marks + 1} t.matrix.width (omega arith) in
+      let room = mul-le-mul_left {m = n + 1} {n = length marks + 1} matrix.width (omega arith) in
       record {
         low = omega (arith, length-take (first + n) A, K.low);
-        table = subst (λ (B : List Atom). TableShows v B t) (sym given) K.table;
+        table = subst (λ (B : List Atom). TableShows v B matrix t) (sym given) K.table;
         steps = omega (arith, marks_len, length-take (first + n) A, K.steps);
         have_len = len ∙ K.have_len;
-        live_len = length-take (t.matrix.width * (n + 1)) live ∙ omega (arith, room, K.live_len, ap (λ k. t.matrix.width * (k + 1)) marks_len);
+        live_len = length-take (matrix.width * (n + 1)) live ∙ omega (arith, room, K.live_len, ap (λ k. matrix.width * (k + 1)) marks_len);
         places = (and_parts _ (list_all (λ b. ltb b (length v.bounds)) (drop m raised)) (sym (all_append (λ b. ltb b (length v.bounds)) (take m raised) (drop m raised)) ∙ ap (λ xs. list_all (λ b. ltb b (length v.bounds)) xs) (take-append-drop m raised) ∙ K.places)).0;
         up = λ k l g i. omega (arith, front_mark m e k (omega (arith, marks_len)), front_mark m e l (omega (arith, marks_len)), K.up k l g (omega (arith, marks_len)));
         levels = λ k g.
@@ -366,10 +367,10 @@ module _ (v : View) (A : List Atom) (first : ℕ) (t : Table) (live have raised 
             let mark = front_mark m e k l in
             let low : mark_of marks raised k ≤ m = omega (arith, e, K.up k n l (omega arith)) in
             let same : take (first + k) (take (first + n) A) ≡ take (first + k) A = take_take (first + k) (first + n) A (omega arith) in
-            let inside : (j : ℕ) → j < 64 * t.matrix.width → has_bit (take (t.matrix.width * (n + 1)) live) (place t.matrix.width k j) ≡ has_bit live (place t.matrix.width k j) = λ j i. take_bits live (t.matrix.width * (n + 1)) (place t.matrix.width k j) (row_below t.matrix.width k (n + 1) j (omega arith) i) in
+            let inside : (j : ℕ) → j < 64 * matrix.width → has_bit (take (matrix.width * (n + 1)) live) (place matrix.width k j) ≡ has_bit live (place matrix.width k j) = λ j i. take_bits live (matrix.width * (n + 1)) (place matrix.width k j) (row_below matrix.width k (n + 1) j (omega arith) i) in
             let split : drop (mark_of marks raised k) raised ≡ drop (mark_of marks raised k) (take m raised) ++ drop m raised = ap (λ xs. drop (mark_of marks raised k) xs) (sym (take-append-drop m raised)) ∙ drop-append-le (mark_of marks raised k) (take m raised) (drop m raised) (omega (arith, raised_len)) in
-            subst (λ (B : List Atom). LevelShows v B (take (first + k) (take (first + n) A)) t (take (t.matrix.width * (n + 1)) live) have2 (take m raised) (take n marks) k) (sym given)
-            (subst (λ (B : List Atom). LevelShows v (take first A) B t (take (t.matrix.width * (n + 1)) live) have2 (take m raised) (take n marks) k) (sym same) (record {
+            subst (λ (B : List Atom). LevelShows v B (take (first + k) (take (first + n) A)) matrix t (take (matrix.width * (n + 1)) live) have2 (take m raised) (take n marks) k) (sym given)
+            (subst (λ (B : List Atom). LevelShows v (take first A) B matrix t (take (matrix.width * (n + 1)) live) have2 (take m raised) (take n marks) k) (sym same) (record {
               row = record {
                 opened = λ j i. inside j (omega (arith, K.table.matrix.wide)) ∙ L.row.opened j i;
                 past = λ j i y. inside j y ∙ L.row.past j i y;
@@ -385,10 +386,10 @@ module _ (v : View) (A : List Atom) (first : ℕ) (t : Table) (live have raised 
       }
 
 -- the lists that the code made
-pub back_made : (v : View) (A : List Atom) (first : ℕ) (t : Table) (live have raised marks : List ℕ) → Kept v A first t live have raised marks → (n m : ℕ) (live2 have2 raised2 marks2 : List ℕ) → n < length marks → m ≡ mark_of marks raised n →
-    live2 ≡ take (t.matrix.width * (n + 1)) live → raised2 ≡ take m raised → marks2 ≡ take n marks → length have2 ≡ length have → ((b : ℕ) → b < length have → get_or have2 b 0 + times (drop m raised) b ≡ get_or have b 0) → Kept v (take (first + n) A) first t live2 have2 raised2 marks2
-back_made v A first t live have raised marks K n m live2 have2 raised2 marks2 h e el er em len less =
-    subst (λ (xs : List ℕ). Kept v (take (first + n) A) first t xs have2 raised2 marks2) (sym el) (kept_as v (take (first + n) A) first t (take (t.matrix.width * (n + 1)) live) have2 (take m raised) (take n marks) raised2 marks2 er em (kept_back v A first t live have raised marks K n h m have2 e len less))
+pub back_made : (v : View) (A : List Atom) (first : ℕ) (matrix : Matrix) (t : Table) (live have raised marks : List ℕ) → Kept v A first matrix t live have raised marks → (n m : ℕ) (live2 have2 raised2 marks2 : List ℕ) → n < length marks → m ≡ mark_of marks raised n →
+    live2 ≡ take (matrix.width * (n + 1)) live → raised2 ≡ take m raised → marks2 ≡ take n marks → length have2 ≡ length have → ((b : ℕ) → b < length have → get_or have2 b 0 + times (drop m raised) b ≡ get_or have b 0) → Kept v (take (first + n) A) first matrix t live2 have2 raised2 marks2
+back_made v A first matrix t live have raised marks K n m live2 have2 raised2 marks2 h e el er em len less =
+    subst (λ (xs : List ℕ). Kept v (take (first + n) A) first matrix t xs have2 raised2 marks2) (sym el) (kept_as v (take (first + n) A) first matrix t (take (matrix.width * (n + 1)) live) have2 (take m raised) (take n marks) raised2 marks2 er em (kept_back v A first matrix t live have raised marks K n h m have2 e len less))
 
 pub copied_from : (w n : ℕ) (live live1 : List ℕ) → n ≡ length live → length live1 ≡ n + w → ((x : ℕ) → x < 64 * n → has_bit live1 x ≡ has_bit live x) → ((j : ℕ) → j < 64 * w → has_bit live1 (64 * n + j) ≡ has_bit live (64 * (n - w) + j)) → Copied w live live1
 copied_from w n live live1 e len before row = record {
@@ -412,33 +413,33 @@ not_listed ns stands p s n = false_from_ne_true _ (λ m.
     n w.0 w.1 (subst (λ q. q < length stands) w.2 h.0) (ap (λ q. get_or stands q 0) (sym w.2) ∙ h.1) w.2)
 
 -- what the code closes, with its own names for where the row begins and for the lists
-abbrev pub Closes : Table → List ℕ → List ℕ → ℕ → List ℕ → List ℕ → Type 0
-Closes t hs rs at live1 live2 = (j : ℕ) → j < 64 * t.matrix.width → has_bit live2 (64 * at + j) ≡ (has_bit live1 (64 * at + j) && not (list_any (λ b. leb (get_or t.limits.items b 0) (get_or hs b 0) && has_bit t.matrix.rows.items (place t.matrix.width b j)) rs))
+abbrev pub Closes : Matrix → Table → List ℕ → List ℕ → ℕ → List ℕ → List ℕ → Type 0
+Closes matrix t hs rs at live1 live2 = (j : ℕ) → j < 64 * matrix.width → has_bit live2 (64 * at + j) ≡ (has_bit live1 (64 * at + j) && not (list_any (λ b. leb (get_or t.limits.items b 0) (get_or hs b 0) && has_bit matrix.rows.items (place matrix.width b j)) rs))
 
-pub pick_made : (v : View) (A : List Atom) (first : ℕ) (t : Table) (live have raised marks live1 : List ℕ) → Kept v A first t live have raised marks → Copied t.matrix.width live live1 →
+pub pick_made : (v : View) (A : List Atom) (first : ℕ) (matrix : Matrix) (t : Table) (live have raised marks live1 : List ℕ) → Kept v A first matrix t live have raised marks → Copied matrix.width live live1 →
     (p at mk : ℕ) (T live2 live3 have2 hs raised2 marks2 rs s1 s2 : List ℕ) → at ≡ length live → mk ≡ length raised → T ≡ base v A → mem T p ≡ false →
     raised2 ≡ raised ++ rs → Noted v.bounds (items v p) rs → length rs ≤ 17 → marks2 ≡ marks ++ mk ∷ [] → s1 ≡ rs → s2 ≡ rs → hs ≡ have2 → length have2 ≡ length have →
     ((b : ℕ) → b < length have → get_or have2 b 0 ≡ get_or have b 0 + times s1 b) →
-    length live2 ≡ length live1 → ((x : ℕ) → x < 64 * at → has_bit live2 x ≡ has_bit live1 x) → Closes t hs s2 at live1 live2 →
+    length live2 ≡ length live1 → ((x : ℕ) → x < 64 * at → has_bit live2 x ≡ has_bit live1 x) → Closes matrix t hs s2 at live1 live2 →
     length live3 ≡ length live2 → ((x : ℕ) → x < 64 * at → has_bit live3 x ≡ has_bit live2 x) →
-    ((j : ℕ) → j < length t.matrix.numbers.items → has_bit live3 (64 * at + j) ≡ (has_bit live2 (64 * at + j) && not (is_own t.matrix.numbers.items p j))) →
-    ((j : ℕ) → has_bit live2 (64 * at + j) ≡ false → has_bit live3 (64 * at + j) ≡ false) → Kept v (A ++ Has p ∷ []) first t live3 have2 raised2 marks2
-pick_made v A first t live have raised marks live1 K C p at mk T live2 live3 have2 hs raised2 marks2 rs s1 s2 ea em eT m er noted few emarks e1 e2 eh len2 more len before closed len3 before3 own past =
-    kept_as v (A ++ Has p ∷ []) first t live3 have2 (raised ++ rs) (marks ++ length raised ∷ []) raised2 marks2 er (marks_from marks raised marks2 mk em emarks)
-    (pick_new v A first t live have raised marks live1 K C p live2 live3 have2 rs (ap (λ xs. mem xs p) (sym eT) ∙ m) noted few len2
+    ((j : ℕ) → j < length matrix.numbers.items → has_bit live3 (64 * at + j) ≡ (has_bit live2 (64 * at + j) && not (is_own matrix.numbers.items p j))) →
+    ((j : ℕ) → has_bit live2 (64 * at + j) ≡ false → has_bit live3 (64 * at + j) ≡ false) → Kept v (A ++ Has p ∷ []) first matrix t live3 have2 raised2 marks2
+pick_made v A first matrix t live have raised marks live1 K C p at mk T live2 live3 have2 hs raised2 marks2 rs s1 s2 ea em eT m er noted few emarks e1 e2 eh len2 more len before closed len3 before3 own past =
+    kept_as v (A ++ Has p ∷ []) first matrix t live3 have2 (raised ++ rs) (marks ++ length raised ∷ []) raised2 marks2 er (marks_from marks raised marks2 mk em emarks)
+    (pick_new v A first matrix t live have raised marks live1 K C p live2 live3 have2 rs (ap (λ xs. mem xs p) (sym eT) ∙ m) noted few len2
     (λ b h. more b (omega (arith, K.have_len)) ∙ ap (λ xs. get_or have b 0 + times xs b) e1)
     len (λ x h. before x (omega (arith, ea)))
-    (subst (λ (n : ℕ). Closes t have2 rs n live1 live2) ea (subst (λ (xs : List ℕ). Closes t have2 xs at live1 live2) e2 (subst (λ (xs : List ℕ). Closes t xs s2 at live1 live2) eh closed)))
+    (subst (λ (n : ℕ). Closes matrix t have2 rs n live1 live2) ea (subst (λ (xs : List ℕ). Closes matrix t have2 xs at live1 live2) e2 (subst (λ (xs : List ℕ). Closes matrix t xs s2 at live1 live2) eh closed)))
     len3 (λ x h. before3 x (omega (arith, ea)))
-    (subst (λ (n : ℕ). (j : ℕ) → j < length t.matrix.numbers.items → has_bit live3 (64 * n + j) ≡ (has_bit live2 (64 * n + j) && not (is_own t.matrix.numbers.items p j))) ea own)
+    (subst (λ (n : ℕ). (j : ℕ) → j < length matrix.numbers.items → has_bit live3 (64 * n + j) ≡ (has_bit live2 (64 * n + j) && not (is_own matrix.numbers.items p j))) ea own)
     (subst (λ (n : ℕ). (j : ℕ) → has_bit live2 (64 * n + j) ≡ false → has_bit live3 (64 * n + j) ≡ false) ea past))
 
 -- the own bit taken out at i
-pub own_taken : (v : View) (A : List Atom) (first : ℕ) (t : Table) (live have raised marks : List ℕ) → Kept v A first t live have raised marks → (p i at : ℕ) (live2 live3 : List ℕ) → (i < length t.matrix.numbers.items) × (get_or t.matrix.numbers.items i 0 ≡ p) →
-    ((x : ℕ) → has_bit live3 x ≡ (has_bit live2 x && not (eqb (64 * at + i) x))) → (j : ℕ) → j < length t.matrix.numbers.items → has_bit live3 (64 * at + j) ≡ (has_bit live2 (64 * at + j) && not (is_own t.matrix.numbers.items p j))
-own_taken v A first t live have raised marks K p i at live2 live3 w taken j h = taken (64 * at + j) ∙ ap (λ b. has_bit live2 (64 * at + j) && not b) (same_in_row at i j ∙ same_truth _ _
-    (λ e. eq-eqb p _ (sym w.1 ∙ ap (λ n. get_or t.matrix.numbers.items n 0) (eqb-true i j e)))
-    (λ e. eq-eqb i j (distinct_at t.matrix.numbers.items i j K.table.matrix.once w.0 h (w.1 ∙ eqb-true p _ e))))
+pub own_taken : (v : View) (A : List Atom) (first : ℕ) (matrix : Matrix) (t : Table) (live have raised marks : List ℕ) → Kept v A first matrix t live have raised marks → (p i at : ℕ) (live2 live3 : List ℕ) → (i < length matrix.numbers.items) × (get_or matrix.numbers.items i 0 ≡ p) →
+    ((x : ℕ) → has_bit live3 x ≡ (has_bit live2 x && not (eqb (64 * at + i) x))) → (j : ℕ) → j < length matrix.numbers.items → has_bit live3 (64 * at + j) ≡ (has_bit live2 (64 * at + j) && not (is_own matrix.numbers.items p j))
+own_taken v A first matrix t live have raised marks K p i at live2 live3 w taken j h = taken (64 * at + j) ∙ ap (λ b. has_bit live2 (64 * at + j) && not b) (same_in_row at i j ∙ same_truth _ _
+    (λ e. eq-eqb p _ (sym w.1 ∙ ap (λ n. get_or matrix.numbers.items n 0) (eqb-true i j e)))
+    (λ e. eq-eqb i j (distinct_at matrix.numbers.items i j K.table.matrix.once w.0 h (w.1 ∙ eqb-true p _ e))))
 
 pub own_none : (ns : List ℕ) (p at : ℕ) (live2 : List ℕ) → mem ns p ≡ false → (j : ℕ) → j < length ns → has_bit live2 (64 * at + j) ≡ (has_bit live2 (64 * at + j) && not (is_own ns p j))
 own_none ns p at live2 m j h = sym (own_spared (has_bit live2 (64 * at + j)) (is_own ns p j) (ne_eqb p _ (λ e. both_ways (mem ns p) m (ap (λ n. mem ns n) e ∙ listed_at ns j h))))
@@ -450,12 +451,12 @@ pub taken_past : (live2 live3 : List ℕ) (at i : ℕ) → ((x : ℕ) → has_bi
 taken_past live2 live3 at i taken j e = taken (64 * at + j) ∙ none_and _ _ e
 
 -- the given atoms alone
-pub kept_start : (v : View) (A : List Atom) (t : Table) (live have raised marks : List ℕ) → TableShows v A t → HaveShows v (base v A) have → length have ≡ length v.bounds → length live ≡ t.matrix.width → raised ≡ [] → marks ≡ [] →
-    ((j : ℕ) → j < length t.matrix.numbers.items → has_bit live j ≡ true) → ((j : ℕ) → length t.matrix.numbers.items ≤ j → has_bit live j ≡ false) → Kept v A (length A) t live have raised marks
-kept_start v A t live have raised marks T H len wide er em inside outside =
-    subst (λ (xs : List ℕ). Kept v A (length A) t live have xs marks) (sym er) (subst (λ (xs : List ℕ). Kept v A (length A) t live have [] xs) (sym em) (record {
+pub kept_start : (v : View) (A : List Atom) (matrix : Matrix) (t : Table) (live have raised marks : List ℕ) → TableShows v A matrix t → HaveShows v (base v A) have → length have ≡ length v.bounds → length live ≡ matrix.width → raised ≡ [] → marks ≡ [] →
+    RowOf (λ p. open_in v A p) matrix live → Kept v A (length A) matrix t live have raised marks
+kept_start v A matrix t live have raised marks T H len wide er em R =
+    subst (λ (xs : List ℕ). Kept v A (length A) matrix t live have xs marks) (sym er) (subst (λ (xs : List ℕ). Kept v A (length A) matrix t live have [] xs) (sym em) (record {
       low = omega arith;
-      table = subst (λ (B : List Atom). TableShows v B t) (sym whole) T;
+      table = subst (λ (B : List Atom). TableShows v B matrix t) (sym whole) T;
       steps = omega arith;
       have_len = len;
       live_len = omega (arith, wide);
@@ -464,11 +465,11 @@ kept_start v A t live have raised marks T H len wide er em inside outside =
       levels = λ k h.
           let zero_k : k ≡ 0 = omega arith in
           let all : take (length A + k) A ≡ A = take_all (length A + k) A (omega arith) in
-          let at : (j : ℕ) → place t.matrix.width k j ≡ j = λ j. ap (λ n. place t.matrix.width n j) zero_k ∙ omega arith in
-          subst (λ (B : List Atom). LevelShows v B (take (length A + k) A) t live have [] [] k) (sym whole) (subst (λ (B : List Atom). LevelShows v A B t live have [] [] k) (sym all) (record {
+          let at : (j : ℕ) → place matrix.width k j ≡ j = λ j. ap (λ n. place matrix.width n j) zero_k ∙ omega arith in
+          subst (λ (B : List Atom). LevelShows v B (take (length A + k) A) matrix t live have [] [] k) (sym whole) (subst (λ (B : List Atom). LevelShows v A B matrix t live have [] [] k) (sym all) (record {
             row = record {
-              opened = λ j l. ap (λ x. has_bit live x) (at j) ∙ inside j l ∙ sym (T.begun _ (listed_at t.matrix.numbers.items j l)).1;
-              past = λ j l g. ap (λ x. has_bit live x) (at j) ∙ outside j l;
+              opened = λ j l. ap (λ x. has_bit live x) (at j) ∙ R.inside j l;
+              past = λ j l g. ap (λ x. has_bit live x) (at j) ∙ R.past j l g;
             };
             counted = λ b l. H b l ∙ omega arith;
             uppers = λ i. refl;

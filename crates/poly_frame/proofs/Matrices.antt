@@ -1,6 +1,6 @@
 -- The columns of a matrix: the items of each, and which are open.
-use Rattle.std.proofs.Common.{Bool, List, [], ap, arith, drop, false, get_or, inl, inr, length, length-append, not, refl, suc, sym, subst, take, true, zero, ℕ, ◌&&◌, ◌++◌, ◌+◌, ◌-◌, ◌<◌, ◌∙◌, ◌∷◌, ◌||◌, ◌≡◌, ◌≤◌}
-use Rattle.std.specs.List.{list_any}
+use Rattle.std.proofs.Common.{Bool, List, [], ap, arith, drop, false, get_or, inl, inr, length, length-append, not, refl, suc, sym, subst, take, true, zero, ℕ, ◌&&◌, ◌++◌, ◌*◌, ◌+◌, ◌-◌, ◌<◌, ◌∙◌, ◌∷◌, ◌||◌, ◌≡◌, ◌≤◌}
+use Rattle.std.specs.List.{filter, list_any}
 use Rattle.std.proofs.Math.Seq.{drop-append_seam, get_or-append_seam}
 use Rattle.std.proofs.lemmas.List.{drop-append-le, get_or_append_left, length-drop, take-append-le, take_all, take_more}
 use Rattle.std.proofs.lemmas.Bool.{and_from, and_parts, cases_eq, cases_lt, or_cases, or_left, or_right}
@@ -14,8 +14,11 @@ use Rattle.poly_atom.specs.Hopeless.{base, lacks}
 use Rattle.poly_frame.specs.Open.{open_in, upper}
 use Rattle.poly_frame.specs.FrameItems.{Noted, item_of}
 use Rattle.poly_frame.specs.FrameTable.{HaveShows, UppersShow, shut_at}
-use Rattle.poly_frame.specs.Matrices.{ListShows, ListsTo, StandsShow, any_below, list_at}
-use Rattle.poly_frame.proofs.FrameSteps.{index_in}
+use Rattle.poly_frame.specs.Bits.{has_bit}
+use Rattle.poly_frame.specs.Matrices.{ListShows, ListsTo, RowOf, StandsShow, any_below, list_at}
+use Rattle.poly_frame.specs.declared.frame.matrix.Matrix.{Matrix}
+use Rattle.poly_frame.proofs.FrameSteps.{index_in, listed_at}
+use Rattle.poly_frame.proofs.Walks.{mem_filter}
 use Rattle.poly_frame.proofs.FramePicks.{has_in, in_has, is_shut, open_is_free, place_of}
 
 -- a part of a list stays as the list grows
@@ -169,3 +172,22 @@ left_open v A q T full shut r1 r2 r3 e f s a b c =
     turn true false true = refl
     turn true false false = refl
     turn false y z = refl
+
+-- a smaller matrix: its numbers are those whose bit is set
+pub narrow_numbers : (f : ℕ → Bool) (p p2 : Matrix) (given given2 new : List ℕ) → p2 ≡ p → given2 ≡ given → RowOf f p given →
+    ((f : ℕ → Bool) → ((j : ℕ) → j < length p2.numbers.items → f (get_or p2.numbers.items j 0) ≡ has_bit given2 j) → new ≡ filter f p2.numbers.items) → new ≡ filter f p.numbers.items
+narrow_numbers f p p2 given given2 new e g R N =
+    let M = subst (λ (m : Matrix). ((j : ℕ) → j < length m.numbers.items → f (get_or m.numbers.items j 0) ≡ has_bit given2 j) → new ≡ filter f m.numbers.items) e (N f) in
+    M (λ j h. sym (R.inside j h) ∙ ap (λ ws. has_bit ws j) (sym g))
+
+pub narrow_row : (f : ℕ → Bool) (ns : List ℕ) (m : Matrix) (row : List ℕ) (n : ℕ) → m.numbers.items ≡ filter f ns → n ≡ length m.numbers.items → ((j : ℕ) → j < n → has_bit row j ≡ true) → ((j : ℕ) → n ≤ j → j < 64 * m.width → has_bit row j ≡ false) → RowOf f m row
+narrow_row f ns m row n e g inside past = record {
+  inside = λ j h.
+      let q = get_or m.numbers.items j 0 in
+      let passes = and_parts (mem ns q) (f q) (sym (mem_filter f ns q) ∙ ap (λ xs. mem xs q) (sym e) ∙ listed_at m.numbers.items j h) in
+      inside j (omega (arith, h, g)) ∙ sym passes.1;
+  past = λ j h l. past j (omega (arith, h, g)) l;
+}
+
+pub narrow_all : (f : ℕ → Bool) (ns new : List ℕ) → new ≡ filter f ns → (q : ℕ) → mem ns q ≡ true → f q ≡ true → mem new q ≡ true
+narrow_all f ns new e q m o = ap (λ xs. mem xs q) e ∙ mem_filter f ns q ∙ and_from _ _ m o

@@ -18,6 +18,7 @@ use Rattle.poly_frame.specs.FrameItems.{Noted, item_of}
 use Rattle.poly_frame.specs.FrameTable.{limit_at}
 use Rattle.poly_frame.specs.FrameSteps.{Kept}
 use Rattle.poly_frame.specs.Matrices.{list_at}
+use Rattle.poly_frame.specs.declared.frame.matrix.Matrix.{Matrix}
 use Rattle.poly_frame.specs.declared.frame.table.Table.{Table}
 use Rattle.poly_frame.proofs.FrameLooks.{open_first, top_row}
 use Rattle.poly_frame.proofs.FramePicks.{has_in, limit_cases, low_in, one_true, open_base, pick_open, shuts, times_some}
@@ -46,47 +47,47 @@ none_counted f [] q e i h = i
 none_counted f (x ∷ xs) q e (inl s) h = absurd (omega (arith, e, ap one (ap f s ∙ h)))
 none_counted f (x ∷ xs) q e (inr i) h = none_counted f xs q (omega (arith, e)) i h
 
-module _ (v : View) (A : List Atom) (first : ℕ) (t : Table) (live have raised marks : List ℕ) (K : Kept v A first t live have raised marks) where
+module _ (v : View) (A : List Atom) (first : ℕ) (matrix : Matrix) (t : Table) (live have raised marks : List ℕ) (K : Kept v A first matrix t live have raised marks) where
   -- an item of p with one more member shuts what has it
   shut_by : (p q c : ℕ) (places : List ℕ) → Noted v.bounds (items v p) places → In c places → leb (get_or t.limits.items c 0 - 1) (get_or have c 0) ≡ true → has_item v q (item_of v c) ≡ true → list_any (λ i. has_item v q i && shuts v A i) (items v p) ≡ true
   shut_by p q c places noted k less has =
       let l = low_in (length v.bounds) places c noted.low k in
       let mine : has_item v p (item_of v c) ≡ true = one_true _ (omega (arith, times_some places c k, noted.once c l)) in
-      let most : get_or t.limits.items c 0 ≡ limit_at (item_of v c) (upper v A (item_of v c)) = K.table.limits c l ∙ ap (λ u. limit_at (item_of v c) u) (sym ((top_level v A first t live have raised marks K).uppers (item_of v c))) in
+      let most : get_or t.limits.items c 0 ≡ limit_at (item_of v c) (upper v A (item_of v c)) = K.table.limits c l ∙ ap (λ u. limit_at (item_of v c) u) (sym ((top_level v A first matrix t live have raised marks K).uppers (item_of v c))) in
       let few = leb-true (get_or t.limits.items c 0 - 1) (get_or have c 0) less in
-      let full : limit_at (item_of v c) (upper v A (item_of v c)) ≤ count v (base v A) (item_of v c) + 1 = omega (arith, most, few, top_have v A first t live have raised marks K c l) in
+      let full : limit_at (item_of v c) (upper v A (item_of v c)) ≤ count v (base v A) (item_of v c) + 1 = omega (arith, most, few, top_have v A first matrix t live have raised marks K c l) in
       any_from (λ i. has_item v q i && shuts v A i) (items v p) (item_of v c) (has_in v p (item_of v c) mine)
       (and_from _ _ has (sym (limit_cases (item_of v c) (upper v A (item_of v c)) (count v (base v A) (item_of v c) + 1)) ∙ le-leb _ _ full))
 
-  module _ (b j at : ℕ) (e : at ≡ length live - t.matrix.width) (l : b < length v.bounds) (h : j < length t.matrix.numbers.items)
-      (opened : has_bit live (64 * at + j) ≡ true) (without : has_bit t.matrix.rows.items (64 * (t.matrix.width * b) + j) ≡ false) (none : get_or have b 0 ≡ 0)
-      (shut : (k u : ℕ) → k < t.matrix.width → u < 64 → eqb (bit_at (get_or live (at + k) 0) u) 1 ≡ true → eqb (bit_at (get_or t.matrix.rows.items (t.matrix.width * b + k) 0) u) 1 ≡ true →
-      list_any (λ c. leb (get_or t.limits.items c 0 - 1) (get_or have c 0) && eqb (bit_at (get_or t.matrix.rows.items (t.matrix.width * c + k) 0) u) 1) (list_at t.matrix.lists.starts.items t.matrix.lists.places.items j) ≡ true) where
+  module _ (b j at : ℕ) (e : at ≡ length live - matrix.width) (l : b < length v.bounds) (h : j < length matrix.numbers.items)
+      (opened : has_bit live (64 * at + j) ≡ true) (without : has_bit matrix.rows.items (64 * (matrix.width * b) + j) ≡ false) (none : get_or have b 0 ≡ 0)
+      (shut : (k u : ℕ) → k < matrix.width → u < 64 → eqb (bit_at (get_or live (at + k) 0) u) 1 ≡ true → eqb (bit_at (get_or matrix.rows.items (matrix.width * b + k) 0) u) 1 ≡ true →
+      list_any (λ c. leb (get_or t.limits.items c 0 - 1) (get_or have c 0) && eqb (bit_at (get_or matrix.rows.items (matrix.width * c + k) 0) u) 1) (list_at matrix.lists.starts.items matrix.lists.places.items j) ≡ true) where
     abbrev p : ℕ
-    p = get_or t.matrix.numbers.items j 0
+    p = get_or matrix.numbers.items j 0
 
     open_then : open_in v A p ≡ true
-    open_then = sym (top_row v A first t live have raised marks K at j e h) ∙ opened
+    open_then = sym (top_row v A first matrix t live have raised marks K at j e h) ∙ opened
 
     lacking : has_item v p (item_of v b) ≡ false
     lacking = sym (K.table.matrix.rows b j l h) ∙ without
 
     -- an open number that has the item is shut
-    shut_at : (x : ℕ) → x < length t.matrix.numbers.items → open_in v A (get_or t.matrix.numbers.items x 0) ≡ true → has_item v (get_or t.matrix.numbers.items x 0) (item_of v b) ≡ true →
-        list_any (λ i. has_item v (get_or t.matrix.numbers.items x 0) i && shuts v A i) (items v p) ≡ true
+    shut_at : (x : ℕ) → x < length matrix.numbers.items → open_in v A (get_or matrix.numbers.items x 0) ≡ true → has_item v (get_or matrix.numbers.items x 0) (item_of v b) ≡ true →
+        list_any (λ i. has_item v (get_or matrix.numbers.items x 0) i && shuts v A i) (items v p) ≡ true
     shut_at x m o i =
-        let rows = t.matrix.rows.items in
-        let w = t.matrix.width in
-        let up : eqb (bit_at (get_or live (at + x / 64) 0) (x % 64)) 1 ≡ true = sym (in_word live at x) ∙ top_row v A first t live have raised marks K at x e m ∙ o in
+        let rows = matrix.rows.items in
+        let w = matrix.width in
+        let up : eqb (bit_at (get_or live (at + x / 64) 0) (x % 64)) 1 ≡ true = sym (in_word live at x) ∙ top_row v A first matrix t live have raised marks K at x e m ∙ o in
         let row : eqb (bit_at (get_or rows (w * b + x / 64) 0) (x % 64)) 1 ≡ true = sym (in_word rows (w * b) x) ∙ K.table.matrix.rows b x l m ∙ i in
         let word : x / 64 < w = omega (arith, m, K.table.matrix.wide) in
         let low : x % 64 < 64 = omega arith in
         let noted = (K.table.matrix.lists.each j h).noted in
-        let places = list_at t.matrix.lists.starts.items t.matrix.lists.places.items j in
+        let places = list_at matrix.lists.starts.items matrix.lists.places.items j in
         let r = any_in (λ c. leb (get_or t.limits.items c 0 - 1) (get_or have c 0) && eqb (bit_at (get_or rows (w * c + x / 64) 0) (x % 64)) 1) places (shut (x / 64) (x % 64) word low up row) in
         let both = and_parts (leb (get_or t.limits.items r.0 0 - 1) (get_or have r.0 0)) _ r.2 in
         let c = low_in (length v.bounds) places r.0 noted.low r.1 in
-        shut_by p (get_or t.matrix.numbers.items x 0) r.0 places noted r.1 both.0 (sym (K.table.matrix.rows r.0 x c m) ∙ in_word rows (w * r.0) x ∙ both.1)
+        shut_by p (get_or matrix.numbers.items x 0) r.0 places noted r.1 both.0 (sym (K.table.matrix.rows r.0 x c m) ∙ in_word rows (w * r.0) x ∙ both.1)
 
     -- so none that has it is open once p is taken
     closed : (q : ℕ) → mem v.live q ≡ true → has_item v q (item_of v b) ≡ true → open_in v (A ++ Has p ∷ []) q ≡ false
@@ -94,7 +95,7 @@ module _ (v : View) (A : List Atom) (first : ℕ) (t : Table) (live have raised 
         let out = open_base v (A ++ Has p ∷ []) q o in
         let other : eqb p q ≡ false = ne_eqb p q (λ s. both_ways (mem (base v (A ++ Has p ∷ [])) q) out (in_mem _ q (subst (λ xs. In q xs) (sym (base_pick v A p)) (subst (λ y. In y (put p (base v A))) s (in_put_self p (base v A)))))) in
         let both = and_parts (open_in v A q) _ (sym (pick_open v A p q (open_base v A p open_then) other) ∙ o) in
-        let x = index_in t.matrix.numbers.items q (open_first v A first t live have raised marks K q m both.0) in
+        let x = index_in matrix.numbers.items q (open_first v A first matrix t live have raised marks K q m both.0) in
         let yes = shut_at x.0 x.1 (ap (λ y. open_in v A y) x.2 ∙ both.0) (ap (λ y. has_item v y (item_of v b)) x.2 ∙ i) in
         both_ways (list_any (λ i. has_item v q i && shuts v A i) (items v p)) (not-true _ both.1) (subst (λ y. list_any (λ i. has_item v y i && shuts v A i) (items v p) ≡ true) x.2 yes))
 
@@ -102,13 +103,13 @@ module _ (v : View) (A : List Atom) (first : ℕ) (t : Table) (live have raised 
     unheld : (q : ℕ) → has_item v q (item_of v b) ≡ true → mem (base v (A ++ Has p ∷ [])) q ≡ false
     unheld q i = false_from_ne_true _ (λ m. elim (put_in p (base v A) q (subst (λ xs. In q xs) (base_pick v A p) (mem_in _ q m))) [
       | inl s ↦ both_ways (has_item v p (item_of v b)) lacking (subst (λ y. has_item v y (item_of v b) ≡ true) (sym s) i)
-      | inr k ↦ none_counted (λ x. has_item v x (item_of v b)) (base v A) q (sym (top_have v A first t live have raised marks K b l) ∙ none) k i
+      | inr k ↦ none_counted (λ x. has_item v x (item_of v b)) (base v A) q (sym (top_have v A first matrix t live have raised marks K b l) ∙ none) k i
     ])
 
     pub starved_fits : 0 < get_or t.asked.items b 0 → arms_fit v (A ++ Has p ∷ []) (item_of v b) [] ≡ true
     starved_fits some =
         let A2 = A ++ Has p ∷ [] in
-        let asked : asks v A2 (item_of v b) ≡ get_or t.asked.items b 0 = asks_pick v A p (item_of v b) ∙ (top_level v A first t live have raised marks K).asked (item_of v b) ∙ sym (K.table.asked b l) in
+        let asked : asks v A2 (item_of v b) ≡ get_or t.asked.items b 0 = asks_pick v A p (item_of v b) ∙ (top_level v A first matrix t live have raised marks K).asked (item_of v b) ∙ sym (K.table.asked b l) in
         let none' = none_pass (λ q. has_item v q (item_of v b) && not (ruled_out v A2 q) && not (mem [] q)) v.live gone in
         lt-ltb _ (lower v A2 (item_of v b)) (omega (arith, asked, some, none'))
       where

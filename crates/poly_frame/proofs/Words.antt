@@ -1,11 +1,11 @@
 -- Bits of words: one put in, one taken out, all of a row taken out.
-use Rattle.std.proofs.Common.{◌≡◌, ℕ, zero, suc, ◌+◌, ◌-◌, ◌*◌, ◌/◌, ◌%◌, ◌^◌, ◌<◌, ◌≤◌, min, Bool, true, false, not, ◌&&◌, ◌||◌, eqb, List, inl, inr, refl, sym, ap, ◌∙◌, arith, length, take, replicate, get_or, get_or-set_other, get_or-set_same, w64, bit_and, bit_or}
+use Rattle.std.proofs.Common.{◌≡◌, ℕ, zero, suc, ◌+◌, ◌-◌, ◌*◌, ◌/◌, ◌%◌, ◌^◌, ◌<◌, ◌≤◌, min, Bool, true, false, not, ◌&&◌, ◌||◌, eqb, List, inl, inr, refl, sym, ap, ◌∙◌, arith, length, take, drop, replicate, get_or, get_or-set_other, get_or-set_same, w64, bit_and, bit_or}
 use Rattle.std.proofs.Math.ListN.{set}
 use Rattle.std.proofs.lemmas.Bool.{cases_eq, cases_lt, eq-eqb, ne_eqb, or_right}
 use Rattle.std.proofs.lemmas.Nat.Bits.{bit_at_and, bit_at_not, bit_at-lt, bit_at_set_same, bit_at_set_other, bit_at_clear_same, bit_at_clear_other, bit_at-trailing_zeros, bit_at-zero, bit_at_above, shr_and_one}
 use Rattle.std.proofs.lemmas.Nat.{shr-shr}
 use Rattle.std.proofs.Math.Nat.{div-le_self}
-use Rattle.std.proofs.lemmas.List.{get_or-take}
+use Rattle.std.proofs.lemmas.List.{get_or-drop, get_or-take}
 use Rattle.std.specs.Int.{bit_at, bit_not, trailing_zeros}
 use Rattle.poly_frame.specs.Bits.{FirstIn, NoneIn, has_bit, in_both}
 
@@ -139,6 +139,12 @@ get_same : (n k z : ℕ) → get_or (replicate n z) k z ≡ z
 get_same zero k z = refl
 get_same (suc n) zero z = refl
 get_same (suc n) (suc k) z = get_same n k z
+
+pub drop_bits : (ws : List ℕ) (n j : ℕ) → has_bit (drop n ws) j ≡ has_bit ws (64 * n + j)
+drop_bits ws n j =
+    let zero_row : j ≡ 64 * 0 + j = omega arith in
+    let first : 0 + j / 64 ≡ j / 64 = omega arith in
+    ap (λ x. has_bit (drop n ws) x) zero_row ∙ same_row ws (drop n ws) n 0 j (ap (λ k. get_or (drop n ws) k 0) first ∙ get_or-drop n ws (j / 64) 0)
 
 pub no_bits : (n x : ℕ) → has_bit (replicate n 0) x ≡ false
 no_bits n x = past_none (replicate n 0) x (get_same n (x / 64) 0)

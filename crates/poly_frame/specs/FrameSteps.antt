@@ -11,6 +11,7 @@ use Rattle.poly_frame.specs.Bits.{has_bit}
 use Rattle.poly_frame.specs.FrameItems.{item_of, times}
 use Rattle.poly_frame.specs.Matrices.{place}
 use Rattle.poly_frame.specs.FrameTable.{TableShows}
+use Rattle.poly_frame.specs.declared.frame.matrix.Matrix.{Matrix}
 use Rattle.poly_frame.specs.declared.frame.table.Table.{Table}
 use Rattle.poly_frame.specs.declared.frame.steps.Steps.{Steps}
 
@@ -30,8 +31,8 @@ abbrev pub HaveAt : View → List Atom → List ℕ → List ℕ → ℕ → Typ
 HaveAt v A have raised mark = (b : ℕ) → b < length v.bounds → slice_index have b ≡ count v (base v A) (item_of v b) + times (drop mark raised) b
 
 -- one level
-pub record LevelShows (v : View) (A0 A : List Atom) (t : Table) (live have raised marks : List ℕ) (k : ℕ) : Type 0 where
-  pub row : RowShows v A t.matrix.numbers.items t.matrix.width live k
+pub record LevelShows (v : View) (A0 A : List Atom) (matrix : Matrix) (t : Table) (live have raised marks : List ℕ) (k : ℕ) : Type 0 where
+  pub row : RowShows v A matrix.numbers.items matrix.width live k
   pub counted : HaveAt v A have raised (mark_of marks raised k)
   pub uppers : (i : Item) → upper v A i ≡ upper v A0 i
   pub asked : (i : Item) → asks v A i ≡ asks v A0 i
@@ -39,22 +40,22 @@ pub record LevelShows (v : View) (A0 A : List Atom) (t : Table) (live have raise
   pub begun : mark_of marks raised k ≤ length raised
 
 -- a level for the given atoms, and one for each step
-pub record Kept (v : View) (A : List Atom) (first : ℕ) (t : Table) (live have raised marks : List ℕ) : Type 0 where
+pub record Kept (v : View) (A : List Atom) (first : ℕ) (matrix : Matrix) (t : Table) (live have raised marks : List ℕ) : Type 0 where
   pub low : first ≤ length A
-  pub table : TableShows v (take first A) t
+  pub table : TableShows v (take first A) matrix t
   pub steps : length marks + first ≡ length A
   pub have_len : length have ≡ length v.bounds
-  pub live_len : length live ≡ t.matrix.width * (length marks + 1)
+  pub live_len : length live ≡ matrix.width * (length marks + 1)
   pub places : list_all (λ b. nat_lt b (length v.bounds)) raised ≡ true
   pub up : (k l : ℕ) → k ≤ l → l ≤ length marks → mark_of marks raised k ≤ mark_of marks raised l
-  pub levels : (k : ℕ) → k ≤ length marks → LevelShows v (take first A) (take (first + k) A) t live have raised marks k
+  pub levels : (k : ℕ) → k ≤ length marks → LevelShows v (take first A) (take (first + k) A) matrix t live have raised marks k
 
 -- the parts of a frame that move
-abbrev pub StepsKeep : View → List Atom → ℕ → Table → Steps → Type 0
-StepsKeep v A first t s = Kept v A first t s.live.items s.have.items s.raised.items s.marks.items
+abbrev pub StepsKeep : View → List Atom → ℕ → Matrix → Table → Steps → Type 0
+StepsKeep v A first m t s = Kept v A first m t s.live.items s.have.items s.raised.items s.marks.items
 
 -- room for 4,096 steps
-pub record HasRoom (t : Table) (s : Steps) : Type 0 where
-  pub live : t.matrix.width * 4097 ≤ vec_capacity s.live
+pub record HasRoom (matrix : Matrix) (s : Steps) : Type 0 where
+  pub live : matrix.width * 4097 ≤ vec_capacity s.live
   pub raised : 69632 ≤ vec_capacity s.raised
   pub marks : 4096 ≤ vec_capacity s.marks

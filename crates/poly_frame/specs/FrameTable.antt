@@ -35,10 +35,9 @@ abbrev pub HasOpen : View → List Atom → Matrix → Type 0
 HasOpen v A m = (q : ℕ) → mem v.live q ≡ true → open_in v A q ≡ true → mem m.numbers.items q ≡ true
 
 -- the parts of a frame that stay while it moves, at the atoms that were given
-pub record TableShows (v : View) (A : List Atom) (t : Table) : Type 0 where
-  pub matrix : IsMatrix v t.matrix
-  pub begun : (q : ℕ) → mem t.matrix.numbers.items q ≡ true → (mem v.live q ≡ true) × (open_in v A q ≡ true)
-  pub all : (q : ℕ) → mem v.live q ≡ true → open_in v A q ≡ true → mem t.matrix.numbers.items q ≡ true
+pub record TableShows (v : View) (A : List Atom) (m : Matrix) (t : Table) : Type 0 where
+  pub matrix : IsMatrix v m
+  pub all : HasOpen v A m
   pub limits : (b : ℕ) → b < length v.bounds → slice_index t.limits.items b ≡ limit_at (item_of v b) (upper v A (item_of v b))
   pub limits_len : length t.limits.items ≡ length v.bounds
   pub asked : AskedShow v A t.asked.items

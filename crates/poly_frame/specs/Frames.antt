@@ -8,6 +8,7 @@ use Rattle.poly_atom.specs.Hopeless.{base}
 use Rattle.poly_frame.specs.FrameMembers.{SizesShow}
 use Rattle.poly_frame.specs.FrameSound.{SoundShows}
 use Rattle.poly_frame.specs.FrameSteps.{HasRoom, StepsKeep}
+use Rattle.poly_frame.specs.declared.frame.matrix.Matrix.{Matrix}
 use Rattle.poly_frame.specs.declared.frame.table.Table.{Table}
 use Rattle.poly_frame.specs.declared.frame.steps.Steps.{Steps}
 
@@ -21,10 +22,10 @@ pub record IsKept (v : View) (path : Vec Atom Global) (given : ℕ) (members opt
   pub answers : length v.live ≤ vec_capacity options
 
 -- the path and the base are kept, and so are the levels, with room for more
-pub record IsFrame (v : View) (path : Vec Atom Global) (given : ℕ) (members sizes : Vec ℕ Global) (sound : ℕ) (options : Vec ℕ Global) (t : Table) (s : Steps) : Type 0 where
+pub record IsFrame (v : View) (path : Vec Atom Global) (given : ℕ) (members sizes : Vec ℕ Global) (sound : ℕ) (options : Vec ℕ Global) (matrix : Matrix) (t : Table) (s : Steps) : Type 0 where
   pub lists : IsKept v path given members options
   pub grown : SizesShow v path.items given sizes.items
   pub right : SoundShows v path.items given sound
   pub changes : 4096 ≤ vec_capacity sizes
-  pub levels : StepsKeep v path.items given t s
-  pub room : HasRoom t s
+  pub levels : StepsKeep v path.items given matrix t s
+  pub room : HasRoom matrix s

@@ -5,6 +5,8 @@ use Rattle.poly_tiling.specs.Names.{WellNamed}
 use Rattle.poly_tiling.specs.Puzzle.{View, has_item, items}
 use Rattle.poly_frame.specs.Bits.{has_bit}
 use Rattle.poly_frame.specs.FrameItems.{Noted, item_of}
+use Rattle.poly_frame.specs.declared.frame.matrix.Columns.{Columns}
+use Rattle.poly_frame.specs.declared.frame.matrix.Columns.TheVariants.{Own, Lent}
 use Rattle.poly_frame.specs.declared.frame.matrix.Lists.{Lists}
 use Rattle.poly_frame.specs.declared.frame.matrix.Matrix.{Matrix}
 
@@ -62,3 +64,13 @@ pub record IsWhole (v : View) (m : Matrix) : Type 0 where
 abbrev pub any_below : (ℕ → Bool) → ℕ → Bool
 any_below f zero = false
 any_below f (suc n) = any_below f n || f n
+
+-- the matrix that a frame reads
+abbrev pub matrix_of : Columns → Matrix
+matrix_of (Own m) = m
+matrix_of (Lent m) = m.now
+
+-- a row with a bit for each column whose number passes a test
+pub record RowOf (f : ℕ → Bool) (m : Matrix) (row : List ℕ) : Type 0 where
+  pub inside : (j : ℕ) → j < length m.numbers.items → has_bit row j ≡ f (slice_index m.numbers.items j)
+  pub past : (j : ℕ) → length m.numbers.items ≤ j → j < 64 * m.width → has_bit row j ≡ false

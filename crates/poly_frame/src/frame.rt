@@ -1,5 +1,5 @@
-//! A node of a search, kept as bits: rows of words for the placements that were open at the start. A step copies the last
-//! row and removes what it closes, so it needs no search and, after the start, no memory. These bits replace the linked
+//! A node of a search, kept as bits: rows of words with a bit for each column of a matrix. A step copies the last row and
+//! removes what it closes, so it needs no search and, after the start, no memory. These bits replace the linked
 //! lists of Knuth's dancing links (The Art of Computer Programming, volume 4B, section 7.2.2.1).
 ghost use Rattle.std.specs.Prelude.{IfErr, IfOk, IfSome, MatchOption, [], false, length, not, true, ℕ, ◌&&◌, ◌++◌, ◌+◌, ◌-◌, ◌<◌, ◌∷◌, ◌≡◌, ◌≤◌};
 ghost use Rattle.std.specs.List.{list_all};
@@ -11,7 +11,7 @@ ghost use Rattle.poly_atom.specs.Hopeless.{base};
 ghost use Rattle.poly_frame.specs.Open.{arms_fit, dead, lower, ruled_out};
 ghost use Rattle.poly_frame.specs.FrameSound.{is_sound};
 ghost use Rattle.poly_frame.specs.FrameTable.{HasOpen};
-ghost use Rattle.poly_frame.specs.Matrices.{IsMatrix, IsWhole};
+ghost use Rattle.poly_frame.specs.Matrices.{IsMatrix, IsWhole, matrix_of};
 ghost use Rattle.poly_frame.specs.Walk.{back_to, is_due, is_open, is_option, step_back, with_step};
 
 mod allowed;
@@ -28,6 +28,8 @@ mod steps;
 mod table;
 
 pub use crate::frame::matrix::Matrix;
+use crate::frame::matrix::{Columns, columns_of};
+use crate::frame::opened::open_row;
 use crate::frame::starved::is_starved;
 use crate::frame::steps::{Steps, start};
 use crate::frame::table::{Table, counts_of, table_of, uppers_of};
@@ -51,6 +53,7 @@ pub struct Frame<'a> {
     sizes: Vec<usize>,
     sound: usize,
     options: Vec<u32>,
+    columns: Columns<'a>,
     table: Table,
     steps: Steps,
 }
@@ -58,12 +61,13 @@ pub struct Frame<'a> {
 impl<'a> Model for Frame<'a> {
     ghost use Rattle.poly_frame.specs.Walk.{Walk};
     ghost use Rattle.poly_frame.specs.Frames.{IsFrame};
+    ghost use Rattle.poly_frame.specs.Matrices.{matrix_of};
 
     ghost Value = { Walk };
 
     ghost view = { λ f. record { scene = f.view.now; atoms = f.path.items; given = f.given } };
 
-    ghost invariant = { λ f. IsFrame f.view.now f.path f.given f.members f.sizes f.sound f.options f.table f.steps };
+    ghost invariant = { λ f. IsFrame f.view.now f.path f.given f.members f.sizes f.sound f.options (matrix_of f.columns) f.table f.steps };
 }
 
 impl<'a> Frame<'a> {
@@ -78,16 +82,17 @@ impl<'a> Frame<'a> {
         ensures once { distinct view.now.live ≡ true }
     {
         let whole = Matrix::new(alloc, view)?;
-        let frame = Frame::over(alloc, view, &whole, atoms)?;
+        let frame = Frame::begin(alloc, view, Columns::Own(whole), atoms, false)?;
         Ok(frame)
     }
 
     /// A frame of the view with these atoms and no step, from the view's matrix. It takes memory by the items, the atoms
-    /// and the placements that are open at the atoms alone.
+    /// and the placements that are open at the atoms alone. If most placements are open, it reads that matrix; else it
+    /// makes a smaller one.
     pub fn over(
         alloc: Global,
         view: &'a View,
-        whole: &Matrix,
+        whole: &'a Matrix,
         atoms: &[Atom],
     ) -> Result<Frame<'a>, Refusal>
         requires { IsWhole view.now whole.now }
@@ -96,7 +101,7 @@ impl<'a> Frame<'a> {
         ensures well { WellNamed view.now }
         ensures once { distinct view.now.live ≡ true }
     {
-        let frame = Frame::begin(alloc, view, whole, atoms, false)?;
+        let frame = Frame::begin(alloc, view, Columns::Lent(whole), atoms, false)?;
         Ok(frame)
     }
 
@@ -107,11 +112,19 @@ impl<'a> Frame<'a> {
         ensures made { IfOk result (λ o. IfSome o (λ f. f ≡ record { scene = self.now.scene; atoms = self.now.atoms; given = length self.now.atoms })) }
         ensures why { IfErr result (λ e. e ≡ Refusal.Memory) }
     {
-        if !looks::is_sparse(&self.table, &self.steps) {
+        if !looks::is_sparse(self.columns.matrix(), &self.steps) {
             return Ok(None);
         }
         let sure = self.sound > self.path.len() - self.given;
-        let frame = Frame::begin(alloc, self.view, &self.table.matrix, &self.path, sure)?;
+        let narrow = looks::narrowed_now(
+            alloc,
+            self.view,
+            &self.path,
+            self.columns.matrix(),
+            &self.table,
+            &self.steps,
+        )?;
+        let frame = Frame::begin(alloc, self.view, Columns::Own(narrow), &self.path, sure)?;
         Ok(Some(frame))
     }
 
@@ -121,12 +134,12 @@ impl<'a> Frame<'a> {
     fn begin(
         alloc: Global,
         view: &'a View,
-        part: &Matrix,
+        part: Columns<'a>,
         atoms: &[Atom],
         sure: bool,
     ) -> Result<Frame<'a>, Refusal>
-        requires part { IsMatrix view.now part.now }
-        requires all { HasOpen view.now atoms.now part.now }
+        requires part { IsMatrix view.now (matrix_of part) }
+        requires all { HasOpen view.now atoms.now (matrix_of part) }
         requires sure { sure ≡ true → is_sound view.now atoms.now ≡ true }
         ensures made { IfOk result (λ f. f ≡ record { scene = view.now; atoms = atoms.now; given = length atoms.now }) }
         ensures why { IfErr result (λ e. e ≡ Refusal.Memory) }
@@ -143,11 +156,22 @@ impl<'a> Frame<'a> {
         let sizes = Vec::with_capacity(alloc, STEPS)?;
         let options = Vec::with_capacity(alloc, live)?;
         let mut raised = Vec::with_capacity(alloc, STEPS * 17)?;
-        let have = counts_of(alloc, view, &members, &part.cells, &mut raised)?;
-        let uppers = uppers_of(alloc, view, atoms, &part.cells)?;
-        let sound = sound::begin(view, part, atoms, &members, &uppers, &have, sure);
-        let table = table_of(alloc, view, part, atoms, &members, &uppers, &have)?;
-        let steps = start(alloc, view, atoms, &table, have, raised)?;
+        let have = counts_of(alloc, view, &members, &part.matrix().cells, &mut raised)?;
+        let uppers = uppers_of(alloc, view, atoms, &part.matrix().cells)?;
+        let sound = sound::begin(view, part.matrix(), atoms, &members, &uppers, &have, sure);
+        let row = open_row(alloc, view, part.matrix(), atoms, &members, &uppers, &have)?;
+        let (columns, row) = columns_of(alloc, view, part, row)?;
+        let table = table_of(alloc, view, columns.matrix(), atoms, &uppers)?;
+        let steps = start(
+            alloc,
+            view,
+            atoms,
+            columns.matrix(),
+            &table,
+            row,
+            have,
+            raised,
+        )?;
         Ok(Frame {
             view,
             path,
@@ -156,6 +180,7 @@ impl<'a> Frame<'a> {
             sizes,
             sound,
             options,
+            columns,
             table,
             steps,
         })
@@ -185,6 +210,7 @@ impl<'a> Frame<'a> {
             self.view,
             &self.path,
             self.given,
+            self.columns.matrix(),
             &self.table,
             &self.members,
             &mut self.steps,
@@ -214,6 +240,7 @@ impl<'a> Frame<'a> {
             self.view,
             &self.path,
             self.given,
+            self.columns.matrix(),
             &self.table,
             &mut self.steps,
             placement,
@@ -242,6 +269,7 @@ impl<'a> Frame<'a> {
             self.view,
             &self.path,
             self.given,
+            self.columns.matrix(),
             &self.table,
             &mut self.steps,
         );
@@ -276,6 +304,7 @@ impl<'a> Frame<'a> {
         looks::list_options(
             self.view,
             &self.path,
+            self.columns.matrix(),
             &self.table,
             &self.steps,
             item,
@@ -288,7 +317,8 @@ impl<'a> Frame<'a> {
     pub fn first_open(&self) -> Option<u32>
         ensures { MatchOption result (list_all (λ p. not (is_open self.now p)) self.now.scene.live ≡ true) (λ p. (mem self.now.scene.live p ≡ true) × (is_open self.now p ≡ true)) }
     {
-        looks::first_open(self.view, &self.path, &self.table, &self.steps)
+        let matrix = self.columns.matrix();
+        looks::first_open(self.view, &self.path, matrix, &self.table, &self.steps)
     }
 
     /// Whether no placement is open.
@@ -310,6 +340,7 @@ impl<'a> Frame<'a> {
         looks::next_due(
             self.view,
             &self.path,
+            self.columns.matrix(),
             &self.table,
             &self.steps,
             &self.members,
@@ -354,6 +385,7 @@ impl<'a> Frame<'a> {
         allowed::count(
             self.view,
             &self.path,
+            self.columns.matrix(),
             &self.table,
             &self.steps,
             &self.members,
@@ -369,6 +401,7 @@ impl<'a> Frame<'a> {
         allowed::least(
             self.view,
             &self.path,
+            self.columns.matrix(),
             &self.table,
             &self.steps,
             &self.members,
@@ -383,7 +416,14 @@ impl<'a> Frame<'a> {
         ensures same { self.new ≡ self.old }
         ensures value { result ≡ arms_fit self.old.scene (self.old.atoms ++ Atom.Has placement ∷ []) item [] }
     {
-        if is_starved(self.view, &self.table, &self.steps, placement, &item) {
+        if is_starved(
+            self.view,
+            self.columns.matrix(),
+            &self.table,
+            &self.steps,
+            placement,
+            &item,
+        ) {
             return true;
         }
         self.pick(placement);
@@ -400,6 +440,7 @@ impl<'a> Frame<'a> {
             self.view,
             &self.path,
             self.given,
+            self.columns.matrix(),
             &self.table,
             &self.steps,
             self.sound,
@@ -424,7 +465,14 @@ impl<'a> Frame<'a> {
     fn stands_open(&self, placement: u32) -> bool
         ensures { result ≡ true → (mem self.now.scene.live placement ≡ true) × (is_open self.now placement ≡ true) }
     {
-        looks::stands_open(self.view, &self.path, &self.table, &self.steps, placement)
+        looks::stands_open(
+            self.view,
+            &self.path,
+            self.columns.matrix(),
+            &self.table,
+            &self.steps,
+            placement,
+        )
     }
 }
 

@@ -9,6 +9,7 @@ ghost use Rattle.poly_frame.specs.FrameItems.{item_of};
 ghost use Rattle.poly_frame.specs.FrameSteps.{StepsKeep};
 
 use crate::frame::items::{guess_item, index_of};
+use crate::frame::matrix::Matrix;
 use crate::frame::sound::is_right;
 use crate::frame::steps::Steps;
 use crate::frame::table::Table;
@@ -17,25 +18,18 @@ use poly_atom::Atom;
 use poly_tiling::{Item, View};
 
 // How many numbers are in both rows.
-fn count_both(table: &Table, live: &[u64], at: usize, from: usize) -> usize
-    requires wide { length table.now.matrix.numbers.items ≤ 64 * table.now.matrix.width }
-    requires narrow { table.now.matrix.width < 2 ^ 58 }
-    requires live { at + table.now.matrix.width ≤ length live.now }
-    requires rows { from + table.now.matrix.width ≤ length table.now.matrix.rows.items }
-    ensures value { (g : ℕ → Bool) → ((j : ℕ) → j < length table.now.matrix.numbers.items → g (slice_index table.now.matrix.numbers.items j) ≡ in_both live.now at table.now.matrix.rows.items from j) → result ≡ tally g table.now.matrix.numbers.items }
-    ensures few { result ≤ length table.now.matrix.numbers.items }
+fn count_both(matrix: &Matrix, live: &[u64], at: usize, from: usize) -> usize
+    requires wide { length matrix.now.numbers.items ≤ 64 * matrix.now.width }
+    requires narrow { matrix.now.width < 2 ^ 58 }
+    requires live { at + matrix.now.width ≤ length live.now }
+    requires rows { from + matrix.now.width ≤ length matrix.now.rows.items }
+    ensures value { (g : ℕ → Bool) → ((j : ℕ) → j < length matrix.now.numbers.items → g (slice_index matrix.now.numbers.items j) ≡ in_both live.now at matrix.now.rows.items from j) → result ≡ tally g matrix.now.numbers.items }
+    ensures few { result ≤ length matrix.now.numbers.items }
 {
     let mut n = 0;
     let mut low = 0;
-    while let Some(j) = bits::next_both(
-        live,
-        at,
-        &table.matrix.rows,
-        from,
-        table.matrix.width,
-        low,
-    ) {
-        if j >= table.matrix.numbers.len() {
+    while let Some(j) = bits::next_both(live, at, &matrix.rows, from, matrix.width, low) {
+        if j >= matrix.numbers.len() {
             return n;
         }
         n += 1;
@@ -63,38 +57,41 @@ fn count_held(view: &View, path: &[Atom], members: &[u32], item: &Item) -> usize
 fn count_row(
     view: &View,
     path: &[Atom],
+    matrix: &Matrix,
     table: &Table,
     steps: &Steps,
     members: &[u32],
     b: usize,
     item: &Item,
 ) -> usize
-    requires kept { (first : ℕ) × StepsKeep view.now path.now first table.now steps.now }
+    requires kept { (first : ℕ) × StepsKeep view.now path.now first matrix.now table.now steps.now }
     requires row { b < length view.now.bounds }
     requires same { same_item (item_of view.now b) item.now ≡ true }
     requires members { members.now ≡ base view.now path.now }
     ensures { result ≡ tally (λ p. has_item view.now p item.now && not (ruled_out view.now path.now p)) view.now.live }
 {
-    let at = steps.live.len() - table.matrix.width;
+    let _ = table;
+    let at = steps.live.len() - matrix.width;
     let held = count_held(view, path, members, item);
-    held + count_both(table, &steps.live, at, table.matrix.width * b)
+    held + count_both(matrix, &steps.live, at, matrix.width * b)
 }
 
 /// How many placements have the item and are not ruled out.
 pub(crate) fn count(
     view: &View,
     path: &[Atom],
+    matrix: &Matrix,
     table: &Table,
     steps: &Steps,
     members: &[u32],
     item: &Item,
 ) -> usize
-    requires kept { (first : ℕ) × StepsKeep view.now path.now first table.now steps.now }
+    requires kept { (first : ℕ) × StepsKeep view.now path.now first matrix.now table.now steps.now }
     requires members { members.now ≡ base view.now path.now }
     ensures { result ≡ tally (λ p. has_item view.now p item.now && not (ruled_out view.now path.now p)) view.now.live }
 {
-    match index_of(view.items(), guess_item(&table.matrix.cells, item), *item) {
-        Some(b) => count_row(view, path, table, steps, members, b, item),
+    match index_of(view.items(), guess_item(&matrix.cells, item), *item) {
+        Some(b) => count_row(view, path, matrix, table, steps, members, b, item),
         None => plain::count_allowed(view, path, members, item),
     }
 }
@@ -103,12 +100,13 @@ pub(crate) fn count(
 fn least_of_row(
     view: &View,
     path: &[Atom],
+    matrix: &Matrix,
     table: &Table,
     steps: &Steps,
     b: usize,
     item: &Item,
 ) -> usize
-    requires kept { (first : ℕ) × StepsKeep view.now path.now first table.now steps.now }
+    requires kept { (first : ℕ) × StepsKeep view.now path.now first matrix.now table.now steps.now }
     requires row { b < length view.now.bounds }
     requires same { same_item (item_of view.now b) item.now ≡ true }
     ensures { result ≡ lower view.now path.now item.now }
@@ -123,17 +121,18 @@ fn least_of_row(
 pub(crate) fn least(
     view: &View,
     path: &[Atom],
+    matrix: &Matrix,
     table: &Table,
     steps: &Steps,
     members: &[u32],
     item: &Item,
 ) -> usize
-    requires kept { (first : ℕ) × StepsKeep view.now path.now first table.now steps.now }
+    requires kept { (first : ℕ) × StepsKeep view.now path.now first matrix.now table.now steps.now }
     requires members { members.now ≡ base view.now path.now }
     ensures { result ≡ lower view.now path.now item.now }
 {
-    match index_of(view.items(), guess_item(&table.matrix.cells, item), *item) {
-        Some(b) => least_of_row(view, path, table, steps, b, item),
+    match index_of(view.items(), guess_item(&matrix.cells, item), *item) {
+        Some(b) => least_of_row(view, path, matrix, table, steps, b, item),
         None => plain::lower_of(view, path, members, item),
     }
 }

@@ -8,7 +8,9 @@ ghost use Rattle.poly_tiling.specs.Puzzle.{View as Scene};
 ghost use Rattle.poly_frame.specs.Bits.{has_bit};
 
 use crate::bits;
+use crate::frame::busy::{Busy, busy_rows, count_bits};
 use crate::frame::items::{guess_cells, note_items};
+use crate::frame::opened::first_row;
 use poly_grid::Refusal;
 use poly_tiling::View;
 use std::alloc::Global;
@@ -29,9 +31,29 @@ pub struct Matrix {
     pub(crate) cells: Vec<usize>,
     pub(crate) width: usize,
     pub(crate) rows: Vec<u64>,
+    pub(crate) busy: Vec<Busy>,
 }
 
-ghost use Rattle.poly_frame.specs.Matrices.{IsMatrix, IsWhole, ListsShow, RowsShow, StandsShow, list_at, place};
+ghost use Rattle.poly_frame.specs.Matrices.{IsMatrix, IsWhole, ListsShow, RowOf, RowsShow, StandsShow, list_at, matrix_of, place};
+
+/// The matrix that a frame reads: one of its own, or the one that it was made from.
+#[derive(Drop)]
+pub(crate) enum Columns<'a> {
+    Own(Matrix),
+    Lent(&'a Matrix),
+}
+
+impl<'a> Columns<'a> {
+    /// The matrix itself.
+    pub(crate) fn matrix(&self) -> &Matrix
+        ensures { result.now ≡ matrix_of self.now }
+    {
+        match self {
+            Columns::Own(matrix) => matrix,
+            Columns::Lent(matrix) => matrix,
+        }
+    }
+}
 
 impl Lists {
     /// The list at `j`.
@@ -62,6 +84,7 @@ impl Matrix {
         let width = numbers.len() / 64 + 1;
         let rows = rows_of(alloc, view, &numbers, &lists, width)?;
         let stands = stands_of(alloc, &numbers)?;
+        let busy = busy_rows(alloc, &rows, width, view.items().len())?;
         Ok(Matrix {
             numbers,
             stands,
@@ -69,6 +92,7 @@ impl Matrix {
             cells,
             width,
             rows,
+            busy,
         })
     }
 
@@ -86,6 +110,35 @@ impl Matrix {
         }
         None
     }
+}
+
+// Whether most of the columns are open, so that a smaller matrix would save less than it costs to make.
+fn is_dense(matrix: &Matrix, row: &[u64]) -> bool {
+    count_bits(row) >= matrix.numbers.len() / 4 * 3
+}
+
+/// The matrix that a frame reads, and the row of what is open there, from a matrix with such a row: the same ones, or a
+/// smaller matrix if much of the given one is closed.
+pub(crate) fn columns_of<'a>(
+    alloc: Global,
+    view: &View,
+    part: Columns<'a>,
+    row: Vec<u64>,
+) -> Result<(Columns<'a>, Vec<u64>), Refusal>
+    requires part { IsMatrix view.now (matrix_of part) }
+    requires len { length row.items ≡ (matrix_of part).width }
+    ensures part { IfOk result (λ r. IsMatrix view.now (matrix_of r.0)) }
+    ensures len { IfOk result (λ r. length r.1.items ≡ (matrix_of r.0).width) }
+    ensures row { IfOk result (λ r. (f : ℕ → Bool) → RowOf f (matrix_of part.entry) row.items → RowOf f (matrix_of r.0) r.1.items) }
+    ensures all { IfOk result (λ r. (f : ℕ → Bool) → RowOf f (matrix_of part.entry) row.items → (q : ℕ) → mem (matrix_of part.entry).numbers.items q ≡ true → f q ≡ true → mem (matrix_of r.0).numbers.items q ≡ true) }
+    ensures why { IfErr result (λ e. e ≡ Refusal.Memory) }
+{
+    if is_dense(part.matrix(), &row) {
+        return Ok((part, row));
+    }
+    let narrow = narrowed(alloc, view, part.matrix(), &row)?;
+    let first = first_row(alloc, narrow.numbers.len(), narrow.width)?;
+    Ok((Columns::Own(narrow), first))
 }
 
 /// The columns of a matrix of the view that have a bit in the row.
@@ -108,6 +161,7 @@ pub(crate) fn narrowed(
     let width = numbers.len() / 64 + 1;
     let rows = rows_of(alloc, view, &numbers, &lists, width)?;
     let stands = stands_of(alloc, &numbers)?;
+    let busy = busy_rows(alloc, &rows, width, view.items().len())?;
     Ok(Matrix {
         numbers,
         stands,
@@ -115,6 +169,7 @@ pub(crate) fn narrowed(
         cells,
         width,
         rows,
+        busy,
     })
 }
 

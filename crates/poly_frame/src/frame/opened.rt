@@ -1,5 +1,5 @@
 //! Which columns of a matrix are open at the atoms.
-ghost use Rattle.std.specs.Prelude.{IfErr, IfOk, length, nat_lt, not, slice_index, true, ℕ, ◌&&◌, ◌*◌, ◌<◌, ◌==◌, ◌≡◌};
+ghost use Rattle.std.specs.Prelude.{IfErr, IfOk, length, nat_lt, not, slice_index, false, true, ℕ, ◌&&◌, ◌*◌, ◌<◌, ◌==◌, ◌^◌, ◌≡◌, ◌≤◌};
 ghost use Rattle.std.specs.List.{list_any};
 ghost use Rattle.std.specs.Int.{bit_at};
 ghost use Rattle.poly_tiling.specs.Lists.{mem};
@@ -9,7 +9,7 @@ ghost use Rattle.poly_frame.specs.Bits.{has_bit};
 ghost use Rattle.poly_frame.specs.Open.{open_in};
 ghost use Rattle.poly_frame.specs.FrameItems.{item_at};
 ghost use Rattle.poly_frame.specs.FrameTable.{HaveShows, UppersShow, shut_at};
-ghost use Rattle.poly_frame.specs.Matrices.{IsMatrix, any_below, place};
+ghost use Rattle.poly_frame.specs.Matrices.{IsMatrix, RowOf, any_below, place};
 
 use crate::bits;
 use crate::frame::matrix::Matrix;
@@ -45,6 +45,34 @@ fn full_row(alloc: Global, width: usize) -> Result<Vec<u64>, Refusal>
     ensures why { IfErr result (λ e. e ≡ Refusal.Memory) }
 {
     let row = vec![in alloc; ones(); width]?;
+    Ok(row)
+}
+
+// Takes out all from `n` on.
+fn cut_off(n: usize, width: usize, row: &mut Vec<u64>)
+    requires narrow { width < 2 ^ 58 }
+    requires wide { n ≤ 64 * width }
+    requires len { length row.old.items ≡ width }
+    ensures len { length row.new.items ≡ width }
+    ensures kept { (j : ℕ) → j < n → has_bit row.new.items j ≡ has_bit row.old.items j }
+    ensures past { (j : ℕ) → n ≤ j → j < 64 * width → has_bit row.new.items j ≡ false }
+{
+    for j in n..64 * width {
+        bits::take_out(row, 0, j);
+    }
+}
+
+/// A row with a bit for each number below `n`.
+pub(crate) fn first_row(alloc: Global, n: usize, width: usize) -> Result<Vec<u64>, Refusal>
+    requires narrow { width < 2 ^ 58 }
+    requires wide { n ≤ 64 * width }
+    ensures len { IfOk result (λ r. length r.items ≡ width) }
+    ensures inside { IfOk result (λ r. (j : ℕ) → j < n → has_bit r.items j ≡ true) }
+    ensures past { IfOk result (λ r. (j : ℕ) → n ≤ j → j < 64 * width → has_bit r.items j ≡ false) }
+    ensures why { IfErr result (λ e. e ≡ Refusal.Memory) }
+{
+    let mut row = full_row(alloc, width)?;
+    cut_off(n, width, &mut row);
     Ok(row)
 }
 
@@ -133,12 +161,13 @@ pub(crate) fn open_row(
     requires uppers_len { length uppers.now ≡ length view.now.bounds }
     requires uppers { UppersShow view.now atoms.now uppers.now }
     ensures len { IfOk result (λ r. length r.items ≡ whole.now.width) }
-    ensures value { IfOk result (λ r. (j : ℕ) → j < length whole.now.numbers.items → has_bit r.items j ≡ open_in view.now atoms.now (slice_index whole.now.numbers.items j)) }
+    ensures value { IfOk result (λ r. RowOf (λ p. open_in view.now atoms.now p) whole.now r.items) }
     ensures why { IfErr result (λ e. e ≡ Refusal.Memory) }
 {
     let mut row = full_row(alloc, whole.width)?;
     take_out_shut(view.items(), whole, uppers, have, &mut row);
     take_out_lacked(whole, atoms, &mut row);
     take_out_members(whole, members, &mut row);
+    cut_off(whole.numbers.len(), whole.width, &mut row);
     Ok(row)
 }

@@ -12,52 +12,67 @@ ghost use Rattle.poly_frame.specs.FrameSteps.{StepsKeep};
 
 use crate::bits;
 use crate::frame::items::{guess_item, index_of};
+use crate::frame::matrix::Matrix;
 use crate::frame::steps::Steps;
 use crate::frame::table::Table;
 use poly_tiling::{Item, View};
 
 // What is left of a word of the row, once the item at `b` has one more member.
-fn left_by(table: &Table, have: &[u64], b: usize, k: usize, word: u64) -> u64
+fn left_by(matrix: &Matrix, table: &Table, have: &[u64], b: usize, k: usize, word: u64) -> u64
     requires low { b < length have.now }
     requires limits { length table.now.limits.items ≡ length have.now }
-    requires rows { length table.now.matrix.rows.items ≡ table.now.matrix.width * length have.now }
-    requires inside { k < table.now.matrix.width }
-    ensures { (t : ℕ) → t < 64 → (bit_at result t == 1) ≡ ((bit_at word t == 1) && not (nat_le (slice_index table.now.limits.items b - 1) (slice_index have.now b) && (bit_at (slice_index table.now.matrix.rows.items (table.now.matrix.width * b + k)) t == 1))) }
+    requires rows { length matrix.now.rows.items ≡ matrix.now.width * length have.now }
+    requires inside { k < matrix.now.width }
+    ensures { (t : ℕ) → t < 64 → (bit_at result t == 1) ≡ ((bit_at word t == 1) && not (nat_le (slice_index table.now.limits.items b - 1) (slice_index have.now b) && (bit_at (slice_index matrix.now.rows.items (matrix.now.width * b + k)) t == 1))) }
 {
     if u64::from(table.limits[b].saturating_sub(1)) <= have[b] {
-        bits::less(word, table.matrix.rows[table.matrix.width * b + k])
+        bits::less(word, matrix.rows[matrix.width * b + k])
     } else {
         word
     }
 }
 
 // Whether nothing is left of a word of the row, once the items at the places have one more member.
-fn is_shut_word(table: &Table, have: &[u64], places: &[usize], k: usize, word: u64) -> bool
+fn is_shut_word(
+    matrix: &Matrix,
+    table: &Table,
+    have: &[u64],
+    places: &[usize],
+    k: usize,
+    word: u64,
+) -> bool
     requires low { list_all (λ b. nat_lt b (length have.now)) places.now ≡ true }
     requires limits { length table.now.limits.items ≡ length have.now }
-    requires rows { length table.now.matrix.rows.items ≡ table.now.matrix.width * length have.now }
-    requires inside { k < table.now.matrix.width }
-    ensures { result ≡ true → (t : ℕ) → t < 64 → (bit_at word t == 1) ≡ true → list_any (λ b. nat_le (slice_index table.now.limits.items b - 1) (slice_index have.now b) && (bit_at (slice_index table.now.matrix.rows.items (table.now.matrix.width * b + k)) t == 1)) places.now ≡ true }
+    requires rows { length matrix.now.rows.items ≡ matrix.now.width * length have.now }
+    requires inside { k < matrix.now.width }
+    ensures { result ≡ true → (t : ℕ) → t < 64 → (bit_at word t == 1) ≡ true → list_any (λ b. nat_le (slice_index table.now.limits.items b - 1) (slice_index have.now b) && (bit_at (slice_index matrix.now.rows.items (matrix.now.width * b + k)) t == 1)) places.now ≡ true }
 {
     let mut left = word;
     for b in places {
-        left = left_by(table, have, *b, k, left);
+        left = left_by(matrix, table, have, *b, k, left);
     }
     left == 0
 }
 
 // Whether the items at the places shut each number that is both in the row at word `at` and in the one at word `from`.
-fn are_shut(table: &Table, steps: &Steps, places: &[usize], at: usize, from: usize) -> bool
+fn are_shut(
+    matrix: &Matrix,
+    table: &Table,
+    steps: &Steps,
+    places: &[usize],
+    at: usize,
+    from: usize,
+) -> bool
     requires low { list_all (λ b. nat_lt b (length steps.now.have.items)) places.now ≡ true }
     requires limits { length table.now.limits.items ≡ length steps.now.have.items }
-    requires rows { length table.now.matrix.rows.items ≡ table.now.matrix.width * length steps.now.have.items }
-    requires live { at + table.now.matrix.width ≤ length steps.now.live.items }
-    requires row { from + table.now.matrix.width ≤ length table.now.matrix.rows.items }
-    ensures { result ≡ true → (k t : ℕ) → k < table.now.matrix.width → t < 64 → (bit_at (slice_index steps.now.live.items (at + k)) t == 1) ≡ true → (bit_at (slice_index table.now.matrix.rows.items (from + k)) t == 1) ≡ true → list_any (λ b. nat_le (slice_index table.now.limits.items b - 1) (slice_index steps.now.have.items b) && (bit_at (slice_index table.now.matrix.rows.items (table.now.matrix.width * b + k)) t == 1)) places.now ≡ true }
+    requires rows { length matrix.now.rows.items ≡ matrix.now.width * length steps.now.have.items }
+    requires live { at + matrix.now.width ≤ length steps.now.live.items }
+    requires row { from + matrix.now.width ≤ length matrix.now.rows.items }
+    ensures { result ≡ true → (k t : ℕ) → k < matrix.now.width → t < 64 → (bit_at (slice_index steps.now.live.items (at + k)) t == 1) ≡ true → (bit_at (slice_index matrix.now.rows.items (from + k)) t == 1) ≡ true → list_any (λ b. nat_le (slice_index table.now.limits.items b - 1) (slice_index steps.now.have.items b) && (bit_at (slice_index matrix.now.rows.items (matrix.now.width * b + k)) t == 1)) places.now ≡ true }
 {
-    for k in 0..table.matrix.width {
-        let word = bits::both(steps.live[at + k], table.matrix.rows[from + k]);
-        if word != 0 && !is_shut_word(table, &steps.have, places, k, word) {
+    for k in 0..matrix.width {
+        let word = bits::both(steps.live[at + k], matrix.rows[from + k]);
+        if word != 0 && !is_shut_word(matrix, table, &steps.have, places, k, word) {
             return false;
         }
     }
@@ -66,39 +81,40 @@ fn are_shut(table: &Table, steps: &Steps, places: &[usize], at: usize, from: usi
 
 // The same of the numbers that are open and have the item at `b`, and the items of the number at `j`, which is open and
 // hasn't that item.
-fn is_starved_at(table: &Table, steps: &Steps, b: usize, j: usize) -> bool
-    requires kept { (v : Scene) × (A : List Atom) × (first : ℕ) × StepsKeep v A first table.now steps.now }
+fn is_starved_at(matrix: &Matrix, table: &Table, steps: &Steps, b: usize, j: usize) -> bool
+    requires kept { (v : Scene) × (A : List Atom) × (first : ℕ) × StepsKeep v A first matrix.now table.now steps.now }
     requires row { b < length steps.now.have.items }
-    requires number { j < length table.now.matrix.numbers.items }
-    ensures { result ≡ true → (v : Scene) (A : List Atom) (first : ℕ) → StepsKeep v A first table.now steps.now → arms_fit v (A ++ Has (slice_index table.now.matrix.numbers.items j) ∷ []) (item_of v b) [] ≡ true }
+    requires number { j < length matrix.now.numbers.items }
+    ensures { result ≡ true → (v : Scene) (A : List Atom) (first : ℕ) → StepsKeep v A first matrix.now table.now steps.now → arms_fit v (A ++ Has (slice_index matrix.now.numbers.items j) ∷ []) (item_of v b) [] ≡ true }
 {
-    let at = steps.live.len() - table.matrix.width;
-    let from = table.matrix.width * b;
+    let at = steps.live.len() - matrix.width;
+    let from = matrix.width * b;
     if steps.have[b] > 0 || table.asked[b] == 0 {
         return false;
     }
-    if !bits::has(&steps.live, at, j) || bits::has(&table.matrix.rows, from, j) {
+    if !bits::has(&steps.live, at, j) || bits::has(&matrix.rows, from, j) {
         return false;
     }
-    are_shut(table, steps, table.matrix.lists.of(j), at, from)
+    are_shut(matrix, table, steps, matrix.lists.of(j), at, from)
 }
 
 /// Whether no placement that has the item is known to stay open once the placement is taken, though some are asked for.
 pub(crate) fn is_starved(
     view: &View,
+    matrix: &Matrix,
     table: &Table,
     steps: &Steps,
     number: u32,
     item: &Item,
 ) -> bool
-    requires kept { (A : List Atom) × (first : ℕ) × StepsKeep view.now A first table.now steps.now }
-    ensures { result ≡ true → (A : List Atom) (first : ℕ) → StepsKeep view.now A first table.now steps.now → arms_fit view.now (A ++ Has number ∷ []) item.now [] ≡ true }
+    requires kept { (A : List Atom) × (first : ℕ) × StepsKeep view.now A first matrix.now table.now steps.now }
+    ensures { result ≡ true → (A : List Atom) (first : ℕ) → StepsKeep view.now A first matrix.now table.now steps.now → arms_fit view.now (A ++ Has number ∷ []) item.now [] ≡ true }
 {
-    let Some(j) = table.matrix.place_of(number) else {
+    let Some(j) = matrix.place_of(number) else {
         return false;
     };
-    match index_of(view.items(), guess_item(&table.matrix.cells, item), *item) {
+    match index_of(view.items(), guess_item(&matrix.cells, item), *item) {
         None => false,
-        Some(b) => is_starved_at(table, steps, b, j),
+        Some(b) => is_starved_at(matrix, table, steps, b, j),
     }
 }

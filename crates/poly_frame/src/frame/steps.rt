@@ -4,6 +4,7 @@ ghost use Rattle.std.specs.Prelude.{IfErr, IfOk, IfSome, List, false, length, na
 ghost use Rattle.std.specs.List.{list_all, list_any};
 ghost use Rattle.poly_atom.specs.Hopeless.{base};
 ghost use Rattle.poly_frame.specs.Bits.{has_bit};
+ghost use Rattle.poly_frame.specs.Open.{open_in};
 ghost use Rattle.poly_frame.specs.FrameItems.{Noted};
 ghost use Rattle.poly_tiling.specs.Puzzle.{items};
 
@@ -28,7 +29,7 @@ pub(crate) struct Steps {
     pub(crate) due: Vec<u64>,
 }
 
-ghost use Rattle.poly_frame.specs.Matrices.{IsMatrix, place};
+ghost use Rattle.poly_frame.specs.Matrices.{IsMatrix, RowOf, place};
 ghost use Rattle.poly_frame.specs.FrameTable.{HaveShows, TableShows};
 ghost use Rattle.poly_frame.specs.FrameSteps.{HasRoom, StepsKeep};
 
@@ -64,25 +65,26 @@ fn note_list(list: &[usize], noted: &mut Vec<usize>)
 }
 
 // Takes out all that have an item at one of the places and are closed by its count.
-fn close(table: &Table, have: &[u64], places: &[usize], live: &mut Vec<u64>, at: usize)
+fn close(
+    matrix: &Matrix,
+    table: &Table,
+    have: &[u64],
+    places: &[usize],
+    live: &mut Vec<u64>,
+    at: usize,
+)
     requires low { list_all (λ b. nat_lt b (length have.now)) places.now ≡ true }
     requires limits { length table.now.limits.items ≡ length have.now }
-    requires rows { length table.now.matrix.rows.items ≡ table.now.matrix.width * length have.now }
-    requires live { at + table.now.matrix.width ≤ length live.old.items }
+    requires rows { length matrix.now.rows.items ≡ matrix.now.width * length have.now }
+    requires live { at + matrix.now.width ≤ length live.old.items }
     ensures len { length live.new.items ≡ length live.old.items }
     ensures capacity { vec_capacity live.new ≡ vec_capacity live.old }
-    ensures row { (j : ℕ) → j < 64 * table.now.matrix.width → has_bit live.new.items (64 * at + j) ≡ (has_bit live.old.items (64 * at + j) && not (list_any (λ b. nat_le (slice_index table.now.limits.items b) (slice_index have.now b) && has_bit table.now.matrix.rows.items (place table.now.matrix.width b j)) places.now)) }
+    ensures row { (j : ℕ) → j < 64 * matrix.now.width → has_bit live.new.items (64 * at + j) ≡ (has_bit live.old.items (64 * at + j) && not (list_any (λ b. nat_le (slice_index table.now.limits.items b) (slice_index have.now b) && has_bit matrix.now.rows.items (place matrix.now.width b j)) places.now)) }
     ensures before { (x : ℕ) → x < 64 * at → has_bit live.new.items x ≡ has_bit live.old.items x }
 {
     for b in places {
         if u64::from(table.limits[*b]) <= have[*b] {
-            bits::take_out_row(
-                live,
-                at,
-                &table.matrix.rows,
-                table.matrix.width * *b,
-                table.matrix.width,
-            );
+            bits::take_out_row(live, at, &matrix.rows, matrix.width * *b, matrix.width);
         }
     }
 }
@@ -92,29 +94,31 @@ pub(crate) fn pick(
     view: &View,
     path: &[Atom],
     first: usize,
+    matrix: &Matrix,
     table: &Table,
     members: &[u32],
     steps: &mut Steps,
     number: u32,
 )
-    requires kept { StepsKeep view.now path.now first table.now steps.old }
-    requires room { HasRoom table.now steps.old }
+    requires kept { StepsKeep view.now path.now first matrix.now table.now steps.old }
+    requires room { HasRoom matrix.now steps.old }
     requires few { length path.now < first + 4096 }
     requires members { members.now ≡ base view.now path.now }
-    ensures kept { StepsKeep view.now (path.now ++ Atom.Has number ∷ []) first table.now steps.new }
-    ensures room { HasRoom table.now steps.new }
+    ensures kept { StepsKeep view.now (path.now ++ Atom.Has number ∷ []) first matrix.now table.now steps.new }
+    ensures room { HasRoom matrix.now steps.new }
 {
     let at = steps.live.len();
     let mark = steps.raised.len();
-    bits::copy_last(&mut steps.live, table.matrix.width);
+    bits::copy_last(&mut steps.live, matrix.width);
     steps.marks.push_reserved(mark);
     if has_number(members, number) {
         return;
     }
-    let place = table.matrix.place_of(number);
-    note_number(view, &table.matrix, place, number, &mut steps.raised);
+    let place = matrix.place_of(number);
+    note_number(view, matrix, place, number, &mut steps.raised);
     raise(&mut steps.have, &steps.raised[mark..]);
     close(
+        matrix,
         table,
         &steps.have,
         &steps.raised[mark..],
@@ -137,34 +141,42 @@ pub(crate) fn leave(
     view: &View,
     path: &[Atom],
     first: usize,
+    matrix: &Matrix,
     table: &Table,
     steps: &mut Steps,
     number: u32,
 )
-    requires kept { StepsKeep view.now path.now first table.now steps.old }
-    requires room { HasRoom table.now steps.old }
+    requires kept { StepsKeep view.now path.now first matrix.now table.now steps.old }
+    requires room { HasRoom matrix.now steps.old }
     requires few { length path.now < first + 4096 }
-    ensures kept { StepsKeep view.now (path.now ++ Atom.Lacks number ∷ []) first table.now steps.new }
-    ensures room { HasRoom table.now steps.new }
+    ensures kept { StepsKeep view.now (path.now ++ Atom.Lacks number ∷ []) first matrix.now table.now steps.new }
+    ensures room { HasRoom matrix.now steps.new }
 {
     let _ = view;
     let _ = path;
     let at = steps.live.len();
     let mark = steps.raised.len();
-    bits::copy_last(&mut steps.live, table.matrix.width);
+    bits::copy_last(&mut steps.live, matrix.width);
     steps.marks.push_reserved(mark);
-    if let Some(j) = table.matrix.place_of(number) {
+    if let Some(j) = matrix.place_of(number) {
         bits::take_out(&mut steps.live, at, j);
     }
 }
 
 /// Takes the last step back.
-pub(crate) fn back(view: &View, path: &[Atom], first: usize, table: &Table, steps: &mut Steps)
-    requires kept { StepsKeep view.now path.now first table.now steps.old }
-    requires room { HasRoom table.now steps.old }
+pub(crate) fn back(
+    view: &View,
+    path: &[Atom],
+    first: usize,
+    matrix: &Matrix,
+    table: &Table,
+    steps: &mut Steps,
+)
+    requires kept { StepsKeep view.now path.now first matrix.now table.now steps.old }
+    requires room { HasRoom matrix.now steps.old }
     requires some { first < length path.now }
-    ensures kept { StepsKeep view.now (take (length path.now - 1) path.now) first table.now steps.new }
-    ensures room { HasRoom table.now steps.new }
+    ensures kept { StepsKeep view.now (take (length path.now - 1) path.now) first matrix.now table.now steps.new }
+    ensures room { HasRoom matrix.now steps.new }
 {
     let _ = view;
     let n = path.len() - 1 - first;
@@ -178,44 +190,44 @@ pub(crate) fn back(view: &View, path: &[Atom], first: usize, table: &Table, step
     );
     steps.raised.truncate(mark);
     steps.marks.truncate(n);
-    steps.live.truncate(table.matrix.width * (n + 1));
+    steps.live.truncate(matrix.width * (n + 1));
 }
 
-fn first_row(alloc: Global, n: usize, width: usize) -> Result<Vec<u64>, Refusal>
-    requires { n ≤ 64 * width }
-    ensures len { IfOk result (λ r. length r.items ≡ width) }
+// The row, with room for one more at each step.
+fn with_room(row: Vec<u64>, width: usize) -> Result<Vec<u64>, Refusal>
+    ensures items { IfOk result (λ r. r.items ≡ row.items) }
     ensures room { IfOk result (λ r. width * 4097 ≤ vec_capacity r) }
-    ensures bits { IfOk result (λ r. (j : ℕ) → has_bit r.items j ≡ nat_lt j n) }
     ensures why { IfErr result (λ e. e ≡ Refusal.Memory) }
 {
-    let mut row = vec![in alloc; 0u64; width]?;
-    row.reserve(width.saturating_mul(4097))?;
-    for j in 0..n {
-        bits::put_in(&mut row, 0, j);
-    }
-    Ok(row)
+    let mut rows = row;
+    rows.reserve(width.saturating_mul(4097))?;
+    Ok(rows)
 }
 
-/// No steps, for a table with what it was made of.
+/// No steps, for a table with what it was made of, and the row of what is open.
 pub(crate) fn start(
     alloc: Global,
     view: &View,
     atoms: &[Atom],
+    matrix: &Matrix,
     table: &Table,
+    row: Vec<u64>,
     have: Vec<u64>,
     raised: Vec<usize>,
 ) -> Result<Steps, Refusal>
-    requires table { TableShows view.now atoms.now table.now }
+    requires table { TableShows view.now atoms.now matrix.now table.now }
+    requires row_len { length row.items ≡ matrix.now.width }
+    requires row { RowOf (λ p. open_in view.now atoms.now p) matrix.now row.items }
     requires have { HaveShows view.now (base view.now atoms.now) have.items }
     requires len { length have.items ≡ length view.now.bounds }
     requires room { 69632 ≤ vec_capacity raised }
-    ensures kept { IfOk result (λ s. StepsKeep view.now atoms.now (length atoms.now) table.now s) }
-    ensures room { IfOk result (λ s. HasRoom table.now s) }
+    ensures kept { IfOk result (λ s. StepsKeep view.now atoms.now (length atoms.now) matrix.now table.now s) }
+    ensures room { IfOk result (λ s. HasRoom matrix.now s) }
     ensures why { IfErr result (λ e. e ≡ Refusal.Memory) }
 {
     let _ = view;
     let _ = atoms;
-    let live = first_row(alloc, table.matrix.numbers.len(), table.matrix.width)?;
+    let live = with_room(row, matrix.width)?;
     let marks = Vec::with_capacity(alloc, 4096)?;
     let mut raised = raised;
     raised.clear();

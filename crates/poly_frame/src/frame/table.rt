@@ -7,21 +7,17 @@ ghost use Rattle.poly_atom.specs.Hopeless.{base};
 ghost use Rattle.poly_frame.specs.Plain.{allowed, needed, of_asked};
 ghost use Rattle.poly_frame.specs.FrameItems.{item_at};
 
-use crate::frame::busy::{Busy, busy_rows};
 use crate::frame::items::{guess_item, index_of, note_items, raise};
-use crate::frame::matrix::{Matrix, narrowed};
-use crate::frame::opened::open_row;
+use crate::frame::matrix::Matrix;
 use poly_atom::Atom;
 use poly_grid::Refusal;
 use poly_tiling::{Item, View};
 use std::alloc::Global;
 
-/// The columns of the view's matrix that were open at the start, and for each item how many members shut it and how many
-/// the atoms ask for; from the place `asked_end` on they ask for none.
+/// For each item how many members shut it, and how many the atoms ask for; from the place `asked_end` on they ask for
+/// none.
 #[derive(Drop)]
 pub(crate) struct Table {
-    pub(crate) matrix: Matrix,
-    pub(crate) busy: Vec<Busy>,
     pub(crate) limits: Vec<u8>,
     pub(crate) asked: Vec<u8>,
     pub(crate) listed: bool,
@@ -200,39 +196,29 @@ fn end_of(asked: &[u8]) -> usize
     0
 }
 
-/// The table of what is open at the atoms, from a matrix with a column for each placement that is open there. `members` is
-/// their base, `uppers` and `have` are what each item may have at most and has there.
+/// The table of the atoms, for a matrix with a column for each placement that is open there. `uppers` is what each item
+/// may have at most.
 pub(crate) fn table_of(
     alloc: Global,
     view: &View,
-    part: &Matrix,
+    matrix: &Matrix,
     atoms: &[Atom],
-    members: &[u32],
     uppers: &[u8],
-    have: &[u64],
 ) -> Result<Table, Refusal>
-    requires part { IsMatrix view.now part.now }
-    requires all { HasOpen view.now atoms.now part.now }
-    requires base { members.now ≡ base view.now atoms.now }
-    requires few { length members.now < 2 ^ 63 }
-    requires have_len { length have.now ≡ length view.now.bounds }
-    requires have { HaveShows view.now members.now have.now }
+    requires part { IsMatrix view.now matrix.now }
+    requires all { HasOpen view.now atoms.now matrix.now }
+    requires few { length (base view.now atoms.now) < 2 ^ 63 }
     requires uppers_len { length uppers.now ≡ length view.now.bounds }
     requires uppers { UppersShow view.now atoms.now uppers.now }
-    ensures value { IfOk result (λ t. TableShows view.now atoms.now t) }
+    ensures value { IfOk result (λ t. TableShows view.now atoms.now matrix.now t) }
     ensures why { IfErr result (λ e. e ≡ Refusal.Memory) }
 {
     let bounds = view.items();
-    let row = open_row(alloc, view, part, atoms, members, uppers, have)?;
-    let matrix = narrowed(alloc, view, part, &row)?;
-    let busy = busy_rows(alloc, &matrix.rows, matrix.width, bounds.len())?;
     let limits = limits_of(alloc, bounds, uppers)?;
-    let asked = asked_of(alloc, view, atoms, &part.cells)?;
+    let asked = asked_of(alloc, view, atoms, &matrix.cells)?;
     let listed = all_listed(bounds, atoms);
     let asked_end = end_of(&asked);
     Ok(Table {
-        matrix,
-        busy,
         limits,
         asked,
         listed,

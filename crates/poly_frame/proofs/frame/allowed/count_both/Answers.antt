@@ -15,27 +15,27 @@ whole g ns low h out = sym (tally_gap g ns low (length ns) h (omega arith) out) 
 
 pub returns-then-j-len-clause-value : goal.returns-then-j-len-clause-value
 returns-then-j-len-clause-value c = λ g h.
-    let ns = c.args.table.now.matrix.numbers.items in
-    let past : length ns ≤ c.in-Some.j = omega (arith, c.if-j-len.true, c.len.ensures, c.args.table.now.matrix.numbers.ok.0) in
-    let none = fails ns c.args.table.now.matrix.rows.items c.deref.result.now c.args.live.now c.args.at c.args.from c.loop-j.low c.in-Some.j g c.deref.ensures.value h c.in-Some.ensures.before in
+    let ns = c.args.matrix.now.numbers.items in
+    let past : length ns ≤ c.in-Some.j = omega (arith, c.if-j-len.true, c.len.ensures, c.args.matrix.now.numbers.ok.0) in
+    let none = fails ns c.args.matrix.now.rows.items c.deref.result.now c.args.live.now c.args.at c.args.from c.loop-j.low c.in-Some.j g c.deref.ensures.value h c.in-Some.ensures.before in
     c.loop-j.invariant.all g h ∙ whole g ns c.loop-j.low c.loop-j.invariant.low (λ x l m. none x l (omega (arith, past)) m)
 
 pub returns-clause-value : goal.returns-clause-value
 returns-clause-value c = λ g h.
-    let ns = c.args.table.now.matrix.numbers.items in
-    let none = fails ns c.args.table.now.matrix.rows.items c.deref.result.now c.args.live.now c.args.at c.args.from c.loop-j.low _ g c.deref.ensures.value h c.in_default.ensures in
+    let ns = c.args.matrix.now.numbers.items in
+    let none = fails ns c.args.matrix.now.rows.items c.deref.result.now c.args.live.now c.args.at c.args.from c.loop-j.low _ g c.deref.ensures.value h c.in_default.ensures in
     c.loop-j.invariant.all g h ∙ whole g ns c.loop-j.low c.loop-j.invariant.low (λ x l m. none x l (omega (arith, c.requires.wide)) m)
 
 pub loop-j-preserved : goal.loop-j-preserved
 loop-j-preserved c =
-    let ns = c.args.table.now.matrix.numbers.items in
+    let ns = c.args.matrix.now.numbers.items in
     let j = c.in-Some.j in
-    let low : j < length ns = omega (arith, c.if-j-len.false, c.len.ensures, c.args.table.now.matrix.numbers.ok.0) in
+    let low : j < length ns = omega (arith, c.if-j-len.false, c.len.ensures, c.args.matrix.now.numbers.ok.0) in
     record {
       low = omega (arith, low);
       few = omega (arith, c.loop-j.invariant.few, c.in-Some.ensures.least);
       all = λ g h.
-          let none = fails ns c.args.table.now.matrix.rows.items c.deref.result.now c.args.live.now c.args.at c.args.from c.loop-j.low j g c.deref.ensures.value h c.in-Some.ensures.before in
+          let none = fails ns c.args.matrix.now.rows.items c.deref.result.now c.args.live.now c.args.at c.args.from c.loop-j.low j g c.deref.ensures.value h c.in-Some.ensures.before in
           let here = h j low ∙ ap (λ xs. in_both c.args.live.now c.args.at xs c.args.from j) (sym c.deref.ensures.value) ∙ c.in-Some.ensures.is in
           omega (arith, ap one here, c.loop-j.invariant.all g h, tally_gap g ns c.loop-j.low j c.in-Some.ensures.least (omega (arith, low)) (λ x l m. none x l m (omega (arith, low))), tally_more g ns j low);
     }

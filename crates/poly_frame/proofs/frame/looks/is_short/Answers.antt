@@ -13,9 +13,9 @@ returns-then-is_below-clause-short c = λ _.
     let K = c.requires.kept.1 in
     let b = c.loop-b.b in
     let low : b < length v.bounds = omega (arith, c.loop-b-test.true, c.min-b-end.ensures, c.len.ensures, s.have.ok.0, K.have_len) in
-    short_none v A (base v A) (item_of v b) (due_says v A c.requires.kept.0 c.args.table.now s.live.items s.have.items s.raised.items s.marks.items K b low ∙ sym c.is_below.ensures ∙ c.if-is_below.true)
+    short_none v A (base v A) (item_of v b) (due_says v A c.requires.kept.0 c.args.matrix.now c.args.table.now s.live.items s.have.items s.raised.items s.marks.items K b low ∙ sym c.is_below.ensures ∙ c.if-is_below.true)
 
 pub returns-clause-enough : goal.returns-clause-enough
 returns-clause-enough c = λ _.
     let s = c.args.steps.now in
-    none_short c.args.view.now c.args.path.now c.requires.kept.0 c.args.table.now s.live.items s.have.items s.raised.items s.marks.items c.requires.kept.1 c.loop-b.b (omega (arith, c.loop-b-test.false, c.min-b-end.ensures, c.len.ensures, s.have.ok.0)) c.loop-b.invariant
+    none_short c.args.view.now c.args.path.now c.requires.kept.0 c.args.matrix.now c.args.table.now s.live.items s.have.items s.raised.items s.marks.items c.requires.kept.1 c.loop-b.b (omega (arith, c.loop-b-test.false, c.min-b-end.ensures, c.len.ensures, s.have.ok.0)) c.loop-b.invariant

@@ -9,4 +9,4 @@ returns-then-sound-path c =
     let A = c.args.path.now in
     let K = c.requires.kept in
     sound_family v A (sound_top v A c.args.first c.args.sound c.requires.sound K.low c.if-sound-path.true)
-    (none_else v A c.args.first c.args.table.now s.live.items s.have.items s.raised.items s.marks.items K c.if-table.true (c.is_short.ensures.enough c.if-is_short.false))
+    (none_else v A c.args.first c.args.matrix.now c.args.table.now s.live.items s.have.items s.raised.items s.marks.items K c.if-table.true (c.is_short.ensures.enough c.if-is_short.false))

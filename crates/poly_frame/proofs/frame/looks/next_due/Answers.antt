@@ -5,7 +5,7 @@ pub returns-then-table : goal.returns-then-table
 returns-then-table c =
     let s = c.args.steps.now in
     all_due c.args.view.now c.args.path.now c.listed_due.result c.listed_due.ensures
-    (none_else c.args.view.now c.args.path.now c.requires.kept.0 c.args.table.now s.live.items s.have.items s.raised.items s.marks.items c.requires.kept.1 c.if-table.true)
+    (none_else c.args.view.now c.args.path.now c.requires.kept.0 c.args.matrix.now c.args.table.now s.live.items s.have.items s.raised.items s.marks.items c.requires.kept.1 c.if-table.true)
 
 pub returns : goal.returns
 returns c =

@@ -1,0 +1,26 @@
+use Rattle.std.proofs.Common.{ap, ◌-◌, ◌∙◌}
+use Rattle.poly_frame.specs.Open.{open_in}
+use Rattle.poly_frame.proofs.FrameLooks.{open_first, top_bits, top_slice}
+use Rattle.poly_frame.proofs.Matrices.{narrow_all}
+use Rattle.poly_frame.proofs.frame.looks.narrowed_now.Goals as goal
+
+pub narrowed-requires-clause-whole : goal.narrowed-requires-clause-whole
+narrowed-requires-clause-whole c = c.requires.kept.1.table.matrix
+
+pub narrowed-requires-clause-row : goal.narrowed-requires-clause-row
+narrowed-requires-clause-row c =
+    let s = c.args.steps.now in
+    let matrix = c.args.matrix.now in
+    let at = ap (λ n. n - matrix.width) (c.len.ensures ∙ s.live.ok.0) in
+    top_slice c.args.view.now c.args.path.now c.requires.kept.0 matrix c.args.table.now s.live.items s.have.items s.raised.items s.marks.items c.requires.kept.1 c.deref.result.now _ c.deref.ensures.value at
+
+pub returns-clause-all : goal.returns-clause-all
+returns-clause-all c =
+    let v = c.args.view.now in
+    let A = c.args.path.now in
+    let s = c.args.steps.now in
+    let matrix = c.args.matrix.now in
+    let K = c.requires.kept.1 in
+    let at = ap (λ n. n - matrix.width) (c.len.ensures ∙ s.live.ok.0) in
+    λ q m o. narrow_all (λ p. open_in v A p) matrix.numbers.items c.in_ok-narrow.narrow.numbers.items (c.in_ok-narrow.ensures.numbers (λ p. open_in v A p) (λ j h. top_bits v A c.requires.kept.0 matrix c.args.table.now s.live.items s.have.items s.raised.items s.marks.items K c.deref.result.now _ j c.deref.ensures.value at h)) q
+    (open_first v A c.requires.kept.0 matrix c.args.table.now s.live.items s.have.items s.raised.items s.marks.items K q m o) o
