@@ -12,6 +12,7 @@ use Rattle.poly_frame.specs.FrameItems.{item_of, times}
 use Rattle.poly_frame.specs.Matrices.{place}
 use Rattle.poly_frame.specs.FrameTable.{TableShows}
 use Rattle.poly_frame.specs.declared.frame.matrix.Matrix.{Matrix}
+use Rattle.poly_frame.specs.declared.frame.node.Node.{Node}
 use Rattle.poly_frame.specs.declared.frame.table.Table.{Table}
 use Rattle.poly_frame.specs.declared.frame.steps.Steps.{Steps}
 
@@ -53,6 +54,10 @@ pub record Kept (v : View) (A : List Atom) (first : ℕ) (matrix : Matrix) (t : 
 -- the parts of a frame that move
 abbrev pub StepsKeep : View → List Atom → ℕ → Matrix → Table → Steps → Type 0
 StepsKeep v A first m t s = Kept v A first m t s.live.items s.have.items s.raised.items s.marks.items
+
+-- the steps are those of the node
+abbrev pub IsAt : Node → Steps → Type 0
+IsAt n s = StepsKeep n.view.now n.path.now n.given n.matrix.now n.table.now s
 
 -- room for 4,096 steps
 pub record HasRoom (matrix : Matrix) (s : Steps) : Type 0 where

@@ -20,6 +20,7 @@ mod items;
 mod looks;
 mod matrix;
 mod members;
+mod node;
 mod notes;
 mod opened;
 mod sound;
@@ -29,6 +30,7 @@ mod table;
 
 pub use crate::frame::matrix::Matrix;
 use crate::frame::matrix::{Columns, columns_of};
+use crate::frame::node::Node;
 use crate::frame::opened::open_row;
 use crate::frame::starved::is_starved;
 use crate::frame::steps::{Steps, start};
@@ -116,14 +118,14 @@ impl<'a> Frame<'a> {
             return Ok(None);
         }
         let sure = self.sound > self.path.len() - self.given;
-        let narrow = looks::narrowed_now(
-            alloc,
-            self.view,
-            &self.path,
-            self.columns.matrix(),
-            &self.table,
-            &self.steps,
-        )?;
+        let node = Node {
+            view: self.view,
+            path: &self.path,
+            given: self.given,
+            matrix: self.columns.matrix(),
+            table: &self.table,
+        };
+        let narrow = looks::narrowed_now(alloc, &node, &self.steps)?;
         let frame = Frame::begin(alloc, self.view, Columns::Own(narrow), &self.path, sure)?;
         Ok(Some(frame))
     }
@@ -162,16 +164,14 @@ impl<'a> Frame<'a> {
         let row = open_row(alloc, view, part.matrix(), atoms, &members, &uppers, &have)?;
         let (columns, row) = columns_of(alloc, view, part, row)?;
         let table = table_of(alloc, view, columns.matrix(), atoms, &uppers)?;
-        let steps = start(
-            alloc,
+        let node = Node {
             view,
-            atoms,
-            columns.matrix(),
-            &table,
-            row,
-            have,
-            raised,
-        )?;
+            path: atoms,
+            given,
+            matrix: columns.matrix(),
+            table: &table,
+        };
+        let steps = start(alloc, &node, row, have, raised)?;
         Ok(Frame {
             view,
             path,
@@ -206,27 +206,16 @@ impl<'a> Frame<'a> {
         ensures { self.new ≡ with_step self.old (Atom.Has placement) }
     {
         let opened = self.stands_open(placement);
-        steps::pick(
-            self.view,
-            &self.path,
-            self.given,
-            self.columns.matrix(),
-            &self.table,
-            &self.members,
-            &mut self.steps,
-            placement,
-        );
-        members::pick(
-            self.view,
-            &self.path,
-            self.given,
-            &mut self.members,
-            &mut self.sizes,
-            placement,
-        );
-        self.sound = sound::pick(
-            self.view, &self.path, self.given, self.sound, placement, opened,
-        );
+        let node = Node {
+            view: self.view,
+            path: &self.path,
+            given: self.given,
+            matrix: self.columns.matrix(),
+            table: &self.table,
+        };
+        steps::pick(&node, &self.members, &mut self.steps, placement);
+        members::pick(&node, &mut self.members, &mut self.sizes, placement);
+        self.sound = sound::pick(&node, self.sound, placement, opened);
         self.path.push_reserved(Atom::Has(placement));
     }
 
@@ -236,26 +225,16 @@ impl<'a> Frame<'a> {
         ensures { self.new ≡ with_step self.old (Atom.Lacks placement) }
     {
         let opened = self.stands_open(placement);
-        steps::leave(
-            self.view,
-            &self.path,
-            self.given,
-            self.columns.matrix(),
-            &self.table,
-            &mut self.steps,
-            placement,
-        );
-        members::leave(
-            self.view,
-            &self.path,
-            self.given,
-            &self.members,
-            &mut self.sizes,
-            placement,
-        );
-        self.sound = sound::leave(
-            self.view, &self.path, self.given, self.sound, placement, opened,
-        );
+        let node = Node {
+            view: self.view,
+            path: &self.path,
+            given: self.given,
+            matrix: self.columns.matrix(),
+            table: &self.table,
+        };
+        steps::leave(&node, &mut self.steps, placement);
+        members::leave(&node, &self.members, &mut self.sizes, placement);
+        self.sound = sound::leave(&node, self.sound, placement, opened);
         self.path.push_reserved(Atom::Lacks(placement));
     }
 
@@ -265,22 +244,16 @@ impl<'a> Frame<'a> {
         ensures { self.new ≡ step_back self.old }
     {
         let mark = self.path.len() - 1;
-        steps::back(
-            self.view,
-            &self.path,
-            self.given,
-            self.columns.matrix(),
-            &self.table,
-            &mut self.steps,
-        );
-        members::back(
-            self.view,
-            &self.path,
-            self.given,
-            &mut self.members,
-            &mut self.sizes,
-        );
-        self.sound = sound::back(self.view, &self.path, self.given, self.sound);
+        let node = Node {
+            view: self.view,
+            path: &self.path,
+            given: self.given,
+            matrix: self.columns.matrix(),
+            table: &self.table,
+        };
+        steps::back(&node, &mut self.steps);
+        members::back(&node, &mut self.members, &mut self.sizes);
+        self.sound = sound::back(&node, self.sound);
         self.path.truncate(mark);
     }
 
@@ -301,15 +274,14 @@ impl<'a> Frame<'a> {
         ensures once { distinct result.now ≡ true }
         ensures members { (p : ℕ) → mem result.now p ≡ (mem self.old.scene.live p && is_option self.old item p) }
     {
-        looks::list_options(
-            self.view,
-            &self.path,
-            self.columns.matrix(),
-            &self.table,
-            &self.steps,
-            item,
-            &mut self.options,
-        );
+        let node = Node {
+            view: self.view,
+            path: &self.path,
+            given: self.given,
+            matrix: self.columns.matrix(),
+            table: &self.table,
+        };
+        looks::list_options(&node, &self.steps, item, &mut self.options);
         &self.options
     }
 
@@ -317,8 +289,14 @@ impl<'a> Frame<'a> {
     pub fn first_open(&self) -> Option<u32>
         ensures { MatchOption result (list_all (λ p. not (is_open self.now p)) self.now.scene.live ≡ true) (λ p. (mem self.now.scene.live p ≡ true) × (is_open self.now p ≡ true)) }
     {
-        let matrix = self.columns.matrix();
-        looks::first_open(self.view, &self.path, matrix, &self.table, &self.steps)
+        let node = Node {
+            view: self.view,
+            path: &self.path,
+            given: self.given,
+            matrix: self.columns.matrix(),
+            table: &self.table,
+        };
+        looks::first_open(&node, &self.steps)
     }
 
     /// Whether no placement is open.
@@ -337,14 +315,14 @@ impl<'a> Frame<'a> {
     pub fn next_due(&self) -> Option<Item>
         ensures { MatchOption result ((i : Item) → is_due self.now i ≡ false) (λ i. is_due self.now i ≡ true) }
     {
-        looks::next_due(
-            self.view,
-            &self.path,
-            self.columns.matrix(),
-            &self.table,
-            &self.steps,
-            &self.members,
-        )
+        let node = Node {
+            view: self.view,
+            path: &self.path,
+            given: self.given,
+            matrix: self.columns.matrix(),
+            table: &self.table,
+        };
+        looks::next_due(&node, &self.steps, &self.members)
     }
 
     /// Whether the placement is dead: no placement of the design now, or out by an atom.
@@ -382,15 +360,14 @@ impl<'a> Frame<'a> {
         ensures once { distinct self.now.scene.live ≡ true }
         ensures value { result ≡ tally (λ p. has_item self.now.scene p item && not (ruled_out self.now.scene self.now.atoms p)) self.now.scene.live }
     {
-        allowed::count(
-            self.view,
-            &self.path,
-            self.columns.matrix(),
-            &self.table,
-            &self.steps,
-            &self.members,
-            &item,
-        )
+        let node = Node {
+            view: self.view,
+            path: &self.path,
+            given: self.given,
+            matrix: self.columns.matrix(),
+            table: &self.table,
+        };
+        allowed::count(&node, &self.steps, &self.members, &item)
     }
 
     /// How many members with the item each tiling that meets the atoms has at least: what the design and the atoms ask
@@ -398,15 +375,14 @@ impl<'a> Frame<'a> {
     pub fn least(&self, item: Item) -> usize
         ensures { result ≡ lower self.now.scene self.now.atoms item }
     {
-        allowed::least(
-            self.view,
-            &self.path,
-            self.columns.matrix(),
-            &self.table,
-            &self.steps,
-            &self.members,
-            &item,
-        )
+        let node = Node {
+            view: self.view,
+            path: &self.path,
+            given: self.given,
+            matrix: self.columns.matrix(),
+            table: &self.table,
+        };
+        allowed::least(&node, &self.steps, &self.members, &item)
     }
 
     /// Whether too few placements that have the item are left once the placement is taken: no tiling that meets the atoms
@@ -416,14 +392,14 @@ impl<'a> Frame<'a> {
         ensures same { self.new ≡ self.old }
         ensures value { result ≡ arms_fit self.old.scene (self.old.atoms ++ Atom.Has placement ∷ []) item [] }
     {
-        if is_starved(
-            self.view,
-            self.columns.matrix(),
-            &self.table,
-            &self.steps,
-            placement,
-            &item,
-        ) {
+        let node = Node {
+            view: self.view,
+            path: &self.path,
+            given: self.given,
+            matrix: self.columns.matrix(),
+            table: &self.table,
+        };
+        if is_starved(&node, &self.steps, placement, &item) {
             return true;
         }
         self.pick(placement);
@@ -436,15 +412,14 @@ impl<'a> Frame<'a> {
     pub fn found(&self) -> Option<&[u32]>
         ensures { MatchOption result (in_family self.now.scene self.now.atoms (base self.now.scene self.now.atoms) ≡ false) (λ t. (t.now ≡ base self.now.scene self.now.atoms) × (in_family self.now.scene self.now.atoms (base self.now.scene self.now.atoms) ≡ true)) }
     {
-        match looks::judge(
-            self.view,
-            &self.path,
-            self.given,
-            self.columns.matrix(),
-            &self.table,
-            &self.steps,
-            self.sound,
-        ) {
+        let node = Node {
+            view: self.view,
+            path: &self.path,
+            given: self.given,
+            matrix: self.columns.matrix(),
+            table: &self.table,
+        };
+        match looks::judge(&node, &self.steps, self.sound) {
             Some(true) => Some(&self.members),
             Some(false) => None,
             None => self.found_plainly(),
@@ -465,14 +440,14 @@ impl<'a> Frame<'a> {
     fn stands_open(&self, placement: u32) -> bool
         ensures { result ≡ true → (mem self.now.scene.live placement ≡ true) × (is_open self.now placement ≡ true) }
     {
-        looks::stands_open(
-            self.view,
-            &self.path,
-            self.columns.matrix(),
-            &self.table,
-            &self.steps,
-            placement,
-        )
+        let node = Node {
+            view: self.view,
+            path: &self.path,
+            given: self.given,
+            matrix: self.columns.matrix(),
+            table: &self.table,
+        };
+        looks::stands_open(&node, &self.steps, placement)
     }
 }
 

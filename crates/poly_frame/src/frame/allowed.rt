@@ -6,13 +6,13 @@ ghost use Rattle.poly_atom.specs.Hopeless.{base};
 ghost use Rattle.poly_frame.specs.Bits.{in_both};
 ghost use Rattle.poly_frame.specs.Open.{lower, ruled_out};
 ghost use Rattle.poly_frame.specs.FrameItems.{item_of};
-ghost use Rattle.poly_frame.specs.FrameSteps.{StepsKeep};
+ghost use Rattle.poly_frame.specs.FrameSteps.{IsAt};
 
 use crate::frame::items::{guess_item, index_of};
 use crate::frame::matrix::Matrix;
+use crate::frame::node::Node;
 use crate::frame::sound::is_right;
 use crate::frame::steps::Steps;
-use crate::frame::table::Table;
 use crate::{bits, plain};
 use poly_atom::Atom;
 use poly_tiling::{Item, View};
@@ -54,85 +54,56 @@ fn count_held(view: &View, path: &[Atom], members: &[u32], item: &Item) -> usize
 }
 
 // How many placements have the item of a row and are not ruled out.
-fn count_row(
-    view: &View,
-    path: &[Atom],
-    matrix: &Matrix,
-    table: &Table,
-    steps: &Steps,
-    members: &[u32],
-    b: usize,
-    item: &Item,
-) -> usize
-    requires kept { (first : ℕ) × StepsKeep view.now path.now first matrix.now table.now steps.now }
-    requires row { b < length view.now.bounds }
-    requires same { same_item (item_of view.now b) item.now ≡ true }
-    requires members { members.now ≡ base view.now path.now }
-    ensures { result ≡ tally (λ p. has_item view.now p item.now && not (ruled_out view.now path.now p)) view.now.live }
+fn count_row(node: &Node<'_>, steps: &Steps, members: &[u32], b: usize, item: &Item) -> usize
+    requires kept { IsAt node.now steps.now }
+    requires row { b < length node.now.view.now.bounds }
+    requires same { same_item (item_of node.now.view.now b) item.now ≡ true }
+    requires members { members.now ≡ base node.now.view.now node.now.path.now }
+    ensures { result ≡ tally (λ p. has_item node.now.view.now p item.now && not (ruled_out node.now.view.now node.now.path.now p)) node.now.view.now.live }
 {
-    let _ = table;
-    let at = steps.live.len() - matrix.width;
-    let held = count_held(view, path, members, item);
-    held + count_both(matrix, &steps.live, at, matrix.width * b)
+    let at = steps.live.len() - node.matrix.width;
+    let held = count_held(node.view, node.path, members, item);
+    held + count_both(node.matrix, &steps.live, at, node.matrix.width * b)
 }
 
 /// How many placements have the item and are not ruled out.
-pub(crate) fn count(
-    view: &View,
-    path: &[Atom],
-    matrix: &Matrix,
-    table: &Table,
-    steps: &Steps,
-    members: &[u32],
-    item: &Item,
-) -> usize
-    requires kept { (first : ℕ) × StepsKeep view.now path.now first matrix.now table.now steps.now }
-    requires members { members.now ≡ base view.now path.now }
-    ensures { result ≡ tally (λ p. has_item view.now p item.now && not (ruled_out view.now path.now p)) view.now.live }
+pub(crate) fn count(node: &Node<'_>, steps: &Steps, members: &[u32], item: &Item) -> usize
+    requires kept { IsAt node.now steps.now }
+    requires members { members.now ≡ base node.now.view.now node.now.path.now }
+    ensures { result ≡ tally (λ p. has_item node.now.view.now p item.now && not (ruled_out node.now.view.now node.now.path.now p)) node.now.view.now.live }
 {
-    match index_of(view.items(), guess_item(&matrix.cells, item), *item) {
-        Some(b) => count_row(view, path, matrix, table, steps, members, b, item),
-        None => plain::count_allowed(view, path, members, item),
+    match index_of(
+        node.view.items(),
+        guess_item(&node.matrix.cells, item),
+        *item,
+    ) {
+        Some(b) => count_row(node, steps, members, b, item),
+        None => plain::count_allowed(node.view, node.path, members, item),
     }
 }
 
 // The same of the item of a row.
-fn least_of_row(
-    view: &View,
-    path: &[Atom],
-    matrix: &Matrix,
-    table: &Table,
-    steps: &Steps,
-    b: usize,
-    item: &Item,
-) -> usize
-    requires kept { (first : ℕ) × StepsKeep view.now path.now first matrix.now table.now steps.now }
-    requires row { b < length view.now.bounds }
-    requires same { same_item (item_of view.now b) item.now ≡ true }
-    ensures { result ≡ lower view.now path.now item.now }
+fn least_of_row(node: &Node<'_>, steps: &Steps, b: usize, item: &Item) -> usize
+    requires kept { IsAt node.now steps.now }
+    requires row { b < length node.now.view.now.bounds }
+    requires same { same_item (item_of node.now.view.now b) item.now ≡ true }
+    ensures { result ≡ lower node.now.view.now node.now.path.now item.now }
 {
-    let _ = view;
-    let _ = path;
-    let _ = item;
-    (table.asked[b] as usize).max(steps.have[b] as usize)
+    (node.table.asked[b] as usize).max(steps.have[b] as usize)
 }
 
 /// How many members with the item each tiling of the family has at least.
-pub(crate) fn least(
-    view: &View,
-    path: &[Atom],
-    matrix: &Matrix,
-    table: &Table,
-    steps: &Steps,
-    members: &[u32],
-    item: &Item,
-) -> usize
-    requires kept { (first : ℕ) × StepsKeep view.now path.now first matrix.now table.now steps.now }
-    requires members { members.now ≡ base view.now path.now }
-    ensures { result ≡ lower view.now path.now item.now }
+pub(crate) fn least(node: &Node<'_>, steps: &Steps, members: &[u32], item: &Item) -> usize
+    requires kept { IsAt node.now steps.now }
+    requires members { members.now ≡ base node.now.view.now node.now.path.now }
+    ensures { result ≡ lower node.now.view.now node.now.path.now item.now }
 {
-    match index_of(view.items(), guess_item(&matrix.cells, item), *item) {
-        Some(b) => least_of_row(view, path, matrix, table, steps, b, item),
-        None => plain::lower_of(view, path, members, item),
+    match index_of(
+        node.view.items(),
+        guess_item(&node.matrix.cells, item),
+        *item,
+    ) {
+        Some(b) => least_of_row(node, steps, b, item),
+        None => plain::lower_of(node.view, node.path, members, item),
     }
 }

@@ -1,5 +1,5 @@
 //! What a frame is asked: which placements are open, and which item is due.
-ghost use Rattle.std.specs.Prelude.{Bool, IfErr, IfOk, IfSome, List, MatchOption, false, length, nat_lt, not, slice_index, true, vec_capacity, vec_len, ℕ, ◌&&◌, ◌*◌, ◌+◌, ◌-◌, ◌<◌, ◌^◌, ◌≡◌, ◌≤◌};
+ghost use Rattle.std.specs.Prelude.{Bool, IfErr, IfOk, IfSome, MatchOption, false, length, nat_lt, not, slice_index, true, vec_capacity, vec_len, ℕ, ◌&&◌, ◌*◌, ◌+◌, ◌-◌, ◌<◌, ◌^◌, ◌≡◌, ◌≤◌};
 ghost use Rattle.std.specs.List.{filter, list_all};
 ghost use Rattle.poly_tiling.specs.declared.item.Item.{Item};
 ghost use Rattle.poly_tiling.specs.Lists.{mem};
@@ -10,20 +10,19 @@ ghost use Rattle.poly_frame.specs.Open.{asks, open_in};
 ghost use Rattle.poly_frame.specs.Bits.{in_both};
 ghost use Rattle.poly_frame.specs.FrameItems.{item_of};
 ghost use Rattle.poly_frame.specs.FrameSound.{SoundShows};
-ghost use Rattle.poly_frame.specs.FrameSteps.{StepsKeep};
+ghost use Rattle.poly_frame.specs.FrameSteps.{IsAt};
 ghost use Rattle.poly_frame.specs.FrameTable.{HasOpen};
 ghost use Rattle.poly_frame.specs.Matrices.{IsMatrix};
-ghost use Rattle.poly_tiling.specs.Puzzle.{View as Scene};
 
 use crate::frame::busy::{Busy, busy_words, common, count_bits, count_common, is_narrow};
 use crate::frame::items::{guess_item, index_of};
 use crate::frame::matrix::{Matrix, narrowed};
+use crate::frame::node::Node;
 use crate::frame::steps::Steps;
 use crate::frame::table::Table;
 use crate::{bits, plain};
-use poly_atom::Atom;
 use poly_grid::Refusal;
-use poly_tiling::{Item, View};
+use poly_tiling::Item;
 use std::alloc::Global;
 
 // Lists the numbers that are in both rows.
@@ -48,69 +47,45 @@ fn list_both(matrix: &Matrix, live: &[u64], at: usize, from: usize, into: &mut V
 }
 
 // Lists the open numbers of row `b`.
-fn list_row(
-    view: &View,
-    path: &[Atom],
-    matrix: &Matrix,
-    table: &Table,
-    steps: &Steps,
-    b: usize,
-    into: &mut Vec<u32>,
-)
-    requires kept { (first : ℕ) × StepsKeep view.now path.now first matrix.now table.now steps.now }
-    requires row { b < length view.now.bounds }
-    requires space { length matrix.now.numbers.items ≤ vec_capacity into.old }
-    ensures items { into.new.items ≡ filter (λ p. open_in view.now path.now p && has_item view.now p (item_of view.now b)) matrix.now.numbers.items }
+fn list_row(node: &Node<'_>, steps: &Steps, b: usize, into: &mut Vec<u32>)
+    requires kept { IsAt node.now steps.now }
+    requires row { b < length node.now.view.now.bounds }
+    requires space { length node.now.matrix.now.numbers.items ≤ vec_capacity into.old }
+    ensures items { into.new.items ≡ filter (λ p. open_in node.now.view.now node.now.path.now p && has_item node.now.view.now p (item_of node.now.view.now b)) node.now.matrix.now.numbers.items }
     ensures room { vec_capacity into.new ≡ vec_capacity into.old }
 {
-    let _ = view;
-    let _ = path;
-    let _ = table;
-    let at = steps.live.len() - matrix.width;
-    list_both(matrix, &steps.live, at, matrix.width * b, into);
+    let at = steps.live.len() - node.matrix.width;
+    list_both(node.matrix, &steps.live, at, node.matrix.width * b, into);
 }
 
 /// Lists the open placements that have the item.
-pub(crate) fn list_options(
-    view: &View,
-    path: &[Atom],
-    matrix: &Matrix,
-    table: &Table,
-    steps: &Steps,
-    item: Item,
-    into: &mut Vec<u32>,
-)
-    requires kept { (first : ℕ) × StepsKeep view.now path.now first matrix.now table.now steps.now }
-    requires space { length matrix.now.numbers.items ≤ vec_capacity into.old }
-    ensures items { into.new.items ≡ filter (λ p. open_in view.now path.now p && has_item view.now p item) matrix.now.numbers.items }
+pub(crate) fn list_options(node: &Node<'_>, steps: &Steps, item: Item, into: &mut Vec<u32>)
+    requires kept { IsAt node.now steps.now }
+    requires space { length node.now.matrix.now.numbers.items ≤ vec_capacity into.old }
+    ensures items { into.new.items ≡ filter (λ p. open_in node.now.view.now node.now.path.now p && has_item node.now.view.now p item) node.now.matrix.now.numbers.items }
     ensures room { vec_capacity into.new ≡ vec_capacity into.old }
 {
-    match index_of(view.items(), guess_item(&matrix.cells, &item), item) {
+    match index_of(
+        node.view.items(),
+        guess_item(&node.matrix.cells, &item),
+        item,
+    ) {
         None => into.clear(),
-        Some(b) => list_row(view, path, matrix, table, steps, b, into),
+        Some(b) => list_row(node, steps, b, into),
     }
 }
 
 /// The number of some open placement.
-pub(crate) fn first_open(
-    view: &View,
-    path: &[Atom],
-    matrix: &Matrix,
-    table: &Table,
-    steps: &Steps,
-) -> Option<u32>
-    requires kept { (first : ℕ) × StepsKeep view.now path.now first matrix.now table.now steps.now }
-    ensures { MatchOption result (list_all (λ p. not (open_in view.now path.now p)) view.now.live ≡ true) (λ p. (mem view.now.live p ≡ true) × (open_in view.now path.now p ≡ true)) }
+pub(crate) fn first_open(node: &Node<'_>, steps: &Steps) -> Option<u32>
+    requires kept { IsAt node.now steps.now }
+    ensures { MatchOption result (list_all (λ p. not (open_in node.now.view.now node.now.path.now p)) node.now.view.now.live ≡ true) (λ p. (mem node.now.view.now.live p ≡ true) × (open_in node.now.view.now node.now.path.now p ≡ true)) }
 {
-    let _ = view;
-    let _ = path;
-    let _ = table;
-    let at = steps.live.len() - matrix.width;
-    let Some(j) = bits::next_both(&steps.live, at, &steps.live, at, matrix.width, 0) else {
+    let at = steps.live.len() - node.matrix.width;
+    let Some(j) = bits::next_both(&steps.live, at, &steps.live, at, node.matrix.width, 0) else {
         return None;
     };
-    if j < matrix.numbers.len() {
-        Some(matrix.numbers[j])
+    if j < node.matrix.numbers.len() {
+        Some(node.matrix.numbers[j])
     } else {
         None
     }
@@ -131,43 +106,24 @@ pub(crate) fn is_sparse(matrix: &Matrix, steps: &Steps) -> bool {
 }
 
 /// A matrix of what is open.
-pub(crate) fn narrowed_now(
-    alloc: Global,
-    view: &View,
-    path: &[Atom],
-    matrix: &Matrix,
-    table: &Table,
-    steps: &Steps,
-) -> Result<Matrix, Refusal>
-    requires kept { (first : ℕ) × StepsKeep view.now path.now first matrix.now table.now steps.now }
-    ensures part { IfOk result (λ m. IsMatrix view.now m) }
-    ensures all { IfOk result (λ m. HasOpen view.now path.now m) }
+pub(crate) fn narrowed_now(alloc: Global, node: &Node<'_>, steps: &Steps) -> Result<Matrix, Refusal>
+    requires kept { IsAt node.now steps.now }
+    ensures part { IfOk result (λ m. IsMatrix node.now.view.now m) }
+    ensures all { IfOk result (λ m. HasOpen node.now.view.now node.now.path.now m) }
     ensures why { IfErr result (λ e. e ≡ Refusal.Memory) }
 {
-    let _ = path;
-    let _ = table;
-    let at = steps.live.len() - matrix.width;
-    let narrow = narrowed(alloc, view, matrix, &steps.live[at..])?;
+    let at = steps.live.len() - node.matrix.width;
+    let narrow = narrowed(alloc, node.view, node.matrix, &steps.live[at..])?;
     Ok(narrow)
 }
 
 /// Whether the number's placement is known to be open.
-pub(crate) fn stands_open(
-    view: &View,
-    path: &[Atom],
-    matrix: &Matrix,
-    table: &Table,
-    steps: &Steps,
-    number: u32,
-) -> bool
-    requires kept { (first : ℕ) × StepsKeep view.now path.now first matrix.now table.now steps.now }
-    ensures { result ≡ true → (mem view.now.live number ≡ true) × (open_in view.now path.now number ≡ true) }
+pub(crate) fn stands_open(node: &Node<'_>, steps: &Steps, number: u32) -> bool
+    requires kept { IsAt node.now steps.now }
+    ensures { result ≡ true → (mem node.now.view.now.live number ≡ true) × (open_in node.now.view.now node.now.path.now number ≡ true) }
 {
-    let _ = view;
-    let _ = path;
-    let _ = table;
-    let at = steps.live.len() - matrix.width;
-    match matrix.place_of(number) {
+    let at = steps.live.len() - node.matrix.width;
+    match node.matrix.place_of(number) {
         None => false,
         Some(j) => bits::has(&steps.live, at, j),
     }
@@ -183,21 +139,13 @@ fn is_below(table: &Table, steps: &Steps, b: usize) -> bool
 }
 
 /// Whether the base is known to have too few of some item of the view.
-pub(crate) fn is_short(
-    view: &View,
-    path: &[Atom],
-    matrix: &Matrix,
-    table: &Table,
-    steps: &Steps,
-) -> bool
-    requires kept { (first : ℕ) × StepsKeep view.now path.now first matrix.now table.now steps.now }
-    ensures short { result ≡ true → in_family view.now path.now (base view.now path.now) ≡ false }
-    ensures enough { result ≡ false → (b : ℕ) → b < length view.now.bounds → nat_lt (count view.now (base view.now path.now) (item_of view.now b)) (asks view.now path.now (item_of view.now b)) ≡ false }
+pub(crate) fn is_short(node: &Node<'_>, steps: &Steps) -> bool
+    requires kept { IsAt node.now steps.now }
+    ensures short { result ≡ true → in_family node.now.view.now node.now.path.now (base node.now.view.now node.now.path.now) ≡ false }
+    ensures enough { result ≡ false → (b : ℕ) → b < length node.now.view.now.bounds → nat_lt (count node.now.view.now (base node.now.view.now node.now.path.now) (item_of node.now.view.now b)) (asks node.now.view.now node.now.path.now (item_of node.now.view.now b)) ≡ false }
 {
-    let _ = view;
-    let _ = path;
-    for b in 0..table.asked_end.min(steps.have.len()) {
-        if is_below(table, steps, b) {
+    for b in 0..node.table.asked_end.min(steps.have.len()) {
+        if is_below(node.table, steps, b) {
             return true;
         }
     }
@@ -205,23 +153,15 @@ pub(crate) fn is_short(
 }
 
 /// Whether the base is a tiling that meets the atoms; none if the rows do not tell it.
-pub(crate) fn judge(
-    view: &View,
-    path: &[Atom],
-    first: usize,
-    matrix: &Matrix,
-    table: &Table,
-    steps: &Steps,
-    sound: usize,
-) -> Option<bool>
-    requires kept { StepsKeep view.now path.now first matrix.now table.now steps.now }
-    requires sound { SoundShows view.now path.now first sound }
-    ensures { IfSome result (λ b. in_family view.now path.now (base view.now path.now) ≡ b) }
+pub(crate) fn judge(node: &Node<'_>, steps: &Steps, sound: usize) -> Option<bool>
+    requires kept { IsAt node.now steps.now }
+    requires sound { SoundShows node.now.view.now node.now.path.now node.now.given sound }
+    ensures { IfSome result (λ b. in_family node.now.view.now node.now.path.now (base node.now.view.now node.now.path.now) ≡ b) }
 {
-    if is_short(view, path, matrix, table, steps) {
+    if is_short(node, steps) {
         return Some(false);
     }
-    if table.listed && sound > path.len() - first {
+    if node.table.listed && sound > node.path.len() - node.given {
         return Some(true);
     }
     None
@@ -232,8 +172,7 @@ pub(crate) fn judge(
 // at each node, where a call would cost as much as the count.
 #[inline(always)]
 fn spare(
-    matrix: &Matrix,
-    table: &Table,
+    node: &Node<'_>,
     steps: &Steps,
     at: usize,
     busy: &Busy,
@@ -241,25 +180,25 @@ fn spare(
     fewest: usize,
 ) -> Option<usize>
     requires have { b < length steps.now.have.items }
-    requires asked { b < length table.now.asked.items }
-    requires live { at + matrix.now.width ≤ length steps.now.live.items }
-    requires rows { matrix.now.width * b + matrix.now.width ≤ length matrix.now.rows.items }
-    ensures { MatchOption result (nat_lt (slice_index steps.now.have.items b) (slice_index table.now.asked.items b) ≡ false) (λ _. nat_lt (slice_index steps.now.have.items b) (slice_index table.now.asked.items b) ≡ true) }
+    requires asked { b < length node.now.table.now.asked.items }
+    requires live { at + node.now.matrix.now.width ≤ length steps.now.live.items }
+    requires rows { node.now.matrix.now.width * b + node.now.matrix.now.width ≤ length node.now.matrix.now.rows.items }
+    ensures { MatchOption result (nat_lt (slice_index steps.now.have.items b) (slice_index node.now.table.now.asked.items b) ≡ false) (λ _. nat_lt (slice_index steps.now.have.items b) (slice_index node.now.table.now.asked.items b) ≡ true) }
 {
     let have = steps.have[b];
-    let asked = u64::from(table.asked[b]);
+    let asked = u64::from(node.table.asked[b]);
     if asked <= have {
         return None;
     }
     let needed = (asked - have) as usize - 1;
-    let from = matrix.width * b;
-    let live = &steps.live[at..at + matrix.width];
-    let row = &matrix.rows[from..from + matrix.width];
+    let from = node.matrix.width * b;
+    let live = &steps.live[at..at + node.matrix.width];
+    let row = &node.matrix.rows[from..from + node.matrix.width];
     let n = if is_narrow(live) {
         count_common(live, row)
     } else {
         let most = fewest.saturating_add(needed);
-        common(live, busy, row, &filled_words(matrix, b), most)
+        common(live, busy, row, &filled_words(node.matrix, b), most)
     };
     Some(n.saturating_sub(needed))
 }
@@ -283,22 +222,14 @@ struct Scarce {
 }
 
 // The item at `b`, if it is due and has fewer options to spare.
-fn scarcer(
-    matrix: &Matrix,
-    table: &Table,
-    steps: &Steps,
-    at: usize,
-    busy: &Busy,
-    b: usize,
-    best: Scarce,
-) -> Scarce
-    requires kept { (v : Scene) × (A : List Atom) × (first : ℕ) × StepsKeep v A first matrix.now table.now steps.now }
-    requires at { at ≡ length steps.now.live.items - matrix.now.width }
+fn scarcer(node: &Node<'_>, steps: &Steps, at: usize, busy: &Busy, b: usize, best: Scarce) -> Scarce
+    requires kept { IsAt node.now steps.now }
+    requires at { at ≡ length steps.now.live.items - node.now.matrix.now.width }
     requires low { b < length steps.now.have.items }
-    requires best { IfSome best.place (λ b. (b < length steps.now.have.items) × (nat_lt (slice_index steps.now.have.items b) (slice_index table.now.asked.items b) ≡ true)) }
-    ensures { IfSome result.place (λ b. (b < length steps.now.have.items) × (nat_lt (slice_index steps.now.have.items b) (slice_index table.now.asked.items b) ≡ true)) }
+    requires best { IfSome best.place (λ b. (b < length steps.now.have.items) × (nat_lt (slice_index steps.now.have.items b) (slice_index node.now.table.now.asked.items b) ≡ true)) }
+    ensures { IfSome result.place (λ b. (b < length steps.now.have.items) × (nat_lt (slice_index steps.now.have.items b) (slice_index node.now.table.now.asked.items b) ≡ true)) }
 {
-    match spare(matrix, table, steps, at, busy, b, best.spare) {
+    match spare(node, steps, at, busy, b, best.spare) {
         Some(n) => {
             if n < best.spare {
                 Scarce {
@@ -315,8 +246,7 @@ fn scarcer(
 
 // The same of the items from `first` on whose bits are in the word. It stops at one that has too few options.
 fn scarcest_in(
-    matrix: &Matrix,
-    table: &Table,
+    node: &Node<'_>,
     steps: &Steps,
     at: usize,
     busy: &Busy,
@@ -324,11 +254,11 @@ fn scarcest_in(
     word: u64,
     best: Scarce,
 ) -> Scarce
-    requires kept { (v : Scene) × (A : List Atom) × (first : ℕ) × StepsKeep v A first matrix.now table.now steps.now }
-    requires at { at ≡ length steps.now.live.items - matrix.now.width }
+    requires kept { IsAt node.now steps.now }
+    requires at { at ≡ length steps.now.live.items - node.now.matrix.now.width }
     requires small { first < 8192 }
-    requires best { IfSome best.place (λ b. (b < length steps.now.have.items) × (nat_lt (slice_index steps.now.have.items b) (slice_index table.now.asked.items b) ≡ true)) }
-    ensures { IfSome result.place (λ b. (b < length steps.now.have.items) × (nat_lt (slice_index steps.now.have.items b) (slice_index table.now.asked.items b) ≡ true)) }
+    requires best { IfSome best.place (λ b. (b < length steps.now.have.items) × (nat_lt (slice_index steps.now.have.items b) (slice_index node.now.table.now.asked.items b) ≡ true)) }
+    ensures { IfSome result.place (λ b. (b < length steps.now.have.items) × (nat_lt (slice_index steps.now.have.items b) (slice_index node.now.table.now.asked.items b) ≡ true)) }
 {
     let mut best = best;
     let mut left = word;
@@ -340,7 +270,7 @@ fn scarcest_in(
         let b = first + left.trailing_zeros() as usize;
         left &= left - 1;
         if b < steps.have.len() {
-            best = scarcer(matrix, table, steps, at, busy, b, best);
+            best = scarcer(node, steps, at, busy, b, best);
         }
     }
     best
@@ -348,58 +278,44 @@ fn scarcest_in(
 
 // Of the items that are noted as due, one of which the base has too few, with the fewest options beyond what it still
 // needs.
-fn next_noted(matrix: &Matrix, table: &Table, steps: &Steps) -> Option<usize>
-    requires kept { (v : Scene) × (A : List Atom) × (first : ℕ) × StepsKeep v A first matrix.now table.now steps.now }
-    ensures { IfSome result (λ b. (b < length steps.now.have.items) × (nat_lt (slice_index steps.now.have.items b) (slice_index table.now.asked.items b) ≡ true)) }
+fn next_noted(node: &Node<'_>, steps: &Steps) -> Option<usize>
+    requires kept { IsAt node.now steps.now }
+    ensures { IfSome result (λ b. (b < length steps.now.have.items) × (nat_lt (slice_index steps.now.have.items b) (slice_index node.now.table.now.asked.items b) ≡ true)) }
 {
-    let at = steps.live.len() - matrix.width;
+    let at = steps.live.len() - node.matrix.width;
     let busy = busy_words(&steps.live[at..]);
     let mut best = Scarce {
         place: None,
         spare: usize::MAX,
     };
     for k in 0..steps.due.len().min(NOTED) {
-        best = scarcest_in(matrix, table, steps, at, &busy, 64 * k, steps.due[k], best);
+        best = scarcest_in(node, steps, at, &busy, 64 * k, steps.due[k], best);
     }
     best.place
 }
 
 // The same of the items of the view.
-fn next_listed(
-    view: &View,
-    path: &[Atom],
-    matrix: &Matrix,
-    table: &Table,
-    steps: &Steps,
-) -> Option<usize>
-    requires kept { (first : ℕ) × StepsKeep view.now path.now first matrix.now table.now steps.now }
-    ensures { MatchOption result ((b : ℕ) → b < length view.now.bounds → nat_lt (count view.now (base view.now path.now) (item_of view.now b)) (asks view.now path.now (item_of view.now b)) ≡ false) (λ b. (b < length view.now.bounds) × (nat_lt (count view.now (base view.now path.now) (item_of view.now b)) (asks view.now path.now (item_of view.now b)) ≡ true)) }
+fn next_listed(node: &Node<'_>, steps: &Steps) -> Option<usize>
+    requires kept { IsAt node.now steps.now }
+    ensures { MatchOption result ((b : ℕ) → b < length node.now.view.now.bounds → nat_lt (count node.now.view.now (base node.now.view.now node.now.path.now) (item_of node.now.view.now b)) (asks node.now.view.now node.now.path.now (item_of node.now.view.now b)) ≡ false) (λ b. (b < length node.now.view.now.bounds) × (nat_lt (count node.now.view.now (base node.now.view.now node.now.path.now) (item_of node.now.view.now b)) (asks node.now.view.now node.now.path.now (item_of node.now.view.now b)) ≡ true)) }
 {
-    match next_noted(matrix, table, steps) {
+    match next_noted(node, steps) {
         Some(b) => Some(b),
-        None => next_unnoted(view, path, matrix, table, steps),
+        None => next_unnoted(node, steps),
     }
 }
 
 // The same, whatever is noted.
-fn next_unnoted(
-    view: &View,
-    path: &[Atom],
-    matrix: &Matrix,
-    table: &Table,
-    steps: &Steps,
-) -> Option<usize>
-    requires kept { (first : ℕ) × StepsKeep view.now path.now first matrix.now table.now steps.now }
-    ensures { MatchOption result ((b : ℕ) → b < length view.now.bounds → nat_lt (count view.now (base view.now path.now) (item_of view.now b)) (asks view.now path.now (item_of view.now b)) ≡ false) (λ b. (b < length view.now.bounds) × (nat_lt (count view.now (base view.now path.now) (item_of view.now b)) (asks view.now path.now (item_of view.now b)) ≡ true)) }
+fn next_unnoted(node: &Node<'_>, steps: &Steps) -> Option<usize>
+    requires kept { IsAt node.now steps.now }
+    ensures { MatchOption result ((b : ℕ) → b < length node.now.view.now.bounds → nat_lt (count node.now.view.now (base node.now.view.now node.now.path.now) (item_of node.now.view.now b)) (asks node.now.view.now node.now.path.now (item_of node.now.view.now b)) ≡ false) (λ b. (b < length node.now.view.now.bounds) × (nat_lt (count node.now.view.now (base node.now.view.now node.now.path.now) (item_of node.now.view.now b)) (asks node.now.view.now node.now.path.now (item_of node.now.view.now b)) ≡ true)) }
 {
-    let _ = view;
-    let _ = path;
-    let at = steps.live.len() - matrix.width;
+    let at = steps.live.len() - node.matrix.width;
     let busy = busy_words(&steps.live[at..]);
     let mut best = None;
     let mut fewest = usize::MAX;
-    for b in 0..table.asked_end.min(steps.have.len()) {
-        if let Some(n) = spare(matrix, table, steps, at, &busy, b, fewest) {
+    for b in 0..node.table.asked_end.min(steps.have.len()) {
+        if let Some(n) = spare(node, steps, at, &busy, b, fewest) {
             if n == 0 {
                 return Some(b);
             }
@@ -413,40 +329,27 @@ fn next_unnoted(
 }
 
 // The same as an item.
-fn listed_due(
-    view: &View,
-    path: &[Atom],
-    matrix: &Matrix,
-    table: &Table,
-    steps: &Steps,
-) -> Option<Item>
-    requires kept { (first : ℕ) × StepsKeep view.now path.now first matrix.now table.now steps.now }
-    ensures { MatchOption result ((b : ℕ) → b < length view.now.bounds → nat_lt (count view.now (base view.now path.now) (item_of view.now b)) (asks view.now path.now (item_of view.now b)) ≡ false) (λ i. nat_lt (count view.now (base view.now path.now) i) (asks view.now path.now i) ≡ true) }
+fn listed_due(node: &Node<'_>, steps: &Steps) -> Option<Item>
+    requires kept { IsAt node.now steps.now }
+    ensures { MatchOption result ((b : ℕ) → b < length node.now.view.now.bounds → nat_lt (count node.now.view.now (base node.now.view.now node.now.path.now) (item_of node.now.view.now b)) (asks node.now.view.now node.now.path.now (item_of node.now.view.now b)) ≡ false) (λ i. nat_lt (count node.now.view.now (base node.now.view.now node.now.path.now) i) (asks node.now.view.now node.now.path.now i) ≡ true) }
 {
-    match next_listed(view, path, matrix, table, steps) {
-        Some(b) => Some(view.items()[b].0),
+    match next_listed(node, steps) {
+        Some(b) => Some(node.view.items()[b].0),
         None => None,
     }
 }
 
 /// An item that is due: first one that is not in the view, since it has no option.
-pub(crate) fn next_due(
-    view: &View,
-    path: &[Atom],
-    matrix: &Matrix,
-    table: &Table,
-    steps: &Steps,
-    members: &[u32],
-) -> Option<Item>
-    requires kept { (first : ℕ) × StepsKeep view.now path.now first matrix.now table.now steps.now }
-    requires members { members.now ≡ base view.now path.now }
-    ensures { MatchOption result ((i : Item) → nat_lt (count view.now (base view.now path.now) i) (asks view.now path.now i) ≡ false) (λ i. nat_lt (count view.now (base view.now path.now) i) (asks view.now path.now i) ≡ true) }
+pub(crate) fn next_due(node: &Node<'_>, steps: &Steps, members: &[u32]) -> Option<Item>
+    requires kept { IsAt node.now steps.now }
+    requires members { members.now ≡ base node.now.view.now node.now.path.now }
+    ensures { MatchOption result ((i : Item) → nat_lt (count node.now.view.now (base node.now.view.now node.now.path.now) i) (asks node.now.view.now node.now.path.now i) ≡ false) (λ i. nat_lt (count node.now.view.now (base node.now.view.now node.now.path.now) i) (asks node.now.view.now node.now.path.now i) ≡ true) }
 {
-    if table.listed {
-        return listed_due(view, path, matrix, table, steps);
+    if node.table.listed {
+        return listed_due(node, steps);
     }
-    if let Some(item) = plain::due_elsewhere(view, path, members) {
+    if let Some(item) = plain::due_elsewhere(node.view, node.path, members) {
         return Some(item);
     }
-    listed_due(view, path, matrix, table, steps)
+    listed_due(node, steps)
 }

@@ -3,9 +3,9 @@ ghost use Rattle.std.specs.Prelude.{[], length, take, vec_capacity, vec_len, ℕ
 ghost use Rattle.poly_atom.specs.Hopeless.{base};
 ghost use Rattle.poly_frame.specs.FrameMembers.{SizesShow, without};
 
+use crate::frame::node::Node;
 use crate::plain::put_number;
 use poly_atom::Atom;
-use poly_tiling::View;
 
 // Removes the first occurrence of a number from a list.
 fn take_number(numbers: &mut Vec<u32>, number: u32)
@@ -32,72 +32,47 @@ fn take_last(numbers: &mut Vec<u32>, atom: &Atom)
 }
 
 /// Takes a number into the base.
-pub(crate) fn pick(
-    view: &View,
-    path: &[Atom],
-    first: usize,
-    members: &mut Vec<u32>,
-    sizes: &mut Vec<usize>,
-    number: u32,
-)
-    requires base { members.old.items ≡ base view.now path.now }
-    requires sizes { SizesShow view.now path.now first sizes.old.items }
-    requires room { length view.now.pins + length path.now < vec_capacity members.old }
+pub(crate) fn pick(node: &Node<'_>, members: &mut Vec<u32>, sizes: &mut Vec<usize>, number: u32)
+    requires base { members.old.items ≡ base node.now.view.now node.now.path.now }
+    requires sizes { SizesShow node.now.view.now node.now.path.now node.now.given sizes.old.items }
+    requires room { length node.now.view.now.pins + length node.now.path.now < vec_capacity members.old }
     requires space { vec_len sizes.old < vec_capacity sizes.old }
-    ensures base { members.new.items ≡ base view.now (path.now ++ Atom.Has number ∷ []) }
-    ensures sizes { SizesShow view.now (path.now ++ Atom.Has number ∷ []) first sizes.new.items }
+    ensures base { members.new.items ≡ base node.now.view.now (node.now.path.now ++ Atom.Has number ∷ []) }
+    ensures sizes { SizesShow node.now.view.now (node.now.path.now ++ Atom.Has number ∷ []) node.now.given sizes.new.items }
     ensures room { vec_capacity members.old ≤ vec_capacity members.new }
     ensures space { vec_capacity sizes.new ≡ vec_capacity sizes.old }
 {
-    let _ = view;
-    let _ = path;
     sizes.push_reserved(members.len());
     put_number(members, number);
 }
 
 /// Leaves a number: the base stays.
-pub(crate) fn leave(
-    view: &View,
-    path: &[Atom],
-    first: usize,
-    members: &[u32],
-    sizes: &mut Vec<usize>,
-    number: u32,
-)
-    requires base { members.now ≡ base view.now path.now }
-    requires sizes { SizesShow view.now path.now first sizes.old.items }
+pub(crate) fn leave(node: &Node<'_>, members: &[u32], sizes: &mut Vec<usize>, number: u32)
+    requires base { members.now ≡ base node.now.view.now node.now.path.now }
+    requires sizes { SizesShow node.now.view.now node.now.path.now node.now.given sizes.old.items }
     requires space { vec_len sizes.old < vec_capacity sizes.old }
-    ensures base { members.now ≡ base view.now (path.now ++ Atom.Lacks number ∷ []) }
-    ensures sizes { SizesShow view.now (path.now ++ Atom.Lacks number ∷ []) first sizes.new.items }
+    ensures base { members.now ≡ base node.now.view.now (node.now.path.now ++ Atom.Lacks number ∷ []) }
+    ensures sizes { SizesShow node.now.view.now (node.now.path.now ++ Atom.Lacks number ∷ []) node.now.given sizes.new.items }
     ensures space { vec_capacity sizes.new ≡ vec_capacity sizes.old }
 {
-    let _ = view;
-    let _ = path;
     sizes.push_reserved(members.len());
 }
 
 /// Takes the last step back.
-pub(crate) fn back(
-    view: &View,
-    path: &[Atom],
-    first: usize,
-    members: &mut Vec<u32>,
-    sizes: &mut Vec<usize>,
-)
-    requires base { members.old.items ≡ base view.now path.now }
-    requires sizes { SizesShow view.now path.now first sizes.old.items }
-    requires some { first < length path.now }
-    ensures base { members.new.items ≡ base view.now (take (length path.now - 1) path.now) }
-    ensures sizes { SizesShow view.now (take (length path.now - 1) path.now) first sizes.new.items }
+pub(crate) fn back(node: &Node<'_>, members: &mut Vec<u32>, sizes: &mut Vec<usize>)
+    requires base { members.old.items ≡ base node.now.view.now node.now.path.now }
+    requires sizes { SizesShow node.now.view.now node.now.path.now node.now.given sizes.old.items }
+    requires some { node.now.given < length node.now.path.now }
+    ensures base { members.new.items ≡ base node.now.view.now (take (length node.now.path.now - 1) node.now.path.now) }
+    ensures sizes { SizesShow node.now.view.now (take (length node.now.path.now - 1) node.now.path.now) node.now.given sizes.new.items }
     ensures room { vec_capacity members.new ≡ vec_capacity members.old }
     ensures space { vec_capacity sizes.new ≡ vec_capacity sizes.old }
 {
-    let _ = view;
     let last = sizes.len() - 1;
     let size = sizes[last];
     sizes.truncate(last);
     if size == members.len() {
         return;
     }
-    take_last(members, &path[path.len() - 1]);
+    take_last(members, &node.path[node.path.len() - 1]);
 }

@@ -11,6 +11,7 @@ ghost use Rattle.poly_frame.specs.FrameTable.{HaveShows, UppersShow};
 ghost use Rattle.poly_frame.specs.Matrices.{IsMatrix, StandsShow};
 
 use crate::frame::matrix::Matrix;
+use crate::frame::node::Node;
 use crate::plain;
 use poly_atom::Atom;
 use poly_tiling::{Item, View, has_number};
@@ -106,21 +107,13 @@ pub(crate) fn begin(
 }
 
 /// After a placement is taken, which may be known to be open.
-pub(crate) fn pick(
-    view: &View,
-    path: &[Atom],
-    first: usize,
-    sound: usize,
-    number: u32,
-    opened: bool,
-) -> usize
-    requires shows { SoundShows view.now path.now first sound }
-    requires low { first ≤ length path.now }
-    requires opened { opened ≡ true → (mem view.now.live number ≡ true) × (open_in view.now path.now number ≡ true) }
-    ensures { SoundShows view.now (path.now ++ Atom.Has number ∷ []) first result }
+pub(crate) fn pick(node: &Node<'_>, sound: usize, number: u32, opened: bool) -> usize
+    requires shows { SoundShows node.now.view.now node.now.path.now node.now.given sound }
+    requires low { node.now.given ≤ length node.now.path.now }
+    requires opened { opened ≡ true → (mem node.now.view.now.live number ≡ true) × (open_in node.now.view.now node.now.path.now number ≡ true) }
+    ensures { SoundShows node.now.view.now (node.now.path.now ++ Atom.Has number ∷ []) node.now.given result }
 {
-    let _ = view;
-    if opened && sound > path.len() - first {
+    if opened && sound > node.path.len() - node.given {
         sound + 1
     } else {
         sound
@@ -128,21 +121,13 @@ pub(crate) fn pick(
 }
 
 /// After a placement is left, which may be known to be open.
-pub(crate) fn leave(
-    view: &View,
-    path: &[Atom],
-    first: usize,
-    sound: usize,
-    number: u32,
-    opened: bool,
-) -> usize
-    requires shows { SoundShows view.now path.now first sound }
-    requires low { first ≤ length path.now }
-    requires opened { opened ≡ true → (mem view.now.live number ≡ true) × (open_in view.now path.now number ≡ true) }
-    ensures { SoundShows view.now (path.now ++ Atom.Lacks number ∷ []) first result }
+pub(crate) fn leave(node: &Node<'_>, sound: usize, number: u32, opened: bool) -> usize
+    requires shows { SoundShows node.now.view.now node.now.path.now node.now.given sound }
+    requires low { node.now.given ≤ length node.now.path.now }
+    requires opened { opened ≡ true → (mem node.now.view.now.live number ≡ true) × (open_in node.now.view.now node.now.path.now number ≡ true) }
+    ensures { SoundShows node.now.view.now (node.now.path.now ++ Atom.Lacks number ∷ []) node.now.given result }
 {
-    let _ = view;
-    if opened && sound > path.len() - first {
+    if opened && sound > node.path.len() - node.given {
         sound + 1
     } else {
         sound
@@ -150,11 +135,10 @@ pub(crate) fn leave(
 }
 
 /// After the last step is taken back.
-pub(crate) fn back(view: &View, path: &[Atom], first: usize, sound: usize) -> usize
-    requires shows { SoundShows view.now path.now first sound }
-    requires some { first < length path.now }
-    ensures { SoundShows view.now (take (length path.now - 1) path.now) first result }
+pub(crate) fn back(node: &Node<'_>, sound: usize) -> usize
+    requires shows { SoundShows node.now.view.now node.now.path.now node.now.given sound }
+    requires some { node.now.given < length node.now.path.now }
+    ensures { SoundShows node.now.view.now (take (length node.now.path.now - 1) node.now.path.now) node.now.given result }
 {
-    let _ = view;
-    sound.min(path.len() - first)
+    sound.min(node.path.len() - node.given)
 }

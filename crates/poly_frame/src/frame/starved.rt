@@ -1,21 +1,20 @@
 //! Whether an item is starved once a placement is taken: no placement that has it stays open. The rows tell so without a
 //! step, so that an arm that leads nowhere costs little to check.
-ghost use Rattle.std.specs.Prelude.{List, [], length, nat_le, nat_lt, not, slice_index, true, ℕ, ◌&&◌, ◌*◌, ◌++◌, ◌+◌, ◌-◌, ◌<◌, ◌==◌, ◌∷◌, ◌≡◌, ◌≤◌};
+ghost use Rattle.std.specs.Prelude.{[], length, nat_le, nat_lt, not, slice_index, true, ℕ, ◌&&◌, ◌*◌, ◌++◌, ◌+◌, ◌-◌, ◌<◌, ◌==◌, ◌∷◌, ◌≡◌, ◌≤◌};
 ghost use Rattle.std.specs.List.{list_all, list_any};
 ghost use Rattle.std.specs.Int.{bit_at};
-ghost use Rattle.poly_tiling.specs.Puzzle.{View as Scene};
-ghost use Rattle.poly_atom.specs.declared.atom.Atom.{Atom};
 ghost use Rattle.poly_atom.specs.declared.atom.Atom.TheVariants.{Has};
 ghost use Rattle.poly_frame.specs.Open.{arms_fit};
 ghost use Rattle.poly_frame.specs.FrameItems.{item_of};
-ghost use Rattle.poly_frame.specs.FrameSteps.{StepsKeep};
+ghost use Rattle.poly_frame.specs.FrameSteps.{IsAt};
 
 use crate::bits;
 use crate::frame::items::{guess_item, index_of};
 use crate::frame::matrix::Matrix;
+use crate::frame::node::Node;
 use crate::frame::steps::Steps;
 use crate::frame::table::Table;
-use poly_tiling::{Item, View};
+use poly_tiling::Item;
 
 // What is left of a word of the row, once the item at `b` has one more member.
 fn left_by(matrix: &Matrix, table: &Table, have: &[u64], b: usize, k: usize, word: u64) -> u64
@@ -81,40 +80,44 @@ fn are_shut(
 
 // The same of the numbers that are open and have the item at `b`, and the items of the number at `j`, which is open and
 // hasn't that item.
-fn is_starved_at(matrix: &Matrix, table: &Table, steps: &Steps, b: usize, j: usize) -> bool
-    requires kept { (v : Scene) × (A : List Atom) × (first : ℕ) × StepsKeep v A first matrix.now table.now steps.now }
+fn is_starved_at(node: &Node<'_>, steps: &Steps, b: usize, j: usize) -> bool
+    requires kept { IsAt node.now steps.now }
     requires row { b < length steps.now.have.items }
-    requires number { j < length matrix.now.numbers.items }
-    ensures { result ≡ true → (v : Scene) (A : List Atom) (first : ℕ) → StepsKeep v A first matrix.now table.now steps.now → arms_fit v (A ++ Has (slice_index matrix.now.numbers.items j) ∷ []) (item_of v b) [] ≡ true }
+    requires number { j < length node.now.matrix.now.numbers.items }
+    ensures { result ≡ true → arms_fit node.now.view.now (node.now.path.now ++ Has (slice_index node.now.matrix.now.numbers.items j) ∷ []) (item_of node.now.view.now b) [] ≡ true }
 {
-    let at = steps.live.len() - matrix.width;
-    let from = matrix.width * b;
-    if steps.have[b] > 0 || table.asked[b] == 0 {
+    let at = steps.live.len() - node.matrix.width;
+    let from = node.matrix.width * b;
+    if steps.have[b] > 0 || node.table.asked[b] == 0 {
         return false;
     }
-    if !bits::has(&steps.live, at, j) || bits::has(&matrix.rows, from, j) {
+    if !bits::has(&steps.live, at, j) || bits::has(&node.matrix.rows, from, j) {
         return false;
     }
-    are_shut(matrix, table, steps, matrix.lists.of(j), at, from)
+    are_shut(
+        node.matrix,
+        node.table,
+        steps,
+        node.matrix.lists.of(j),
+        at,
+        from,
+    )
 }
 
 /// Whether no placement that has the item is known to stay open once the placement is taken, though some are asked for.
-pub(crate) fn is_starved(
-    view: &View,
-    matrix: &Matrix,
-    table: &Table,
-    steps: &Steps,
-    number: u32,
-    item: &Item,
-) -> bool
-    requires kept { (A : List Atom) × (first : ℕ) × StepsKeep view.now A first matrix.now table.now steps.now }
-    ensures { result ≡ true → (A : List Atom) (first : ℕ) → StepsKeep view.now A first matrix.now table.now steps.now → arms_fit view.now (A ++ Has number ∷ []) item.now [] ≡ true }
+pub(crate) fn is_starved(node: &Node<'_>, steps: &Steps, number: u32, item: &Item) -> bool
+    requires kept { IsAt node.now steps.now }
+    ensures { result ≡ true → arms_fit node.now.view.now (node.now.path.now ++ Has number ∷ []) item.now [] ≡ true }
 {
-    let Some(j) = matrix.place_of(number) else {
+    let Some(j) = node.matrix.place_of(number) else {
         return false;
     };
-    match index_of(view.items(), guess_item(&matrix.cells, item), *item) {
+    match index_of(
+        node.view.items(),
+        guess_item(&node.matrix.cells, item),
+        *item,
+    ) {
         None => false,
-        Some(b) => is_starved_at(matrix, table, steps, b, j),
+        Some(b) => is_starved_at(node, steps, b, j),
     }
 }

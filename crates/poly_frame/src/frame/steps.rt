@@ -11,6 +11,7 @@ ghost use Rattle.poly_tiling.specs.Puzzle.{items};
 use crate::bits;
 use crate::frame::items::{lower, note_items, raise};
 use crate::frame::matrix::Matrix;
+use crate::frame::node::Node;
 use crate::frame::notes::{note_due, notes_of};
 use crate::frame::table::Table;
 use poly_atom::Atom;
@@ -31,7 +32,7 @@ pub(crate) struct Steps {
 
 ghost use Rattle.poly_frame.specs.Matrices.{IsMatrix, RowOf, place};
 ghost use Rattle.poly_frame.specs.FrameTable.{HaveShows, TableShows};
-ghost use Rattle.poly_frame.specs.FrameSteps.{HasRoom, StepsKeep};
+ghost use Rattle.poly_frame.specs.FrameSteps.{HasRoom, IsAt, StepsKeep};
 
 // Notes the indices of the number's items. `place` is the number's column, if it has one.
 fn note_number(
@@ -90,36 +91,27 @@ fn close(
 }
 
 /// Takes a placement.
-pub(crate) fn pick(
-    view: &View,
-    path: &[Atom],
-    first: usize,
-    matrix: &Matrix,
-    table: &Table,
-    members: &[u32],
-    steps: &mut Steps,
-    number: u32,
-)
-    requires kept { StepsKeep view.now path.now first matrix.now table.now steps.old }
-    requires room { HasRoom matrix.now steps.old }
-    requires few { length path.now < first + 4096 }
-    requires members { members.now ≡ base view.now path.now }
-    ensures kept { StepsKeep view.now (path.now ++ Atom.Has number ∷ []) first matrix.now table.now steps.new }
-    ensures room { HasRoom matrix.now steps.new }
+pub(crate) fn pick(node: &Node<'_>, members: &[u32], steps: &mut Steps, number: u32)
+    requires kept { IsAt node.now steps.old }
+    requires room { HasRoom node.now.matrix.now steps.old }
+    requires few { length node.now.path.now < node.now.given + 4096 }
+    requires members { members.now ≡ base node.now.view.now node.now.path.now }
+    ensures kept { StepsKeep node.now.view.now (node.now.path.now ++ Atom.Has number ∷ []) node.now.given node.now.matrix.now node.now.table.now steps.new }
+    ensures room { HasRoom node.now.matrix.now steps.new }
 {
     let at = steps.live.len();
     let mark = steps.raised.len();
-    bits::copy_last(&mut steps.live, matrix.width);
+    bits::copy_last(&mut steps.live, node.matrix.width);
     steps.marks.push_reserved(mark);
     if has_number(members, number) {
         return;
     }
-    let place = matrix.place_of(number);
-    note_number(view, matrix, place, number, &mut steps.raised);
+    let place = node.matrix.place_of(number);
+    note_number(node.view, node.matrix, place, number, &mut steps.raised);
     raise(&mut steps.have, &steps.raised[mark..]);
     close(
-        matrix,
-        table,
+        node.matrix,
+        node.table,
         &steps.have,
         &steps.raised[mark..],
         &mut steps.live,
@@ -127,7 +119,7 @@ pub(crate) fn pick(
     );
     note_due(
         &mut steps.due,
-        &table.asked,
+        &node.table.asked,
         &steps.have,
         &steps.raised[mark..],
     );
@@ -137,60 +129,42 @@ pub(crate) fn pick(
 }
 
 /// Leaves a placement.
-pub(crate) fn leave(
-    view: &View,
-    path: &[Atom],
-    first: usize,
-    matrix: &Matrix,
-    table: &Table,
-    steps: &mut Steps,
-    number: u32,
-)
-    requires kept { StepsKeep view.now path.now first matrix.now table.now steps.old }
-    requires room { HasRoom matrix.now steps.old }
-    requires few { length path.now < first + 4096 }
-    ensures kept { StepsKeep view.now (path.now ++ Atom.Lacks number ∷ []) first matrix.now table.now steps.new }
-    ensures room { HasRoom matrix.now steps.new }
+pub(crate) fn leave(node: &Node<'_>, steps: &mut Steps, number: u32)
+    requires kept { IsAt node.now steps.old }
+    requires room { HasRoom node.now.matrix.now steps.old }
+    requires few { length node.now.path.now < node.now.given + 4096 }
+    ensures kept { StepsKeep node.now.view.now (node.now.path.now ++ Atom.Lacks number ∷ []) node.now.given node.now.matrix.now node.now.table.now steps.new }
+    ensures room { HasRoom node.now.matrix.now steps.new }
 {
-    let _ = view;
-    let _ = path;
     let at = steps.live.len();
     let mark = steps.raised.len();
-    bits::copy_last(&mut steps.live, matrix.width);
+    bits::copy_last(&mut steps.live, node.matrix.width);
     steps.marks.push_reserved(mark);
-    if let Some(j) = matrix.place_of(number) {
+    if let Some(j) = node.matrix.place_of(number) {
         bits::take_out(&mut steps.live, at, j);
     }
 }
 
 /// Takes the last step back.
-pub(crate) fn back(
-    view: &View,
-    path: &[Atom],
-    first: usize,
-    matrix: &Matrix,
-    table: &Table,
-    steps: &mut Steps,
-)
-    requires kept { StepsKeep view.now path.now first matrix.now table.now steps.old }
-    requires room { HasRoom matrix.now steps.old }
-    requires some { first < length path.now }
-    ensures kept { StepsKeep view.now (take (length path.now - 1) path.now) first matrix.now table.now steps.new }
-    ensures room { HasRoom matrix.now steps.new }
+pub(crate) fn back(node: &Node<'_>, steps: &mut Steps)
+    requires kept { IsAt node.now steps.old }
+    requires room { HasRoom node.now.matrix.now steps.old }
+    requires some { node.now.given < length node.now.path.now }
+    ensures kept { StepsKeep node.now.view.now (take (length node.now.path.now - 1) node.now.path.now) node.now.given node.now.matrix.now node.now.table.now steps.new }
+    ensures room { HasRoom node.now.matrix.now steps.new }
 {
-    let _ = view;
-    let n = path.len() - 1 - first;
+    let n = node.path.len() - 1 - node.given;
     let mark = steps.marks[n];
     lower(&mut steps.have, &steps.raised[mark..]);
     note_due(
         &mut steps.due,
-        &table.asked,
+        &node.table.asked,
         &steps.have,
         &steps.raised[mark..],
     );
     steps.raised.truncate(mark);
     steps.marks.truncate(n);
-    steps.live.truncate(matrix.width * (n + 1));
+    steps.live.truncate(node.matrix.width * (n + 1));
 }
 
 // The row, with room for one more at each step.
@@ -207,31 +181,26 @@ fn with_room(row: Vec<u64>, width: usize) -> Result<Vec<u64>, Refusal>
 /// No steps, for a table with what it was made of, and the row of what is open.
 pub(crate) fn start(
     alloc: Global,
-    view: &View,
-    atoms: &[Atom],
-    matrix: &Matrix,
-    table: &Table,
+    node: &Node<'_>,
     row: Vec<u64>,
     have: Vec<u64>,
     raised: Vec<usize>,
 ) -> Result<Steps, Refusal>
-    requires table { TableShows view.now atoms.now matrix.now table.now }
-    requires row_len { length row.items ≡ matrix.now.width }
-    requires row { RowOf (λ p. open_in view.now atoms.now p) matrix.now row.items }
-    requires have { HaveShows view.now (base view.now atoms.now) have.items }
-    requires len { length have.items ≡ length view.now.bounds }
+    requires table { TableShows node.now.view.now node.now.path.now node.now.matrix.now node.now.table.now }
+    requires row_len { length row.items ≡ node.now.matrix.now.width }
+    requires row { RowOf (λ p. open_in node.now.view.now node.now.path.now p) node.now.matrix.now row.items }
+    requires have { HaveShows node.now.view.now (base node.now.view.now node.now.path.now) have.items }
+    requires len { length have.items ≡ length node.now.view.now.bounds }
     requires room { 69632 ≤ vec_capacity raised }
-    ensures kept { IfOk result (λ s. StepsKeep view.now atoms.now (length atoms.now) matrix.now table.now s) }
-    ensures room { IfOk result (λ s. HasRoom matrix.now s) }
+    ensures kept { IfOk result (λ s. StepsKeep node.now.view.now node.now.path.now (length node.now.path.now) node.now.matrix.now node.now.table.now s) }
+    ensures room { IfOk result (λ s. HasRoom node.now.matrix.now s) }
     ensures why { IfErr result (λ e. e ≡ Refusal.Memory) }
 {
-    let _ = view;
-    let _ = atoms;
-    let live = with_room(row, matrix.width)?;
+    let live = with_room(row, node.matrix.width)?;
     let marks = Vec::with_capacity(alloc, 4096)?;
     let mut raised = raised;
     raised.clear();
-    let due = notes_of(alloc, &table.asked, &have)?;
+    let due = notes_of(alloc, &node.table.asked, &have)?;
     Ok(Steps {
         live,
         have,

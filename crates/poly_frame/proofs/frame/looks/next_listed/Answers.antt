@@ -5,7 +5,7 @@ use Rattle.poly_frame.proofs.frame.looks.next_listed.Goals as goal
 pub returns-in-Some : goal.returns-in-Some
 returns-in-Some c =
     let s = c.args.steps.now in
-    let K = c.requires.kept.1 in
+    let K = c.requires.kept in
     let b = c.in-Some.b in
-    let low : b < length c.args.view.now.bounds = omega (arith, c.in-Some.ensures.0, K.have_len) in
-    (low, due_says c.args.view.now c.args.path.now c.requires.kept.0 c.args.matrix.now c.args.table.now s.live.items s.have.items s.raised.items s.marks.items K b low ∙ c.in-Some.ensures.1)
+    let low : b < length c.args.node.now.view.now.bounds = omega (arith, c.in-Some.ensures.0, K.have_len) in
+    (low, due_says c.args.node.now.view.now c.args.node.now.path.now c.args.node.now.given c.args.node.now.matrix.now c.args.node.now.table.now s.live.items s.have.items s.raised.items s.marks.items K b low ∙ c.in-Some.ensures.1)

@@ -19,12 +19,12 @@ chosen v A first matrix t live have raised marks K n l (Some b) h = let g : b < 
 pub returns : goal.returns
 returns c =
     let s = c.args.steps.now in
-    chosen c.args.view.now c.args.path.now c.requires.kept.0 c.args.matrix.now c.args.table.now s.live.items s.have.items s.raised.items s.marks.items c.requires.kept.1 c.loop-b.b (omega (arith, c.loop-b-test.false, c.min-b-end.ensures, c.len-2.ensures, s.have.ok.0)) c.loop-b.best c.loop-b.invariant
+    chosen c.args.node.now.view.now c.args.node.now.path.now c.args.node.now.given c.args.node.now.matrix.now c.args.node.now.table.now s.live.items s.have.items s.raised.items s.marks.items c.requires.kept c.loop-b.b (omega (arith, c.loop-b-test.false, c.min-b-end.ensures, c.len-2.ensures, s.have.ok.0)) c.loop-b.best c.loop-b.invariant
 
 pub returns-then-n-eq0 : goal.returns-then-n-eq0
 returns-then-n-eq0 c =
     let s = c.args.steps.now in
-    let K = c.requires.kept.1 in
+    let K = c.requires.kept in
     let b = c.loop-b.b in
-    let low : b < length c.args.view.now.bounds = omega (arith, c.loop-b-test.true, c.min-b-end.ensures, c.len-2.ensures, s.have.ok.0, K.have_len) in
-    (low, due_says c.args.view.now c.args.path.now c.requires.kept.0 c.args.matrix.now c.args.table.now s.live.items s.have.items s.raised.items s.marks.items K b low ∙ c.in-Some.ensures)
+    let low : b < length c.args.node.now.view.now.bounds = omega (arith, c.loop-b-test.true, c.min-b-end.ensures, c.len-2.ensures, s.have.ok.0, K.have_len) in
+    (low, due_says c.args.node.now.view.now c.args.node.now.path.now c.args.node.now.given c.args.node.now.matrix.now c.args.node.now.table.now s.live.items s.have.items s.raised.items s.marks.items K b low ∙ c.in-Some.ensures)

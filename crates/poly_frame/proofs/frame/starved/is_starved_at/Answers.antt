@@ -7,10 +7,14 @@ use Rattle.poly_frame.proofs.Starved.{starved_fits}
 use Rattle.poly_frame.proofs.frame.starved.is_starved_at.Goals as goal
 
 pub returns : goal.returns
-returns c = λ y v A first K.
+returns c = λ y.
+    let v = c.args.node.now.view.now in
+    let A = c.args.node.now.path.now in
+    let first = c.args.node.now.given in
+    let K = c.requires.kept in
     let s = c.args.steps.now in
-    let matrix = c.args.matrix.now in
-    let t = c.args.table.now in
+    let matrix = c.args.node.now.matrix.now in
+    let t = c.args.node.now.table.now in
     let b = c.args.b in
     let j = c.args.j in
     let at = c.len.result - matrix.width in

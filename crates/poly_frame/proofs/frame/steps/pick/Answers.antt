@@ -8,7 +8,7 @@ pub note_number-requires-clause-room : goal.note_number-requires-clause-room
 note_number-requires-clause-room c =
     let s = c.args.steps.now in
     let K = c.requires.kept in
-    omega (arith, s.raised.ok.0, raised_few c.args.view.now c.args.path.now c.args.first c.args.matrix.now c.args.table.now s.live.items s.have.items s.raised.items s.marks.items K, K.steps, c.requires.few, c.requires.room.raised)
+    omega (arith, s.raised.ok.0, raised_few c.args.node.now.view.now c.args.node.now.path.now c.args.node.now.given c.args.node.now.matrix.now c.args.node.now.table.now s.live.items s.have.items s.raised.items s.marks.items K, K.steps, c.requires.few, c.requires.room.raised)
 
 pub raise-requires-clause-small : goal.raise-requires-clause-small
 raise-requires-clause-small c = λ b h.
@@ -18,30 +18,30 @@ raise-requires-clause-small c = λ b h.
     let mk : c.len-mark.result ≡ length s.raised.items = c.len-mark.ensures ∙ s.raised.ok.0 in
     let all : c.deref.result.now ≡ s.raised.items ++ places.0 = c.deref.ensures.value ∙ places.1 in
     let few : length places.0 ≤ 17 = omega (arith, c.note_number.ensures.len, s.raised.ok.0, c.note_number.new.noted.ok.0, ap length places.1, length-append s.raised.items places.0) in
-    omega (arith, ap length (added s.raised.items places.0 c.deref.result.now c.len-mark.result all mk), few, have_small c.args.view.now c.args.path.now c.args.first c.args.matrix.now c.args.table.now s.live.items s.have.items s.raised.items s.marks.items K b (omega (arith, K.have_len)), K.steps, c.requires.few)
+    omega (arith, ap length (added s.raised.items places.0 c.deref.result.now c.len-mark.result all mk), few, have_small c.args.node.now.view.now c.args.node.now.path.now c.args.node.now.given c.args.node.now.matrix.now c.args.node.now.table.now s.live.items s.have.items s.raised.items s.marks.items K b (omega (arith, K.have_len)), K.steps, c.requires.few)
 
 pub returns-then-has_number-clause-kept : goal.returns-then-has_number-clause-kept
 returns-then-has_number-clause-kept c =
     let s = c.args.steps.now in
-    let matrix = c.args.matrix.now in
-    let t = c.args.table.now in
-    let v = c.args.view.now in
-    let A = c.args.path.now in
+    let matrix = c.args.node.now.matrix.now in
+    let t = c.args.node.now.table.now in
+    let v = c.args.node.now.view.now in
+    let A = c.args.node.now.path.now in
     let K = c.requires.kept in
     let live1 = c.copy_last.new.words.items in
     let C = copied_from matrix.width (vec_len s.live) s.live.items live1 s.live.ok.0 (sym c.copy_last.new.words.ok.0 ∙ c.copy_last.ensures.len) c.copy_last.ensures.before c.copy_last.ensures.row in
     let at : c.len-at.result ≡ length s.live.items = c.len-at.ensures ∙ s.live.ok.0 in
     let mk : c.len-mark.result ≡ length s.raised.items = c.len-mark.ensures ∙ s.raised.ok.0 in
-    kept_as v _ c.args.first matrix t live1 s.have.items s.raised.items (s.marks.items ++ length s.raised.items ∷ []) s.raised.items c.push_reserved.new.self.items refl (marks_from s.marks.items s.raised.items c.push_reserved.new.self.items c.len-mark.result mk c.push_reserved.ensures.items)
-    (pick_again v A c.args.first matrix t s.live.items s.have.items s.raised.items s.marks.items live1 K C c.args.number (ap (λ xs. mem xs c.args.number) (sym c.requires.members) ∙ sym c.has_number.ensures ∙ c.if-has_number.true))
+    kept_as v _ c.args.node.now.given matrix t live1 s.have.items s.raised.items (s.marks.items ++ length s.raised.items ∷ []) s.raised.items c.push_reserved.new.self.items refl (marks_from s.marks.items s.raised.items c.push_reserved.new.self.items c.len-mark.result mk c.push_reserved.ensures.items)
+    (pick_again v A c.args.node.now.given matrix t s.live.items s.have.items s.raised.items s.marks.items live1 K C c.args.number (ap (λ xs. mem xs c.args.number) (sym c.requires.members) ∙ sym c.has_number.ensures ∙ c.if-has_number.true))
 
 pub returns-in-Some-clause-kept : goal.returns-in-Some-clause-kept
 returns-in-Some-clause-kept c =
     let s = c.args.steps.now in
-    let matrix = c.args.matrix.now in
-    let t = c.args.table.now in
-    let v = c.args.view.now in
-    let A = c.args.path.now in
+    let matrix = c.args.node.now.matrix.now in
+    let t = c.args.node.now.table.now in
+    let v = c.args.node.now.view.now in
+    let A = c.args.node.now.path.now in
     let K = c.requires.kept in
     let live1 = c.copy_last.new.words.items in
     let C = copied_from matrix.width (vec_len s.live) s.live.items live1 s.live.ok.0 (sym c.copy_last.new.words.ok.0 ∙ c.copy_last.ensures.len) c.copy_last.ensures.before c.copy_last.ensures.row in
@@ -51,19 +51,19 @@ returns-in-Some-clause-kept c =
     let all3 : c.deref.result.now ≡ s.raised.items ++ places.0 = c.deref.ensures.value ∙ places.1 in
     let all5 : c.deref-3.result.now ≡ s.raised.items ++ places.0 = c.deref-3.ensures.value ∙ places.1 in
     let few : length places.0 ≤ 17 = omega (arith, c.note_number.ensures.len, s.raised.ok.0, c.note_number.new.noted.ok.0, ap length places.1, length-append s.raised.items places.0) in
-    pick_made v A c.args.first matrix t s.live.items s.have.items s.raised.items s.marks.items live1 K C c.args.number c.len-at.result c.len-mark.result c.args.members.now c.close.new.live.items c.take_out.new.words.items c.raise.new.have.items c.deref-2.result.now c.note_number.new.noted.items c.push_reserved.new.self.items places.0
+    pick_made v A c.args.node.now.given matrix t s.live.items s.have.items s.raised.items s.marks.items live1 K C c.args.number c.len-at.result c.len-mark.result c.args.members.now c.close.new.live.items c.take_out.new.words.items c.raise.new.have.items c.deref-2.result.now c.note_number.new.noted.items c.push_reserved.new.self.items places.0
     _ _ at mk c.requires.members (sym c.has_number.ensures ∙ c.if-has_number.false) places.1 places.2 few c.push_reserved.ensures.items (added s.raised.items places.0 c.deref.result.now c.len-mark.result all3 mk) (added s.raised.items places.0 c.deref-3.result.now c.len-mark.result all5 mk) c.deref-2.ensures.value c.raise.ensures.len c.raise.ensures.more
     c.close.ensures.len c.close.ensures.before c.close.ensures.row c.take_out.ensures.len (taken_before c.close.new.live.items c.take_out.new.words.items c.len-at.result c.in-Some.j c.take_out.ensures.bits)
-    (own_taken v A c.args.first matrix t s.live.items s.have.items s.raised.items s.marks.items K c.args.number c.in-Some.j c.len-at.result c.close.new.live.items c.take_out.new.words.items c.in-Some.ensures c.take_out.ensures.bits)
+    (own_taken v A c.args.node.now.given matrix t s.live.items s.have.items s.raised.items s.marks.items K c.args.number c.in-Some.j c.len-at.result c.close.new.live.items c.take_out.new.words.items c.in-Some.ensures c.take_out.ensures.bits)
     (taken_past c.close.new.live.items c.take_out.new.words.items c.len-at.result c.in-Some.j c.take_out.ensures.bits)
 
 pub returns-in_default-clause-kept : goal.returns-in_default-clause-kept
 returns-in_default-clause-kept c =
     let s = c.args.steps.now in
-    let matrix = c.args.matrix.now in
-    let t = c.args.table.now in
-    let v = c.args.view.now in
-    let A = c.args.path.now in
+    let matrix = c.args.node.now.matrix.now in
+    let t = c.args.node.now.table.now in
+    let v = c.args.node.now.view.now in
+    let A = c.args.node.now.path.now in
     let K = c.requires.kept in
     let live1 = c.copy_last.new.words.items in
     let C = copied_from matrix.width (vec_len s.live) s.live.items live1 s.live.ok.0 (sym c.copy_last.new.words.ok.0 ∙ c.copy_last.ensures.len) c.copy_last.ensures.before c.copy_last.ensures.row in
@@ -73,7 +73,7 @@ returns-in_default-clause-kept c =
     let all3 : c.deref.result.now ≡ s.raised.items ++ places.0 = c.deref.ensures.value ∙ places.1 in
     let all5 : c.deref-3.result.now ≡ s.raised.items ++ places.0 = c.deref-3.ensures.value ∙ places.1 in
     let few : length places.0 ≤ 17 = omega (arith, c.note_number.ensures.len, s.raised.ok.0, c.note_number.new.noted.ok.0, ap length places.1, length-append s.raised.items places.0) in
-    pick_made v A c.args.first matrix t s.live.items s.have.items s.raised.items s.marks.items live1 K C c.args.number c.len-at.result c.len-mark.result c.args.members.now c.close.new.live.items c.close.new.live.items c.raise.new.have.items c.deref-2.result.now c.note_number.new.noted.items c.push_reserved.new.self.items places.0
+    pick_made v A c.args.node.now.given matrix t s.live.items s.have.items s.raised.items s.marks.items live1 K C c.args.number c.len-at.result c.len-mark.result c.args.members.now c.close.new.live.items c.close.new.live.items c.raise.new.have.items c.deref-2.result.now c.note_number.new.noted.items c.push_reserved.new.self.items places.0
     _ _ at mk c.requires.members (sym c.has_number.ensures ∙ c.if-has_number.false) places.1 places.2 few c.push_reserved.ensures.items (added s.raised.items places.0 c.deref.result.now c.len-mark.result all3 mk) (added s.raised.items places.0 c.deref-3.result.now c.len-mark.result all5 mk) c.deref-2.ensures.value c.raise.ensures.len c.raise.ensures.more
     c.close.ensures.len c.close.ensures.before c.close.ensures.row refl (λ x h. refl)
     (own_none matrix.numbers.items c.args.number c.len-at.result c.close.new.live.items (c.in_default.ensures {u = tt})) (λ j e. e)
