@@ -1,19 +1,18 @@
 //! A Quiet: all tilings of a design, listed when nothing is pending.
 ghost use Rattle.std.specs.Prelude.{◌≡◌, ◌<◌, ◌⊎◌, [], IfErr, IfOk, length, map};
 ghost use Rattle.std.specs.Arc.{arc_value};
-ghost use Rattle.std.specs.List.Sorted.{IsPermutation, IsSorted};
 ghost use Rattle.poly_design.specs.Limits.{IsDesign};
 ghost use Rattle.poly_tiling.specs.Lister.{HasEachOnce};
 ghost use Rattle.poly_tiling.specs.Listings.{IsListOfTilings};
 ghost use Rattle.poly_tiling.specs.Names.{WellNamed};
 ghost use Rattle.poly_tiling.specs.Shows.{Shows};
-ghost use Rattle.poly_tiling.specs.TilingOrder.{placed, tiling_cmp};
+ghost use Rattle.poly_tiling.specs.TilingOrder.{placed};
 ghost use Rattle.poly_book.specs.AllTilings.{HasAll, IsQuietOf};
 
 use crate::book::Book;
 use poly_design::Design;
 use poly_grid::Refusal;
-use poly_tiling::{Tiling, View, sort_tilings};
+use poly_tiling::{Tiling, View, tilings_in_order};
 use std::alloc::Global;
 use std::marker::Model;
 use std::sync::Arc;
@@ -110,17 +109,6 @@ pub(crate) fn copies(alloc: Global, tilings: &[Tiling]) -> Result<Vec<Tiling>, R
     Ok(all)
 }
 
-// Copies of tilings, in their order.
-fn in_order(alloc: Global, view: &View, tilings: &[Tiling]) -> Result<Vec<Tiling>, Refusal>
-    ensures permutation { IfOk result (λ v. IsPermutation tilings.now v.items) }
-    ensures ascends { IfOk result (λ v. IsSorted (tiling_cmp view.now) v.items) }
-    ensures why { IfErr result (λ e. e ≡ Refusal.Memory) }
-{
-    let mut all = copies(alloc, tilings)?;
-    sort_tilings(alloc, view, &mut all)?;
-    Ok(all)
-}
-
 // The listed tilings, put into their order, if they are all tilings of the design.
 fn all_tilings(
     alloc: Global,
@@ -138,7 +126,7 @@ fn all_tilings(
     ensures view { IfOk result (λ q. q.view ≡ arc_value view.now) }
     ensures why { IfErr result (λ e. e ≡ Refusal.Memory) }
 {
-    let tilings = in_order(alloc, view, listed)?;
+    let tilings = tilings_in_order(alloc, view, listed)?;
     let copy = design.copy()?;
     let shared = Arc::try_clone(view)?;
     Ok(Quiet {

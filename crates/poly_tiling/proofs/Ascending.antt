@@ -1,9 +1,9 @@
 -- Ascending lists: with one number more, and two with the same members are one.
 use Rattle.std.proofs.Common.{Bool, List, [], ap, arith, cond, drop, eqb, false, get_or, inl, inr, length, ltb, refl, subst, suc, sym, true, zero, ℕ, ◌+◌, ◌-◌, ◌<◌, ◌∙◌, ◌∷◌, ◌≡◌, ◌≤◌, ◌⊎◌}
 use Rattle.std.proofs.lemmas.List.{at_drop_more}
-use Rattle.std.proofs.lemmas.Bool.{and_from, and_parts, eq-eqb, eqb-false, eqb-true, false_from_ne_true, lt-ltb, ltb-false, ltb-true, true≢false}
+use Rattle.std.proofs.lemmas.Bool.{and_from, and_parts, eq-eqb, eqb-false, eqb-true, lt-ltb, ltb-false, ltb-true, true≢false}
 use Rattle.std.specs.List.{list_all}
-use Rattle.poly_tiling.specs.Lists.{ascending, distinct, one, put, put_all, same_list}
+use Rattle.poly_tiling.specs.Lists.{ascending, distinct, put, put_all, same_list}
 use Rattle.poly_tiling.proofs.Lists.{In, all_from, all_in, same_truth}
 
 put_in_at : (p q : ℕ) (qs : List ℕ) (x : ℕ) → (In x (put p qs) → (p ≡ x) ⊎ In x qs) → (b c : Bool) →

@@ -19,4 +19,6 @@ pub mod Ranks
 pub mod Below
 pub mod Designs
 pub mod Places
+pub mod Parts
+pub mod Digits
 pub mod Listings

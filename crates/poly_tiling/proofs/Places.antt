@@ -1,12 +1,14 @@
 -- The places of numbers among the live ones, and the ranks of a tiling from them.
-use Rattle.std.proofs.Common.{Bool, List, None, Option, Some, [], ap, arith, cond, eqb, false, get_or, inl, inr, length, map, refl, set, subst, suc, sym, take, true, zero, ℕ, ◌+◌, ◌++◌, ◌<◌, ◌∙◌, ◌∷◌, ◌≡◌, ◌≢◌}
-use Rattle.std.proofs.lemmas.Bool.{cases_eq}
+use Rattle.std.proofs.Common.{Bool, List, None, Option, Some, [], ap, arith, cond, eqb, false, get_or, inl, inr, length, map, nat_lt, refl, set, subst, suc, sym, take, true, zero, ℕ, ◌+◌, ◌++◌, ◌<◌, ◌∙◌, ◌∷◌, ◌≡◌, ◌≢◌, ◌≤◌}
+use Rattle.std.proofs.lemmas.Bool.{cases_eq, eqb-true, ltb-true, ne_eqb}
 use Rattle.std.proofs.lemmas.List.{take_more}
+use Rattle.std.proofs.lemmas.Map.Keys.{IsDistinct-from_apart}
+use Rattle.std.proofs.lemmas.Map.Steps.{length-le_from_distinct_below}
 use Rattle.std.proofs.lemmas.List.Elements.{filter_map-append}
 use Rattle.std.proofs.lemmas.List.{get_or-map, length-map}
 use Rattle.std.proofs.lemmas.List.Elements.{All-get_or}
 use Rattle.std.specs.Cmp.Lexicographic.{slice_cmp}
-use Rattle.std.specs.List.{All, cons_option, filter_map, slice_get}
+use Rattle.std.specs.List.{All, cons_option, filter_map, list_all, slice_get}
 use Rattle.std.specs.Option.{option_flatten, option_to_list}
 use Rattle.std.specs.List.Retain.{DiffersFromLast, IsFiltered}
 use Rattle.std.specs.List.Sorted.{IsPermutation, IsSorted, IsSortedBy}
@@ -15,11 +17,10 @@ use Rattle.poly_tiling.specs.Lists.{ascending, distinct, mem}
 use Rattle.poly_tiling.specs.Puzzle.{View}
 use Rattle.poly_tiling.specs.Names.{WellNamed}
 use Rattle.poly_tiling.specs.TilingOrder.{ArePlaces, place_at, ranks_from, tiling_cmp}
-use Rattle.poly_tiling.proofs.Lists.{In, in_mem, mem_in}
+use Rattle.poly_tiling.proofs.Lists.{In, all_in, any_in, in_mem, mem_in}
 use Rattle.poly_tiling.proofs.Ascending.{ascending_from, ascending_same, distinct_rest, not_head}
-use Rattle.poly_tiling.proofs.Contained.{at_in, get_in, get_low}
+use Rattle.poly_tiling.proofs.Contained.{at_in, get_in}
 use Rattle.poly_tiling.proofs.Ranks.{ranks_compare_lem, ranks_low}
-use Rattle.poly_tiling.proofs.Shown.{is_given}
 use Rattle.poly_tiling.proofs.Sorting.{sorted_ascend, sorted_same}
 
 -- ---- the table
@@ -202,9 +203,22 @@ one_option ys (Some y) = refl
 pub places_more : {X Y : Type 0} (f : X → Option Y) (xs : List X) (i : ℕ) (d : X) → i < length xs → filter_map f (take (i + 1) xs) ≡ filter_map f (take i xs) ++ option_to_list (f (get_or xs i d))
 places_more f xs i d l = rw (take_more xs i d l, filter_map-append f (take i xs) (get_or xs i d ∷ [])) (one_option (filter_map f (take i xs)) (f (get_or xs i d)))
 
--- the next live number has a row in the table
-pub row_fits : (v : View) (i d : ℕ) → WellNamed v → i < length v.live → get_or v.live i d < length v.placements
-row_fits v i d wn l = let x = is_given v v.live wn.named (get_or v.live i d) (at_in v.live i d l) in get_low v.placements (get_or v.live i d) x.0 x.1
+-- the next number has a row in the table
+pub number_fits : (list : List ℕ) (count i d : ℕ) → list_all (λ n. nat_lt n count) list ≡ true → i < length list → get_or list i d < count
+number_fits list count i d below l = ltb-true (get_or list i d) count (all_in (λ n. nat_lt n count) list below (get_or list i d) (at_in list i d l))
+
+in_small : (n : ℕ) (list : List ℕ) → ((k : ℕ) → k < length list → get_or list k 0 < n) → (x : ℕ) → In x list → x < n
+in_small n [] small x i = absurd i
+in_small n (y ∷ list) small x (inl e) = let s = small 0 (omega arith) in omega (arith, s, e)
+in_small n (y ∷ list) small x (inr i) = in_small n list (λ k l. small (suc k) (omega (arith, l))) x i
+
+-- a list without repeats is no longer than there are numbers for it
+pub count_fits : (list : List ℕ) (n : ℕ) → distinct list ≡ true → ((k : ℕ) → k < length list → get_or list k 0 < n) → length list ≤ n
+count_fits list n once small = length-le_from_distinct_below list n
+    (IsDistinct-from_apart eqb list
+    (λ i j d l m. ne_eqb (get_or list i d) (get_or list j d)
+    (λ e. let is = one_at list once i j (get_or list j d) (get_is list i d (omega (arith, l, m)) ∙ ap Some e) (get_is list j d m) in omega (arith, l, is))))
+    (λ q h. let r = any_in (eqb q) list h in let e = eqb-true q r.0 r.2 in let s = in_small n list small r.0 r.1 in omega (arith, e, s))
 
 -- tilings in the order of their ranks are in their order
 pub sorted_by_ranks : {R : Type 0} (v : View) (tiling : R → List ℕ) (ranks : R → List ℕ) (rs : List R) → WellNamed v → All (λ r. ranks r ≡ ranks_from 0 v.live (tiling r)) rs →

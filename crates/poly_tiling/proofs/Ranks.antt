@@ -27,22 +27,32 @@ pub ranks_low : (s : ℕ) (ns T : List ℕ) (k : ℕ) → In k (ranks_from s ns 
 ranks_low s [] T k i = absurd i
 ranks_low s (n ∷ ns) T k i = ranks_low_at s ns T k (λ j. ranks_low (s + 1) ns T k j) (mem T n) i
 
+ranks_high_at : (s : ℕ) (n : ℕ) (ns T : List ℕ) (k : ℕ) → (In k (ranks_from (s + 1) ns T) → k < s + 1 + length ns) → (b : Bool) → In k (cond b (s ∷ ranks_from (s + 1) ns T) (ranks_from (s + 1) ns T)) → k < s + length (n ∷ ns)
+ranks_high_at s n ns T k ih true (inl e) = omega (arith, e)
+ranks_high_at s n ns T k ih true (inr j) = let l = ih j in omega (arith, l)
+ranks_high_at s n ns T k ih false j = let l = ih j in omega (arith, l)
+
+-- ranks are below the number of places
+pub ranks_high : (s : ℕ) (ns T : List ℕ) (k : ℕ) → In k (ranks_from s ns T) → k < s + length ns
+ranks_high s [] T k i = absurd i
+ranks_high s (n ∷ ns) T k i = ranks_high_at s n ns T k (λ j. ranks_high (s + 1) ns T k j) (mem T n) i
+
 -- two lists that are told apart by what one of them begins with
 record Behind (s : ℕ) (x : Placement) (ks : List ℕ) (xs : List Placement) : Type 0 where
   even : length ks ≡ length xs
   ranks : (k : ℕ) → In k ks → s < k
   after : (y : Placement) → In y xs → placement_cmp x y ≡ Less
 
-nat_less : (m n : ℕ) → m < n → nat_cmp m n ≡ Less
+pub nat_less : (m n : ℕ) → m < n → nat_cmp m n ≡ Less
 nat_less m n l = ap (λ b. cond b Less (cond (eqb m n) Equal Greater)) (lt-ltb m n l)
 
-nat_more : (m n : ℕ) → m < n → nat_cmp n m ≡ Greater
+pub nat_more : (m n : ℕ) → m < n → nat_cmp n m ≡ Greater
 nat_more m n l =
     let a : ltb n m ≡ false = le-ltb n m (omega arith) in
     let b : eqb n m ≡ false = ne_eqb n m (λ e. absurd (omega arith)) in
     ap (λ t. cond t Less (cond (eqb n m) Equal Greater)) a ∙ ap (λ t. cond t Equal Greater) b
 
-nat_tied : (n : ℕ) → nat_cmp n n ≡ Equal
+pub nat_tied : (n : ℕ) → nat_cmp n n ≡ Equal
 nat_tied n =
     let a : ltb n n ≡ false = le-ltb n n (omega arith) in
     ap (λ t. cond t Less (cond (eqb n n) Equal Greater)) a ∙ ap (λ t. cond t Equal Greater) (eq-eqb n n refl)

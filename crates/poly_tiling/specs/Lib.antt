@@ -6,4 +6,5 @@ pub mod Shows
 pub mod Lister
 pub mod Laws
 pub mod TilingOrder
+pub mod Leading
 pub mod Listings

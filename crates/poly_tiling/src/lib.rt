@@ -4,10 +4,12 @@
 mod conflicts;
 mod item;
 mod laws;
+mod leading;
 mod lister;
 mod numbering;
 mod numbers;
 mod order;
+mod rows;
 mod tiling;
 mod view;
 
@@ -20,7 +22,7 @@ pub use laws::{
 pub use lister::{MAX_TILINGS, list_tilings};
 pub use numbering::item_list;
 pub use numbers::{ascends, has_all, has_number};
-pub use order::sort_tilings;
+pub use order::{sort_tilings, tilings_in_order};
 pub use tiling::Tiling;
 pub use view::{View, find_bound};
 

@@ -1,23 +1,25 @@
 //! Tilings in their order: each is its placements in placement order, and tilings are compared as such lists.
 //!
-//! They are compared by the places of their numbers among the live ones, which are in placement order.
-ghost use Rattle.std.specs.Prelude.{IfErr, IfOk, OnErr, OnOk, map, ◌≡◌};
-ghost use Rattle.std.specs.List.{All, filter_map};
+//! They are compared by their ranks, which are the places of their numbers among the live ones, ascending: the live numbers
+//! are in placement order. Only small keys are sorted, each an index and the leading digits of a tiling's ranks. Then the
+//! tilings are copied in the order of the keys.
+ghost use Rattle.std.specs.Prelude.{[], IfErr, IfOk, OnErr, OnOk, length, map, nat_lt, slice_index_or, true, ℕ, ◌+◌, ◌<◌, ◌≡◌, ◌^◌};
+ghost use Rattle.std.specs.Cmp.Lexicographic.{slice_cmp};
+ghost use Rattle.std.specs.List.{All, filter_map, list_all};
 ghost use Rattle.std.specs.List.Sorted.{IsPermutation, IsSorted};
+ghost use Rattle.std.specs.Ordering.{nat_cmp, ordering_then};
+ghost use Rattle.poly_tiling.specs.Lists.{distinct};
 ghost use Rattle.poly_tiling.specs.Names.{WellNamed};
 ghost use Rattle.poly_tiling.specs.TilingOrder.{ArePlaces, place_at, ranks_from, tiling_cmp};
+ghost use Rattle.poly_tiling.specs.Leading.{AreDigits, leading, tiling_at};
 
+use crate::leading::{digit_count, leading};
+use crate::rows::Rows;
 use crate::tiling::Tiling;
 use crate::view::View;
 use poly_grid::Refusal;
 use std::alloc::Global;
-
-// A tiling with the places that its numbers have among the live ones, ascending.
-#[derive(Drop)]
-struct Ranked {
-    ranks: Vec<usize>,
-    tiling: Tiling,
-}
+use std::cmp::Ordering;
 
 /// Puts the tilings into their order: by their placements in placement order, as lists of placements are compared.
 ///
@@ -28,72 +30,136 @@ pub fn sort_tilings(alloc: Global, view: &View, tilings: &mut Vec<Tiling>) -> Re
     ensures kept { OnErr result (tilings.new.items ≡ tilings.old.items) }
     ensures why { IfErr result (λ e. e ≡ Refusal.Memory) }
 {
-    let places = live_places(alloc, view)?;
-    let mut ranked = with_ranks(alloc, view, &places, tilings)?;
-    ranked.sort_unstable_by(|a, b| a.ranks.cmp(&b.ranks));
-    let sorted = without_ranks(alloc, ranked)?;
+    let sorted = tilings_in_order(alloc, view, tilings)?;
     *tilings = sorted;
     Ok(())
 }
 
+/// Copies of the tilings in the order into which `sort_tilings` puts them. Fails only with `Memory`.
+pub fn tilings_in_order(
+    alloc: Global,
+    view: &View,
+    tilings: &[Tiling],
+) -> Result<Vec<Tiling>, Refusal>
+    ensures permutation { IfOk result (λ sorted. IsPermutation tilings.now sorted.items) }
+    ensures ascends { IfOk result (λ sorted. IsSorted (tiling_cmp view.now) sorted.items) }
+    ensures why { IfErr result (λ e. e ≡ Refusal.Memory) }
+{
+    let order = order_of(alloc, view, tilings)?;
+    copies_at(alloc, tilings, &order)
+}
+
+// A tiling's index and the leading digits of its ranks, in which most tilings differ already.
+#[derive(Clone, Copy)]
+struct Key {
+    leading: u64,
+    index: usize,
+}
+
+// The keys of the tilings, in the order of the tilings. The ranks are dropped here, before any tiling is copied.
+fn order_of(alloc: Global, view: &View, tilings: &[Tiling]) -> Result<Vec<Key>, Refusal>
+    ensures within { IfOk result (λ order. All (λ k. k.index < length tilings.now) order.items) }
+    ensures permutation { IfOk result (λ order. IsPermutation tilings.now (map (λ k. tiling_at tilings.now k.index) order.items)) }
+    ensures ascends { IfOk result (λ order. IsSorted (tiling_cmp view.now) (map (λ k. tiling_at tilings.now k.index) order.items)) }
+    ensures why { IfErr result (λ e. e ≡ Refusal.Memory) }
+{
+    let places = live_places(alloc, view)?;
+    let ranks = ranks_of_each(alloc, view, &places, tilings)?;
+    let base = rank_base(view);
+    let mut keys = keys_of(alloc, tilings, &ranks, base, digit_count(base))?;
+    keys.sort_unstable_by(|a, b| compare(&ranks, a, b));
+    Ok(keys)
+}
+
+// A base that is large enough for the ranks of each tiling as digits.
+fn rank_base(view: &View) -> u64
+    ensures { result ≡ length view.now.live + 1 }
+{
+    view.live().len() as u64 + 1
+}
+
+// Compares two keys by their leading digits, and if these are the same, by the rows at their indices.
+fn compare(rows: &Rows, a: &Key, b: &Key) -> Ordering
+    ensures { result ≡ ordering_then (nat_cmp a.now.leading b.now.leading) (slice_cmp nat_cmp (slice_index_or rows.now a.now.index []) (slice_index_or rows.now b.now.index [])) }
+{
+    match a.leading.cmp(&b.leading) {
+        Ordering::Less => Ordering::Less,
+        Ordering::Equal => rows.row(a.index).cmp(rows.row(b.index)),
+        Ordering::Greater => Ordering::Greater,
+    }
+}
+
 // The place of each number among the live ones; none if it is not live.
-fn live_places(alloc: Global, view: &View) -> Result<Vec<Option<usize>>, Refusal>
+fn live_places(alloc: Global, view: &View) -> Result<Vec<Option<u32>>, Refusal>
     ensures ok { IfOk result (λ places. ArePlaces view.now.live places.items) }
     ensures well { OnOk result (WellNamed view.now) }
     ensures why { IfErr result (λ e. e ≡ Refusal.Memory) }
 {
-    let mut places = Vec::from_elem(alloc, None, view.number_count())?;
-    for (place, number) in view.live().iter().enumerate() {
-        places[*number as usize] = Some(place);
+    let places = place_table(alloc, view.live(), view.number_count())?;
+    Ok(places)
+}
+
+// The place of each number in the list, for the numbers below the count; none if the list lacks the number.
+fn place_table(alloc: Global, list: &[u32], count: usize) -> Result<Vec<Option<u32>>, Refusal>
+    requires once { distinct list.now ≡ true }
+    requires below { list_all (λ n. nat_lt n count) list.now ≡ true }
+    ensures ok { IfOk result (λ places. ArePlaces list.now places.items) }
+    ensures why { IfErr result (λ e. e ≡ Refusal.Memory) }
+{
+    let mut places = Vec::from_elem(alloc, None, count)?;
+    for (place, number) in list.iter().enumerate() {
+        places[*number as usize] = Some(place as u32);
     }
     Ok(places)
 }
 
-// Each tiling with the places of its numbers.
-fn with_ranks(
+// The ranks of each tiling.
+fn ranks_of_each(
     alloc: Global,
     view: &View,
-    places: &[Option<usize>],
+    places: &[Option<u32>],
     tilings: &[Tiling],
-) -> Result<Vec<Ranked>, Refusal>
+) -> Result<Rows, Refusal>
     requires places { ArePlaces view.now.live places.now }
-    ensures tilings { IfOk result (λ ranked. map (λ r. r.tiling) ranked.items ≡ tilings.now) }
-    ensures ranks { IfOk result (λ ranked. All (λ r. r.ranks.items ≡ ranks_from 0 view.now.live r.tiling) ranked.items) }
+    ensures ok { IfOk result (λ rows. rows ≡ map (ranks_from 0 view.now.live) tilings.now) }
     ensures why { IfErr result (λ e. e ≡ Refusal.Memory) }
 {
-    let mut ranked = Vec::with_capacity(alloc, tilings.len())?;
+    let mut rows = Rows::with_capacity(alloc, tilings.len(), number_total(tilings))?;
     for tiling in tilings {
-        ranked.push(with_rank(alloc, view, places, tiling)?)?;
+        let ranks = ranks_of(alloc, view, places, tiling)?;
+        rows.push(&ranks)?;
     }
-    Ok(ranked)
+    Ok(rows)
 }
 
-fn with_rank(
+// How many numbers the tilings have in all, or the greatest number if that is less.
+fn number_total(tilings: &[Tiling]) -> usize {
+    let mut total: usize = 0;
+    for tiling in tilings {
+        total = total.saturating_add(tiling.numbers().len());
+    }
+    total
+}
+
+// The ranks of a tiling.
+fn ranks_of(
     alloc: Global,
     view: &View,
-    places: &[Option<usize>],
+    places: &[Option<u32>],
     tiling: &Tiling,
-) -> Result<Ranked, Refusal>
+) -> Result<Vec<u32>, Refusal>
     requires places { ArePlaces view.now.live places.now }
-    ensures tiling { IfOk result (λ ranked. ranked.tiling ≡ tiling.now) }
-    ensures ranks { IfOk result (λ ranked. ranked.ranks.items ≡ ranks_from 0 view.now.live tiling.now) }
+    ensures ok { IfOk result (λ ranks. ranks.items ≡ ranks_from 0 view.now.live tiling.now) }
     ensures why { IfErr result (λ e. e ≡ Refusal.Memory) }
 {
     let mut ranks = places_of(alloc, places, tiling.numbers())?;
     ranks.sort_unstable();
     ranks.dedup();
-    Ok(Ranked {
-        ranks,
-        tiling: tiling.copy()?,
-    })
+    Ok(ranks)
 }
 
 // The places of the numbers that have one.
-fn places_of(
-    alloc: Global,
-    places: &[Option<usize>],
-    numbers: &[u32],
-) -> Result<Vec<usize>, Refusal>
+fn places_of(alloc: Global, places: &[Option<u32>], numbers: &[u32]) -> Result<Vec<u32>, Refusal>
     ensures ok { IfOk result (λ list. list.items ≡ filter_map (place_at places.now) numbers.now) }
     ensures why { IfErr result (λ e. e ≡ Refusal.Memory) }
 {
@@ -106,7 +172,7 @@ fn places_of(
     Ok(list)
 }
 
-fn place_of(places: &[Option<usize>], number: u32) -> Option<usize>
+fn place_of(places: &[Option<u32>], number: u32) -> Option<u32>
     ensures { result ≡ place_at places.now number }
 {
     match places.get(number as usize) {
@@ -115,14 +181,51 @@ fn place_of(places: &[Option<usize>], number: u32) -> Option<usize>
     }
 }
 
-// The tilings alone.
-fn without_ranks(alloc: Global, ranked: Vec<Ranked>) -> Result<Vec<Tiling>, Refusal>
-    ensures ok { IfOk result (λ tilings. tilings.items ≡ map (λ r. r.tiling) ranked.items) }
+// The key of each tiling, of which the row at its index has the ranks.
+fn keys_of(
+    alloc: Global,
+    tilings: &[Tiling],
+    rows: &Rows,
+    base: u64,
+    count: usize,
+) -> Result<Vec<Key>, Refusal>
+    requires positive { 0 < base }
+    requires digits { (i : ℕ) → AreDigits base (slice_index_or rows.now i []) }
+    requires fits { base ^ count < 2 ^ 64 }
+    ensures within { IfOk result (λ keys. All (λ k. k.index < length tilings.now) keys.items) }
+    ensures each { IfOk result (λ keys. map (λ k. tiling_at tilings.now k.index) keys.items ≡ tilings.now) }
+    ensures leading { IfOk result (λ keys. All (λ k. k.leading ≡ leading base (slice_index_or rows.now k.index []) count) keys.items) }
     ensures why { IfErr result (λ e. e ≡ Refusal.Memory) }
 {
-    let mut tilings = Vec::with_capacity(alloc, ranked.len())?;
-    for one in ranked {
-        tilings.push(one.tiling)?;
+    let mut keys = Vec::with_capacity(alloc, tilings.len())?;
+    for index in 0..tilings.len() {
+        keys.push(key_of(rows, index, base, count))?;
     }
-    Ok(tilings)
+    Ok(keys)
+}
+
+fn key_of(rows: &Rows, index: usize, base: u64, count: usize) -> Key
+    requires positive { 0 < base }
+    requires digits { AreDigits base (slice_index_or rows.now index []) }
+    requires fits { base ^ count < 2 ^ 64 }
+    ensures leading { result.leading ≡ leading base (slice_index_or rows.now index []) count }
+    ensures index { result.index ≡ index }
+{
+    Key {
+        leading: leading(rows.row(index), base, count),
+        index,
+    }
+}
+
+// Copies of the tilings at the indices of these keys.
+fn copies_at(alloc: Global, tilings: &[Tiling], keys: &[Key]) -> Result<Vec<Tiling>, Refusal>
+    requires within { All (λ k. k.index < length tilings.now) keys.now }
+    ensures ok { IfOk result (λ list. list.items ≡ map (λ k. tiling_at tilings.now k.index) keys.now) }
+    ensures why { IfErr result (λ e. e ≡ Refusal.Memory) }
+{
+    let mut list = Vec::with_capacity(alloc, keys.len())?;
+    for key in keys {
+        list.push(tilings[key.index].copy()?)?;
+    }
+    Ok(list)
 }

@@ -3,10 +3,10 @@ use Rattle.std.specs.List.{filter_map}
 use Rattle.std.specs.List.Sorted.{IsPermutation}
 use Rattle.poly_tiling.specs.TilingOrder.{place_at}
 use Rattle.poly_tiling.proofs.Places.{ranks_are}
-use Rattle.poly_tiling.proofs.order.with_rank.Goals as goal
+use Rattle.poly_tiling.proofs.order.ranks_of.Goals as goal
 
-pub returns-clause-ranks : goal.returns-clause-ranks
-returns-clause-ranks c =
+pub returns-clause-ok : goal.returns-clause-ok
+returns-clause-ok c =
     let table = c.args.places.now in
     let is : c.in_ok-ranks.ranks.items ≡ filter_map (place_at table) c.args.tiling.now = c.in_ok-ranks.ensures.ok ∙ ap (λ l. filter_map (place_at table) l) c.numbers.ensures.value in
     ranks_are c.args.view.now.live c.args.tiling.now table c.sort_unstable.new.self.items c.dedup.new.self.items c.requires.places

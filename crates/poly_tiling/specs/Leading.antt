@@ -1,0 +1,32 @@
+-- The leading digits of a list of ranks, and parts of a list.
+use Rattle.std.specs.List.{All}
+use Rattle.std.specs.Prelude.{List, None, Option, Some, [], drop, length, slice_get, slice_index_or, suc, take, zero, ℕ, ◌*◌, ◌+◌, ◌-◌, ◌<◌, ◌≤◌}
+
+-- the part of a list between two indices
+abbrev pub part : List ℕ → ℕ × ℕ → List ℕ
+part xs s = take (s.1 - s.0) (drop s.0 xs)
+
+-- each pair is the first index of a part of the list and the index after its last
+abbrev pub AreSpans : List ℕ → List (ℕ × ℕ) → Type 0
+AreSpans xs = All (λ s. (s.0 ≤ s.1) × (s.1 ≤ length xs))
+
+-- the tiling with this index; the empty one if there is none
+abbrev pub tiling_at : List (List ℕ) → ℕ → List ℕ
+tiling_at tilings i = slice_index_or tilings i []
+
+-- a number as a digit: one more than the number, and 0 for none
+abbrev pub digit_of : Option ℕ → ℕ
+digit_of None = 0
+digit_of (Some x) = x + 1
+
+abbrev pub digit_at : List ℕ → ℕ → ℕ
+digit_at xs i = digit_of (slice_get xs i)
+
+-- so many leading digits of the list as one number
+abbrev pub leading : ℕ → List ℕ → ℕ → ℕ
+leading base xs zero = 0
+leading base xs (suc n) = leading base xs n * base + digit_at xs n
+
+-- each number is a digit of this base
+abbrev pub AreDigits : ℕ → List ℕ → Type 0
+AreDigits base = All (λ x. x + 1 < base)
