@@ -83,6 +83,7 @@ fn measure_sides<C: Ledger, K: Ledger, O: Opening, R: Clock + Print + Wait>(
     requires changes { (changes.name ≡ C.name) × (changes.parts ≡ C.parts) × (changes.parts ≡ 10001) }
     requires cuts { (cuts.name ≡ K.name) × (cuts.parts ≡ K.parts) × (cuts.parts ≡ 10001) }
     requires design { other.opened ≡ O.design }
+    requires view { other.view ≡ O.view }
     requires steps { other.steps ≡ O.steps }
     requires endings { cut_count other.endings ≡ O.cuts }
 {

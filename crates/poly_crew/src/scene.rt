@@ -1,12 +1,12 @@
 //! The design that a worker explored last. Its cover matrix serves all tasks of that design.
-ghost use Rattle.std.specs.Prelude.{◌≤◌};
+ghost use Rattle.std.specs.Prelude.{◌≡◌, ◌≤◌, IfOk, IfSome};
 ghost use Rattle.std.specs.Arc.{arc_value};
 ghost use Rattle.poly_frame.specs.Matrices.{IsWhole};
 
-use poly_book::Job;
+use poly_book::{Found, Job};
+use poly_desk::Bench;
 use poly_grid::Refusal;
-use poly_report::{Matrix, Tree};
-use poly_search::{Explored, explore_over};
+use poly_report::Matrix;
 use poly_tiling::View;
 use std::alloc::Global;
 use std::sync::Arc;
@@ -22,7 +22,10 @@ pub(crate) struct Scene {
 
 impl Scene {
     // The scene of the job's design. Fails only when out of memory.
-    fn of(alloc: Global, job: &Job) -> Result<Scene, Refusal> {
+    fn of(alloc: Global, job: &Job) -> Result<Scene, Refusal>
+        ensures edition { IfOk result (λ s. s.edition ≡ job.now.edition) }
+        ensures view { IfOk result (λ s. arc_value s.view ≡ arc_value job.now.view) }
+    {
         let view = Arc::try_clone(&job.view)?;
         let matrix = Matrix::new(alloc, &view)?;
         Ok(Scene {
@@ -32,43 +35,48 @@ impl Scene {
         })
     }
 
-    // The tree that `poly_search::explore` grows for the job's atoms. Fails only when out of memory.
-    fn explore(&self, alloc: Global, job: &Job, nodes: u32) -> Result<Tree, Refusal>
+    // Searches the job in the scene. Fails only when out of memory.
+    fn explore(&self, alloc: Global, job: Job, nodes: u32) -> Result<Found, Refusal>
         requires some { 1 ≤ nodes }
         requires few { nodes ≤ 4096 }
+        ensures edition { IfOk result (λ f. f.report.edition ≡ job.edition) }
+        ensures view { IfOk result (λ f. arc_value f.view ≡ arc_value self.now.view) }
     {
-        let Explored { tree, leaves: _ } = explore_over(
-            alloc,
-            &self.view,
-            &self.matrix,
-            &job.atoms,
-            nodes,
-        )?;
-        Ok(tree)
+        let view = Arc::try_clone(&self.view)?;
+        let found = Found::explore(alloc, view, &self.matrix, job, nodes)?;
+        Ok(found)
     }
 }
 
-/// Explores the job with at most `nodes` nodes, in the scene that was kept or else in a new one, which is then kept.
+/// Searches the job with at most `nodes` nodes, in the scene that was kept or else in a new one, which is then kept.
 ///
-/// The kept scene serves if it has the job's edition: at a desk that keeps its word, two jobs of one edition have the same
-/// view. No proof rests on that, since the desk checks each tree against its own view.
-pub(crate) fn explore_job(
+/// The kept scene serves if it has the job's edition: the bench told of its view at that edition, as it told of the job's.
+pub(crate) fn explore_job<B: Bench>(
     alloc: Global,
     kept: &mut Option<Scene>,
-    job: &Job,
+    job: Job,
     nodes: u32,
-) -> Result<Tree, Refusal>
+) -> Result<Found, Refusal>
+    requires kept { IfSome kept.old (λ s. B.told s.edition (arc_value s.view)) }
+    requires told { B.told job.edition (arc_value job.view) }
     requires some { 1 ≤ nodes }
     requires few { nodes ≤ 4096 }
+    ensures kept { IfSome kept.new (λ s. B.told s.edition (arc_value s.view)) }
+    ensures told { IfOk result (λ f. B.told f.report.edition (arc_value f.view)) }
 {
-    let scene = scene_of(alloc, kept.take(), job)?;
+    let scene = scene_of::<B>(alloc, kept.take(), &job)?;
     let found = scene.explore(alloc, job, nodes);
     *kept = Some(scene);
     found
 }
 
 // The kept scene if it has the job's edition, or else a new one.
-fn scene_of(alloc: Global, kept: Option<Scene>, job: &Job) -> Result<Scene, Refusal> {
+fn scene_of<B: Bench>(alloc: Global, kept: Option<Scene>, job: &Job) -> Result<Scene, Refusal>
+    requires kept { IfSome kept (λ s. B.told s.edition (arc_value s.view)) }
+    requires told { B.told job.now.edition (arc_value job.now.view) }
+    ensures edition { IfOk result (λ s. s.edition ≡ job.now.edition) }
+    ensures told { IfOk result (λ s. B.told s.edition (arc_value s.view)) }
+{
     if let Some(scene) = kept {
         if scene.edition == job.edition {
             return Ok(scene);

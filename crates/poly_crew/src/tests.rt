@@ -5,7 +5,7 @@ mod desk;
 
 use crate::scene::{Scene, explore_job};
 use crate::{Gate, OpenGate, crew};
-use poly_book::{Applied, Book, Job, Which};
+use poly_book::{Applied, Book, Found, Job, Which};
 use poly_design::{Design, Edit, Mode, Name, Need};
 use poly_desk::{Bench, Receipt};
 use poly_grid::{Cell, Grid, Refusal};
@@ -37,6 +37,8 @@ impl Bench for Shared {
 
     ghost cuts = { λ card. card.cuts };
 
+    ghost told = { λ edition view. Unit {0} };
+
     fn take<R: Wait>(
         &self,
         rt: &R,
@@ -63,6 +65,15 @@ impl Bench for Shared {
         pass.cuts += 1;
         let place = applied.place;
         Ok((applied, Receipt::Cut { place, task }))
+    }
+
+    fn hand_in_found<R: Wait>(
+        &self,
+        rt: &R,
+        pass: &mut Card,
+        found: Found,
+    ) -> Result<(Applied, Receipt), Refusal> {
+        self.hand_in(rt, pass, found.report)
     }
 }
 
@@ -267,12 +278,8 @@ fn cut_newest(rt: &impl Abort, alloc: Global, scene: &mut Option<Scene>, book: &
     let Some(job) = book.take(Which::Any).expect(rt, "memory") else {
         return false;
     };
-    let report = Report {
-        task: job.task,
-        edition: job.edition,
-        tree: explore_job(alloc, scene, &job, 1).expect(rt, "memory"),
-    };
-    book.hand_in(report).expect(rt, "a tree that holds");
+    let found = explore_job::<Shared>(alloc, scene, job, 1).expect(rt, "memory");
+    book.hand_in(found.report).expect(rt, "a tree that holds");
     true
 }
 

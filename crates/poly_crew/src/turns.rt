@@ -1,14 +1,14 @@
 //! The turns of a worker: it takes tasks, searches them and hands the results in.
-ghost use Rattle.std.specs.Prelude.{◌≤◌};
+ghost use Rattle.std.specs.Prelude.{◌≤◌, IfSome};
+ghost use Rattle.std.specs.Arc.{arc_value};
 ghost use Rattle.poly_crew.specs.Worked.{IsWorked};
 
 use crate::gate::Gate;
 use crate::scene::{Scene, explore_job};
 use crate::worker::Worker;
-use poly_book::Which;
+use poly_book::{Found, Which};
 use poly_desk::Bench;
 use poly_grid::Refusal;
-use poly_report::Report;
 use std::alloc::Global;
 use std::sync::Wait;
 
@@ -60,35 +60,33 @@ fn take_turn<R: Wait, B: Bench, G: Gate>(
     scene: &mut Option<Scene>,
     worker: &mut Worker<B::Pass>,
 ) -> Result<bool, Refusal>
-    ensures { IsWorked B.changes B.cuts 1 worker.old worker.new }
+    requires scene { IfSome scene.old (λ s. B.told s.edition (arc_value s.view)) }
+    ensures scene { IfSome scene.new (λ s. B.told s.edition (arc_value s.view)) }
+    ensures worked { IsWorked B.changes B.cuts 1 worker.old worker.new }
 {
     let which = worker.hints.next();
     let Some(job) = work.bench.take(rt, &mut worker.pass, which)? else {
         return Ok(which != Which::Any);
     };
     work.gate.enter(number, turn);
-    let found = explore_job(work.alloc, scene, &job, work.nodes);
+    let found = explore_job::<B>(work.alloc, scene, job, work.nodes);
     work.gate.leave(number, turn);
-    let report = Report {
-        task: job.task,
-        edition: job.edition,
-        tree: found?,
-    };
-    hand_in(rt, work.bench, worker, report)?;
+    hand_in(rt, work.bench, worker, found?)?;
     Ok(true)
 }
 
-// Hands the report in, and keeps its receipt. Drops a report on a task that has ended meanwhile.
+// Hands in what was found, and keeps its receipt. Drops what was found for a task that has ended meanwhile.
 fn hand_in<R: Wait, B: Bench>(
     rt: &R,
     bench: &B,
     worker: &mut Worker<B::Pass>,
-    report: Report,
+    found: Found,
 ) -> Result<(), Refusal>
+    requires told { B.told found.report.edition (arc_value found.view) }
     ensures { IsWorked B.changes B.cuts 1 worker.old worker.new }
 {
     worker.receipts.reserve(1)?;
-    match bench.hand_in(rt, &mut worker.pass, report) {
+    match bench.hand_in_found(rt, &mut worker.pass, found) {
         Ok((applied, receipt)) => {
             worker.receipts.push_reserved(receipt);
             *worker.applied += 1;

@@ -84,6 +84,7 @@ applied_one k made tree s t a p =
     let b : Becomes (cut s k p.task tree) t = subst (λ z. Becomes z t) is p.becomes in
     record {
       opened = ap (λ (z : State). z.opened) b.same;
+      view = ap (λ (z : State). z.view) b.same;
       steps = ap (λ (z : State). z.steps) b.same;
       endings = ap (λ (z : State). z.endings) b.same;
       place = p.place;

@@ -5,6 +5,7 @@ use Rattle.poly_grid.specs.declared.refusal.Refusal.{Refusal}
 use Rattle.poly_board.specs.Posts.{NoneFalls, last_of}
 use Rattle.poly_board.specs.declared.posted.Posted.{Posted}
 use Rattle.poly_design.specs.Layout.{Layout}
+use Rattle.poly_tiling.specs.Puzzle.{View}
 use Rattle.poly_book.specs.declared.step.Applied.{Applied}
 use Rattle.poly_book.specs.declared.step.Done.{Done}
 use Rattle.poly_book.specs.declared.step.Ending.TheVariants.{Cut}
@@ -12,7 +13,7 @@ use Rattle.poly_book.specs.declared.step.Step.{Step}
 use Rattle.poly_book.specs.States.{State}
 use Rattle.poly_desk.specs.Calls.{IsRefused}
 use Rattle.poly_desk.specs.Changes.{OneChange, OneCut, cut_count}
-use Rattle.poly_desk.specs.Floors.{Counts, Shows}
+use Rattle.poly_desk.specs.Floors.{Counts, IsViewAt, Shows}
 use Rattle.poly_desk.specs.Noted.{Held, held, numbers_of}
 use Rattle.poly_desk.proofs.Changed.{cuts_append}
 
@@ -55,6 +56,13 @@ cut_shows posts s t task x m n a b e p = record {
   steps = omega (arith, a, ap length p.steps);
   endings = omega (arith, b, ap length p.endings, length_push s.endings (Cut task));
 }
+
+-- after a change the edition is above the opening one
+pub change_views : (ss : List Step) (v : View) (o : Layout) (k : ℕ) (s t : State) (d : Done) (changes cuts : ℕ) → Counts o ss k s changes cuts → OneChange s t d → IsViewAt ss v (length t.steps) t.view
+change_views ss v o k s t d changes cuts c p = λ e. absurd (omega (arith, e, ap length p.last, c.changes_are))
+
+pub cut_views : (ss : List Step) (v : View) (s t : State) (task : ℕ) (a : Applied) → IsViewAt ss v (length s.steps) s.view → OneCut task s t a → IsViewAt ss v (length t.steps) t.view
+cut_views ss v s t task a h p = λ e. p.view ∙ h (sym (ap length p.steps) ∙ e)
 
 -- a call that was refused after it had noted the floor's numbers
 pub refused_for : (s : State) (p q : Held) (e : Refusal) (cause : Type 0) → p.noted.edition ≤ length s.steps → q ≡ held (numbers_of s) p.changes p.cuts p.posts → cause → IsRefused s p q e cause

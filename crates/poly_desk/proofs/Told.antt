@@ -1,5 +1,6 @@
 -- What the calls of a floor tell of a pass, without the floor.
 use Rattle.std.proofs.Common.{Bool, List, None, Option, Some, [], ap, arith, false, inl, inr, length, refl, subst, sym, true, ℕ, ◌<◌, ◌∙◌, ◌∷◌, ◌≡◌, ◌≤◌, ◌⊎◌}
+use Rattle.std.specs.Arc.{arc_value}
 use Rattle.std.specs.Prelude.{IfSome, MatchOption}
 use Rattle.poly_grid.specs.declared.refusal.Refusal.{Refusal}
 use Rattle.poly_grid.specs.declared.refusal.Refusal.TheVariants.{Busy, Memory, Spent}
@@ -27,6 +28,7 @@ use Rattle.poly_book.specs.States.{State, Stored, Way}
 use Rattle.poly_book.specs.Steps.{IsEdited, IsRedone, IsUndone}
 use Rattle.poly_desk.specs.Calls.{IsBehind, IsRefused, Met}
 use Rattle.poly_desk.specs.Changes.{IsChanged, OneChange}
+use Rattle.poly_desk.specs.Floors.{IsViewAt}
 use Rattle.poly_desk.specs.Noted.{Held}
 use Rattle.poly_desk.specs.Seen.{IsAskedFor, IsMade, IsTurnedDown, IsUnsettled, Later, is_unsettled}
 use Rattle.poly_desk.specs.declared.receipt.Receipt.{Receipt}
@@ -154,6 +156,14 @@ job_later s p q (which.Task k) j h c = omega (arith, h.seen, c.edition_is)
 pub taken_later : (s : State) (p q : Held) (w : Which) (o : Option Job) → Met s s p q 0 0 → MatchOption o (IsMissing s w) (λ j. IsTaken s w j) → IfSome o (λ j. p.noted.edition ≤ j.edition)
 taken_later s p q w None h c = tt
 taken_later s p q w (Some j) h c = job_later s p q w j h c
+
+job_view : (ss : List Step) (v : View) (s : State) (w : Which) (j : Job) → IsViewAt ss v (length s.steps) s.view → IsTaken s w j → IsViewAt ss v j.edition (arc_value j.view)
+job_view ss v s which.Any j h c = λ e. c.view ∙ h (sym c.edition_is ∙ e)
+job_view ss v s (which.Task k) j h c = λ e. c.view ∙ h (sym c.edition_is ∙ e)
+
+pub taken_view : (ss : List Step) (v : View) (s : State) (w : Which) (o : Option Job) → IsViewAt ss v (length s.steps) s.view → MatchOption o (IsMissing s w) (λ j. IsTaken s w j) → IfSome o (λ j. IsViewAt ss v j.edition (arc_value j.view))
+taken_view ss v s w None h c = tt
+taken_view ss v s w (Some j) h c = job_view ss v s w j h c
 
 pub quiet_later : (s : State) (p q : Held) (a : AllTilings) → Met s s p q 0 0 → IsQuietOf s a → p.noted.edition ≤ a.edition
 quiet_later s p q a h c = omega (arith, h.seen, c.edition)

@@ -31,9 +31,10 @@ pub record OneChange (s t : State) (done : Done) : Type 0 where
   pub more : length s.endings ≤ length t.endings
   pub few : length t.endings ≤ length s.endings + length s.pending
 
--- the book has one cut more, and the same steps
+-- the book has one cut more, and the same steps and view
 pub record OneCut (k : ℕ) (s t : State) (a : Applied) : Type 0 where
   pub opened : t.opened ≡ s.opened
+  pub view : t.view ≡ s.view
   pub steps : t.steps ≡ s.steps
   pub endings : t.endings ≡ s.endings ++ Cut k ∷ []
   pub place : a.place ≡ length t.endings

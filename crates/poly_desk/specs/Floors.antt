@@ -3,6 +3,7 @@ use Rattle.std.specs.Prelude.{List, drop, length, ℕ, ◌+◌, ◌≡◌, ◌�
 use Rattle.poly_board.specs.Posts.{last_of}
 use Rattle.poly_board.specs.declared.posted.Posted.{Posted}
 use Rattle.poly_design.specs.Layout.{Layout}
+use Rattle.poly_tiling.specs.Puzzle.{View}
 use Rattle.poly_book.specs.declared.step.Step.{Step}
 use Rattle.poly_book.specs.States.{State}
 use Rattle.poly_desk.specs.Changes.{cut_count}
@@ -28,3 +29,7 @@ pub record Shows (b : State) (posts : List Posted) (step_flags ending_flags : �
   pub posted : last_of posts ≡ numbers_of b
   pub steps : length b.steps ≤ step_flags
   pub endings : length b.endings ≤ ending_flags
+
+-- a view that the book has at the edition: at that of the opening steps it is the opening view
+abbrev pub IsViewAt : List Step → View → ℕ → View → Type 0
+IsViewAt ss v edition w = edition ≡ length ss → w ≡ v

@@ -1,11 +1,14 @@
 //! A desk as a worker sees it.
-ghost use Rattle.std.specs.Prelude.{◌≡◌, ◌+◌, ℕ, IfOk, OnErr, OnOk};
+ghost use Rattle.std.specs.Prelude.{◌≡◌, ◌+◌, ℕ, IfOk, IfSome, OnErr, OnOk};
+ghost use Rattle.std.specs.Arc.{arc_value};
+ghost use Rattle.poly_tiling.specs.Puzzle.{View as ViewOf};
+ghost use Rattle.poly_desk.specs.Floors.{IsViewAt};
 
 use crate::desk::Desk;
 use crate::opening::Opening;
 use crate::pass::Pass;
 use crate::receipt::Receipt;
-use poly_book::{Applied, Job, Which};
+use poly_book::{Applied, Found, Job, Which};
 use poly_grid::Refusal;
 use poly_report::Report;
 use std::sync::Wait;
@@ -22,6 +25,9 @@ pub trait Bench {
     /// How many cuts a pass has made.
     ghost cuts: { Self.Pass → ℕ };
 
+    /// What the bench promises of the edition and the view of each job, and requires of those of a search.
+    ghost told: { ℕ → ViewOf → Type 0 };
+
     /// A pending task, or that of a number. None only if no task is pending, or that one isn't.
     fn take<R: Wait>(
         &self,
@@ -30,7 +36,8 @@ pub trait Bench {
         which: Which,
     ) -> Result<Option<Job>, Refusal>
         ensures changes { changes pass.new ≡ changes pass.old }
-        ensures cuts { cuts pass.new ≡ cuts pass.old };
+        ensures cuts { cuts pass.new ≡ cuts pass.old }
+        ensures told { IfOk result (λ o. IfSome o (λ j. told j.edition (arc_value j.view))) };
 
     /// Hands the report in. Its receipt counts as a cut of the pass.
     fn hand_in<R: Wait>(
@@ -43,6 +50,19 @@ pub trait Bench {
         ensures cut { OnOk result (cuts pass.new ≡ cuts pass.old + 1) }
         ensures no_cut { OnErr result (cuts pass.new ≡ cuts pass.old) }
         ensures receipt { IfOk result (λ r. r.1 ≡ Receipt.Cut r.0.place report.task) };
+
+    /// `hand_in` for a report that a search made. The bench may trust the search.
+    fn hand_in_found<R: Wait>(
+        &self,
+        rt: &R,
+        pass: &mut Self::Pass,
+        found: Found,
+    ) -> Result<(Applied, Receipt), Refusal>
+        requires told { told found.report.edition (arc_value found.view) }
+        ensures changes { changes pass.new ≡ changes pass.old }
+        ensures cut { OnOk result (cuts pass.new ≡ cuts pass.old + 1) }
+        ensures no_cut { OnErr result (cuts pass.new ≡ cuts pass.old) }
+        ensures receipt { IfOk result (λ r. r.1 ≡ Receipt.Cut r.0.place found.report.task) };
 }
 
 impl<C: Ledger, K: Ledger, O: Opening> Bench for Desk<C, K, O> {
@@ -51,6 +71,8 @@ impl<C: Ledger, K: Ledger, O: Opening> Bench for Desk<C, K, O> {
     ghost changes = { λ p. p.changes };
 
     ghost cuts = { λ p. p.cuts };
+
+    ghost told = { λ edition view. IsViewAt O.steps O.view edition view };
 
     fn take<R: Wait>(
         &self,
@@ -68,5 +90,14 @@ impl<C: Ledger, K: Ledger, O: Opening> Bench for Desk<C, K, O> {
         report: Report,
     ) -> Result<(Applied, Receipt), Refusal> {
         self.hand_in(rt, pass, report)
+    }
+
+    fn hand_in_found<R: Wait>(
+        &self,
+        rt: &R,
+        pass: &mut Pass<C, K, O>,
+        found: Found,
+    ) -> Result<(Applied, Receipt), Refusal> {
+        self.hand_in_found(rt, pass, found)
     }
 }

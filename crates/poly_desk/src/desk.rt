@@ -3,10 +3,12 @@
 //! What a lock protects can't be named after it is unlocked. So these contracts say what is known of the pass: what it has
 //! noted and what it has counted.
 ghost use Rattle.std.specs.Prelude.{◌≡◌, ◌≤◌, ◌∷◌, [], IfErr, IfOk, IfSome, OnOk};
+ghost use Rattle.std.specs.Arc.{arc_value};
 ghost use Rattle.poly_grid.specs.declared.refusal.Refusal.TheVariants.{Memory};
 ghost use Rattle.poly_board.specs.Posts.{IsRising, NoneFalls, StartsWith, last_of};
 ghost use Rattle.poly_book.specs.declared.step.Kind.TheVariants as kind;
 ghost use Rattle.poly_desk.specs.Changes.{cut_count};
+ghost use Rattle.poly_desk.specs.Floors.{IsViewAt};
 ghost use Rattle.poly_desk.specs.Noted.{held, numbers_of};
 ghost use Rattle.poly_desk.specs.Seen.{IsAskedFor, IsLaterOf, IsMade, IsTurnedDown, IsUnsettled, Later};
 
@@ -16,7 +18,7 @@ use crate::pass::Pass;
 use crate::receipt::Receipt;
 use crate::waiting::{self, OFTEN, SELDOM};
 use poly_board::Posted;
-use poly_book::{Applied, Book, Job, Quiet, Which};
+use poly_book::{Applied, Book, Found, Job, Quiet, Which};
 use poly_browse::{Answer, Query};
 use poly_design::Edit;
 use poly_grid::Refusal;
@@ -56,6 +58,7 @@ impl<C: Ledger, K: Ledger, O: Opening> Desk<C, K, O> {
         requires changes { (changes.name ≡ C.name) × (changes.parts ≡ C.parts) × (changes.parts ≡ 10001) }
         requires cuts { (cuts.name ≡ K.name) × (cuts.parts ≡ K.parts) × (cuts.parts ≡ 10001) }
         requires design { book.opened ≡ O.design }
+        requires view { book.view ≡ O.view }
         requires steps { book.steps ≡ O.steps }
         requires endings { cut_count book.endings ≡ O.cuts }
         ensures pass { IfOk result (λ r. r.1 ≡ held (numbers_of book) 0 0 (numbers_of book ∷ [])) }
@@ -159,6 +162,26 @@ impl<C: Ledger, K: Ledger, O: Opening> Desk<C, K, O> {
         }
     }
 
+    /// The floor's `hand_in_found`.
+    #[tactic(auto, using(crate::proofs::Told::applied_later, crate::proofs::Told::report_down))]
+    pub fn hand_in_found<R: Wait>(
+        &self,
+        rt: &R,
+        pass: &mut Pass<C, K, O>,
+        found: Found,
+    ) -> Result<(Applied, Receipt), Refusal>
+        requires told { IsViewAt O.steps O.view found.report.edition (arc_value found.view) }
+        ensures later { OnOk result (Later pass.old pass.new 0 1) }
+        ensures receipt { IfOk result (λ r. r.1 ≡ Receipt.Cut r.0.place found.report.task) }
+        ensures why { IfErr result (λ e. IsTurnedDown pass.old pass.new e) }
+    {
+        let mut floor = waiting::lock(rt, &self.floor, SELDOM);
+        match floor.hand_in_found(pass, found) {
+            Ok(both) => Ok(both),
+            Err(refusal) => Err(refusal),
+        }
+    }
+
     /// The floor's `next`. Refused only with `Unsettled`. Never allocates.
     #[tactic(auto, using(crate::proofs::Told::met_later, crate::proofs::Told::behind_unsettled))]
     pub fn next<R: Wait>(
@@ -178,7 +201,8 @@ impl<C: Ledger, K: Ledger, O: Opening> Desk<C, K, O> {
         }
     }
 
-    /// The floor's `take`. The job's edition isn't below the one that the pass had noted.
+    /// The floor's `take`. The job's edition isn't below the one that the pass had noted. A job of the opening edition has
+    /// the opening view.
     #[tactic(auto, using(crate::proofs::Told::met_later, crate::proofs::Told::taken_later, crate::proofs::Told::memory_down))]
     pub fn take<R: Wait>(
         &self,
@@ -188,6 +212,7 @@ impl<C: Ledger, K: Ledger, O: Opening> Desk<C, K, O> {
     ) -> Result<Option<Job>, Refusal>
         ensures later { OnOk result (Later pass.old pass.new 0 0) }
         ensures edition { IfOk result (λ o. IfSome o (λ j. pass.old.noted.edition ≤ j.edition)) }
+        ensures view { IfOk result (λ o. IfSome o (λ j. IsViewAt O.steps O.view j.edition (arc_value j.view))) }
         ensures why { IfErr result (λ e. IsTurnedDown pass.old pass.new e) }
     {
         let floor = waiting::lock(rt, &self.floor, OFTEN);

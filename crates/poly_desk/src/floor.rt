@@ -25,11 +25,12 @@ use std::alloc::Global;
 use std::marker::{Model, PhantomData};
 use std::sync::ledger::{Blank, Ledger};
 
-/// A book, with its poster, the totals of all passes, what no pass has, and flags for settling up. Contracts see the book
-/// and the number of passes.
+/// A book, with the number of its opening steps, its poster, the totals of all passes, what no pass has, and flags for
+/// settling up. Contracts see the book and the number of passes.
 #[derive(Drop)]
 pub struct Floor<C: Ledger, K: Ledger, O: Opening> {
     pub(crate) book: Book,
+    pub(crate) opened: u64,
     pub(crate) poster: Poster,
     pub(crate) totals: Totals<C, K>,
     pub(crate) spare: Spare<C, K>,
@@ -38,14 +39,14 @@ pub struct Floor<C: Ledger, K: Ledger, O: Opening> {
 }
 
 impl<C: Ledger, K: Ledger, O: Opening> Model for Floor<C, K, O> {
-    ghost use Rattle.std.specs.Prelude.{◌≤◌, vec_len};
-    ghost use Rattle.poly_desk.specs.Floors.{Counts, OnFloor, Shows, on_floor};
+    ghost use Rattle.std.specs.Prelude.{◌≡◌, ◌≤◌, length, vec_len};
+    ghost use Rattle.poly_desk.specs.Floors.{Counts, IsViewAt, OnFloor, Shows, on_floor};
 
     ghost Value = { OnFloor };
 
     ghost view = { λ f. on_floor f.book f.spare.passes };
 
-    ghost invariant = { λ f. Counts O.design O.steps O.cuts f.book f.totals.changes f.totals.cuts × Shows f.book f.poster.posts (vec_len f.marks.steps) (vec_len f.marks.endings) × (f.spare.passes ≤ 10000) };
+    ghost invariant = { λ f. Counts O.design O.steps O.cuts f.book f.totals.changes f.totals.cuts × Shows f.book f.poster.posts (vec_len f.marks.steps) (vec_len f.marks.endings) × (f.spare.passes ≤ 10000) × (f.opened ≡ length O.steps) × IsViewAt O.steps O.view (length f.book.steps) f.book.view };
 }
 
 /// A book on which no floor or desk was begun.
@@ -69,6 +70,7 @@ impl<C: Ledger, K: Ledger, O: Opening> Floor<C, K, O> {
         requires changes { (changes.name ≡ C.name) × (changes.parts ≡ C.parts) × (changes.parts ≡ 10001) }
         requires cuts { (cuts.name ≡ K.name) × (cuts.parts ≡ K.parts) × (cuts.parts ≡ 10001) }
         requires design { book.opened ≡ O.design }
+        requires view { book.view ≡ O.view }
         requires steps { book.steps ≡ O.steps }
         requires endings { cut_count book.endings ≡ O.cuts }
         ensures floor { IfOk result (λ r. r.0 ≡ on_floor book 1) }
@@ -77,6 +79,7 @@ impl<C: Ledger, K: Ledger, O: Opening> Floor<C, K, O> {
         ensures why { IfErr result (λ n. n.why ≡ Refusal.Memory) }
     {
         let numbers = numbers_of_book(&book);
+        let opened = u64::from(numbers.edition);
         let steps = numbers.edition as usize;
         let endings = numbers.endings as usize;
         let marks = match Marks::new(alloc, steps, endings) {
@@ -91,6 +94,7 @@ impl<C: Ledger, K: Ledger, O: Opening> Floor<C, K, O> {
         let shares = spare.split_off();
         let floor = Floor {
             book,
+            opened,
             poster,
             totals,
             spare,

@@ -2,7 +2,8 @@
 //! counts what it has done.
 //!
 //! - [`Opening`]: a type that names what a desk began with.
-//! - [`Desk`]: `begin`, `pass`; `edit`, `undo`, `redo`, `hand_in`; `next`, `take`, `browse`, `quiet`; `look`; `settle_up`.
+//! - [`Desk`]: `begin`, `pass`; `edit`, `undo`, `redo`, `hand_in`, `hand_in_found`; `next`, `take`, `browse`, `quiet`;
+//!   `look`; `settle_up`.
 //! - [`Pass`]: the right to use a desk. [`Receipt`]: says at which place the desk's book has a change or the end of a
 //!   task.
 //! - [`Floor`]: what the lock protects. It does the whole work of a desk and never waits.
@@ -14,6 +15,7 @@ mod bench;
 mod call;
 mod desk;
 mod floor;
+mod found;
 mod ledgers;
 mod marks;
 mod opening;

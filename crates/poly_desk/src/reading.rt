@@ -1,5 +1,6 @@
 //! The readers of a floor: the calls that leave its book as it is.
-ghost use Rattle.std.specs.Prelude.{◌≡◌, ◌<◌, ◌⊎◌, [], IfErr, IfOk, MatchOption, OnOk, length, map};
+ghost use Rattle.std.specs.Prelude.{◌≡◌, ◌<◌, ◌⊎◌, [], IfErr, IfOk, IfSome, MatchOption, OnOk, length, map};
+ghost use Rattle.std.specs.Arc.{arc_value};
 ghost use Rattle.poly_grid.specs.declared.refusal.Refusal.TheVariants.{Busy, Memory};
 ghost use Rattle.poly_tiling.specs.Shows.{names};
 ghost use Rattle.poly_book.specs.AllTilings.{IsQuietOf};
@@ -7,6 +8,7 @@ ghost use Rattle.poly_book.specs.Jobs.{IsMissing, IsTaken};
 ghost use Rattle.poly_book.specs.Nexts.{IsLeastFrom, NoneFrom};
 ghost use Rattle.poly_browse.specs.Browsing.{IsAnswer};
 ghost use Rattle.poly_desk.specs.Calls.{IsBehind, IsRefused, Met};
+ghost use Rattle.poly_desk.specs.Floors.{IsViewAt};
 
 use crate::call::meet;
 use crate::floor::Floor;
@@ -29,10 +31,12 @@ impl<C: Ledger, K: Ledger, O: Opening> Floor<C, K, O> {
         Ok(self.book.next(from))
     }
 
-    /// The book's `take`. Refused with `Unsettled` as every call, then with `Memory`.
+    /// The book's `take`. A job of the opening edition has the opening view. Refused with `Unsettled` as every call, then
+    /// with `Memory`.
     pub fn take(&self, pass: &mut Pass<C, K, O>, which: Which) -> Result<Option<Job>, Refusal>
         ensures met { OnOk result (Met self.now.book self.now.book pass.old pass.new 0 0) }
         ensures ok { IfOk result (λ o. MatchOption o (IsMissing self.now.book which) (λ j. IsTaken self.now.book which j)) }
+        ensures view { IfOk result (λ o. IfSome o (λ j. IsViewAt O.steps O.view j.edition (arc_value j.view))) }
         ensures why { IfErr result (λ e. IsRefused self.now.book pass.old pass.new e (e ≡ Refusal.Memory)) }
     {
         meet(&self.book, pass)?;

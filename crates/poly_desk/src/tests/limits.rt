@@ -22,6 +22,7 @@ fn make_passes<C: Ledger, K: Ledger, O: Opening, R: Wait + Abort>(
     requires changes { (changes.name ≡ C.name) × (changes.parts ≡ C.parts) × (changes.parts ≡ 10001) }
     requires cuts { (cuts.name ≡ K.name) × (cuts.parts ≡ K.parts) × (cuts.parts ≡ 10001) }
     requires design { book.opened ≡ O.design }
+    requires view { book.view ≡ O.view }
     requires steps { book.steps ≡ O.steps }
     requires endings { cut_count book.endings ≡ O.cuts }
 {

@@ -8,4 +8,4 @@ abbrev pub ghosts-measure_sides-K-Ledger : goal.ghosts-measure_sides-K-Ledger
 ghosts-measure_sides-K-Ledger g a = record { name = a.cuts.name; parts = a.cuts.parts }
 
 abbrev pub ghosts-measure_sides-O-Opening : goal.ghosts-measure_sides-O-Opening
-ghosts-measure_sides-O-Opening g a = record { design = a.other.opened; steps = a.other.steps; cuts = cut_count a.other.endings }
+ghosts-measure_sides-O-Opening g a = record { design = a.other.opened; view = a.other.view; steps = a.other.steps; cuts = cut_count a.other.endings }

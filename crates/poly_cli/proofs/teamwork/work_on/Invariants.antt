@@ -8,4 +8,4 @@ abbrev pub ghosts-work_at_desk-K-Ledger : goal.ghosts-work_at_desk-K-Ledger
 ghosts-work_at_desk-K-Ledger g a = record { name = a.cuts.name; parts = a.cuts.parts }
 
 abbrev pub ghosts-work_at_desk-O-Opening : goal.ghosts-work_at_desk-O-Opening
-ghosts-work_at_desk-O-Opening g a = record { design = a.book.opened; steps = a.book.steps; cuts = cut_count a.book.endings }
+ghosts-work_at_desk-O-Opening g a = record { design = a.book.opened; view = a.book.view; steps = a.book.steps; cuts = cut_count a.book.endings }

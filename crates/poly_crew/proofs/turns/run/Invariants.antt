@@ -1,5 +1,10 @@
+use Rattle.std.specs.Arc.{arc_value}
+use Rattle.std.specs.Prelude.{IfSome}
 use Rattle.poly_crew.specs.Worked.{IsWorked}
 use Rattle.poly_crew.proofs.turns.run.Given as goal
 
 abbrev pub invariant-loop-turn : goal.invariant-loop-turn
-invariant-loop-turn g l = IsWorked g.B.Bench.changes g.B.Bench.cuts l.turn l.fn.worker l.worker
+invariant-loop-turn g l = record {
+  worked : IsWorked g.B.Bench.changes g.B.Bench.cuts l.turn l.fn.worker l.worker;
+  scene : IfSome l.scene (λ s. g.B.Bench.told s.edition (arc_value s.view));
+}

@@ -1,7 +1,7 @@
 use Rattle.std.proofs.Common.{arith}
 use Rattle.poly_desk.specs.Changes.{OneChange}
 use Rattle.poly_desk.proofs.Changed.{edited_one}
-use Rattle.poly_desk.proofs.Kept.{change_counts, change_shows, refused_for}
+use Rattle.poly_desk.proofs.Kept.{change_counts, change_shows, change_views, refused_for}
 use Rattle.poly_desk.proofs.floor.Floor.edit.Goals as goal
 
 pub note_change-requires-clause-few : goal.note_change-requires-clause-few
@@ -13,6 +13,8 @@ invariant_of-self-in-Ok g c =
       change_counts _ _ _ c.self.inside.book c.edit.new.self c.in-Ok.done _ _ _ _ c.note_change.ensures.changes c.note_change.ensures.cuts c.self.invariant.0 p,
       change_shows _ c.self.inside.book c.edit.new.self c.in-Ok.done _ _ c.in_ok-make_room.ensures.steps c.in_ok-make_room.ensures.endings c.note_change.ensures.posted p,
       c.self.invariant.2,
+      c.self.invariant.3,
+      change_views g.O.Opening.steps g.O.Opening.view _ _ c.self.inside.book c.edit.new.self c.in-Ok.done _ _ c.self.invariant.0 p,
     )
 
 pub returns-in-Ok-clause-ok : goal.returns-in-Ok-clause-ok

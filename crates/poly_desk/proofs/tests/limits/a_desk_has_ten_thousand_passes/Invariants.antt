@@ -8,4 +8,4 @@ abbrev pub ghosts-make_passes-K-Ledger : goal.ghosts-make_passes-K-Ledger
 ghosts-make_passes-K-Ledger g a = record { name = a.cuts.name; parts = a.cuts.parts }
 
 abbrev pub ghosts-make_passes-O-Opening : goal.ghosts-make_passes-O-Opening
-ghosts-make_passes-O-Opening g a = record { design = a.book.opened; steps = a.book.steps; cuts = cut_count a.book.endings }
+ghosts-make_passes-O-Opening g a = record { design = a.book.opened; view = a.book.view; steps = a.book.steps; cuts = cut_count a.book.endings }

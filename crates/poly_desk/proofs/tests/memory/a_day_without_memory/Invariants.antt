@@ -8,4 +8,4 @@ abbrev pub ghosts-day-K-Ledger : goal.ghosts-day-K-Ledger
 ghosts-day-K-Ledger g a = record { name = a.cuts.name; parts = a.cuts.parts }
 
 abbrev pub ghosts-day-O-Opening : goal.ghosts-day-O-Opening
-ghosts-day-O-Opening g a = record { design = a.book.opened; steps = a.book.steps; cuts = cut_count a.book.endings }
+ghosts-day-O-Opening g a = record { design = a.book.opened; view = a.book.view; steps = a.book.steps; cuts = cut_count a.book.endings }

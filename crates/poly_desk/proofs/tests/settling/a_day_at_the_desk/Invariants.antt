@@ -8,7 +8,7 @@ abbrev pub ghosts-fourth-K-Ledger : goal.ghosts-fourth-K-Ledger
 ghosts-fourth-K-Ledger g a = record { name = a.cuts.name; parts = a.cuts.parts }
 
 abbrev pub ghosts-fourth-O-Opening : goal.ghosts-fourth-O-Opening
-ghosts-fourth-O-Opening g a = record { design = a.book.opened; steps = a.book.steps; cuts = cut_count a.book.endings }
+ghosts-fourth-O-Opening g a = record { design = a.book.opened; view = a.book.view; steps = a.book.steps; cuts = cut_count a.book.endings }
 
 abbrev pub ghosts-day-C-Ledger : goal.ghosts-day-C-Ledger
 ghosts-day-C-Ledger g a = record { name = a.changes.name; parts = a.changes.parts }
@@ -17,4 +17,4 @@ abbrev pub ghosts-day-K-Ledger : goal.ghosts-day-K-Ledger
 ghosts-day-K-Ledger g a = record { name = a.cuts.name; parts = a.cuts.parts }
 
 abbrev pub ghosts-day-O-Opening : goal.ghosts-day-O-Opening
-ghosts-day-O-Opening g a = record { design = a.book.opened; steps = a.book.steps; cuts = cut_count a.book.endings }
+ghosts-day-O-Opening g a = record { design = a.book.opened; view = a.book.view; steps = a.book.steps; cuts = cut_count a.book.endings }

@@ -8,4 +8,4 @@ abbrev pub ghosts-edit_together-K-Ledger : goal.ghosts-edit_together-K-Ledger
 ghosts-edit_together-K-Ledger g a = record { name = a.cuts.name; parts = a.cuts.parts }
 
 abbrev pub ghosts-edit_together-O-Opening : goal.ghosts-edit_together-O-Opening
-ghosts-edit_together-O-Opening g a = record { design = a.book.opened; steps = a.book.steps; cuts = cut_count a.book.endings }
+ghosts-edit_together-O-Opening g a = record { design = a.book.opened; view = a.book.view; steps = a.book.steps; cuts = cut_count a.book.endings }
