@@ -2,15 +2,20 @@
 ghost use Rattle.poly_frame.specs.Matrices.{IsWhole};
 
 use crate::reports;
+use poly_atom::Atom;
 use poly_design::Design;
 use poly_frame::{Frame, Matrix};
-use poly_search::search_all;
+use poly_report::leaves;
+use poly_search::{Explored, explore_over, search_all};
 use poly_tiling::View;
 use std::io;
 use std::time::Instant;
 
-/// Measures the design's placements, its view, a frame at the root, the solver, and, if the solver came to its end, the
-/// reports of a worker.
+// The nodes of the report whose rests are measured, as a worker asks for them.
+const NODES: u32 = 256;
+
+/// Measures the design's placements, its view, a frame at the root and for each rest of a report, the solver, and, if the
+/// solver came to its end, the reports of a worker.
 pub fn measure(rt: &HostRuntime, design: &Design) -> io::Result<()> {
     let begin = Instant::now(rt)?;
     let places = design.places();
@@ -42,7 +47,8 @@ fn measure_frame(rt: &HostRuntime, view: &View) -> io::Result<()> {
     match matrix {
         Ok(matrix) => {
             println!(rt; "a matrix: {taken} us")?;
-            measure_frame_over(rt, view, &matrix)
+            measure_frame_over(rt, view, &matrix)?;
+            measure_report(rt, view, &matrix)
         }
         Err(refusal) => println!(rt; "a matrix was refused: {}", refusal.name()),
     }
@@ -59,6 +65,46 @@ fn measure_frame_over(rt: &HostRuntime, view: &View, matrix: &Matrix) -> io::Res
         Ok(_) => println!(rt; "a frame at the root: {taken} us"),
         Err(refusal) => println!(rt; "a frame was refused: {}", refusal.name()),
     }
+}
+
+// Measures a walk for the leaves of a report, and a frame for each of its rests.
+fn measure_report(rt: &HostRuntime, view: &View, matrix: &Matrix) -> io::Result<()>
+    requires { IsWhole view.now matrix.now }
+{
+    let Explored {
+        tree,
+        leaves: found,
+    } = match explore_over(rt.alloc(), view, matrix, &[], NODES) {
+        Ok(explored) => explored,
+        Err(refusal) => return println!(rt; "a report was refused: {}", refusal.name()),
+    };
+    let begin = Instant::now(rt)?;
+    let gathered = leaves(rt.alloc(), view, &[], &tree);
+    let taken = begin.elapsed(rt)?.as_micros();
+    match gathered {
+        Ok(_) => println!(rt; "the leaves of a report of {NODES} nodes, by a walk: {taken} us")?,
+        Err(refusal) => println!(rt; "a walk was refused: {}", refusal.name())?,
+    }
+    measure_frames(rt, view, matrix, &found.rests)
+}
+
+// Measures a frame for each of the tasks.
+fn measure_frames(
+    rt: &HostRuntime,
+    view: &View,
+    matrix: &Matrix,
+    tasks: &[Vec<Atom>],
+) -> io::Result<()>
+    requires { IsWhole view.now matrix.now }
+{
+    let begin = Instant::now(rt)?;
+    for atoms in tasks {
+        if let Err(refusal) = Frame::over(rt.alloc(), view, matrix, atoms) {
+            return println!(rt; "a frame was refused: {}", refusal.name());
+        }
+    }
+    let taken = begin.elapsed(rt)?.as_micros();
+    println!(rt; "frames for {} tasks: {taken} us", tasks.len())
 }
 
 // Whether the search came to its end.
