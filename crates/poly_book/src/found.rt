@@ -118,7 +118,7 @@ fn apply_found(parts: &mut Parts, found: Found) -> Result<Applied, Refusal>
     apply_report(parts, &report)
 }
 
-// Whether the task of the number, which stands at the place, has exactly these atoms.
+// Whether the task with this number has exactly these atoms. `at` is its index among the pending tasks.
 fn has_atoms(parts: &Parts, at: usize, number: u32, atoms: &[Atom]) -> Result<bool, Refusal>
     requires keeps { Keeps parts.now }
     requires place { position_from (λ q. q.number == number) 0 parts.now.tasks.items ≡ Some at }

@@ -103,7 +103,7 @@ stands_none o s none = subst (λ z. IsStanding z s) (sym none) tt
 pub stands_new : (q : AllTilings) (s t : State) → t ≡ answered s → q.design ≡ s.design → IsStanding (Some q) t
 stands_new q s t is same = subst (IsStanding (Some q)) (sym is) (same, refl)
 
--- what is kept still stands after a question that was answered
+-- an answer leaves the design as it is, so the kept tilings are still all tilings of it
 pub stands_answered : (o : Option AllTilings) (s t : State) → t ≡ answered s → IsStanding o s → IsStanding o t
 stands_answered None s t is h = tt
 stands_answered (Some q) s t is h = stands_new q s t is h.0

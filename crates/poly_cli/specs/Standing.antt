@@ -3,6 +3,6 @@ use Rattle.std.specs.Prelude.{IfSome, Option, true, ◌≡◌}
 use Rattle.poly_book.specs.AllTilings.{AllTilings}
 use Rattle.poly_cli.specs.States.{State}
 
--- the tilings that are kept, if any, are those of the design as it stands, and the search for them has ended
+-- nothing is kept, or all tilings of the present design are, and the engine has settled
 abbrev pub IsStanding : Option AllTilings → State → Type 0
 IsStanding kept s = IfSome kept (λ q. (q.design ≡ s.design) × (s.settled ≡ true))

@@ -49,7 +49,7 @@ impl Answerer {
     /// Answers a line of a session on a design of the grid; `None` is a line that is too long. Writes the whole answer and flushes
     /// it. Fails with `Write` if the writer does.
     ///
-    /// Requires that what is kept is of the design as it stands, and keeps this so.
+    /// If tilings are kept, they must be those of the present design. This also holds after the call.
     pub fn respond<E: Engine, W: Write>(
         &mut self,
         grid: Grid,

@@ -132,7 +132,7 @@ fn ranks_of_each(
     Ok(rows)
 }
 
-// How many numbers the tilings have in all, or the greatest number if that is less.
+// The sum of the lengths of the tilings, or `usize::MAX` if the sum is greater.
 fn number_total(tilings: &[Tiling]) -> usize {
     let mut total: usize = 0;
     for tiling in tilings {

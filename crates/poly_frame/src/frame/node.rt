@@ -1,10 +1,12 @@
-//! Where a frame stands. The steps are apart from it, since taking one changes them while the rest is read.
+//! What a frame reads at its current node. The steps are a separate value, because taking one changes them while
+//! the node is read.
 use crate::frame::matrix::Matrix;
 use crate::frame::table::Table;
 use poly_atom::Atom;
 use poly_tiling::View;
 
-/// The view, the atoms on the path, of which the first `given` are no steps, and the matrix and the table for these.
+/// A node of a search: the view, the atoms on the path to the node, and the matrix and the table that were made for them.
+/// The first `given` atoms are those of the frame, and each later one is a step.
 #[derive(Drop)]
 pub(crate) struct Node<'a> {
     pub(crate) view: &'a View,
