@@ -1,5 +1,6 @@
 /* A plain dancing-links program (Knuth, "Dancing links", 2000): lists all tilings of a rectangle by the twelve
-   pentominoes. It is the yardstick for the speed of search: cc -O2 -o dlx dlx.c && time ./dlx 10 6 */
+   pentominoes. It is the yardstick for the speed of search: cc -O2 -o dlx dlx.c && time ./dlx 10 6
+   A third argument leaves out a square of that side in the middle: ./dlx 8 8 2 */
 #include <stdio.h>
 #include <stdlib.h>
 
@@ -87,13 +88,21 @@ static void add_option(const int *items, int count) {
 }
 
 int main(int argc, char **argv) {
-    int width = argc > 1 ? atoi(argv[1]) : 10, height = argc > 2 ? atoi(argv[2]) : 6;
+    int width = argc > 1 ? atoi(argv[1]) : 10, height = argc > 2 ? atoi(argv[2]) : 6, hole = argc > 3 ? atoi(argv[3]) : 0;
+    int hole_x = (width - hole) / 2, hole_y = (height - hole) / 2;
     columns = width * height + 12;
     for (int c = 0; c <= columns; c++) {
         left[c] = c ? c - 1 : columns;
         right[c] = c < columns ? c + 1 : 0;
         up[c] = down[c] = column[c] = c;
     }
+    /* the cells of the hole have no options, so their columns leave the list of columns to cover */
+    for (int y = hole_y; y < hole_y + hole; y++)
+        for (int x = hole_x; x < hole_x + hole; x++) {
+            int c = y * width + x + 1;
+            left[right[c]] = left[c];
+            right[left[c]] = right[c];
+        }
     nodes = columns + 1;
     for (int p = 0; p < 12; p++) {
         int seen[8][5], count = 0;
@@ -124,7 +133,8 @@ int main(int argc, char **argv) {
                     items[0] = width * height + 1 + p;
                     for (int k = 0; k < 5; k++) {
                         int cx = code[k] % 64 + x, cy = code[k] / 64 + y;
-                        if (cx >= width || cy >= height) fits = 0;
+                        int in_hole = cx >= hole_x && cx < hole_x + hole && cy >= hole_y && cy < hole_y + hole;
+                        if (cx >= width || cy >= height || in_hole) fits = 0;
                         else items[k + 1] = cy * width + cx + 1;
                     }
                     if (fits) add_option(items, 6);

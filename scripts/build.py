@@ -118,7 +118,7 @@ def build(uses):
     processors = len(os.sched_getaffinity(0))
     chain, start = chains(uses, names), time.monotonic()
     waiting, running, done = sorted(names, key=lambda it: -chain[it]), {}, set()
-    say(f"proving {len(names)} crates on {processors} processors; this takes about half an hour, once")
+    say(f"proving {len(names)} crates on {processors} processors; this takes about an hour, once")
     failed = False
     with ThreadPoolExecutor(len(names)) as pool:
         while running or waiting and not failed:
