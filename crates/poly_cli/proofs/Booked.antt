@@ -34,7 +34,7 @@ same_state : {d e : Layout} {m n : ℕ} {u v r q : List Change} {a b : Bool} →
     → ◌≡◌ {A = State} (record { design = d; edition = m; undo = u; redo = r; settled = a }) (record { design = e; edition = n; undo = v; redo = q; settled = b })
 same_state p s t w x = λ i. record { design = p i; edition = s i; undo = t i; redo = w i; settled = x i }
 
--- the newest way is at the end of the changes
+-- the change of the newest way is the last change
 changes_push : (way : Way) (ways : List Way) → changes_of (way ∷ ways) ≡ changes_of ways ++ way.change ∷ []
 changes_push way ways = reverse-append (way.change ∷ []) (map (λ w. w.change) ways)
 
@@ -43,7 +43,7 @@ newest_take zero ways = refl
 newest_take (suc n) [] = refl
 newest_take (suc n) (way ∷ ways) = ap (λ z. way.change ∷ z) (newest_take n ways)
 
--- of the newest ways the changes are the last ones
+-- the changes of the newest ways are the newest changes
 changes_newest : (ways : List Way) → changes_of (newest 256 ways) ≡ newest_last (changes_of ways)
 changes_newest ways =
     let all = map (λ w. w.change) ways in
@@ -157,7 +157,7 @@ module _ (s : Book) (flag : Bool) (e : Refusal) where
       go (inr (inl over)) = let f = full over.0 in inl (inr (f.0.change, changes_of f.1, ap changes_of f.2 ∙ changes_push f.0 f.1, inr (over.0, f.3)))
       go (inr (inr memory)) = inr memory
 
--- why the book isn't settled, by its design
+-- if settling a book fails, a question about its design may fail with the same refusal
 pub unsettled : (turns : ℕ) (s t : Book) (e : Refusal) → IsNotSettled turns s t e → (e ≡ CatalogueFull → HasOverTilings 1000000 s.design) → IsUnanswered s.design e
 unsettled turns s t e (inl unfinished) full = inl unfinished.0
 unsettled turns s t e (inr (n, less, cuts, inl memory)) full = inr (inr (inl memory))

@@ -23,15 +23,15 @@ named_one v n p e = rw e refl
 named_none : (v : View) (n : ℕ) → slice_get v.placements n ≡ None → names v (n ∷ []) ≡ []
 named_none v n e = rw e refl
 
--- one more number, which names a placement
+-- if the next number names a placement, that placement is collected
 pub names_more : (v : View) (T : List ℕ) (i n : ℕ) (p : Placement) → i < length T → n ≡ get_or T i 0 → slice_get v.placements n ≡ Some p → names v (take (i + 1) T) ≡ names v (take i T) ++ p ∷ []
 names_more v T i n p lt is e = ap (names v) (up_to T i n lt is) ∙ named_append v (take i T) (n ∷ []) ∙ ap (λ z. names v (take i T) ++ z) (named_one v n p e)
 
--- one more number, which names nothing
+-- if the next number names nothing, nothing is collected
 pub names_same : (v : View) (T : List ℕ) (i n : ℕ) → i < length T → n ≡ get_or T i 0 → slice_get v.placements n ≡ None → names v (take (i + 1) T) ≡ names v (take i T)
 names_same v T i n lt is e = ap (names v) (up_to T i n lt is) ∙ named_append v (take i T) (n ∷ []) ∙ ap (λ z. names v (take i T) ++ z) (named_none v n e) ∙ append-nil (names v (take i T))
 
--- what the numbers before one name covers no more, with what it names, than all
+-- the placements collected so far and the next one together cover no more than all of them
 pub names_short : (v : View) (T : List ℕ) (i n : ℕ) (p : Placement) → i < length T → n ≡ get_or T i 0 → slice_get v.placements n ≡ Some p → covered (names v (take i T)) + length p.cells ≤ covered (names v T)
 names_short v T i n p lt is e =
     let whole : names v T ≡ (names v (take i T) ++ p ∷ []) ++ names v (drop (i + 1) T)

@@ -1,4 +1,4 @@
--- As many tilings as a list has each once are in the design's list of tilings: that list is there, since any list can be put in order.
+-- A list by numbers that has each tiling once is as long as the design's list of tilings. That list exists, since any list can be put in order.
 use Rattle.std.proofs.Common.{Bool, List, [], ap, arith, cond, false, get_or, length, map, refl, subst, sym, suc, true, true≢false, zero, ℕ, ◌+◌, ◌<◌, ◌∙◌, ◌∷◌, ◌≡◌, ◌≤◌}
 use Rattle.std.proofs.lemmas.Cmp.{lists_total}
 use Rattle.std.proofs.lemmas.List.{length-map}
@@ -39,7 +39,7 @@ module _ {X : Type 0} (lt : X → X → Bool) where
   Ascends [] = Unit {0}
   Ascends (x ∷ xs) = IsFirst x xs × Ascends xs
 
-  -- as a list with the element in it, what is counted is the same
+  -- one step of `tally_put`: x goes behind y or in front of it
   tally_at : (f : X → Bool) (x y : X) (ys : List X) → tally f (put_in x ys) ≡ one (f x) + tally f ys → (b : Bool) → tally f (cond b (y ∷ put_in x ys) (x ∷ y ∷ ys)) ≡ one (f x) + (one (f y) + tally f ys)
   tally_at f x y ys more true = omega (arith, more)
   tally_at f x y ys more false = omega arith
@@ -99,7 +99,7 @@ below_either v S T h = go (tiling_cmp v S T) ((lists_total placement_total).anti
     go Equal e h = ap is_lt e
     go Greater e h = absurd (true≢false (sym h))
 
--- the design has a list of its tilings, which is as long as any list by numbers that has each once
+-- the design has a list of its tilings, as long as the list by numbers
 counted : (d : Layout) (v : View) (lists : List (List ℕ)) → ListingsShow → WellNamed v → Shows v d → HasEachOnce v lists → (all : List (List Placement)) × IsListOfTilings d all × (length lists ≡ length all)
 counted d v lists law well shows each =
     let lt : List ℕ → List ℕ → Bool = λ S T. is_lt (tiling_cmp v S T) in
@@ -109,7 +109,7 @@ counted d v lists law well shows each =
     subst (λ m. lt (get_or up m z) (get_or up k z) ≡ false) next (steps_up lt up (ascends_ordered lt (below_either v) lists) k z (omega (arith, l))) in
     (map (placed v) up, law v d up well shows (λ T. tally_ordered lt (same_list T) lists ∙ each T) sorted, sym (length_ordered lt lists) ∙ sym (length-map up (placed v)))
 
--- the same for the tilings that a book has listed if nothing is pending
+-- if nothing is pending, a book has listed as many tilings as the design has
 pub book_counted : (s : Book) → Whole s → ListingsShow → s.pending ≡ [] → (n : ℕ) → n ≡ length s.listed → (all : List (List Placement)) × IsListOfTilings s.design all × (n ≡ length all)
 book_counted s whole law none n is =
     let c = counted s.design s.view s.listed law whole.consistent.well whole.consistent.shows (partition_each s whole.consistent.partition none) in

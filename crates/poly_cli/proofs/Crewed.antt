@@ -17,11 +17,11 @@ use Rattle.poly_desk.specs.declared.receipt.Receipt.{Receipt}
 pub same_sum : {P : Type 0} (f : P → ℕ) (xs ys : List P) → map f xs ≡ map f ys → sum_by f xs ≡ sum_by f ys
 same_sum f xs ys same = sym (sum-map f xs) ∙ ap sum same ∙ sum-map f ys
 
--- without changes the steps are those of before
+-- without changes, the steps stay the same
 pub steps_stay : (o : Layout) (ss : List Step) (k : ℕ) (b : Book) (changes cuts : ℕ) → Counts o ss k b changes cuts → changes ≡ 0 → b.steps ≡ ss
 steps_stay o ss k b changes cuts c none = sym (ap (λ n. drop n b.steps) none) ∙ c.begins
 
--- a desk that isn't settled up says so
+-- a desk that can't be settled up answers `Unsettled`
 pub tells_unsettled : (o : Layout) (ss : List Step) (k changes cuts : ℕ) (rs : List Receipt) (e : Refusal) → IsNotSettled o ss k changes cuts rs e → is_unsettled e ≡ true
 tells_unsettled o ss k changes cuts rs e n = go n.uneven
   where

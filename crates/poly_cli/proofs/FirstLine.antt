@@ -169,7 +169,7 @@ limits_are l line left fresh =
     ap (λ (n : ℕ). limits_of n (room l) 1000000) line ∙ ap (λ (n : ℕ). limits_of 65536 n 1000000) bytes
 
 module _ (Failures : Refusal → Type 0) (m : Limits) (left held held_last : Option (List ℕ)) where
-  -- no memory to begin with, so that nothing was read
+  -- memory ran out before anything was read
   none_read : [] ≡ lines_heard m []
   none_read = rw (take-nil m.bytes) (sym (take-nil m.lines))
 

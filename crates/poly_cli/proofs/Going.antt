@@ -18,7 +18,7 @@ lines_more limit a b e =
     ap (λ z. z ++ last_lines limit (open_line [] (a ++ b))) (before_more limit a b e) ∙ ap (λ z. (lines_before limit a ++ lines_before limit b) ++ last_lines limit z) (open_more a b e)
     ∙ append_assoc (lines_before limit a) (lines_before limit b) (last_lines limit (open_line [] b))
 
--- nothing after a whole line ends a line
+-- a piece that ends no line adds no whole line
 pub lines_none : (limit : ℕ) (done piece : List ℕ) → open_line [] done ≡ [] → whole_lines [] piece ≡ [] → lines_before limit (done ++ piece) ≡ lines_before limit done
 lines_none limit done piece e none = before_more limit done piece e ∙ rw none (append-nil (lines_before limit done))
 
@@ -38,7 +38,7 @@ none_text limit piece text e none = go (open_line [] piece) (sym e.line ∙ none
 pub some_text : (limit : ℕ) (piece text : List ℕ) → EndsNone limit [] piece text → (text ≡ [] → ⊥) → open_line [] piece ≡ [] → ⊥
 some_text limit piece text e some none = some (e.line ∙ ap (kept limit) none ∙ take-nil (limit + 1))
 
--- the first n elements of a list that has at most n, and of a longer one
+-- the first n elements of two lists in a row, if the first list has at most n
 pub take_front : {X : Type 0} (n : ℕ) (xs ys : List X) → length xs ≤ n → take n (xs ++ ys) ≡ xs ++ take (n - length xs) ys
 take_front {X} n xs ys le = let e : n ≡ length xs + (n - length xs) = omega (arith, le) in subst (λ m. take m (xs ++ ys) ≡ xs ++ take (n - length xs) ys) (sym e) (take-append-add xs ys (n - length xs))
 

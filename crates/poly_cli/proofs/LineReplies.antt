@@ -45,7 +45,7 @@ module _ (Failures : Refusal → Type 0) (s : State) (g : Grid) (standing : g �
       go (word ∷ words) a (inr (inl m)) = inr m
       go (word ∷ words) a (inr (inr f)) = replied (word ∷ words) a (inr f)
 
-  -- the words of a line that has some were refused, or memory ran out
+  -- a line that has words was refused, or memory ran out
   pub refusal_says : (line : List ℕ) (e : Refusal) → (words_of line ≡ [] → ◌≡◌ {A = Result (Option Command) Refusal} (Err e) (Ok None)) → (e ≡ Memory) ⊎ Asks g line (Err e) → WordsSay Failures (words_of line) s (refusal_text e) s
   refusal_says line e blank a = go (words_of line) blank a
     where
@@ -73,7 +73,7 @@ pub told : (Failures : Refusal → Type 0) (Says : Layout → List (List Placeme
     → Tells Says s out t ⊎ Fails Failures s out t
 told Failures Says s t all out is list says = inl (inl (is, (all, list, says)))
 
--- a question that was answered by the design's tilings, unless memory ran out then
+-- a question that was answered by the design's tilings, unless memory ran out after the engine gave them
 pub told_in_memory : (Failures : Refusal → Type 0) (Says : Layout → List (List Placement) → List ℕ → Type 0) (s t : State) (d : Layout) (all : List (List Placement)) (out : List ℕ) → t ≡ answered s → d ≡ s.design → IsListOfTilings d all →
     Says d all out ⊎ (out ≡ refusal_text Memory) → Tells Says s out t ⊎ Fails Failures s out t
 told_in_memory Failures Says s t d all out is same list (inl says) = told Failures Says s t all out is (subst (λ e. IsListOfTilings e all) same list) (subst (λ e. Says e all out) same says)
@@ -89,7 +89,7 @@ pub untold : (Failures : Refusal → Type 0) (Says : Layout → List (List Place
 untold Failures Says s t e same (inl why) = inl (inr (e, why, inl same, refl))
 untold Failures Says s t e same (inr failed) = inr (e, failed, (same, refl))
 
--- a question that the engine answered, when memory ran out
+-- a question that the engine answered before memory ran out
 pub untold_late : (Failures : Refusal → Type 0) (Says : Layout → List (List Placement) → List ℕ → Type 0) (s t : State) (e : Refusal) → t ≡ answered s → e ≡ Memory → Tells Says s (refusal_text e) t ⊎ Fails Failures s (refusal_text e) t
 untold_late Failures Says s t e is memory = inl (inr (e, inr (inr (inl memory)), inr is, refl))
 

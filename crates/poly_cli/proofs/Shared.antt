@@ -88,7 +88,7 @@ apart_from (p ∷ ps) up = (
   apart_from ps (pairs_rest (λ x y. placement_cmp x y ≡ Less) p ps up),
 )
 
--- what is in all of some tilings fits a reply line
+-- the forced placements fit a reply line
 pub forced_short : (d : Layout) (all : List (List Placement)) (q : Asked) (forced : List Placement) → IsDesign d → IsListOfTilings d all → IsListOf placement_cmp (IsForced (matching q all)) forced → covered forced ≤ 256
 forced_short d all q [] design list is = omega arith
 forced_short d all q (p ∷ ps) design list is =
@@ -119,7 +119,7 @@ module _ (v : View) where
   same_sets [] tilings = tt
   same_sets (T ∷ all) tilings = (same_placed T (tilings T (inl refl)), same_sets all (λ U here. tilings U (inr here)))
 
--- what a browse by numbers says of the tilings as their placements in order; the forced placements fit a reply line
+-- a browse by numbers, read as an answer about tilings whose placements are in order; the forced placements fit a reply line
 pub answer_is : AnswersGoBySets → ListingsShow → (q : AllTilings) (l : HasAll q) (asked : Asked) (count : ℕ) (forced : List Placement) (options : List (Item × ℕ))
     → IsAnswer q.design (map (names q.view) q.tilings) asked count forced options → IsAnswer q.design (map (placed q.view) q.tilings) asked count forced options × (covered forced ≤ 256)
 answer_is law listings q l asked count forced options answer =

@@ -18,7 +18,7 @@ module _ (old mid new : Option (List ℕ)) (before x : List ℕ) (a : Appends ol
   writes_last (Ok u) out w e = subst (λ z. Appends old new z) e (appends_more old mid new before x a w)
   writes_last (Err f) out w e = (w.0, before ++ w.1, w.2, appends_more old mid new before w.1 a w.3, append_assoc before w.1 w.2 ∙ ap (λ z. before ++ z) w.4 ∙ e)
 
-  -- a part that was not written whole, before others
+  -- a part that was not written whole, with more parts to come
   pub writes_part : (f : Fault) (out rest : List ℕ) → Writes (Err f) mid new x → before ++ (x ++ rest) ≡ out → Writes (Err f) old new out
   writes_part f out rest w e = (
     w.0,
@@ -52,7 +52,7 @@ lines_left v all i T lt is =
 pub flat_next : {X : Type 0} (f : X → List ℕ) (xs : List X) (i : ℕ) (d : X) → i < length xs → flat_map f (take (i + 1) xs) ≡ flat_map f (take i xs) ++ f (get_or xs i d)
 flat_next f xs i d lt = ap (flat_map f) (take_more xs i d lt) ∙ flat_map-append f (take i xs) (get_or xs i d ∷ []) ∙ ap (λ z. flat_map f (take i xs) ++ z) (append-nil (f (get_or xs i d)))
 
--- what is left of them after one
+-- the texts that are left after one
 pub flat_left : {X : Type 0} (f : X → List ℕ) (xs : List X) (i : ℕ) (d : X) → i < length xs → (rest : List ℕ) × (flat_map f (take i xs) ++ (f (get_or xs i d) ++ rest) ≡ flat_map f xs)
 flat_left f xs i d lt =
     let tail = flat_map f (drop (i + 1) xs) in (

@@ -1,4 +1,4 @@
--- The state of a session, by the state of a book.
+-- The state of a session, read from the state of its book.
 use Rattle.std.specs.Prelude.{Bool, List, length, map, reverse, ◌≡◌}
 use Rattle.poly_design.specs.declared.change.Change.{Change}
 use Rattle.poly_book.specs.States.{State as Book, Way}

@@ -10,7 +10,7 @@ use Rattle.poly_cli.specs.Cutting.{open_line, whole_lines}
 abbrev pub ahead : Lines → List ℕ
 ahead b = take (b.end - b.at) (drop b.at b.chunk.items)
 
--- how many bytes there may be from here on, with those that are ahead
+-- how many bytes may come from here on, those ahead included
 abbrev pub room : Lines → ℕ
 room b = length (ahead b) + b.left
 
@@ -24,7 +24,7 @@ pub record IsReady (b : Lines) : Type 0 where
 abbrev pub kept : ℕ → List ℕ → List ℕ
 kept limit bytes = take (limit + 1) bytes
 
--- the piece ends the line that had begun and no other; text is what is kept of the line; nothing comes after it
+-- the piece ends the line that had begun, and nothing in the piece comes after that line; text is what is kept of it
 pub record EndsLine (limit : ℕ) (begun piece text : List ℕ) : Type 0 where
   pub bytes : List ℕ
   pub whole : whole_lines begun piece ≡ bytes ∷ []
@@ -41,14 +41,14 @@ abbrev pub Cuts : ℕ → Bool → List ℕ → List ℕ → List ℕ → List �
 Cuts limit true begun piece text rest = EndsLine limit begun piece text
 Cuts limit false begun piece text rest = EndsNone limit begun piece text × (rest ≡ [])
 
--- the result of a read if `left` bytes may still come: some bytes, which are ahead then, the end, or a fault. A fault takes bytes
--- only if no more may come.
+-- the result of a read if `left` bytes may still come: some bytes, which are ahead from then on; the end; or a fault. A fault takes
+-- bytes only if no more may come.
 abbrev pub Reads : Event → ℕ → ℕ → Option (List ℕ) → Option (List ℕ) → List ℕ → Type 0
 Reads Line left now old new rest = Consumes old new rest × (now + length rest ≡ left)
 Reads End left now old new rest = Consumes old new [] × IsAtEnd new × (rest ≡ []) × (now ≡ left)
 Reads Fault left now old new rest = (over : List ℕ) × Consumes old new over × (rest ≡ []) × (now ≡ left) × (0 < now → over ≡ [])
 
--- the result of reading the next line: the piece of the stream that was cut, the text that is kept of it, and what was read over
+-- the result of reading the next line: the piece of the stream that was cut, the text that is kept of it, and the bytes read over
 -- the limit
 abbrev pub Finds : Event → Lines → List ℕ → Option (List ℕ) → List ℕ → Type 0
 Finds Line now piece left over = EndsLine now.limit [] piece now.line.items × (over ≡ [])

@@ -38,7 +38,7 @@ answer_text forced options count = forced_text forced ++ (flat_map (λ o. item_t
 abbrev pub BrowseSays : Question → Layout → List (List Placement) → List ℕ → Type 0
 BrowseSays q d all out = (count : ℕ) × (forced : List Placement) × (options : List (Item × ℕ)) × IsAnswer d all (asked_of q) count forced options × (out ≡ answer_text forced options count)
 
--- A question about all tilings of the design is answered or refused. Even if it is refused, the search may have ended before.
+-- A question about all tilings of the design is answered or refused. Even if it is refused, the search may have finished before that.
 abbrev pub Tells : (Layout → List (List Placement) → List ℕ → Type 0) → State → List ℕ → State → Type 0
 Tells Says s out t =
     ((t ≡ answered s) × ((all : List (List Placement)) × IsListOfTilings s.design all × Says s.design all out))

@@ -1,4 +1,4 @@
--- Runs over lines: to each line some output, and the next state.
+-- Runs over lines: each line gives some output and the next state.
 use Rattle.std.specs.Prelude.{◌≡◌, ◌⊎◌, ◌≤◌, ℕ, List, [], ◌∷◌, ◌++◌, length, take, Option, Result, Ok, Err}
 use Rattle.std.specs.Io.KnownBytes.{Appends, IsAtEnd}
 use Rattle.poly_cli.specs.declared.writing.Fault.{Fault}
@@ -30,14 +30,14 @@ limits_from most b = record { line = b.limit; bytes = room b; lines = most }
 abbrev pub lines_heard : Limits → List ℕ → List (Option (List ℕ))
 lines_heard m bytes = take m.lines (lines_before m.line (take m.bytes bytes))
 
--- The lines are those read whole, as far as the limits go: each has its line feed among the bytes, or the input ended, within its
--- limit, and they are the first of all its lines.
+-- The lines are those that were read whole within the limits: the lines that the bytes end or, if the input ended within its limit,
+-- all its lines up to the limit.
 abbrev pub AreReadWhole : Limits → (List ℕ → List (Option (List ℕ))) → List ℕ → Option (List ℕ) → List (Option (List ℕ)) → Type 0
 AreReadWhole m all bytes left lines = (lines ≡ lines_heard m bytes) ⊎ (IsAtEnd left × (length bytes ≤ m.bytes) × (lines ≡ take m.lines (all bytes)))
 
--- What a session says of the bytes that it took. At the end, which is within the limits, its output is a run on all their lines. At a
--- read fault it is a run on the lines read whole before. At a write fault the writer took a first part of a run's output on the first of
--- the lines read whole.
+-- What a session writes for the bytes that it took. If the input ended within the limits, the output is a run on all lines. After a
+-- read fault, it is a run on the lines read whole before. After a write fault, it is the beginning of a run's output on some first
+-- lines of those read whole.
 abbrev pub Serves : {S : Type 0} → Limits → (S → Option (List ℕ) → List ℕ → S → Type 0) → S → List ℕ → Result (Unit {0}) Fault → Option (List ℕ) → Option (List ℕ) → Option (List ℕ) → Type 0
 Serves m Says s bytes (Ok x) left old new =
     IsAtEnd left × (length bytes ≤ m.bytes) × (length (lines_of m.line bytes) ≤ m.lines) × ((out : List ℕ) × Appends old new out × Runs Says s (lines_of m.line bytes) out)

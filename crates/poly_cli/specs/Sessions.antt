@@ -24,7 +24,7 @@ or_empty (line ∷ lines) = line ∷ lines
 abbrev pub session_lines : ℕ → List ℕ → List (Option (List ℕ))
 session_lines limit bytes = or_empty (lines_of limit bytes)
 
--- what the first line says, which may be too long
+-- what the first line says; it may be too long
 abbrev pub FirstSays : Option (List ℕ) → Result Layout Refusal → Type 0
 FirstSays None r = r ≡ Err LineTooLong
 FirstSays (Some line) r = PuzzleSays line r
@@ -45,19 +45,20 @@ abbrev pub opening_text : Result Grid Refusal → List ℕ
 opening_text (Ok x) = ok_text 0
 opening_text (Err e) = refusal_text e
 
--- a session whose first line was refused; before a line is complete only `Memory` is refused
+-- a session whose first line was refused; if no line was read whole, the refusal is `Memory`
 abbrev pub RunsRefused : List (Option (List ℕ)) → List ℕ → Type 0
 RunsRefused [] out = out ≡ refusal_text Memory
 RunsRefused (first ∷ lines) out = (e : Refusal) × Refuses first e × (out ≡ refusal_text e)
 
--- a session whose first line was accepted, if there was one; one of these refusals means that its engine has failed
+-- a session whose first line was accepted, or that read no whole line; `Failures` are the refusals of an engine that has failed
 abbrev pub RunsOpened : (Refusal → Type 0) → List (Option (List ℕ)) → List ℕ → Type 0
 RunsOpened Failures [] out = out ≡ []
 RunsOpened Failures (first ∷ lines) out = (s : State) × (rest : List ℕ) × Accepts first s × Runs (Slow Failures) s lines rest × (out ≡ ok_text 0 ++ rest)
 
--- What a session says of the bytes that it took. Done: the end, within the limits, and a run on all lines. Refused: the reply to the
--- first line, which was read whole, unless memory ran out before. At a read fault a run on the lines read whole before, and at a write
--- fault a first part of a run's output on the first of the lines read whole.
+-- What a session writes for the bytes that it took. Done: the input ended within the limits, and the output is a run on all lines.
+-- Refused: the output is the reply to the first line, which was read whole unless memory ran out before. After a read fault, it is a
+-- run on the lines read whole before. After a write fault, it is the beginning of a run's output on some first lines of those read
+-- whole.
 abbrev pub SessionSays : (Refusal → Type 0) → Limits → List ℕ → Result End Fault → Option (List ℕ) → Option (List ℕ) → Option (List ℕ) → Type 0
 SessionSays Failures m bytes (Ok Done) left old new =
     IsAtEnd left × (length bytes ≤ m.bytes) × (length (session_lines m.line bytes) ≤ m.lines) × ((out : List ℕ) × Appends old new out × RunsOpened Failures (session_lines m.line bytes) out)

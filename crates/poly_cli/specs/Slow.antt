@@ -1,5 +1,5 @@
 -- The slow session: the answer to each line after the puzzle line, and the next state. It knows only the definitions: no engine,
--- no numbers, no tables, no search. All that it is given of an engine are the refusals that mean that the engine has failed.
+-- no numbers, no tables, no search. It is given only the refusals of an engine that has failed.
 use Rattle.std.specs.Prelude.{Bool, false, true, ◌≡◌, ◌⊎◌, ℕ, ◌+◌, List, [], ◌∷◌, Option, Some, None, Result, Ok, Err}
 use Rattle.poly_grid.specs.declared.refusal.Refusal.{Refusal}
 use Rattle.poly_grid.specs.declared.refusal.Refusal.TheVariants.{LineTooLong, Memory}

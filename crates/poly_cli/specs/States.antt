@@ -75,8 +75,8 @@ RedoRefused s e = ((e ≡ NothingToRedo) × (s.redo ≡ [])) ⊎ ((change : Chan
 abbrev pub IsUnanswered : Layout → Refusal → Type 0
 IsUnanswered d e = (e ≡ Unfinished) ⊎ (e ≡ Spent) ⊎ (e ≡ Memory) ⊎ ((e ≡ CatalogueFull) × HasOverTilings 1000000 d)
 
--- The edition, how many tilings are listed and how many tasks are pending: no more tilings are listed than there are, and all of them
--- if nothing is pending, as in a settled state.
+-- The edition, how many tilings are listed and how many tasks are pending. No more tilings are listed than the design has; if nothing
+-- is pending, as in a settled state, all of them are listed.
 pub record AreNumbers (s : State) (n : Numbers) : Type 0 where
   pub edition : n.edition ≡ s.edition
   pub some : AreTilingsOf n.listed s.design

@@ -1,4 +1,4 @@
--- The state of a team, by what it keeps.
+-- The state of a team, read from what it keeps.
 use Rattle.poly_cli.specs.declared.kept.Kept.{Kept}
 use Rattle.poly_cli.specs.declared.kept.Kept.TheVariants.{Lost, Whole}
 use Rattle.poly_cli.specs.States.{State}

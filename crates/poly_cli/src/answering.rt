@@ -1,7 +1,7 @@
 //! Answers to the lines after the puzzle line.
 //!
-//! To put all tilings into their order takes about as long as to answer a question about them, so a session keeps the tilings
-//! from one such question to the next. Before a change they are dropped, so their memory is free while the engine works.
+//! Putting all tilings in order takes about as long as answering a question about them, so a session keeps the tilings
+//! from one such question to the next. Before a change it drops them, so their memory is free while the engine works.
 ghost use Rattle.std.specs.Prelude.{false, ◌≡◌, ◌⊎◌, ◌≤◌, ℕ, List, None, IfErr, IfOk, option_map, vec_capacity};
 ghost use Rattle.poly_text.specs.Replies.{refusal_text, step_text};
 ghost use Rattle.poly_cli.specs.Questions.{TellsNumbers};
@@ -21,7 +21,7 @@ use std::io::Write;
 // The most placements of a tiling: each covers a cell, and there are at most 256.
 const MOST_PLACED: usize = 256;
 
-/// Answers lines by an engine. It takes the memory of its reply lines once, so no reply can run out of memory halfway.
+/// Answers lines with an engine. It takes the memory of its reply lines once, so no reply can run out of memory halfway.
 #[derive(Drop)]
 pub struct Answerer {
     pub(crate) alloc: Global,

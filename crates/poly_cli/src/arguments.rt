@@ -58,7 +58,7 @@ pub const MOST_WORKERS: u8 = 16;
 pub struct Options {
     /// The most turns that settling may take each time, from 1 to `MOST_TURNS`.
     pub turns: u64,
-    /// How many workers settle together, from 1 to `MOST_WORKERS`. Without any, settling is done alone.
+    /// How many workers settle together, from 1 to `MOST_WORKERS`; `None` if the program settles alone.
     pub workers: Option<u8>,
 }
 
@@ -73,7 +73,7 @@ pub fn read_arguments(alloc: Global, words: &[&str]) -> Result<Options, Error>
 {
     let matches = command(alloc)?.try_get_matches_from(words)?;
     let turns = matches.get_one::<u64>(TURNS).unwrap_or(DEFAULT_TURNS);
-    // The parsers have refused every number out of range. That they have isn't read off their contracts, so it is made sure of.
+    // The parsers have refused every number out of range, but their contracts don't guarantee it. `clamp` does.
     Ok(Options {
         turns: turns.clamp(1, MOST_TURNS),
         workers: match matches.get_one::<u8>(WORKERS) {
@@ -83,7 +83,7 @@ pub fn read_arguments(alloc: Global, words: &[&str]) -> Result<Options, Error>
     })
 }
 
-// What the command line may have.
+// The options of the command line.
 fn command<'a>(alloc: Global) -> Result<Command<'a>, Error> {
     let turns = Arg::new(alloc, TURNS)
         .long(TURNS)
@@ -109,7 +109,7 @@ mod tests {
     use super::*;
     use clap::error::ErrorKind;
 
-    // The turns and workers, or the kind of the error and the status that it asks for.
+    // The turns and workers, or the kind of the error and its exit code.
     fn read(alloc: Global, words: &[&str]) -> Result<(u64, Option<u8>), (ErrorKind, i32)> {
         match read_arguments(alloc, words) {
             Ok(options) => Ok((options.turns, options.workers)),

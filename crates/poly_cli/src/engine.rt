@@ -1,7 +1,7 @@
 //! What a session runs on: a design that is edited, and all its tilings.
 //!
-//! A session doesn't know how an engine searches or what it keeps between two questions. It knows only the state that the engine is in,
-//! by the definitions.
+//! A session doesn't know how an engine searches or what it keeps between two questions. It knows only the engine's state, in terms of
+//! the definitions.
 ghost use Rattle.std.specs.Prelude.{◌≡◌, ◌⊎◌, ◌+◌, List, length, IfOk, IfErr, OnOk, OnErr};
 ghost use Rattle.poly_grid.specs.declared.refusal.Refusal.{Refusal as Cause};
 ghost use Rattle.poly_design.specs.declared.placement.Placement.{Placement as Placed};
@@ -21,11 +21,11 @@ pub trait Engine {
     /// Holds before and after each call.
     ghost ready: { Self → Type 0 } = { λ _. Unit {0} };
 
-    /// The refusals by which an engine that failed may answer a call. It is left as it was.
+    /// The refusals with which a failed engine may answer a call. Such a call changes nothing.
     ghost failures: { Cause → Type 0 } = { λ _. ⊥ };
 
-    /// Begins anew with the design, at edition 0 and without steps; also an engine that failed begins anew. Fails only with `Memory`,
-    /// and then leaves the engine as it was.
+    /// Begins anew with the design, at edition 0 and without steps, even after a failure. Fails only with `Memory`, and then leaves the
+    /// engine as it was.
     fn begin(&mut self, design: Design) -> Result<(), Refusal>
         requires ready { ready self.old }
         ensures ready { ready self.new }
@@ -72,7 +72,7 @@ pub trait Engine {
     /// All tilings of the design, each once, in the order of tilings.
     ///
     /// Fails with `Unfinished` if the turns are used up, with `Spent` if a counter is, with `CatalogueFull` only if there are more than
-    /// 1,000,000 tilings, and with `Memory`. Here as in each call an engine that failed may answer one of its `failures` instead.
+    /// 1,000,000 tilings, and with `Memory`. As in each call, a failed engine may answer with one of its `failures` instead.
     fn settle(&mut self) -> Result<Quiet, Refusal>
         requires ready { ready self.old }
         ensures ready { ready self.new }
@@ -81,7 +81,7 @@ pub trait Engine {
         ensures err { OnErr result (state self.new ≡ state self.old) }
         ensures why { IfErr result (λ e. IsUnanswered (state self.old).design e ⊎ failures e) };
 
-    /// The number of all tilings of the design, without a copy of any. Fails as `settle` does.
+    /// The number of all tilings of the design, without copying any. Fails as `settle` does.
     fn count(&mut self) -> Result<u64, Refusal>
         requires ready { ready self.old }
         ensures ready { ready self.new }

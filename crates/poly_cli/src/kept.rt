@@ -17,7 +17,7 @@ pub(crate) enum Kept {
     Lost(Remains),
 }
 
-/// What is left of a book that a desk has: its last numbers, and what every question is answered. Contracts see its last state too.
+/// What is left of a book that a desk has: its last numbers, and the refusal of every question. Contracts see its last state too.
 #[derive(Drop)]
 pub(crate) struct Remains {
     pub(crate) was: Snapshot<Solo>,

@@ -54,7 +54,7 @@ impl Answerer {
         self.placements.clear();
         for number in numbers {
             if let Some(placement) = view.placement(*number) {
-                // The contract of this call tells that no set of cells is empty, which bounds the number of placements.
+                // The contract of this call guarantees that no set of cells is empty, which bounds the number of placements.
                 let _cells = placement.cells.as_slice();
                 self.placements.push_reserved(placement);
             }

@@ -136,7 +136,7 @@ impl Answerer {
         ensures says { Writes result (W.contents writer.old) (W.contents writer.new) (list_text (map (placed quiet.now.view) quiet.now.tilings)) }
         ensures all { IsListOfTilings quiet.now.design (map (placed quiet.now.view) quiet.now.tilings) }
     {
-        // The contracts of these calls tell that the tilings are those of the design, and that each fits a reply line.
+        // The contracts of these calls guarantee that the tilings are those of the design, and that each fits a reply line.
         let _design = quiet.design();
         listings_show();
         numbers_show();
@@ -152,7 +152,7 @@ impl Answerer {
         ensures says { (out : List ℕ) × (BrowseSays question quiet.now.design (map (placed quiet.now.view) quiet.now.tilings) out ⊎ (out ≡ refusal_text Memory)) × Writes result (W.contents writer.old) (W.contents writer.new) out }
         ensures all { IsListOfTilings quiet.now.design (map (placed quiet.now.view) quiet.now.tilings) }
     {
-        // The contract of this call tells that the tilings are those of the design.
+        // The contract of this call guarantees that the tilings are those of the design.
         let _tilings = quiet.tilings();
         match answer_of(self.alloc, quiet, question) {
             Ok(answer) => self.print_answer(&answer, writer),
@@ -180,7 +180,7 @@ fn answer_of(alloc: Global, quiet: &Quiet, question: Question) -> Result<Answer,
     ensures short { IfOk result (λ a. covered a.forced.items ≤ 256) }
     ensures why { IfErr result (λ e. e ≡ Refusal.Memory) }
 {
-    // The contracts of these calls tell that an answer doesn't depend on the order of placements, and that no tiling
+    // The contracts of these calls guarantee that an answer doesn't depend on the order of placements, and that no tiling
     // covers over 256 cells.
     answers_go_by_sets();
     listings_show();

@@ -27,7 +27,7 @@ pub enum End {
     Refused,
 }
 
-/// Runs a whole session: the first line gives the design with which the engine begins, and each later line is answered by it. Each
+/// Runs a whole session: the first line gives the design with which the engine begins, and the engine answers each later line. Each
 /// answer is written whole and flushed before the next line is read.
 ///
 /// Returns `Done` at the end of the input and `Refused` after a puzzle line that was refused. Fails with `Read` if a read fails or the

@@ -111,7 +111,7 @@ impl Engine for Solo {
     }
 
     fn redo(&mut self) -> Result<u64, Refusal> {
-        // The contract of this call tells that at most 256 changes can be undone and redone.
+        // The contract of this call guarantees that at most 256 changes can be undone and redone.
         self.book.whole();
         let done = match self.book.redo() {
             Ok(done) => done,
@@ -131,7 +131,7 @@ impl Engine for Solo {
     fn count(&mut self) -> Result<u64, Refusal> {
         settle_book(&mut self.book, self.turns)?;
         self.settled = true;
-        // The contracts of these calls tell that all tilings are listed.
+        // The contracts of these calls guarantee that all tilings are listed.
         self.book.whole();
         listings_show();
         Ok(self.book.numbers().listed)
@@ -152,8 +152,8 @@ fn settle_book(book: &mut Book, turns: u64) -> Result<(), Refusal>
     if book.numbers().pending == 0 {
         return Ok(());
     }
-    // Before and after settling, the contract of this call tells that the steps lead to the changes that can be undone
-    // and redone.
+    // Before and after settling, the contract of this call guarantees that the steps lead to the changes that can be
+    // undone and redone.
     book.whole();
     let settled = book.settle(turns, NODES);
     book.whole();

@@ -32,8 +32,8 @@ pub struct Team<'a, R: Threads + Wait + Sync> {
 }
 
 impl<'a, R: Threads + Wait + Sync> Team<'a, R> {
-    /// An engine whose design is a square grid without cells and pieces, until it begins with another. It has 1 to 16 workers, each of
-    /// which may take at most `turns` tasks each time, at most 1,000,000,000. Fails only with `Memory`.
+    /// An engine whose design is a square grid without cells and pieces, until it begins with another. It has 1 to 16 workers. Each may
+    /// take at most `turns` tasks whenever the engine settles; `turns` is at most 1,000,000,000. Fails only with `Memory`.
     pub fn new(rt: &'a R, alloc: Global, workers: usize, turns: u64) -> Result<Team<'a, R>, Refusal>
         requires some { 1 ≤ workers }
         requires few { workers ≤ 16 }
@@ -115,8 +115,8 @@ impl<'a, R: Threads + Wait + Sync> Engine for Team<'a, R> {
     }
 }
 
-// Lets the crew work on a book with pending tasks. Fails if a task is pending still, and how the crew ended says why; or with `Unsettled`
-// if the book doesn't come back.
+// Lets the crew work on a book with pending tasks. If a task is still pending after that, fails as the crew did, if `stopped_by` lets
+// that failure through. Fails with `Unsettled` if the book doesn't come back.
 fn crew_on<R: Threads + Wait + Sync>(
     rt: &R,
     alloc: Global,
@@ -170,7 +170,7 @@ fn remains_of(solo: &Solo) -> Remains
     }
 }
 
-// How the crew ended, if that is to be the answer. After any other end the book can be settled alone.
+// How the crew ended, if a question fails for the same reason. After any other end, the book can be settled alone.
 fn stopped_by(end: Result<(), Refusal>) -> Result<(), Refusal>
     ensures { IfErr result (λ e. (d : Layout) → IsUnanswered d e ⊎ (is_unsettled e ≡ true)) }
 {

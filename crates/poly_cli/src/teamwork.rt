@@ -43,7 +43,7 @@ pub(crate) fn work_on<R: Threads + Wait + Sync>(
     ensures same { IfOk result (λ w. session_of w.book false ≡ session_of book false) }
     ensures why { IfErr result (λ e. is_unsettled e ≡ true) }
 {
-    // Before and after, this call says that the steps lead to what can be undone and redone.
+    // Before and after the work, the contract of this call guarantees that the steps lead to the changes that can be undone and redone.
     book.whole();
     let changes = Blank::new(10001);
     let cuts = Blank::new(10001);
@@ -57,7 +57,7 @@ pub(crate) fn work_on<R: Threads + Wait + Sync>(
     }
 }
 
-// The same at a desk of these ledgers.
+// Runs the crew at a desk that keeps its totals in these ledgers. Fails as `work_on` does.
 fn work_at_desk<
     C: Ledger + Send + Sync,
     K: Ledger + Send + Sync,
@@ -118,7 +118,7 @@ fn work_at_desk<
     }
 }
 
-// What is given back to a desk.
+// What comes back after the work: the passes and receipts that settle up the desk, and how the crew ended.
 #[derive(Drop)]
 struct Returned<C: Ledger, K: Ledger, O: Opening> {
     passes: Vec<Pass<C, K, O>>,
@@ -150,7 +150,7 @@ fn deal<C: Ledger, K: Ledger, O: Opening, R: Wait>(
     Ok(())
 }
 
-// Lets a worker work for each pass, if there are passes for all of them.
+// Runs the crew, one worker for each pass, if `dealt` says that every worker has a pass.
 fn let_work<
     C: Ledger + Send + Sync,
     K: Ledger + Send + Sync,

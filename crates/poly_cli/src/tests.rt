@@ -1,5 +1,5 @@
-//! Whole sessions on a book, over a reader that gives a few bytes at a time and a writer that takes one at a time. What
-//! sessions answer besides is in the transcripts that the test command plays.
+//! Whole sessions on a book, over a reader that gives a few bytes at a time and a writer that takes one at a time. The
+//! other answers of sessions are in the transcripts that the test command plays.
 
 ghost use Rattle.std.specs.Prelude.{◌≤◌};
 
@@ -102,7 +102,7 @@ fn run_on<E: Engine>(alloc: Global, devices: Devices<'_>, engine: &mut E) -> Out
     }
 }
 
-// Asserts how a session ends and what it writes, and answers how often it flushes.
+// Asserts how a session ends and what it writes, and returns how often it flushes.
 fn expect_end(
     rt: &(impl AllocGlobal + Abort),
     devices: Devices<'_>,

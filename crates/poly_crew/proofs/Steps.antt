@@ -76,14 +76,14 @@ takes_front port v xs items views live kept at =
 pub steals : (port : ℕ) (v : Hand) (most : ℕ) → (v.is_owner ≡ false → v.thief ≢ 0) → Takes IsKept port v most (λ xs w. w ≡ hand v.is_owner v.out v.thief v.pushed (v.taken ++ xs))
 steals port v most live xs items views some_left few kept at = (hand v.is_owner v.out v.thief v.pushed (v.taken ++ xs), takes_front port v xs items views live kept at, refl)
 
--- the hints that left are at least those that one view took
+-- at least as many hints left as one view took
 behind : (port : ℕ) (v : Hand) (items : List ℕ) (views : List Hand) (kept : IsKept items views) → get_elem? views port ≡ some v → length v.taken ≤ length kept.gone
 behind port v items views kept at =
     let has = total_has (λ u. weigh (λ _. 1) u.taken) views port v at in
     let all = kept.taken (λ _. 1) in
     omega (arith, weigh-ones v.taken, weigh-ones kept.gone)
 
--- with no thief out, they are just those that the lane itself took
+-- with no thief out, the hints that left are those that the lane itself took
 alone : (port : ℕ) (v : Hand) (items : List ℕ) (views : List Hand) → v.is_owner ≡ true → (kept : IsKept items views) → get_elem? views port ≡ some v → v.out ≡ 0 → SameHints kept.gone v.taken
 alone port v items views is_owner kept at none h =
     let mine = (kept.fits port v at).whole is_owner in

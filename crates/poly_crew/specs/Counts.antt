@@ -1,7 +1,7 @@
 -- Sums of lists, place by place.
 use Rattle.std.specs.Prelude.{ℕ, ◌+◌, List, [], ◌∷◌}
 
--- to each number of the first list the one at its place in the second is added, if there is one
+-- adds to each number of the first list the number at its place in the second, if there is one
 abbrev pub added : List ℕ → List ℕ → List ℕ
 added [] more = []
 added (n ∷ ns) [] = n ∷ ns

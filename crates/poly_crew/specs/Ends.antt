@@ -14,7 +14,7 @@ pub record IsOwner (worker : Worker ℕ Global Hand Fair) : Type 0 where
   pub owner : (worker_view worker).is_owner ≡ true
   pub no_thief : (worker_view worker).thief ≡ 0
 
--- a thief's pass belongs to this lane, and has nothing but what it took
+-- a thief's pass belongs to this lane, and has nothing but the hints that it took
 pub record IsThief (deque : DequeId) (pass : Pass ℕ Hand Global) : Type 0 where
   pub here : IsPassOf deque pass
   pub taken : view pass ≡ hand false 0 1 [] (view pass).taken

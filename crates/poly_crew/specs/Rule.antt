@@ -8,7 +8,7 @@ use Rattle.poly_crew.specs.Hints.{weigh}
 abbrev pub hand : Bool → ℕ → ℕ → List ℕ → List ℕ → Hand
 hand is_owner out thief pushed taken = record { is_owner = is_owner; out = out; thief = thief; pushed = pushed; taken = taken }
 
--- a number of each view, added up
+-- the sum of one number of each view
 abbrev pub total : (Hand → ℕ) → List Hand → ℕ
 total f [] = 0
 total f (v ∷ vs) = f v + total f vs
@@ -18,7 +18,7 @@ pub record Fits (owner : ℕ) (log : List ℕ) (out by : ℕ) (v : Hand) : Type 
   pub whole : v.is_owner ≡ true → (by ≡ owner) × (v.pushed ≡ log) × (v.out ≡ out)
   pub spent : v.is_owner ≡ false → v.thief ≡ 0 → v.taken ≡ []
 
--- what was pushed is what left and what the lane holds; what left was taken by the lane and its thieves together
+-- the pushed hints are those that left and those that the lane holds; the lane and its thieves together took those that left
 pub record IsKept (items : List ℕ) (views : List Hand) : Type 0 where
   pub owner : ℕ
   pub log : List ℕ

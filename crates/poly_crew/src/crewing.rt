@@ -16,10 +16,10 @@ use std::thread;
 use std::thread::Threads;
 
 /// Lets a worker for each pass take tasks of the bench, search them and hand the results in, each in a thread of its own,
-/// until no task is there to be taken, a worker has taken `turns` tasks, or a call is refused.
+/// until no task is left to take, a worker has taken `turns` tasks, or a call is refused.
 ///
-/// A worker takes a task that the latest of its own reports has opened, or an earlier one; else one that another worker's
-/// reports have opened, else any. Each search has at most `nodes` nodes.
+/// A worker first takes the tasks that its own reports opened, those of the latest report before others; then tasks that
+/// other workers' reports opened; then any. Each search has at most `nodes` nodes.
 pub fn crew<R: Threads + Wait + Sync, B: Bench + Sync, G: Gate + Sync>(
     rt: &R,
     alloc: Global,

@@ -30,8 +30,8 @@ impl Hints {
     }
 
     /// Pushes the tasks that a report opened, and then moves the older hints behind them, so that the worker takes its
-    /// newest tasks first. That keeps the number of pending tasks small. A number for which there is no memory is skipped.
-    /// Taking any task still finds that task.
+    /// newest tasks first. That keeps the number of pending tasks small. A task for which there is no memory gets no hint;
+    /// `Which::Any` still finds it.
     pub(crate) fn push_opened(&mut self, applied: Applied) {
         if applied.opened == 0 {
             return;
@@ -57,7 +57,7 @@ impl Hints {
     }
 }
 
-/// So many workers' hints, none of them yet: each has a thief of each other's lane. Fails only when out of memory.
+/// Returns empty lanes for `count` workers, each with a thief of every other lane. Fails only when out of memory.
 pub(crate) fn hints_of(alloc: Global, count: usize) -> Result<Vec<Hints>, Refusal>
     ensures count { IfOk result (λ v. length v.items ≡ count) }
     ensures why { IfErr result (λ e. e ≡ Refusal.Memory) }
@@ -69,7 +69,7 @@ pub(crate) fn hints_of(alloc: Global, count: usize) -> Result<Vec<Hints>, Refusa
     Ok(all)
 }
 
-// This many lanes without thieves.
+// Returns `count` empty lanes without thieves.
 fn lanes(alloc: Global, count: usize) -> Result<Vec<Hints>, Refusal>
     ensures count { IfOk result (λ v. length v.items ≡ count) }
     ensures why { IfErr result (λ e. e ≡ Refusal.Memory) }
@@ -84,7 +84,7 @@ fn lanes(alloc: Global, count: usize) -> Result<Vec<Hints>, Refusal>
     Ok(all)
 }
 
-// Gives each other worker a thief of the owner's lane.
+// Gives every other worker a thief of the owner's lane.
 fn lend_thieves(all: &mut [Hints], owner: usize) -> Result<(), Refusal>
     requires { owner < length all.old }
     ensures count { length all.new ≡ length all.old }

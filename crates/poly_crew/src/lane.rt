@@ -1,4 +1,4 @@
-//! The end of a lane that its own worker has.
+//! The end of a lane that belongs to its own worker.
 
 ghost use Rattle.std.specs.Prelude.{◌≡◌, ◌+◌, ◌-◌, ◌++◌, [], ◌∷◌, IfErr, IfOk, MatchOption, MatchResult, length};
 ghost use Rattle.poly_crew.specs.Hints.{IsNext, SameHints, Splits};
@@ -100,7 +100,7 @@ impl Lane {
     }
 
     /// Returns how many hints the lane holds at one moment. They are the last of those that were pushed. While no thief is
-    /// out, the ones before them are those that were taken.
+    /// out, the hints before them are those that were taken.
     pub(crate) fn left(&mut self) -> usize
         ensures same { self.new ≡ self.old }
         ensures left { (left : _) × (length left ≡ result) × Splits self.old.pushed self.old.taken self.old.thieves left }
@@ -119,7 +119,7 @@ mod tests {
 
     const TRIES: u32 = 1_000_000;
 
-    // A hint, if one of so many tries finds one.
+    // Tries to steal a hint, up to `tries` times.
     fn steal_in(thief: &mut Thief, tries: u32) -> Option<u32>
         ensures { thief.new.deque ≡ thief.old.deque }
     {

@@ -12,7 +12,7 @@ pub struct Crew<P: Drop> {
     pub receipts: Vec<Vec<Receipt>>,
     /// The number of reports that were applied.
     pub applied: u64,
-    /// `Ok` if each worker ended because no task was there to be taken any more. Otherwise `Memory` if the workers couldn't be
-    /// set up, or the refusal that ended the first worker that met one.
+    /// `Ok` if each worker ended because no task was left to take. Otherwise `Memory` if the workers couldn't be set up, or
+    /// the refusal that ended the first worker that met one.
     pub end: Result<(), Refusal>,
 }

@@ -1,4 +1,4 @@
-//! The rule of a lane, and what its steps tell.
+//! The rule of a lane, and what each kind of step changes.
 //!
 //! A lane has six kinds of step: making its view, a push, a pop, a steal, the split of its view for a thief, and the join
 //! of a thief's view when the thief's worker has ended. A join leaves a spent view; the rule says of it only that it has

@@ -11,7 +11,7 @@ use poly_tiling::View;
 use std::alloc::Global;
 use std::sync::Arc;
 
-/// The design of an edition by numbers, and its matrix.
+/// The view of the design at one edition, and its cover matrix.
 #[derive(Drop)]
 pub(crate) struct Scene {
     edition: u64,
@@ -50,7 +50,7 @@ impl Scene {
 
 /// Searches the job with at most `nodes` nodes, in the scene that was kept or else in a new one, which is then kept.
 ///
-/// The kept scene serves if it has the job's edition: the bench told of its view at that edition, as it told of the job's.
+/// The kept scene can be used if it has the job's edition: the bench promised the same of its view as of the job's.
 pub(crate) fn explore_job<B: Bench>(
     alloc: Global,
     kept: &mut Option<Scene>,

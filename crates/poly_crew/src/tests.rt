@@ -1,4 +1,4 @@
-//! Crews on the book of two dominoes on a board of two by two cells, under a lock that the tests have for it.
+//! Crews on the book of two dominoes on a board of two by two cells, under a lock of the tests' own.
 ghost use Rattle.std.specs.Prelude.{◌≡◌, ◌≤◌, length};
 
 mod desk;
@@ -94,7 +94,7 @@ impl HoldingGate {
         }
     }
 
-    // Whether no worker was held in vain.
+    // Whether no worker that was held gave up waiting.
     fn was_passed(&self) -> bool {
         self.gave_up.load(Ordering::SeqCst) == 0
     }
@@ -128,7 +128,7 @@ impl Gate for HoldingGate {
     }
 }
 
-// Of the allocations of a test one may be refused, so what finds no memory is made a second time.
+// A test may run with one of its allocations refused, so a call that finds no memory is made a second time.
 fn change(rt: &impl Abort, design: &mut Design, edit: &Edit) {
     let change = match design.check(edit) {
         Ok(change) => change,
@@ -194,7 +194,7 @@ fn cards(rt: &impl Abort, alloc: Global, count: usize) -> Vec<Card>
     cards
 }
 
-// How many receipts the workers have together.
+// How many receipts all workers have together.
 fn count(receipts: &[Vec<Receipt>]) -> u64 {
     let mut count = 0u64;
     for list in receipts {

@@ -1,4 +1,4 @@
-//! The end of a lane that another worker has.
+//! The end of a lane that belongs to another worker.
 
 ghost use Rattle.std.specs.Prelude.{◌≡◌, ◌++◌, [], ◌∷◌, MatchOption};
 ghost use Rattle.poly_crew.specs.Sight.{stolen_of};

@@ -24,8 +24,8 @@ pub(crate) struct Work<'a, B, G> {
     ghost few: { nodes ≤ 4096 },
 }
 
-/// Lets the worker take its turns, and leaves in it how it ended: well if no task was there to be taken any more, with
-/// `Unfinished` if it has used up its turns, or else with the refusal that it met.
+/// Lets the worker take its turns, and records in it how it ended: `Ok` if no task was left to take, `Unfinished` if it
+/// has used up its turns, or else the refusal that it met.
 pub(crate) fn run<R: Wait, B: Bench, G: Gate>(
     rt: &R,
     work: &Work<B, G>,
@@ -51,7 +51,7 @@ pub(crate) fn run<R: Wait, B: Bench, G: Gate>(
     }
 }
 
-// One turn: takes a task, searches it and hands the result in. Returns false if there was none to be taken.
+// One turn: takes a task, searches it and hands the result in. Returns false if there was no task to take.
 fn take_turn<R: Wait, B: Bench, G: Gate>(
     rt: &R,
     work: &Work<B, G>,

@@ -7,12 +7,12 @@ use crossbeam_utils::CachePadded;
 use poly_desk::Receipt;
 use poly_grid::Refusal;
 
-/// What a worker has of its own. For each report of its that was applied it has a receipt.
+/// What a worker has of its own. It has a receipt for each of its reports that was applied.
 #[derive(Drop)]
 pub(crate) struct Worker<P: Drop> {
     /// Its right to take tasks and to hand reports in.
     pub(crate) pass: P,
-    /// Its own hints, and the ends from which it steals those of the others.
+    /// Its own lane of hints, and a thief of every other worker's lane.
     pub(crate) hints: Hints,
     /// The receipts of its reports, in the order in which they came.
     pub(crate) receipts: Vec<Receipt>,

@@ -17,6 +17,6 @@ pub record IsBehind (s : State) (p q : Held) (e : Refusal) : Type 0 where
   pub behind : length s.steps < p.noted.edition
   pub pass : q ≡ p
 
--- the call was refused for the edition; or it wasn't, and for this cause
+-- the call was refused because the floor's edition is below the pass's, or else for this cause
 abbrev pub IsRefused : State → Held → Held → Refusal → Type 0 → Type 0
 IsRefused s p q e cause = IsBehind s p q e ⊎ (Met s s p q 0 0 × cause)

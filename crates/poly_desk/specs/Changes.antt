@@ -8,7 +8,7 @@ use Rattle.poly_book.specs.States.{State}
 use Rattle.poly_desk.specs.declared.receipt.Receipt.{Receipt}
 use Rattle.poly_desk.specs.declared.receipt.Receipt.TheVariants as receipt
 
--- an ending that is a cut counts
+-- 1 for an ending that is a cut, 0 for any other
 abbrev pub cut_in : Ending → ℕ
 cut_in (Cut task) = 1
 cut_in (Hopeless task edition) = 0
@@ -22,7 +22,7 @@ abbrev pub IsChanged : (Done → Type 0) → Receipt → Type 0
 IsChanged P (receipt.Changed place step) = P (record { place = place; step = step })
 IsChanged P (receipt.Cut place task) = ⊥
 
--- the book has one step more, and no cut more; each ending more is that of a task that was pending
+-- the book has one more step and no more cuts; it has at most one more ending for each task that was pending
 pub record OneChange (s t : State) (done : Done) : Type 0 where
   pub opened : t.opened ≡ s.opened
   pub last : t.steps ≡ done.step ∷ s.steps
@@ -31,7 +31,7 @@ pub record OneChange (s t : State) (done : Done) : Type 0 where
   pub more : length s.endings ≤ length t.endings
   pub few : length t.endings ≤ length s.endings + length s.pending
 
--- the book has one cut more, and the same steps and view
+-- the book has one more cut, and the same steps and view
 pub record OneCut (k : ℕ) (s t : State) (a : Applied) : Type 0 where
   pub opened : t.opened ≡ s.opened
   pub view : t.view ≡ s.view

@@ -30,6 +30,6 @@ pub record Shows (b : State) (posts : List Posted) (step_flags ending_flags : �
   pub steps : length b.steps ≤ step_flags
   pub endings : length b.endings ≤ ending_flags
 
--- a view that the book has at the edition: at that of the opening steps it is the opening view
+-- a view that the book may have at the edition: at the edition of the opening steps, it is the opening view
 abbrev pub IsViewAt : List Step → View → ℕ → View → Type 0
 IsViewAt ss v edition w = edition ≡ length ss → w ≡ v

@@ -28,22 +28,22 @@ abbrev pub entries : State → Receipt → ℕ
 entries b (Changed place step) = length b.steps
 entries b (Cut place task) = length b.endings
 
--- the receipts are of one kind and have one place
+-- the receipts have the same kind and the same place
 abbrev pub same_place : Receipt → Receipt → Bool
 same_place (Changed place step) (Changed other s) = place == other
 same_place (Changed place step) (Cut other t) = false
 same_place (Cut place task) (Changed other s) = false
 same_place (Cut place task) (Cut other t) = place == other
 
--- one of the receipts has the kind and the place of the other one
+-- one of the receipts in the list has the kind and the place of the given one
 abbrev pub is_taken : List Receipt → Receipt → Bool
 is_taken rs r = list_any (λ q. same_place q r) rs
 
--- no two of them are of one kind at one place: none has the kind and the place of one before it
+-- none of them has the kind and the place of one before it
 abbrev pub AreApart : List Receipt → Type 0
 AreApart rs = (k : ℕ) (d : Receipt) → k < length rs → is_taken (take k rs) (slice_index_or rs k d) ≡ false
 
--- each receipt is right, and no two of one kind have one place
+-- each receipt is right, and no two of one kind have the same place
 pub record AreReceipts (b : State) (rs : List Receipt) : Type 0 where
   pub stand : All (Stands b) rs
   pub apart : AreApart rs

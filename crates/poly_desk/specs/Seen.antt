@@ -1,4 +1,4 @@
--- What a locked call tells of its pass.
+-- What a locked call says about its pass.
 use Rattle.std.specs.Prelude.{Bool, false, true, ℕ, ◌+◌, ◌<◌, ◌≡◌, ◌≤◌, ◌⊎◌}
 use Rattle.poly_grid.specs.declared.refusal.Refusal.{Refusal}
 use Rattle.poly_grid.specs.declared.refusal.Refusal.TheVariants.{Unsettled}
@@ -11,7 +11,7 @@ use Rattle.poly_desk.specs.Noted.{Held}
 use Rattle.poly_desk.specs.declared.receipt.Receipt.{Receipt}
 use Rattle.poly_desk.specs.declared.receipt.Receipt.TheVariants as receipt
 
--- by edition, and then by endings
+-- the order of posts: by edition, and then by endings
 abbrev pub IsUpTo : Posted → Posted → Type 0
 IsUpTo p q = (p.edition < q.edition) ⊎ ((p.edition ≡ q.edition) × (p.endings ≤ q.endings))
 
@@ -28,7 +28,7 @@ pub record Later (p q : Held) (changes cuts : ℕ) : Type 0 where
   pub cuts_are : q.cuts ≡ p.cuts + cuts
   pub posts : q.posts ≡ p.posts
 
--- an edition was found that is below the pass's, and the pass stays as it was
+-- the edition found is below the pass's, and the pass stays as it was
 pub record IsUnsettled (p q : Held) (e : Refusal) : Type 0 where
   pub found : ℕ
   pub why : e ≡ Unsettled p.noted.edition found
@@ -39,11 +39,11 @@ abbrev pub is_unsettled : Refusal → Bool
 is_unsettled (Unsettled seen found) = true
 is_unsettled _ = false
 
--- the call was refused for the edition; or it wasn't, and neither a change nor a cut was made
+-- the call was refused because the edition is below the pass's, or else without making a change or a cut
 abbrev pub IsTurnedDown : Held → Held → Refusal → Type 0
 IsTurnedDown p q e = IsUnsettled p q e ⊎ (Later p q 0 0 × (is_unsettled e ≡ false))
 
--- the change was made after what the pass had seen, and by what it has noted since
+-- the place of the change is above the edition that the pass had noted, and not above the one that it has noted since
 abbrev pub IsMade : Kind → Held → Held → Receipt → Type 0
 IsMade k p q (receipt.Changed place step) = (step.kind ≡ k) × (p.noted.edition < place) × (place ≤ q.noted.edition)
 IsMade k p q (receipt.Cut place task) = ⊥

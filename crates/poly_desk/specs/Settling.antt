@@ -24,7 +24,7 @@ IsUneven b changes cuts changes_given cuts_given rs e =
     IsMismatch changes_given changes e
     ⊎ ((changes_given ≡ changes) × (IsMismatch cuts_given cuts e ⊎ ((cuts_given ≡ cuts) × IsBadReceipt b rs e)))
 
--- e is such a cause for a book that opened so, after the changes and cuts that it has had since
+-- e is such a cause for a book that began with this opening and has made these changes and cuts since
 pub record IsNotSettled (o : Layout) (ss : List Step) (k changes_given cuts_given : ℕ) (rs : List Receipt) (e : Refusal) : Type 0 where
   pub book : State
   pub changes : ℕ

@@ -25,10 +25,10 @@ pub trait Bench {
     /// How many cuts a pass has made.
     ghost cuts: { Self.Pass → ℕ };
 
-    /// What the bench promises of the edition and the view of each job, and requires of those of a search.
+    /// What the bench promises of the edition and the view of each job, and requires of the edition and the view of a search.
     ghost told: { ℕ → ViewOf → Type 0 };
 
-    /// A pending task, or that of a number. None only if no task is pending, or that one isn't.
+    /// Any pending task, or the one of a given number. `None` only if no task is pending, or that one isn't.
     fn take<R: Wait>(
         &self,
         rt: &R,

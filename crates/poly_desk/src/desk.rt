@@ -222,7 +222,7 @@ impl<C: Ledger, K: Ledger, O: Opening> Desk<C, K, O> {
         }
     }
 
-    /// The floor's `browse`: what those of the tilings listed at that moment that meet the query have in common.
+    /// The floor's `browse`: what the tilings that are listed at that moment and meet the query have in common.
     #[tactic(auto, using(crate::proofs::Told::met_later, crate::proofs::Told::memory_down))]
     pub fn browse<R: Wait>(
         &self,
@@ -255,7 +255,7 @@ impl<C: Ledger, K: Ledger, O: Opening> Desk<C, K, O> {
         }
     }
 
-    /// The later of the last post and of what the pass has noted, by edition and then endings. Never allocates or waits.
+    /// The later of the last post and what the pass has noted, by edition and then endings. Never allocates or waits.
     pub fn look(&self, pass: &mut Pass<C, K, O>) -> Posted
         ensures edition { pass.old.noted.edition ≤ result.edition }
         ensures value { IsLaterOf pass.old.noted (last_of pass.new.posts) result }

@@ -49,7 +49,7 @@ impl<C: Ledger, K: Ledger, O: Opening> Model for Floor<C, K, O> {
     ghost invariant = { λ f. Counts O.design O.steps O.cuts f.book f.totals.changes f.totals.cuts × Shows f.book f.poster.posts (vec_len f.marks.steps) (vec_len f.marks.endings) × (f.spare.passes ≤ 10000) × (f.opened ≡ length O.steps) × IsViewAt O.steps O.view (length f.book.steps) f.book.view };
 }
 
-/// A book on which no floor or desk was begun.
+/// A book for which no floor or desk could be begun.
 #[derive(Drop)]
 pub struct NotBegun {
     /// The book as it was.
@@ -112,7 +112,8 @@ impl<C: Ledger, K: Ledger, O: Opening> Floor<C, K, O> {
 
     /// A further pass, which has noted the same numbers as the given one then has.
     ///
-    /// Refused with `Unsettled` as every call; then with `Spent` if there are 10,000 passes, and with `Memory`.
+    /// Like every call, fails with `Unsettled` if the book's edition is below the one that the pass has noted. Then fails with
+    /// `Spent` if there are 10,000 passes, and with `Memory`.
     pub fn pass(
         &mut self,
         alloc: Global,
@@ -138,7 +139,7 @@ impl<C: Ledger, K: Ledger, O: Opening> Floor<C, K, O> {
         })
     }
 
-    /// The book's `edit`. Refused with `Unsettled` as every call, then as the book's.
+    /// The book's `edit`. Fails with `Unsettled` as every call does, otherwise as the book's `edit` does.
     pub fn edit(&mut self, pass: &mut Pass<C, K, O>, edit: Edit) -> Result<Receipt, Refusal>
         ensures met { OnOk result (Met self.old.book self.new.book pass.old pass.new 1 0) }
         ensures ok { IfOk result (λ r. IsChanged (λ done. IsEdited edit self.old.book self.new.book done) r) }
@@ -154,8 +155,8 @@ impl<C: Ledger, K: Ledger, O: Opening> Floor<C, K, O> {
         }
     }
 
-    /// The book's `undo`. Refused with `Unsettled` as every call, then as the book's. `Memory` may come before any other
-    /// refusal of the book.
+    /// The book's `undo`. Fails with `Unsettled` as every call does, otherwise as the book's `undo` does. `Memory` may come
+    /// before any other refusal of the book.
     pub fn undo(&mut self, pass: &mut Pass<C, K, O>) -> Result<Receipt, Refusal>
         ensures met { OnOk result (Met self.old.book self.new.book pass.old pass.new 1 0) }
         ensures ok { IfOk result (λ r. IsChanged (λ done. IsUndone self.old.book self.new.book done) r) }
@@ -171,8 +172,8 @@ impl<C: Ledger, K: Ledger, O: Opening> Floor<C, K, O> {
         }
     }
 
-    /// The book's `redo`. Refused with `Unsettled` as every call, then as the book's. `Memory` may come before any other
-    /// refusal of the book.
+    /// The book's `redo`. Fails with `Unsettled` as every call does, otherwise as the book's `redo` does. `Memory` may come
+    /// before any other refusal of the book.
     pub fn redo(&mut self, pass: &mut Pass<C, K, O>) -> Result<Receipt, Refusal>
         ensures met { OnOk result (Met self.old.book self.new.book pass.old pass.new 1 0) }
         ensures ok { IfOk result (λ r. IsChanged (λ done. IsRedone self.old.book self.new.book done) r) }
@@ -188,7 +189,7 @@ impl<C: Ledger, K: Ledger, O: Opening> Floor<C, K, O> {
         }
     }
 
-    /// The book's `hand_in`. Refused with `Unsettled` as every call, then as the book's.
+    /// The book's `hand_in`. Fails with `Unsettled` as every call does, otherwise as the book's `hand_in` does.
     pub fn hand_in(
         &mut self,
         pass: &mut Pass<C, K, O>,

@@ -1,5 +1,5 @@
-//! The totals of changes and cuts, and the shares of them that passes have. The ledgers keep that each total is the sum of
-//! all shares.
+//! The totals of changes and cuts, and the shares of them that passes have. The ledgers keep each total equal to the sum
+//! of all shares.
 ghost use Rattle.std.specs.Prelude.{◌≡◌, ◌≤◌, ◌<◌, ◌+◌};
 
 use std::sync::ledger::{Blank, Book, Ledger, Share};
@@ -46,7 +46,7 @@ pub(crate) struct Spare<C: Ledger, K: Ledger> {
     ghost no_cuts: { spare_cuts.amount ≡ 0 },
 }
 
-/// Two totals of nothing, and the parts of both.
+/// Opens both ledgers. Returns the totals, which are 0, and the parts of them that no pass has.
 pub(crate) fn open<C: Ledger, K: Ledger>(changes: Blank, cuts: Blank) -> (Totals<C, K>, Spare<C, K>)
     requires changes { (changes.name ≡ C.name) × (changes.parts ≡ C.parts) × (changes.parts ≡ 10001) }
     requires cuts { (cuts.name ≡ K.name) × (cuts.parts ≡ K.parts) × (cuts.parts ≡ 10001) }
@@ -71,7 +71,7 @@ pub(crate) fn open<C: Ledger, K: Ledger>(changes: Blank, cuts: Blank) -> (Totals
 }
 
 impl<C: Ledger, K: Ledger> Spare<C, K> {
-    /// The shares of a further pass, of nothing yet.
+    /// The shares of a further pass, with no changes and no cuts yet.
     pub fn split_off(&mut self) -> Shares<C, K>
         requires { self.old.passes < 10000 }
         ensures passes { self.new.passes ≡ self.old.passes + 1 }

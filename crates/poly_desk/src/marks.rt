@@ -13,7 +13,7 @@ pub(crate) struct Marks {
 }
 
 impl Marks {
-    /// At least so many flags. Fails only when out of memory.
+    /// Makes at least this many flags. Fails only when out of memory.
     pub fn new(alloc: Global, steps: usize, endings: usize) -> Result<Marks, Refusal>
         ensures steps { IfOk result (λ m. steps ≤ vec_len m.steps) }
         ensures endings { IfOk result (λ m. endings ≤ vec_len m.endings) }
@@ -27,7 +27,7 @@ impl Marks {
         Ok(marks)
     }
 
-    /// At least so many flags, and none fewer than before. Fails only when out of memory.
+    /// Adds flags until there are at least this many; removes none. Fails only when out of memory.
     pub fn reach(&mut self, steps: usize, endings: usize) -> Result<(), Refusal>
         ensures steps { OnOk result (steps ≤ vec_len self.new.steps) }
         ensures endings { OnOk result (endings ≤ vec_len self.new.endings) }
@@ -51,7 +51,7 @@ impl Marks {
     }
 }
 
-// At least so many flags, and none fewer than before.
+// Adds flags until there are at least `count`; removes none.
 fn lengthen(flags: &mut Vec<bool>, count: usize) -> Result<(), Refusal>
     ensures ok { OnOk result (count ≤ vec_len flags.new) }
     ensures stays { vec_len flags.old ≤ vec_len flags.new }

@@ -1,4 +1,4 @@
-//! Passes.
+//! A pass: the right to use a desk.
 ghost use Rattle.std.specs.Prelude.{◌≡◌};
 
 use crate::ledgers::Shares;

@@ -31,8 +31,8 @@ impl<C: Ledger, K: Ledger, O: Opening> Floor<C, K, O> {
         Ok(self.book.next(from))
     }
 
-    /// The book's `take`. A job of the opening edition has the opening view. Refused with `Unsettled` as every call, then
-    /// with `Memory`.
+    /// The book's `take`. A job of the opening edition has the opening view. Fails with `Unsettled` as every call does,
+    /// otherwise only with `Memory`.
     pub fn take(&self, pass: &mut Pass<C, K, O>, which: Which) -> Result<Option<Job>, Refusal>
         ensures met { OnOk result (Met self.now.book self.now.book pass.old pass.new 0 0) }
         ensures ok { IfOk result (λ o. MatchOption o (IsMissing self.now.book which) (λ j. IsTaken self.now.book which j)) }
@@ -43,7 +43,7 @@ impl<C: Ledger, K: Ledger, O: Opening> Floor<C, K, O> {
         self.book.take(which)
     }
 
-    /// What those of the listed tilings that meet the query have in common. Refused with `Unsettled` as every call, then
+    /// What the listed tilings that meet the query have in common. Fails with `Unsettled` as every call does, otherwise only
     /// with `Memory`.
     pub fn browse(
         &self,
@@ -65,8 +65,8 @@ impl<C: Ledger, K: Ledger, O: Opening> Floor<C, K, O> {
         )
     }
 
-    /// The book's `quiet`: all tilings of its design. Refused with `Unsettled` as every call, then with `Busy` if tasks are
-    /// pending, and else only with `Memory`.
+    /// The book's `quiet`: all tilings of its design. Fails with `Unsettled` as every call does, then with `Busy` if tasks are
+    /// pending, and otherwise only with `Memory`.
     pub fn quiet(&self, pass: &mut Pass<C, K, O>) -> Result<Quiet, Refusal>
         ensures met { OnOk result (Met self.now.book self.now.book pass.old pass.new 0 0) }
         ensures ok { IfOk result (λ q. IsQuietOf self.now.book q) }

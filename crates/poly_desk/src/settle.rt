@@ -1,4 +1,4 @@
-//! Settles a desk up.
+//! Settling up a desk.
 ghost use Rattle.std.specs.Prelude.{◌≡◌, IfErr, IfOk, OnOk, sum_by};
 ghost use Rattle.poly_desk.specs.Floors.{Counts};
 ghost use Rattle.poly_desk.specs.Receipts.{AreReceipts, all_of};
@@ -18,11 +18,11 @@ use std::sync::ledger::Ledger;
 
 impl<C: Ledger, K: Ledger, O: Opening> Desk<C, K, O> {
     /// Returns the book if the passes made all changes and cuts since the desk began, each receipt is right, and no two of
-    /// one kind have one place. Never allocates or waits.
+    /// one kind have the same place. Never allocates or waits.
     ///
-    /// Refused only with `Unsettled`, and then hands everything back: if the sum of the passes' changes (seen) isn't the
-    /// total (found); if not, for cuts likewise; then if a receipt (seen: its place) isn't right (found: the number of
-    /// entries), or is the second of its kind for its place (found: 2). Sums saturate at 2^64 - 1.
+    /// Fails only with `Unsettled`, and then hands everything back. The causes, the first that applies: the sum of the passes'
+    /// changes (seen) isn't the total (found); their sum of cuts isn't the total; a receipt (seen: its place) isn't right
+    /// (found: the number of entries), or is the second of its kind for its place (found: 2). Sums saturate at 2^64 - 1.
     pub fn settle_up(
         self,
         passes: Vec<Pass<C, K, O>>,

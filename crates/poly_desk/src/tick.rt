@@ -1,4 +1,4 @@
-//! Goes through receipts. Each must be right, and its place's flag, which is raised for it, must be down before.
+//! Goes through receipts. Each must be right, and the flag of its place must be down before it is raised for it.
 ghost use Rattle.std.specs.Prelude.{◌≡◌, ◌<◌, ◌≤◌, ◌++◌, ◌||◌, ◌==◌, ◌⊎◌, ℕ, Bool, List, All, IfErr, OnOk, false, length, true};
 ghost use Rattle.poly_grid.specs.declared.refusal.Refusal.TheVariants.{Unsettled};
 ghost use Rattle.poly_desk.specs.Receipts.{AreReceipts, IsBadReceipt, Stands, all_of, entries, place_of, same_place};
@@ -10,8 +10,8 @@ use crate::receipt::Receipt;
 use poly_book::Book;
 use poly_grid::Refusal;
 
-/// Succeeds if each receipt is right, and no two of one kind have one place. If not, the refusal names one of them. All
-/// flags are down before.
+/// Succeeds if each receipt is right, and no two of one kind have the same place. If not, the refusal names one of them.
+/// All flags are down before.
 pub(crate) fn check_receipts(
     book: &Book,
     marks: &mut Marks,

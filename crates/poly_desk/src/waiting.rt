@@ -1,5 +1,5 @@
-//! Waiting for a lock. The calls of workers are shorter than the time in which a thread that sleeps wakes up. So a worker
-//! looks for the free lock for a while before it sleeps.
+//! Waiting for a lock. The calls of workers take less time than waking a thread that sleeps. So before it sleeps, a worker
+//! looks for a while whether the lock is free.
 
 use std::hint::spin_loop;
 use std::sync::{Mutex, MutexGuard, Wait};

@@ -67,7 +67,7 @@ pub(crate) fn book_of_dominoes(rt: &impl Abort, alloc: Global) -> Book {
     }
 }
 
-/// Vectors of two.
+/// A vector of two elements.
 pub(crate) fn pair<T: Drop>(rt: &impl Abort, alloc: Global, one: T, other: T) -> Vec<T> {
     let mut both = Vec::new(alloc);
     both.push(one).expect(rt, "memory");

@@ -1,4 +1,4 @@
-//! How many passes a desk has.
+//! How many passes a desk can have.
 ghost use Rattle.std.specs.Prelude.{◌≡◌};
 ghost use Rattle.poly_desk.specs.Changes.{cut_count};
 

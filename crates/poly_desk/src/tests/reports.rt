@@ -99,7 +99,7 @@ pub(crate) fn work<C: Ledger, K: Ledger, O: Opening, R: Wait + Abort>(
     receipt
 }
 
-/// Vectors of one.
+/// A vector of one element.
 pub(crate) fn single<T: Drop>(rt: &impl Abort, alloc: Global, one: T) -> Vec<T> {
     let mut all = Vec::new(alloc);
     all.push(one).expect(rt, "memory");

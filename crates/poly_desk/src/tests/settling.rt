@@ -99,7 +99,7 @@ fn expect_three<C: Ledger, K: Ledger, O: Opening, R: Wait + Abort>(
     assert!(rt; answer.count == 3);
 }
 
-// Settles up, which has to be refused so.
+// Asserts that settling up is refused with `why`, and returns what is handed back.
 fn expect_refused<C: Ledger, K: Ledger, O: Opening>(
     rt: &impl Abort,
     desk: Desk<C, K, O>,
@@ -194,7 +194,7 @@ fn day<C: Ledger, K: Ledger, O: Opening, R: Wait + Abort>(
     assert!(rt; !book.vouch(&strange.quiet).expect(rt, "memory"));
 }
 
-// Whether so many tasks are pending.
+// Whether the answer is `Busy` with `count` pending tasks.
 fn is_busy(answer: Result<Quiet, Refusal>, count: u64) -> bool {
     match answer {
         Ok(_) => false,
@@ -227,7 +227,7 @@ fn fourth<C: Ledger, K: Ledger, O: Opening, R: Wait + Abort>(
     receipt
 }
 
-// The Quiet of a book of dominoes with one optional cell more.
+// The Quiet of a book of dominoes with one more cell, which is optional.
 fn quiet_with_a_cell_more(rt: &impl Abort, alloc: Global) -> Quiet {
     let mut book = book_of_dominoes(rt, alloc);
     let edit = set_cell(rt, 2, 0, Mode::Optional);

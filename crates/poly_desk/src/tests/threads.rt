@@ -38,7 +38,7 @@ impl<C: Ledger, K: Ledger, O: Opening> Hand<C, K, O> {
         }
     }
 
-    // Makes the cell optional and required in turn, 50 times together.
+    // Makes the cell optional and required in turn, 50 times in all.
     fn edit_often<R: Wait>(&mut self, rt: &R, desk: &Desk<C, K, O>) {
         for _ in 0..25 {
             self.set(rt, desk, Mode::Optional);
@@ -46,7 +46,7 @@ impl<C: Ledger, K: Ledger, O: Opening> Hand<C, K, O> {
         }
     }
 
-    // Whether one of the receipts is of the place.
+    // Whether one of the receipts has the place.
     fn has(&self, place: u64) -> bool {
         for receipt in &self.receipts {
             if receipt.place() == place {
