@@ -1,4 +1,4 @@
--- The tilings that no symmetry takes to an earlier one are one for each class.
+-- Each class has exactly one tiling that no symmetry takes to an earlier one.
 use Rattle.std.proofs.Common.{Bool, ◌≡◌, ◌≢◌, ℕ, ◌<◌, ◌≤◌, ◌⊎◌, ◌∷◌, List, [], Some, cond, get_or, length, map, not, slice_get, slice_index, true, false, refl, sym, ap, subst, ◌∙◌, inl, inr, arith}
 use Rattle.std.proofs.lemmas.Bool.{both_ways, cases_Bool, cases_lt, false_from_ne_true, not-true, not_from_false}
 use Rattle.std.proofs.lemmas.List.{length-map}
@@ -131,7 +131,7 @@ no_number v d wn s none (n ∷ T) h =
     let x = live_given v wn n i in
     absurd (no_placement d none x.0 ((s.places x.0).0 (named_of v v.live n x.0 i x.1)))
 
--- alike tilings are one, or a map takes the one to the other
+-- two alike tilings are equal, or a map takes one to the other
 pub reach : (v : View) (d : Layout) (maps : List (List ℕ)) → AreMaps v d maps → (S T : List ℕ) → is_tiling v S ≡ true → is_tiling v T ≡ true → AreAlike d (names v S) (names v T) →
     (S ≡ T) ⊎ ((f : List ℕ) × In f maps × (T ≡ image_of f S))
 reach v d maps a S T g h alike = elim (cases_lt 0 (length d.cells)) [
@@ -155,12 +155,12 @@ no_sooner v d maps a S T g h alike first = elim (reach v d maps a S T g h alike)
   | inr r ↦ ap (λ U. comes_before U S) r.2 ∙ not-true (comes_before (image_of r.0 S) S) (all_in (λ f. not (comes_before (image_of f S) S)) maps first r.0 r.1)
 ]
 
--- two alike tilings that are both first are one
+-- two alike tilings that are both first are equal
 firsts_apart : (v : View) (d : Layout) (maps : List (List ℕ)) → AreMaps v d maps → (S T : List ℕ) → is_tiling v S ≡ true → is_tiling v T ≡ true → is_first maps S ≡ true → is_first maps T ≡ true → S ≢ T → AreAlike d (names v S) (names v T) → ⊥
 firsts_apart v d maps a S T g h first second differ alike =
     neither S T (no_sooner v d maps a T S h g (alike_back d (names v S) (names v T) alike) second) (no_sooner v d maps a S T g h alike first) differ
 
--- the least of a tiling and of what it is taken to
+-- the least among a tiling and its images
 record IsLeast (T : List ℕ) (maps : List (List ℕ)) (U : List ℕ) : Type 0 where
   among : (U ≡ T) ⊎ ((f : List ℕ) × In f maps × (U ≡ image_of f T))
   low : comes_before T U ≡ false
@@ -193,7 +193,7 @@ least_of T (f ∷ maps) = elim (cases_Bool (comes_before (image_of f T) (least_o
   )
 ]
 
--- each tiling is like a first one
+-- each tiling is alike to a first one
 pub record HasFirst (v : View) (d : Layout) (maps : List (List ℕ)) (T : List ℕ) : Type 0 where
   pub list : List ℕ
   pub tiles : is_tiling v list ≡ true

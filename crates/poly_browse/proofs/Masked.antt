@@ -38,7 +38,7 @@ or_digit (suc (suc x)) y a b = absurd (omega arith)
 bit_either : (a b t : ℕ) → eqb (bit_at (bit_or a b) t) 1 ≡ (eqb (bit_at a t) 1 || eqb (bit_at b t) 1)
 bit_either a b t = ap (λ x. eqb x 1) (bit_at_or a b t) ∙ or_digit (bit_at a t) (bit_at b t) (bit_at-lt a t) (bit_at-lt b t)
 
--- one bit more
+-- after one more bit
 bit_put : (w bit t : ℕ) → bit < 64 → eqb (bit_at (bit_or w (1 * 2 ^ bit % 2 ^ 64)) t) 1 ≡ (eqb (bit_at w t) 1 || eqb bit t)
 bit_put w bit t low = elim (cases_eq t bit) [
   | inl e ↦

@@ -29,7 +29,7 @@ pub still_takes : (g : Grid) (a : Spot) → Takes g still a a
 unfolding still
 still_takes g a = first_turn_stays g (point_of a) ∙ same_point _ _ (omega (arith, ints)) (omega (arith, ints))
 
--- the one motion and then the other are a third
+-- the first motion, followed by the second, is the motion `both`
 pub record AreAfter (g : Grid) (first second both : Motion) : Type 0 where
   pub known : both.turn < turn_count g true
   pub takes : (a b c : Spot) → Takes g first a b → Takes g second b c → Takes g both a c
@@ -41,7 +41,7 @@ after g first second l m =
       record { known = t.1; takes = λ a b c ab bc. lies_after g first.turn second.turn t.0 t.2 first.shift second.shift a b c ab bc },
     )
 
--- each motion is undone by one
+-- the motion `back` undoes the motion
 pub record Undoes (g : Grid) (m back : Motion) : Type 0 where
   pub known : back.turn < turn_count g true
   pub takes : (a b : Spot) → Takes g m a b → Takes g back b a
@@ -53,14 +53,14 @@ undone g m l =
       record { known = u.1; takes = λ a b ab. lies_back g m.turn u.0 u.2 m.shift a b ab },
     )
 
--- a cell is taken to one cell
+-- a cell is taken to only one cell
 pub one_image : (g : Grid) (m : Motion) (a b c : Spot) → Takes g m a b → Takes g m a c → b ≡ c
 one_image g m a b c ab ac =
     let ex = ap (λ (p : Point). p.x) (sym ab ∙ ac) in
     let ey = ap (λ (p : Point). p.y) (sym ab ∙ ac) in
     same_places b c (omega (arith, ints, ex)) (omega (arith, ints, ey))
 
--- two cells that are taken to one are one
+-- two cells that are taken to the same cell are equal
 pub one_source : (g : Grid) (m : Motion) → m.turn < turn_count g true → (a b c : Spot) → Takes g m a c → Takes g m b c → a ≡ b
 one_source g m l a b c ac bc =
     let e = one_to_one g m.turn l (point_of a) (point_of b) (ac ∙ sym bc) in
@@ -68,7 +68,7 @@ one_source g m l a b c ac bc =
     let ey = ap (λ (p : Point). p.y) e in
     same_places a b (omega (arith, ints, ex)) (omega (arith, ints, ey))
 
--- two motions by one turn that take a cell to the same cell are one
+-- two motions with the same turn that take a cell to the same cell are equal
 pub one_motion : (g : Grid) (m k : Motion) (a b : Spot) → m.turn ≡ k.turn → Takes g m a b → Takes g k a b → m ≡ k
 one_motion g m k a b same mab kab =
     let e = sym mab ∙ ap (λ t. turned_of g t (point_of a)) same ∙ kab in

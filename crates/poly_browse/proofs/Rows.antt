@@ -186,12 +186,12 @@ placement_ties x y = same_truth (same_placement x y) (eq_by_cmp placement_cmp x 
     equal_from Less h = absurd (true≢false (sym h))
     equal_from Greater h = absurd (true≢false (sym h))
 
--- sorted and freed of repeats
+-- sorted, without repeats
 pub listed_sorted : (xs ys zs : List Placement) → IsPermutation xs ys → IsSorted placement_cmp ys → IsFiltered (DiffersFromLast same_placement) [] ys zs → IsListOf placement_cmp (Contains xs) zs
 listed_sorted xs ys zs moved sorted kept = listed_from placement_total placement_eq placement_ties placement_same (Contains xs) xs ys zs
     (λ x. (λ c. inr c, λ c. elim c [ inl none ↦ absurd (lacks_nil x none) | inr h ↦ h ])) moved sorted kept
 
--- sorted numbers without repeats are what they were put from
+-- numbers that are sorted and freed of repeats are the same as if each were put in its place
 pub image_sorted : (xs sorted out : List ℕ) → IsPermutation xs sorted → IsSorted nat_cmp sorted → IsFiltered (DiffersFromLast eqb) [] sorted out → out ≡ put_all xs []
 image_sorted xs sorted out moved up kept = ascending_same out (put_all xs []) (sorted_ascend sorted out up kept) (put_all_up xs [] refl)
     (λ z i. in_put_all_left xs [] z (mem_in xs z (sym (sorted_same xs sorted out moved kept z) ∙ in_mem out z i)))

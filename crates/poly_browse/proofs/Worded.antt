@@ -22,7 +22,7 @@ use Rattle.poly_browse.specs.Browsing.{is_in, same_placement}
 use Rattle.poly_browse.specs.Gathering.{AreSmall, names_it}
 use Rattle.poly_browse.specs.Lines.{AreDifferent}
 
--- numbers as a program holds them are small
+-- a program's numbers of 32 bits are small
 pub small_from : (T : List ℕ) → ((k : ℕ) → Fits w32 (get_or T k 0)) → AreSmall T
 small_from [] h = tt
 small_from (n ∷ T) h = (let f = h 0 in omega (arith, f), small_from T (λ k. h (suc k)))
@@ -53,7 +53,7 @@ flag_down f at old is so = record {
   above = λ k l. so.above k (omega arith);
 }
 
--- all numbers of 32 bits are gone through
+-- after all numbers of 32 bits
 pub all_flags : (f : ℕ → Bool) (at count : ℕ) (flags : List Bool) → min count (2 ^ 32) ≤ at → ((k : ℕ) → count ≤ k → f k ≡ false) → AreFlags f at flags → (k : ℕ) → k < 2 ^ 32 → get_or flags k false ≡ f k
 all_flags f at count flags over none so k l = elim (cases_lt k at) [
   | inl low ↦ so.below k low
@@ -108,7 +108,7 @@ pub and_true : (b : Bool) → b ≡ (b && true)
 and_true true = refl
 and_true false = refl
 
--- ---- one word more
+-- ---- one more word
 
 pub all_more : {X : Type 0} (f : X → Bool) (xs : List X) (i : ℕ) (x : X) → i < length xs → x ≡ get_or xs i x → list_all f (take (i + 1) xs) ≡ (list_all f (take i xs) && f x)
 all_more f xs i x low is = ap (list_all f) (take_more xs i x low ∙ ap (λ z. take i xs ++ z ∷ []) (sym is)) ∙ all_append f (take i xs) (x ∷ []) ∙ ap (λ b. list_all f (take i xs) && b) (sym (and_true (f x)))
@@ -160,7 +160,7 @@ all_added f old new x is = same_truth (list_all f new) (list_all f old && f x)
       | inr e ↦ sym (ap f (eqb-true x k e)) ∙ p.1
     ]))
 
--- a number that is there already
+-- a number that the list has already
 pub mem_again : (xs : List ℕ) (x : ℕ) → mem xs x ≡ true → (k : ℕ) → mem xs k ≡ (mem xs k || eqb x k)
 mem_again xs x here k = same_truth (mem xs k) (mem xs k || eqb x k) (λ h. or_left (mem xs k) (eqb x k) h)
     (λ h. elim (or_cases (mem xs k) (eqb x k) h) [ inl e ↦ e | inr e ↦ ap (mem xs) (sym (eqb-true x k e)) ∙ here ])
@@ -182,7 +182,7 @@ distinct_push (x ∷ xs) n once lacks =
 pub different_none : (list : List Item) → list ≡ [] → AreDifferent [] list
 different_none list is = record { same = λ i. subst (λ (z : List Item). Contains z i ↔ Contains [] i) (sym is) (λ c. c, λ c. c); apart = subst (AllPairs (λ (i j : Item). i ≢ j)) (sym is) (pairs_none (λ (i j : Item). i ≢ j)) }
 
--- an item that is there already
+-- an item that the list has already
 pub different_skip : (items list : List Item) (i : ℕ) (x : Item) → i < length items → x ≡ get_or items i x → list_any (λ j. same_item j x) list ≡ true → AreDifferent (take i items) list → AreDifferent (take (i + 1) items) list
 different_skip items list i x low is here so =
     let t = take_more items i x low ∙ ap (λ z. take i items ++ z ∷ []) (sym is) in
@@ -196,7 +196,7 @@ different_skip items list i x low is here so =
       apart = so.apart;
     })
 
--- an item that isn't
+-- an item that the list doesn't have yet
 pub different_push : (items list new : List Item) (i : ℕ) (x : Item) → i < length items → x ≡ get_or items i x → list_any (λ j. same_item j x) list ≡ false → new ≡ list ++ x ∷ [] → AreDifferent (take i items) list → AreDifferent (take (i + 1) items) new
 different_push items list new i x low is none pushed so =
     let t = take_more items i x low ∙ ap (λ z. take i items ++ z ∷ []) (sym is) in

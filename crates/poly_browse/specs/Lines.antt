@@ -22,7 +22,7 @@ has_these h T = h.named && nat_eq (tally (λ n. slice_index_or h.line.flags.item
 abbrev pub in_mask : List ℕ → ℕ → ℕ → Bool
 in_mask masks n t = nat_eq (bit_at (slice_index_or masks n 0) t) 1
 
--- what the masks of the numbers have together
+-- the bits that the masks of the numbers have together
 abbrev pub joined : List ℕ → List ℕ → ℕ
 joined masks [] = 0
 joined masks (n ∷ T) = bit_or (slice_index_or masks n 0) (joined masks T)

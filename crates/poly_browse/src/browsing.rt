@@ -1,7 +1,7 @@
 //! Answers a query about a list of tilings.
 //!
-//! One pass over the tilings gathers what the answer needs of those that meet the query: how many they are, which
-//! placement numbers all of them have, and which numbers at least one of them has. The answer is then read off these
+//! One pass over the tilings gathers what the answer needs of those that meet the query: how many there are, which
+//! placement numbers all of them have, and which numbers at least one of them has. The answer is made from these
 //! numbers, so the tilings are never scanned item by item.
 ghost use Rattle.std.specs.Prelude.{IfErr, IfOk, map, ◌≡◌};
 ghost use Rattle.std.specs.List.{All, Contains};
@@ -22,8 +22,8 @@ use std::alloc::Global;
 /// Answers the query about these tilings, which are lists of numbers of the view: how many of them meet it, the placements
 /// in all of these, and for each item of the design how many different placements cover it in one of these.
 ///
-/// No tiling has a placement that the design doesn't have, and none covers an item that isn't there. Fails with `Memory`
-/// only.
+/// No tiling has a placement that the design doesn't have, and none covers an item that isn't in the design. Fails with
+/// `Memory` only.
 pub fn browse(
     alloc: Global,
     design: &Design,

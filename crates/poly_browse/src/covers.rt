@@ -48,7 +48,7 @@ impl Masks {
 /// The items that a tiling is to cover.
 #[derive(Drop)]
 pub(crate) struct Covers {
-    // Whether each of them is in some placement. No tiling covers one that isn't.
+    // Whether each of the items is in some placement. No tiling covers an item that isn't.
     there: bool,
     masks: Vec<Masks>,
 }

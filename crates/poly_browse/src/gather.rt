@@ -56,7 +56,7 @@ pub(crate) fn gather(
     })
 }
 
-// Of the numbers that all tilings so far have, keeps those that one more tiling has. Of the first tiling it keeps all.
+// Keeps those of the common numbers that the tiling has too; all of its numbers if it is the first.
 fn share(common: &mut Vec<u32>, first: bool, numbers: &[u32]) -> Result<(), Refusal>
     ensures first { OnOk result (first ≡ true → common.new.items ≡ common.old.items ++ numbers.now) }
     ensures later { OnOk result (first ≡ false → (n : ℕ) → mem common.new.items n ≡ (mem common.old.items n && mem numbers.now n)) }

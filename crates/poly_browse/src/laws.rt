@@ -1,12 +1,12 @@
 //! Laws of answers and of classes. Each is the contract of a function that does nothing.
 ghost use Rattle.poly_browse.specs.Laws.{AlikeIsAnEquivalence, AnswersGoBySets, ClassesAreOneNumber};
 
-/// Being carried into each other by a symmetry is an equivalence of tilings.
+/// Being alike, which is that a symmetry carries one to the other, is an equivalence of tilings.
 pub fn alike_is_an_equivalence()
     ensures { AlikeIsAnEquivalence }
 {}
 
-/// The definition of the number of classes is met by one number only.
+/// Only one number meets the definition of the number of classes.
 pub fn classes_are_one_number()
     ensures { ClassesAreOneNumber }
 {}

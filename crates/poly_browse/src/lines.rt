@@ -2,8 +2,8 @@
 //!
 //! The words are looked up once for a query, so the pass over the tilings looks at numbers and flags, and never at names or
 //! cells. The time for a tiling depends on its placements and not on the number of words: all placements to have share one
-//! list of flags, so do all placements to lack, and up to 64 items to cover share one list of masks. For the same reason a
-//! long query takes little memory.
+//! list of flags, all placements to lack share another, and up to 64 items to cover share one list of masks. For the same
+//! reason a long query takes little memory.
 ghost use Rattle.std.specs.Prelude.{IfErr, IfNone, IfOk, IfSome, List, OnOk, ℕ, false, length, min, nat_eq, slice_index_or, true, [], ◌^◌, ◌∷◌, ◌<◌, ◌≡◌, ◌≤◌, ◌||◌};
 ghost use Rattle.std.specs.List.{list_all, list_any};
 ghost use Rattle.poly_tiling.specs.Lists.{distinct, mem, tally};
@@ -65,7 +65,7 @@ impl Line {
 /// The placements that a tiling is to have.
 #[derive(Drop)]
 pub(crate) struct Has {
-    // Whether each of them has a number. A tiling has none that doesn't.
+    // Whether each of the placements has a number. No tiling has a placement without a number.
     named: bool,
     // Their numbers.
     line: Line,
@@ -150,7 +150,7 @@ fn flags_of(alloc: Global, numbers: &[u32]) -> Result<Vec<bool>, Refusal>
     Ok(flags)
 }
 
-// Adds the number, unless it is there.
+// Adds the number, unless the list has it already.
 fn add_number(numbers: &mut Vec<u32>, number: u32) -> Result<(), Refusal>
     ensures ok { OnOk result ((k : ℕ) → mem numbers.new.items k ≡ (mem numbers.old.items k || nat_eq number k)) }
     ensures once { distinct numbers.old.items ≡ true → distinct numbers.new.items ≡ true }

@@ -52,7 +52,7 @@ impl Motion {
         Cell::new(x as u64, y as u64)
     }
 
-    /// Returns where the motion carries the cells, or `None` if it carries one of them to what isn't a cell.
+    /// Returns where the motion carries the cells, or `None` if it carries one of them to a point that isn't a cell.
     pub(crate) fn moved_all(self, grid: Grid, cells: &[Cell]) -> Option<Cells>
         requires known { self.turn < turn_count grid true }
         requires near { IsNear self.shift }

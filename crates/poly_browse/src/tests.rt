@@ -245,7 +245,7 @@ fn without_the_upper_row(alloc: Global) -> Result<Summary, Refusal> {
     Ok(summary_of(&answered(alloc, &query)?))
 }
 
-// With a piece that isn't there, and with a placement that is none.
+// With a piece that the design doesn't have, and with cells that no placement has.
 fn what_is_not_there(alloc: Global) -> Result<(Summary, Summary), Refusal> {
     let mut unknown = nothing(alloc);
     unknown.covers.push(Item::Piece(Name::new(b"Z")?))?;

@@ -4,7 +4,7 @@ use Rattle.std.proofs.lemmas.Bool.{and_from, and_left, and_right, cases_eq, cond
 use Rattle.poly_catalogue.specs.Rows.{but}
 use Rattle.poly_catalogue.specs.Index.{Agree, IsPart, Once}
 
--- a index is this one, or it is another
+-- a position is this one, or it is another
 pub same_place : (a b i k : ℕ) → ((a ≡ i) × (b ≡ k)) ⊎ ((a ≡ i) × (b ≡ k) → ⊥)
 same_place a b i k = elim (cases_eq a i) [
   | inl x ↦ elim (cases_eq b k) [ inl y ↦ inl (x, y) | inr n ↦ inr (λ p. n p.1) ]
@@ -26,14 +26,14 @@ some_is x y o a b = cc
 none_some : {X : Type 0} (x : X) (o : Option X) → o ≡ None → o ≡ Some x → ⊥
 none_some x o a b = cc
 
--- only what the index has counts
+-- the positions need to stay only where the index has an entry
 pub respects : (L B R L' B' R' : ℕ → ℕ → Option ℕ) → Agree L B R → ((a b : ℕ) → L' a b ≡ L a b) → ((a b p : ℕ) → L a b ≡ Some p → B' a b ≡ B a b) → ((a b : ℕ) → R' a b ≡ R a b) → Agree L' B' R'
 respects L B R L' B' R' g l m r = record {
   entered = λ t k p h. let e = g.entered t k p (sym (l t k) ∙ h) in (e.0, m t k p (sym (l t k) ∙ h) ∙ e.1, r p e.0 ∙ e.2);
   backed = λ p j t h. let e = g.backed p j t (sym (r p j) ∙ h) in (e.0, l t e.0 ∙ e.1, m t e.0 p e.1 ∙ e.2);
 }
 
--- the index of an entry is only its own
+-- two entries of the same number at the same position are equal
 pub alone : (L B R : ℕ → ℕ → Option ℕ) → Agree L B R → Once L → (t k s l p j : ℕ) → L t k ≡ Some p → B t k ≡ Some j → L s l ≡ Some p → B s l ≡ Some j → (t ≡ s) × (k ≡ l)
 alone L B R g once t k s l p j a b c d =
     let e = g.entered t k p a in
@@ -101,7 +101,7 @@ but_part L t k a b q h = elim (same_place a b t k) [
   | inr n ↦ sym (but_else L t k None a b n) ∙ h
 ]
 
--- an entry goes out, and the one at another index of its row comes in its index
+-- an entry goes out, and the entry at another position of its row takes its position
 pub taken_over : (L N B R B' R' : ℕ → ℕ → Option ℕ) → IsPart L N → Once N → Agree L B R → (t k p j m s l : ℕ) → L t k ≡ Some p → B t k ≡ Some j → (j ≡ m → ⊥) →
     R p m ≡ Some s → N s l ≡ Some p → ((a b : ℕ) → B' a b ≡ but B s l (Some j) a b) → ((a b : ℕ) → R' a b ≡ but (but R p j (Some s)) p m None a b) → Agree (but L t k None) B' R'
 taken_over L N B R B' R' part once g t k p j m s l here index apart last has told put =

@@ -27,7 +27,7 @@ and_swap false b c = refl
 pub keeps_on : (p q : List ℕ → Bool) (a b c : List (List ℕ)) → Keeps p a b → Keeps q b c → Keeps (λ T. p T && q T) a c
 keeps_on p q a b c x y f = y f ∙ x (λ T. f T && q T) ∙ tally_same_in (λ T. (f T && q T) && p T) (λ T. f T && (p T && q T)) a (λ T i. and_swap (f T) (q T) (p T))
 
--- by another test that says the same of the list's
+-- with another test that gives the same for each tiling of the list
 pub keeps_as : (p q : List ℕ → Bool) (a b : List (List ℕ)) → Keeps p a b → ((T : List ℕ) → In T a → p T ≡ q T) → Keeps q a b
 keeps_as p q a b x same f = x f ∙ tally_same_in (λ T. f T && p T) (λ T. f T && q T) a (λ T i. ap (λ z. f T && z) (same T i))
 
@@ -50,7 +50,7 @@ and_none true true h = refl
 and_none false true h = refl
 and_none a false h = cc
 
--- one that has the number goes
+-- a tiling that has the number goes
 pub one_goes : (n t : ℕ) (a b c : List (List ℕ)) → ((f : List ℕ → Bool) → tally (λ T. f T && not (mem T n)) b ≡ tally (λ T. f T && not (mem T n)) a) → mem (row b t) n ≡ true →
     ((f : List ℕ → Bool) → tally f c + one (f (row b t)) ≡ tally f b) → (f : List ℕ → Bool) → tally (λ T. f T && not (mem T n)) c ≡ tally (λ T. f T && not (mem T n)) a
 one_goes n t a b c same has gone f = omega (arith, gone (λ T. f T && not (mem T n)), and_none (f (row b t)) (mem (row b t) n) has, same f)
@@ -84,7 +84,7 @@ found_none a n indices h e = false_from_ne_true (list_any (λ T. mem T n) a) (λ
     let j = in_get indices g.0 (mem_in indices g.0 has) in
     none_last indices j.0 g.0 j.1 e)
 
--- by one test more
+-- after one more test
 pub keeps_more : {X : Type 0} (q : X → List ℕ → Bool) (xs : List X) (i : ℕ) (d : X) (a b c : List (List ℕ)) → i < length xs → Keeps (λ T. list_all (λ x. q x T) (take i xs)) a b → Keeps (q (get_or xs i d)) b c → Keeps (λ T. list_all (λ x. q x T) (take (i + 1) xs)) a c
 keeps_more q xs i d a b c l x y =
     keeps_as (λ T. list_all (λ z. q z T) (take i xs) && q (get_or xs i d) T) (λ T. list_all (λ z. q z T) (take (i + 1) xs)) a c
@@ -145,7 +145,7 @@ swept_all p a b index e s f =
     let g = subst (λ z. tally f b ≡ tally f (take z a) + tally (λ T. f T && p T) (drop z a)) e (s.done f) in
     omega (arith, g)
 
--- no tiling lacks one of no pins
+-- without pins, each tiling is kept
 pub keeps_none : (pins : List ℕ) (a : List (List ℕ)) → eqb (length pins) 0 ≡ true → Keeps (λ T. list_all (λ p. mem T p) pins) a a
 keeps_none pins a h = subst (λ z. Keeps (λ T. list_all (λ p. mem T p) z) a a) (sym (nil_from_length pins (eqb-true (length pins) 0 h))) (keeps_all (λ T. true) a (λ T i. refl))
 

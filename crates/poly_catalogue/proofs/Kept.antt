@@ -51,7 +51,7 @@ pub pushed_agree : (ts bs rs rs1 : List (List ℕ)) (T : List ℕ) (n : ℕ) →
 pushed_agree ts bs rs rs1 T n e g same = respects (at ts) (at bs) (at rs) (span (at (ts ++ T ∷ [])) n 0 0) (at (bs ++ [] ∷ [])) (at rs1) g
     (λ a b. ap (λ z. span (at (ts ++ T ∷ [])) z 0 0 a b) e ∙ span_at ts T a b) (λ a b p h. empty_row bs a b) same
 
--- rows that are longer by empty ones
+-- the index may have more rows, if they are empty
 pub same_index : (ts bs rs rs1 : List (List ℕ)) → IsIndex ts bs rs → ((a b : ℕ) → at rs1 a b ≡ at rs a b) → IsIndex ts bs rs1
 same_index ts bs rs rs1 x same = record {
   few = x.few;
@@ -60,7 +60,7 @@ same_index ts bs rs rs1 x same = record {
   agree = respects (at ts) (at bs) (at rs) (at ts) (at bs) (at rs1) x.agree (λ a b. refl) (λ a b p h. refl) same;
 }
 
--- one more
+-- after one more tiling
 pub pushed_index : (ts bs bs1 rs : List (List ℕ)) (T : List ℕ) → length ts + 1 < 2 ^ 32 → Once (at ts) → ascending T ≡ true → length bs1 ≡ length ts + 1 → Agree (at (ts ++ T ∷ [])) (at bs1) (at rs) → IsIndex (ts ++ T ∷ []) bs1 rs
 pushed_index ts bs bs1 rs T few once up even g = record {
   few = omega (arith, length_push ts T);
@@ -85,7 +85,7 @@ taken_back ts bs1 rs T n e few once even g =
           (λ a b. refl);
     })
 
--- the numbers of an ascending list are all below what its last one is below
+-- if the last number of an ascending list is below m, so are all its numbers
 pub all_below : (xs : List ℕ) (n m : ℕ) → ascending xs ≡ true → slice_get xs (length xs - 1) ≡ Some n → n < m → list_all (λ p. nat_lt p m) xs ≡ true
 all_below xs n m up last low = all_from (λ p. nat_lt p m) xs (λ x i.
     let l = get_low xs (length xs - 1) n last in
@@ -96,7 +96,7 @@ all_below xs n m up last low = all_from (λ p. nat_lt p m) xs (λ x i.
 swap_default : (xs : List (List ℕ)) (t : ℕ) (d e : List ℕ) → t < length xs → swap_remove xs t d ≡ swap_remove xs t e
 swap_default xs t d e l = ap (λ z. take (length xs - 1) (set xs t z)) (get_or_default xs (length xs - 1) d e (omega arith))
 
--- the last one comes in another's index
+-- the last tiling takes the index of another
 pub renamed_index : (ts bs rs : List (List ℕ)) (t : ℕ) (T B : List ℕ) → t < length ts → length ts < 2 ^ 32 → Once (at ts) → length bs ≡ length ts → Agree (at (swap_remove ts t [])) (at (swap_remove bs t [])) (at rs) → IsIndex (swap_remove ts t T) (swap_remove bs t B) rs
 renamed_index ts bs rs t T B l few once even g = record {
   few = omega (arith, length_swap_remove ts t T l);

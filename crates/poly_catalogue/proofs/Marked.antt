@@ -44,7 +44,7 @@ marking_more p list old marks new k b low m says is = record {
 pub marking_all : (p : List ℕ → Bool) (list : List (List ℕ)) (old new : List Bool) (k : ℕ) → length list ≤ k → IsMarking p list old new k → AddsMarks p list old new
 marking_all p list old new k l m = record { long = m.long; exact = λ t low. m.done t (omega arith) }
 
--- by another test that says the same of the list's
+-- with another test that gives the same for each tiling of the list
 pub adds_as : (p q : List ℕ → Bool) (list : List (List ℕ)) (old new : List Bool) → AddsMarks p list old new → ((T : List ℕ) → In T list → p T ≡ q T) → AddsMarks q list old new
 adds_as p q list old new m same = record { long = m.long; exact = λ t l. m.exact t l ∙ ap (λ z. get_or old t false || z) (same (row list t) (at_in list t [] l)) }
 
@@ -68,7 +68,7 @@ not_both false b = refl
 pub adds_first : {X : Type 0} (q : X → List ℕ → Bool) (xs : List X) (list : List (List ℕ)) (marks : List Bool) → length marks ≡ length list → AddsMarks (λ T. not (list_all (λ x. q x T) (take 0 xs))) list marks marks
 adds_first q xs list marks e = record { long = e; exact = λ t l. or_none (get_or marks t false) }
 
--- by one test more
+-- after one more test
 pub adds_more : {X : Type 0} (q : X → List ℕ → Bool) (xs : List X) (i : ℕ) (d : X) (list : List (List ℕ)) (a b c : List Bool) → i < length xs → AddsMarks (λ T. not (list_all (λ x. q x T) (take i xs))) list a b →
     AddsMarks (λ T. not (q (get_or xs i d) T)) list b c → AddsMarks (λ T. not (list_all (λ x. q x T) (take (i + 1) xs))) list a c
 adds_more q xs i d list a b c l x y =
@@ -108,7 +108,7 @@ marked_four w x list a b c d of k l m n = record {
       ∙ ap not (sym (stay w x list of T (at_in list t [] low)));
 }
 
--- one more tiling looked at
+-- after one more tiling
 pub copied_more : (p : List ℕ → Bool) (list : List (List ℕ)) (marks : List Bool) (i : ℕ) (old new : List (List ℕ)) (T : List ℕ) → i < length list → AreMarkedBy p list marks → T ≡ row list i → old ≡ filter p (take i list) →
     new ≡ old ++ cond (get_or marks i false) (T ∷ []) [] → new ≡ filter p (take (i + 1) list)
 copied_more p list marks i old new T l m is a b =

@@ -20,7 +20,7 @@ one_true : (b : Bool) → 0 < one b → b ≡ true
 one_true true h = refl
 one_true false h = absurd (omega arith)
 
--- a list that has each that passes once, and no other
+-- a list that has each tiling that passes once, and no other
 pub all_pass : (p : List ℕ → Bool) (a : List (List ℕ)) → ((T : List ℕ) → tally (same_list T) a ≡ one (p T)) → list_all p a ≡ true
 all_pass p a h = all_from p a (λ T i. one_true (p T) (omega (arith, h T, some_in (same_list T) a T i (same_list_self T))))
 

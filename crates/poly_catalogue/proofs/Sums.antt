@@ -40,7 +40,7 @@ some_in f [] T i h = absurd i
 some_in f (U ∷ a) T (inl e) h = omega (arith, ap one (ap f e ∙ h))
 some_in f (U ∷ a) T (inr i) h = omega (arith, some_in f a T i h)
 
--- what holds of all holds of those that are kept
+-- what holds of each tiling holds of each that is kept
 pub kept_in : (q p : List ℕ → Bool) (a b : List (List ℕ)) → Keeps p a b → list_all q a ≡ true → list_all q b ≡ true
 kept_in q p a b k all = all_from q b (λ T i. true_from_ne_false (q T) (λ e.
     let o = some_in (λ U. not (q U)) b T i (ap not e) in

@@ -1,4 +1,4 @@
--- What writes to rows remove_entry at each index.
+-- What writes to rows change at each position.
 use Rattle.std.proofs.Common.{IsSome, List, None, Option, Some, [], ap, arith, get_or, inl, inr, length, refl, set, slice_get, suc, sym, take, zero, ℕ, ◌++◌, ◌+◌, ◌-◌, ◌<◌, ◌∙◌, ◌∷◌, ◌≡◌, ◌≤◌}
 use Rattle.std.proofs.lemmas.Bool.{cases_eq, cases_lt}
 use Rattle.std.proofs.lemmas.List.{get_or-set_other, get_or-set_same, get_or-take, get_or_past, get_or_read, length-set, length-take-le}
@@ -39,7 +39,7 @@ get_push_other [] v (suc b) n = refl
 get_push_other (x ∷ xs) v zero n = refl
 get_push_other (x ∷ xs) v (suc b) n = get_push_other xs v b (λ e. n (ap suc e))
 
--- a index that has a number
+-- a position that has a number
 pub some_low : (rows : List (List ℕ)) (i k p : ℕ) → at rows i k ≡ Some p → (i < length rows) × (k < length (row rows i))
 some_low rows i k p h = elim (cases_lt i (length rows)) [
   | inl l ↦ elim (cases_lt k (length (row rows i))) [
@@ -109,7 +109,7 @@ row_before [] r (suc a) n = refl
 row_before (x ∷ rows) r zero n = refl
 row_before (x ∷ rows) r (suc a) n = row_before rows r a (λ e. n (ap suc e))
 
--- the last row in the index of another
+-- the last row takes the index of another
 pub row_swapped : (rows : List (List ℕ)) (t : ℕ) (d : List ℕ) (a : ℕ) → t + 1 < length rows → a ≡ t → row (swap_remove rows t d) a ≡ row rows (length rows - 1)
 row_swapped rows t d a l e =
     let n = length rows - 1 in
@@ -134,7 +134,7 @@ row_gone rows t d a m =
     let s = set rows t (get_or rows (length rows - 1) d) in
     get_or_past (take (length rows - 1) s) a [] (omega (arith, length-take-le (length rows - 1) s (omega (arith, length-set rows t (get_or rows (length rows - 1) d)))))
 
--- a index that has some number
+-- a position that has some number
 pub there : (rows : List (List ℕ)) (i k : ℕ) → IsSome (at rows i k) → (i < length rows) × (k < length (row rows i))
 there rows i k h = go (at rows i k) refl h
   where
@@ -151,7 +151,7 @@ row_low rows i h = elim (cases_lt i (length rows)) [
   | inr g ↦ absurd (let e : length (row rows i) ≡ 0 = ap length (get_or_past rows i [] g) in omega arith)
 ]
 
--- what an element that is read is
+-- the value of an element that is read
 pub row_read : (rows : List (List ℕ)) (i : ℕ) (x : List ℕ) → i < length rows → x ≡ get_or rows i x → x ≡ row rows i
 row_read rows i x l is = get_or_read rows i x l is []
 

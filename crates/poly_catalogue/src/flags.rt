@@ -1,7 +1,7 @@
 //! Flags that say which placements have an item.
 //!
-//! To ask each tiling how many of its placements have an item, the placements are asked once, and the tilings look at the
-//! flags. The memory of the flags is taken when tilings are listed, so an edit needs none.
+//! Each placement is checked once for an item, and its number is flagged. Then how many placements of a tiling have the item
+//! is counted by flags alone. The memory of the flags is taken when tilings are listed, so an edit needs none.
 ghost use Rattle.std.specs.Prelude.{◌≡◌, ◌^◌, ◌<◌, ◌≤◌, IfErr, OnOk, false, length, nat_lt, slice_index_or, slice_set, true};
 ghost use Rattle.std.specs.List.{list_all};
 ghost use Rattle.poly_catalogue.specs.Flags.{AreFlags, flagged, within};
@@ -55,7 +55,7 @@ fn write(flags: &mut Vec<bool>, number: usize, flag: bool)
     flags[number] = flag;
 }
 
-/// Whether the flagged ones of the numbers are not too few and not too many.
+/// Whether neither too few nor too many of the numbers are flagged.
 pub(crate) fn is_within(flags: &[bool], least: usize, most: usize, numbers: &[u32]) -> bool
     ensures { result ≡ within flags.now least most numbers.now }
 {

@@ -16,7 +16,7 @@ use poly_design::Name;
 use poly_place::Delta;
 use poly_tiling::{Item, View, has_all};
 
-/// Removes the tilings that are not tilings of the view, without memory.
+/// Removes the tilings that are not tilings of the view. Takes no memory.
 ///
 /// The index finds those with a placement that is gone. The others are looked at only if there are new pins, items whose
 /// least rose or pieces whose most fell. The flags may be set in any way.

@@ -15,11 +15,11 @@ use Rattle.poly_frame.proofs.Back.{step_undone}
 use Rattle.poly_search.specs.Sweeps.{Swept, IsLighter, Partly}
 use Rattle.poly_search.proofs.Swept.{partly_swept, partly_lighter, found_swept, item_swept, option_behind, behind_more, behind}
 
--- a step, its taking back and the leaving
+-- a step that takes a placement, the step back, and a step that leaves it
 pub left_is : (w wp wq wb wl : Walk) (p : ℕ) → wp ≡ with_step w (Has p) → wq ≡ wp → wb ≡ step_back wq → wl ≡ with_step wb (Lacks p) → wl ≡ with_step w (Lacks p)
 left_is w wp wq wb wl p ep eq eb el = el ∙ ap (λ x. with_step x (Lacks p)) (eb ∙ ap step_back (eq ∙ ep) ∙ step_undone w (Has p))
 
--- the options from a place of the list on
+-- the options from an index of the list on
 abbrev pub Options : Walk → Item → List ℕ → Type 0
 Options w i ps = (distinct ps ≡ true) × ((p : ℕ) → mem ps p ≡ (mem w.scene.live p && is_option w i p))
 
@@ -31,7 +31,7 @@ option_is xs ys from at p low lt same e =
     let place : at ≡ from + (at - from) = omega arith in
     e ∙ ap (λ zs. get_or zs at p) same ∙ get_or_default_zero xs at p lt ∙ ap (λ n. get_or xs n 0) place ∙ sym (get_or-drop from xs (at - from) 0)
 
--- the next of the options is a placement that is open behind the others
+-- the next option is a placement that is open after the options before it are left
 pub option_opens : (w wl : Walk) (i : Item) (xs ys : List ℕ) (from at p : ℕ) → from ≤ at → at < length xs → ys ≡ xs → p ≡ get_or ys at p → Options w i (drop from xs) → wl ≡ passed w (take (at - from) (drop from xs)) →
     (mem wl.scene.live p ≡ true) × (is_open wl p ≡ true)
 option_opens w wl i xs ys from at p low lt same e opts path =
@@ -44,7 +44,7 @@ option_opens w wl i xs ys from at p low lt same e opts path =
       subst (λ (x : Walk). is_open x p ≡ true) (sym path) (subst (λ n. open_in w.scene (behind w.atoms (take j ps)) n ≡ true) (sym q) o.1),
     )
 
--- one option further
+-- after one more option
 pub passed_more : (w wl wn : Walk) (xs ys : List ℕ) (from at p : ℕ) → from ≤ at → at < length xs → ys ≡ xs → p ≡ get_or ys at p → wl ≡ passed w (take (at - from) (drop from xs)) → wn ≡ with_step wl (Lacks p) → wn ≡ passed w (take (at + 1 - from) (drop from xs))
 passed_more w wl wn xs ys from at p low lt same e path step =
     let ps = drop from xs in

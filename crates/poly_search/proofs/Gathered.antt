@@ -187,7 +187,7 @@ split_rests w wp wl q t u old left new m o ep el first more =
     more ∙ ap (λ xs. xs ++ rests wl.scene wl.atoms u) first ∙ ap (λ (x : Walk). (old ++ rests wp.scene wp.atoms t) ++ rests x.scene x.atoms u) el
     ∙ ap (λ (x : Walk). (old ++ rests x.scene x.atoms t) ++ b) ep ∙ append_assoc old a b ∙ ap (λ d. old ++ (cond d [] a ++ b)) (sym (open_alive v w.atoms q m o))
 
--- what a tree left, thrown away again
+-- what a tree left, removed again
 pub tilings_cut : (old new short more : List (List ℕ)) (n : ℕ) → n ≡ length old → new ≡ old ++ more → short ≡ take n new → short ≡ old
 tilings_cut old new short more n len e cut = cut ∙ ap (take n) e ∙ take_at old more n (sym len)
 

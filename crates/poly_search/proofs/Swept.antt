@@ -56,7 +56,7 @@ with_or_without v T A p = omega (arith, ap one (meets_push v T A (Has p)), ap on
 pub partly_none : (v : View) (A : List Atom) (found : List (List ℕ)) (rests : List (List Atom)) → Partly v A A found found rests rests
 partly_none v A found rests = record { shared = λ T i. refl; only = λ h. h; less = omega arith }
 
--- a place is kept
+-- a node is kept
 pub swept_rest : (v : View) (A : List Atom) (found found' : List (List ℕ)) (rests rests' : List (List Atom)) → found' ≡ found → rests' ≡ rests ++ A ∷ [] → Swept v A found found' rests rests'
 swept_rest v A found found' rests rests' ef er = record {
   shared = λ T i. omega (arith, ap (λ x. times v T x rests') ef, ap (λ x. times v T found x) er, times_left v T found rests A);
@@ -64,7 +64,7 @@ swept_rest v A found found' rests rests' ef er = record {
   less = omega (arith, ap (weights v) er, weights_append v rests (A ∷ []));
 }
 
--- what has the placement was swept; what doesn't is still to be
+-- the tilings with the placement were swept; those without it are still to be swept
 pub arm_partly : (v : View) (A : List Atom) (p : ℕ) (found found' : List (List ℕ)) (rests rests' : List (List Atom)) → distinct v.live ≡ true → mem v.live p ≡ true → open_in v A p ≡ true →
     Swept v (A ++ Has p ∷ []) found found' rests rests' → Partly v A (A ++ Lacks p ∷ []) found found' rests rests'
 arm_partly v A p found found' rests rests' d m o s = record {
@@ -78,7 +78,7 @@ arm_partly v A p found found' rests rests' d m o s = record {
       omega arith;
 }
 
--- what has the placement was swept, and what doesn't is kept
+-- the tilings with the placement were swept, and the node of those without it is kept
 pub arm_swept : (v : View) (A : List Atom) (p : ℕ) (found found1 found2 : List (List ℕ)) (rests rests1 rests2 : List (List Atom)) → distinct v.live ≡ true → mem v.live p ≡ true → open_in v A p ≡ true →
     Swept v (A ++ Has p ∷ []) found found1 rests rests1 → found2 ≡ found1 → rests2 ≡ rests1 ++ (A ++ Lacks p ∷ []) ∷ [] → Swept v A found found2 rests rests2 × IsLighter v A rests rests2
 arm_swept v A p found found1 found2 rests rests1 rests2 d m o s ef er =
@@ -109,7 +109,7 @@ partly_swept v A B found found1 found2 rests rests1 rests2 s k = record {
 pub partly_lighter : (v : View) (A B : List Atom) (found found1 : List (List ℕ)) (rests rests1 rests2 : List (List Atom)) → Partly v A B found found1 rests rests1 → IsLighter v B rests1 rests2 → IsLighter v A rests rests2
 partly_lighter v A B found found1 rests rests1 rests2 s k = let a = s.less in omega arith
 
--- nothing is open: the base is all there is
+-- no placement is open: the base is the only possible tiling
 pub found_swept : (v : View) (A : List Atom) (found found' : List (List ℕ)) (rests rests' : List (List Atom)) → list_all (λ p. not (open_in v A p)) v.live ≡ true → found' ≡ found ++ tilings v A Finds → rests' ≡ rests →
     Swept v A found found' rests rests' × IsLighter v A rests rests'
 found_swept v A found found' rests rests' h ef er =
@@ -134,7 +134,7 @@ asks_leave v (Lacks q ∷ A) p i = asks_leave v A p i
 asks_leave v (AtLeast j n ∷ A) p i = ap (λ u. cond (same_item j i) (max n u) u) (asks_leave v A p i)
 asks_leave v (AtMost j n ∷ A) p i = asks_leave v A p i
 
--- the place behind the leaving of some placements
+-- the node after some placements are left
 abbrev pub behind : List Atom → List ℕ → List Atom
 behind A ps = A ++ map (λ q. Lacks q) ps
 
@@ -172,7 +172,7 @@ no_more true true false m e = sym (and_false (not m))
 no_more true false h m e = refl
 no_more false o h m e = refl
 
--- all options of an item that is due are left: nothing meets that
+-- all options of an item that is due are left: no tiling meets that
 pub item_swept : (v : View) (A : List Atom) (i : Item) (ps : List ℕ) (found : List (List ℕ)) (rests : List (List Atom)) → distinct v.live ≡ true → is_due (record { scene = v; atoms = A; given = 0 }) i ≡ true →
     ((p : ℕ) → mem ps p ≡ (mem v.live p && (open_in v A p && has_item v p i))) → Swept v (behind A ps) found found rests rests × IsLighter v (behind A ps) rests rests
 item_swept v A i ps found rests d due m =
@@ -206,7 +206,7 @@ not_before (p ∷ ps) (suc j) d h =
     not_same true e = sym e
     not_same false e = refl
 
--- an option is open behind the options before it
+-- an option is open after the options before it are left
 pub option_behind : (v : View) (A : List Atom) (i : Item) (ps : List ℕ) (j : ℕ) → j < length ps → distinct ps ≡ true → ((p : ℕ) → mem ps p ≡ (mem v.live p && (open_in v A p && has_item v p i))) →
     (mem v.live (get_or ps j 0) ≡ true) × (open_in v (behind A (take j ps)) (get_or ps j 0) ≡ true)
 option_behind v A i ps j h d m =

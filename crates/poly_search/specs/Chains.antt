@@ -12,7 +12,7 @@ abbrev pub chain : Arms → Plan → Plan
 chain NoArms end = end
 chain (OneArm p t arms) end = Splits p t (chain arms end)
 
--- the tree holds, is no deeper than that, and each of its rests has fewer open placements than the atoms
+-- the tree holds, is no deeper than `depth`, and each of its rests has fewer open placements than the atoms
 pub record Serves (v : View) (A : List Atom) (depth : ℕ) (t : Plan) : Type 0 where
   pub right : holds v A t ≡ true
   pub low : deep t ≤ depth

@@ -1,4 +1,4 @@
--- What a sweep over a family makes of what is found and what is left.
+-- What a sweep over a family adds to what is found and what is left.
 use Rattle.std.specs.Prelude.{◌≡◌, ℕ, ◌+◌, ◌^◌, ◌<◌, ◌≤◌, true, List, [], ◌∷◌}
 use Rattle.std.specs.List.{list_all}
 use Rattle.poly_atom.specs.declared.atom.Atom.{Atom}
@@ -7,7 +7,7 @@ use Rattle.poly_tiling.specs.Puzzle.{View, is_tiling}
 use Rattle.poly_atom.specs.Atoms.{meets_all}
 use Rattle.poly_frame.specs.Walk.{open_count}
 
--- How much there is to do. A family that is cut up in two, each with fewer open placements, weighs more than both.
+-- How much is left to do. A family weighs more than the two that it is cut up into, if both have fewer open placements.
 abbrev pub weights : View → List (List Atom) → ℕ
 weights v [] = 0
 weights v (B ∷ Bs) = 3 ^ open_count v B + weights v Bs
@@ -28,7 +28,7 @@ pub record Swept (v : View) (A : List Atom) (found found' : List (List ℕ)) (re
 abbrev pub IsLighter : View → List Atom → List (List Atom) → List (List Atom) → Type 0
 IsLighter v A rests rests' = weights v rests' < weights v rests + 3 ^ open_count v A
 
--- The same of the part of a family that was swept: what is still to be swept is the family of B.
+-- The same for a part of the family that was swept. The family of B is still to be swept.
 pub record Partly (v : View) (A B : List Atom) (found found' : List (List ℕ)) (rests rests' : List (List Atom)) : Type 0 where
   pub shared : (T : List ℕ) → is_tiling v T ≡ true → times v T found' rests' + one (meets_all v T B) ≡ times v T found rests + one (meets_all v T A)
   pub only : all_tilings v found → all_tilings v found'

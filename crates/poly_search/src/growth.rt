@@ -68,7 +68,8 @@ fn rest(alloc: Global, frame: &Frame<'_>, growth: &mut Growth) -> Result<Tree, R
     Ok(Tree::Rest)
 }
 
-/// Grows a tree for the frame's atoms, no deeper than `depth`; it leaves `kept` of the nodes. The frame stays as it was.
+/// Grows a tree for the frame's atoms, no deeper than `depth`, and leaves `kept` of the nodes unused. The frame stays as
+/// it was.
 #[cycle(grow)]
 pub fn grow(
     alloc: Global,

@@ -56,9 +56,8 @@ fn push_rest(alloc: Global, frame: &Frame<'_>, list: &mut Listing) -> Result<(),
     Ok(())
 }
 
-/// Lists the family of the frame's atoms, and says whether it came to the end of it: if not, what is left is among the
-/// rests. The steps on the frame stay below `end`, and the recursion goes no deeper than `depth`. The frame stays as it
-/// was.
+/// Lists the family of the frame's atoms, and returns whether it came to the end: if not, what is left is among the rests.
+/// The steps on the frame stay below `end`, and the recursion goes no deeper than `depth`. The frame stays as it was.
 #[cycle(sweep)]
 pub fn sweep(
     alloc: Global,
@@ -85,7 +84,7 @@ pub fn sweep(
     }
 }
 
-// The options of an item that is due, one after another; a tiling has one of them.
+// Sweeps the options of an item that is due, one after another. Each tiling has one of them.
 #[cycle(sweep)]
 fn sweep_item(
     alloc: Global,
@@ -154,7 +153,7 @@ fn sweep_options(
     Ok(true)
 }
 
-// No item is due, so each set of open placements may come in: with the first, and then without it.
+// No item is due, so a tiling may have any of the open placements: sweeps those with the first, and then those without it.
 #[cycle(sweep)]
 fn sweep_open(
     alloc: Global,

@@ -18,9 +18,9 @@ use std::alloc::Global;
 /// A tree that was grown for a task, and its leaves.
 #[derive(Drop)]
 pub struct Explored {
-    /// The tree, as `explore` answers it.
+    /// The tree, as `explore` returns it.
     pub tree: Tree,
-    /// Its leaves, as `poly_report::leaves` answers them.
+    /// Its leaves, as `poly_report::leaves` returns them.
     pub leaves: Leaves,
 }
 
@@ -50,7 +50,7 @@ pub fn explore_with_leaves(
     Ok(explored)
 }
 
-/// What `explore_with_leaves` answers, from the view's matrix, which serves every task of the view.
+/// Does what `explore_with_leaves` does, with the view's matrix, which serves every task of the view.
 pub fn explore_over(
     alloc: Global,
     view: &View,

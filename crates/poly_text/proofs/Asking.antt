@@ -52,7 +52,7 @@ pub named_is : (text : List ℕ) (equals : ℕ) (name : List ℕ) (cells : List 
 unfolding named_cells
 named_is text equals name cells place named listed = rw (place, named, ap listed_cells (sym (rest_from (equals + 1) text)) ∙ listed) refl
 
--- one query more
+-- after one more query
 had_more : (qs : List Query) (q : Query) → had (qs ++ q ∷ []) ≡ had qs ++ had (q ∷ [])
 had_more [] q = refl
 had_more (has n ∷ qs) q = ap (λ z. n ∷ z) (had_more qs q)

@@ -91,7 +91,7 @@ row_append x y (b ∷ row) byte =
     ap (λ z. with_mode (record { x = x; y = y }) (open_mode b) ++ z) (row_append (suc x) y row byte) ∙ sym (append_assoc (with_mode (record { x = x; y = y }) (open_mode b)) (row_cells (suc x) y row) (with_mode (record { x = suc x + length row; y = y }) (open_mode byte)))
     ∙ ap (λ n. (with_mode (record { x = x; y = y }) (open_mode b) ++ row_cells (suc x) y row) ++ with_mode (record { x = n; y = y }) (open_mode byte)) (omega arith)
 
--- one byte more of a row
+-- after one more byte of a row
 pub row_more : (y x : ℕ) (row : List ℕ) → x < length row → row_cells 0 y (take (x + 1) row) ≡ row_cells 0 y (take x row) ++ with_mode (record { x = x; y = y }) (open_mode (get_or row x 0))
 row_more y x row lt =
     let len : length (take x row) ≡ x = length-take-le x row (omega arith) in
@@ -103,7 +103,7 @@ rows_append y (r ∷ rows) row =
     ap (λ z. row_cells 0 y r ++ z) (rows_append (suc y) rows row) ∙ sym (append_assoc (row_cells 0 y r) (cells_from (suc y) rows) (row_cells 0 (suc y + length rows) row))
     ∙ ap (λ n. (row_cells 0 y r ++ cells_from (suc y) rows) ++ row_cells 0 n row) (omega arith)
 
--- one row more of a board
+-- after one more row of a board
 pub rows_more : (y : ℕ) (vs : List Value) (v : Value) → y < length vs → v ≡ get_or vs y v → cells_from 0 (rows_of (take (y + 1) vs)) ≡ cells_from 0 (rows_of (take y vs)) ++ row_cells 0 y (json.text (view v))
 rows_more y vs v lt is =
     let len : length (rows_of (take y vs)) ≡ y = rows_length (take y vs) ∙ length-take-le y vs (omega arith) in

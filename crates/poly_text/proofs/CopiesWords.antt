@@ -14,7 +14,7 @@ use Rattle.poly_text.specs.Names.{name_of}
 use Rattle.poly_text.specs.Words.{number_of}
 use Rattle.poly_text.proofs.CellWords.{texts}
 
--- the two words are refused, or the bounds that they write are
+-- what the two words give: their bounds, or the first refusal of a word or of the bounds
 abbrev pub BothSay : Option ℕ → Option ℕ → Result Bounds Refusal → Type 0
 BothSay least most r = Follows (ok_or least BadCommand) (λ l. Follows (ok_or most BadCommand) (λ m. r ≡ ok_or (copies_of l m) BadCommand) r) r
 

@@ -38,7 +38,7 @@ counted_from : (ps : List Placement) (n : ℕ) → fold (λ a p. a + length p.ce
 counted_from [] n = omega arith
 counted_from (p ∷ ps) n = omega (arith, counted_from ps (n + length p.cells), counted_from ps (0 + length p.cells))
 
--- what the placements before one and that one cover
+-- the cells of the placements before one, and of that one
 pub covered_at : (i : ℕ) (ps : List Placement) (p : Placement) → i < length ps → p ≡ get_or ps i p → covered (take i ps) + length p.cells ≤ covered ps
 covered_at i [] p lt is = absurd (omega (arith, lt))
 covered_at zero (q ∷ ps) p lt is = rw is (omega (arith, counted_from ps (0 + length q.cells)))

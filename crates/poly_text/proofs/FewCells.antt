@@ -1,4 +1,4 @@
--- The first cells of a list tell whether it makes a set or a shape, if they are more than a set can have.
+-- If a list has more cells than a set can have, its first 17 cells already tell that it makes no set and no shape.
 use Rattle.std.proofs.Common.{◌≡◌, ◌<◌, ℕ, List, take, Option, Some, None, Result, Ok, Err, refl, sym, subst, arith}
 use Rattle.std.specs.Result.{result_ok}
 use Rattle.std.specs.Prelude.{◌↔◌, IsOk, IfOk, IfErr}

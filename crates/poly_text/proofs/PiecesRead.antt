@@ -22,7 +22,7 @@ use Rattle.poly_text.specs.Piece.{Said, said_of, Pieces, ShapeSays, SpecSays, Pi
 use Rattle.poly_text.specs.Views.{views}
 use Rattle.poly_text.proofs.CellsRead.{views_from}
 
--- one piece more
+-- after one more piece
 pub piece_step : (f : Format) (g : Grid) (vs : List Value) (i : ℕ) (v : Value) (taken : Pieces) (s : Said) (p : Spec) (r : Result Pieces Refusal) → i < length vs → v ≡ get_or vs i v
     → said_of f (view v) ≡ Ok s → SpecSays g taken s (Ok p) → PiecesSay f g (views (drop (i + 1) vs)) (insert_entry name_cmp taken s.name p) r → PiecesSay f g (views (drop i vs)) taken r
 piece_step f g vs i v taken s p r lt is said spec rest = rw (views_from vs i v lt is, said) (Ok p, spec, rest)

@@ -28,7 +28,7 @@ abbrev pub Gives : {X Y : Type 0} → (X → Y) → Result X Refusal → Result 
 Gives view (Ok x) said = said ≡ Ok (view x)
 Gives view (Err e) said = (e ≡ Memory) ⊎ (said ≡ Err e)
 
--- the same for a relation
+-- the same, if what is said is a relation
 abbrev pub GivesBy : {X Y : Type 0} → (X → Y) → Result X Refusal → (Result Y Refusal → Type 0) → Type 0
 GivesBy view (Ok x) Says = Says (Ok (view x))
 GivesBy view (Err e) Says = (e ≡ Memory) ⊎ Says (Err e)

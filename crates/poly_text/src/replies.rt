@@ -211,7 +211,7 @@ impl ReplyLine {
             return;
         }
         for placement in placements {
-            // the contract of this call tells that no set of cells is empty, which bounds the number of placements
+            // The contract of this call guarantees that no set of cells is empty, which bounds the number of placements.
             let cells = placement.cells.as_slice();
             self.put(b" ");
             self.put_placement(&placement.name, cells);

@@ -119,7 +119,7 @@ fn reply_lines(rt: HostRuntime) {
     reply.tilings(9_356);
     assert!(rt; reply.as_bytes() == b"tilings 9356\n".as_slice());
     let domino = domino().expect(&rt, "a domino");
-    // the contract of this call tells that a placement has at most 16 cells
+    // The contract of this call guarantees that a placement has at most 16 cells.
     let _cells = domino.cells.as_slice();
     reply.tiling(&[domino]);
     assert!(rt; reply.as_bytes() == b"tiling A=0,0/1,0\n".as_slice());

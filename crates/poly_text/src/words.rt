@@ -110,7 +110,7 @@ fn coordinate_of(word: &[u8]) -> Option<u64>
     number_of(word)
 }
 
-/// The index of the byte's first place in the word.
+/// The index of the byte's first occurrence in the word.
 pub fn index_of(word: &[u8], byte: u8) -> Option<usize>
     ensures is { result ≡ position (λ b. b == byte) word.now }
     ensures within { IfSome result (λ i. i < length word.now) }
@@ -139,7 +139,7 @@ pub fn cell_of(word: &[u8]) -> Result<Cell, Refusal>
     Cell::new(column, row).ok_or(Refusal::BadCell)
 }
 
-/// One cell more than a set can have. A list that fills this room is refused, whatever its other cells are, so nobody needs them.
+/// One more cell than a set can have. A list that fills this room is refused, whatever its other cells are, so they aren't kept.
 pub const ROOM: usize = 17;
 
 /// Reads the cells that the words name into the room, as many as fit, and returns how many fit. Words past the room are read too:

@@ -1,4 +1,4 @@
-//! The program: arguments, standard input and output, and the exit status. What it answers is `poly_cli::session`'s.
+//! The program: arguments, standard input and output, and the exit status. `poly_cli::session` gives its answers.
 #![tactic(auto)]
 
 ghost use Rattle.std.specs.Prelude.{◌≤◌, IfOk, IfSome};
@@ -38,7 +38,7 @@ fn main(rt: HostRuntime) -> ExitCode {
     ExitCode::from(status)
 }
 
-// What the arguments say, or the status to end with at once: help was asked for, or they are refused.
+// What the arguments say; or the exit status, if they ask for help or are refused.
 fn options(rt: &HostRuntime) -> Result<Options, u8>
     ensures turns { IfOk result (λ o. (1 ≤ o.turns) × (o.turns ≤ 1000000000)) }
     ensures workers { IfOk result (λ o. IfSome o.workers (λ n. (1 ≤ n) × (n ≤ 16))) }
@@ -88,7 +88,7 @@ fn status_with<E: Engine>(rt: &HostRuntime, engine: &mut E) -> u8
     }
 }
 
-// Without memory for an engine the puzzle line is refused before it is read.
+// If there is no memory for an engine, the puzzle line is refused before it is read.
 fn refused_for_memory(rt: &HostRuntime) -> u8 {
     match print!(rt; "{}", refusal_line(Refusal::Memory)) {
         Ok(()) => REFUSED,

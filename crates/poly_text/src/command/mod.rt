@@ -28,7 +28,7 @@ pub enum Command {
     Edit(Edit),
     /// `undo`: undoes the last change that isn't undone.
     Undo,
-    /// `redo`: makes the last change again that was undone.
+    /// `redo`: makes the change again that was undone last.
     Redo,
     /// `count`: asks how many tilings the design has.
     Count,

@@ -33,7 +33,7 @@ pub fn text_at<'v>(value: &'v Value, name: &str) -> Option<&'v str>
     found.as_str()
 }
 
-/// The text, or an empty one if the value is no text.
+/// The text, or an empty one if the value isn't a text.
 pub fn text(value: &Value) -> &str
     ensures { result.now ≡ json.text (view value.now) }
 {
