@@ -56,8 +56,8 @@ impl Look {
         Ok(Look { board, seat })
     }
 
-    /// Lets the look know all posts, with the poster at hand. The posts that it knew begin those of the poster. This is for
-    /// proofs: it reads nothing that `look` doesn't read, and no other part of the product needs it.
+    /// Makes the look know all posts, with the help of the poster. The posts that the look knew are the first of the poster's.
+    /// This is for proofs: it reads nothing that `look` doesn't read, and no other part of the product needs it.
     pub(crate) fn catch_up(&mut self, poster: &mut Poster)
         requires board { self.old.board ≡ poster.old.board }
         ensures poster { poster.new ≡ poster.old }

@@ -18,7 +18,7 @@ pub(crate) struct Motion {
 }
 
 impl Motion {
-    /// Returns the motion with this turn that carries the one cell to the other.
+    /// Returns the motion with this turn that carries the cell `from` to the cell `to`.
     pub(crate) fn between(grid: Grid, turn: u8, from: Cell, to: Cell) -> Motion
         requires known { turn < turn_count grid true }
         ensures turn { result.turn ≡ turn }

@@ -227,7 +227,7 @@ fn without_words(alloc: Global) -> Result<Summary, Refusal> {
     Ok(summary_of(&answered(alloc, &nothing(alloc))?))
 }
 
-// With A on the upper row, and whether that forces just A there and B on the lower row.
+// With A on the upper row, and whether that forces A there and B on the lower row.
 fn with_the_upper_row(alloc: Global) -> Result<(Summary, bool), Refusal> {
     let mut query = nothing(alloc);
     let upper = placement(b"A", (0, 0), (1, 0))?;

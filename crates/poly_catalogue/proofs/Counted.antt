@@ -23,7 +23,7 @@ and_swap true false true = refl
 and_swap true false false = refl
 and_swap false b c = refl
 
--- one after the other
+-- one test after another
 pub keeps_on : (p q : List ℕ → Bool) (a b c : List (List ℕ)) → Keeps p a b → Keeps q b c → Keeps (λ T. p T && q T) a c
 keeps_on p q a b c x y f = y f ∙ x (λ T. f T && q T) ∙ tally_same_in (λ T. (f T && q T) && p T) (λ T. f T && (p T && q T)) a (λ T i. and_swap (f T) (q T) (p T))
 

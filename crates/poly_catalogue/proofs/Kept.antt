@@ -69,7 +69,7 @@ pushed_index ts bs bs1 rs T few once up even g = record {
   agree = g;
 }
 
--- the room taken back
+-- the room removed again
 pub taken_back : (ts bs1 rs : List (List ℕ)) (T : List ℕ) (n : ℕ) → n ≡ length ts → n < 2 ^ 32 → Once (at ts) → n ≤ length bs1 → Agree (span (at (ts ++ T ∷ [])) n 0 0) (at bs1) (at rs) → IsIndex (take n (ts ++ T ∷ [])) (take n bs1) rs
 taken_back ts bs1 rs T n e few once even g =
     let is : take n (ts ++ T ∷ []) ≡ ts = take_at ts (T ∷ []) n (sym e) in

@@ -52,7 +52,7 @@ or_group : (a b c : Bool) → ((a || b) || c) ≡ (a || (b || c))
 or_group true b c = refl
 or_group false b c = refl
 
--- one after the other
+-- one test after another
 pub adds_on : (p q : List ℕ → Bool) (list : List (List ℕ)) (a b c : List Bool) → AddsMarks p list a b → AddsMarks q list b c → AddsMarks (λ T. p T || q T) list a c
 adds_on p q list a b c x y = record { long = y.long; exact = λ t l. y.exact t l ∙ ap (λ z. z || q (row list t)) (x.exact t l) ∙ or_group (get_or a t false) (p (row list t)) (q (row list t)) }
 

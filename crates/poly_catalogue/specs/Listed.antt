@@ -11,11 +11,11 @@ use Rattle.poly_catalogue.specs.Rows.{row}
 abbrev pub AreOnce : List (List ℕ) → Type 0
 AreOnce list = (T : List ℕ) → tally (same_list T) list ≤ 1
 
--- the two lists have the same tilings, each as often, in any order
+-- the two lists have the same tilings, each equally often, in any order
 abbrev pub AreSame : List (List ℕ) → List (List ℕ) → Type 0
 AreSame a b = (f : List ℕ → Bool) → tally f a ≡ tally f b
 
--- the new list has those of the old one that pass, each as often, in any order
+-- the new list has the tilings of the old one that pass, each equally often, in any order
 abbrev pub Keeps : (List ℕ → Bool) → List (List ℕ) → List (List ℕ) → Type 0
 Keeps p old new = (f : List ℕ → Bool) → tally f new ≡ tally (λ T. f T && p T) old
 

@@ -75,7 +75,7 @@ fn take_turn<R: Wait, B: Bench, G: Gate>(
     Ok(true)
 }
 
-// Hands in what was found, and keeps its receipt. Drops what was found for a task that has ended meanwhile.
+// Hands in what was found, and keeps its receipt. If the task has ended in the meantime, drops what was found.
 fn hand_in<R: Wait, B: Bench>(
     rt: &R,
     bench: &B,

@@ -1,4 +1,4 @@
-//! Goes through receipts. Each must be right, and the flag of its place must be down before it is raised for it.
+//! Goes through receipts. Each must be right, and the flag of its place must be down; then that flag is raised.
 ghost use Rattle.std.specs.Prelude.{◌≡◌, ◌<◌, ◌≤◌, ◌++◌, ◌||◌, ◌==◌, ◌⊎◌, ℕ, Bool, List, All, IfErr, OnOk, false, length, true};
 ghost use Rattle.poly_grid.specs.declared.refusal.Refusal.TheVariants.{Unsettled};
 ghost use Rattle.poly_desk.specs.Receipts.{AreReceipts, IsBadReceipt, Stands, all_of, entries, place_of, same_place};

@@ -1,4 +1,4 @@
--- Where nothing is due.
+-- What holds if no item is due.
 use Rattle.std.proofs.Common.{Bool, List, [], arith, false, inl, inr, max, nat_lt, not, subst, true, ℕ, ◌∙◌, ◌∷◌, ◌≡◌}
 use Rattle.std.proofs.lemmas.Bool.{cases_Bool, cond-false, false_from_ne_true, ltb-true, not-true, or_parts}
 use Rattle.std.specs.List.{list_all, list_any}
@@ -11,7 +11,7 @@ use Rattle.poly_atom.specs.declared.atom.Atom.TheVariants.{AtLeast, AtMost, Has,
 use Rattle.poly_frame.specs.Open.{asks}
 use Rattle.poly_frame.specs.Plain.{asks_for, of_asked}
 
--- an item that neither the design nor an atom speaks of is asked for by none
+-- an item that neither the design nor an atom names isn't asked for
 asks_none : (v : View) (A : List Atom) (i : Item) → list_any (λ b. same_item b.0 i) v.bounds ≡ false → list_any (asks_for i) A ≡ false → asks v A i ≡ 0
 asks_none v [] i n m = bound_none v.bounds i (λ b. b.1) n
 asks_none v (Has p ∷ A) i n m = asks_none v A i n m

@@ -1,4 +1,4 @@
--- What the rows say of the arms of a Branch, of dead placements and of a base that is short.
+-- What the rows say about the arms of a Branch, about dead placements and about a base that is short.
 use Rattle.std.proofs.Common.{◌≡◌, ℕ, zero, suc, ◌+◌, ◌-◌, ◌*◌, ◌<◌, ◌≤◌, Bool, true, false, max, not, ◌&&◌, ◌||◌, ltb, leb, List, [], ◌∷◌, ◌++◌, sym, ap, ◌∙◌, arith, length, get_or, take}
 use Rattle.std.specs.List.{list_any}
 use Rattle.std.proofs.lemmas.Bool.{and_from, and_parts, false_from_ne_true, ltb-true, not-true, or_parts}
@@ -74,7 +74,7 @@ parted true true = omega arith
 parted true false = omega arith
 parted false b = omega arith
 
--- what passes a test, without those of a second kind and among them
+-- the numbers that pass a test, split by a second test
 pub apart : (f g : ℕ → Bool) (xs : List ℕ) → tally f xs ≡ tally (λ p. f p && not (g p)) xs + tally (λ p. f p && g p) xs
 apart f g [] = omega arith
 apart f g (x ∷ xs) = omega (arith, parted (f x) (g x), apart f g xs)

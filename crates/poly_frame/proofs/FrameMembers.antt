@@ -35,7 +35,7 @@ or_parts false b e = (refl, e)
 turned : (p q : ℕ) → eqb q p ≡ false → eqb p q ≡ false
 turned p q n = ne_eqb p q (λ e. both_ways (eqb q p) n (eq-eqb q p (sym e)))
 
--- a number that was put in goes out again
+-- a number that was put in is taken out again
 pub without_put : (p : ℕ) (xs : List ℕ) → mem xs p ≡ false → without p (put p xs) ≡ xs
 without_put p [] m = ap (λ b. cond b [] (p ∷ [])) (eq-eqb p p refl)
 without_put p (x ∷ xs) m =
@@ -128,7 +128,7 @@ same_size v B (Lacks p) e = base_other v B (Lacks p) (λ q f. cc)
 same_size v B (AtLeast i n) e = base_other v B (AtLeast i n) (λ q f. cc)
 same_size v B (AtMost i n) e = base_other v B (AtMost i n) (λ q f. cc)
 
--- the atoms by the last of them
+-- the atoms, split at the last one
 pub last_of : (A : List Atom) (a : Atom) → 0 < length A → a ≡ get_or A (length A - 1) a → A ≡ take (length A - 1) A ++ a ∷ []
 last_of A a h e =
     let n = length A - 1 in

@@ -114,7 +114,7 @@ module _ (v : View) (A : List Atom) (p q : ℕ) (m : mem (base v A) p ≡ false)
 pub pick_self : (v : View) (A : List Atom) (p : ℕ) → open_in v (A ++ Has p ∷ []) p ≡ false
 pick_self v A p = false_from_ne_true _ (λ o. both_ways (mem (base v (A ++ Has p ∷ [])) p) (open_base v (A ++ Has p ∷ []) p o) (in_mem _ p (subst (λ xs. In p xs) (sym (base_pick v A p)) (in_put_self p (base v A)))))
 
--- one that is a member already
+-- taking a member again leaves the base as it is
 pub base_again : (v : View) (A : List Atom) (p : ℕ) → mem (base v A) p ≡ true → base v (A ++ Has p ∷ []) ≡ base v A
 base_again v A p m = base_pick v A p ∙ ascending_same (put p (base v A)) (base v A) (put_up p (base v A) (base_up v A)) (base_up v A)
     (λ x i. elim (put_in p (base v A) x i) [ inl e ↦ subst (λ y. In y (base v A)) e (mem_in (base v A) p m) | inr j ↦ j ])

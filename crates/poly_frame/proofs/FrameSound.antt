@@ -1,4 +1,4 @@
--- Steps that leave the base sound, and what a sound base is that is not short.
+-- Steps that keep the base sound, and a sound base that is not short: it is a tiling.
 use Rattle.std.proofs.Common.{◌≡◌, ℕ, zero, suc, ◌+◌, ◌-◌, ◌<◌, ◌≤◌, Bool, true, false, cond, max, not, ◌&&◌, ◌||◌, eqb, get_or, ltb, leb, List, [], ◌∷◌, ◌++◌, inl, inr, refl, sym, ap, subst, ◌∙◌, arith, length, slice_get, take, length-append, length-take}
 use Rattle.std.specs.List.{list_all, list_any}
 use Rattle.std.proofs.lemmas.Bool.{and_from, and_parts, both_ways, cases_Bool, cases_lt, eq-eqb, eqb-true, false_from_ne_true, le-leb, leb-true, lt-ltb, ne_eqb, not_from_false, not-true, or_cases, or_from, or_parts}
@@ -27,7 +27,7 @@ use Rattle.poly_frame.proofs.Later.{upper_le_atom, upper_le_most}
 use Rattle.poly_frame.proofs.FrameMembers.{base_stays}
 use Rattle.poly_frame.proofs.FramePicks.{has_in, in_has, open_base, others_all, place_of, shared, sharing}
 
--- one that is not ruled out
+-- a number that is not ruled out
 record Free (v : View) (A : List Atom) (q : ℕ) : Type 0 where
   named : list_any (λ a. lacks a q) A ≡ false
   apart : list_any (λ r. clash v q r) (base v A) ≡ false
@@ -54,7 +54,7 @@ ruled_by v A q f =
     let w = any_in (λ i. leb (upper v A i) (others v (base v A) q i)) (items v q) t in
     absurd (omega (arith, leb-true _ _ w.2, f.below w.0 w.1))))
 
--- two placements share a cell whichever of them is asked
+-- conflicts are symmetric
 clash_turn : (v : View) (p q : ℕ) → clash v p q ≡ false → clash v q p ≡ false
 clash_turn v p q n = false_from_ne_true (clash v q p) (λ t.
     let o = slice_get v.placements q in
@@ -67,7 +67,7 @@ clash_turn v p q n = false_from_ne_true (clash v q p) (λ t.
 clash_self : (v : View) (p : ℕ) → clash v p p ≡ false
 clash_self v p = ap (λ b. not b && share_cell (slice_get v.placements p) (slice_get v.placements p)) (eq-eqb p p refl)
 
--- the base with one more that was open
+-- the base with one more placement, which was open
 module _ (v : View) (A : List Atom) (p : ℕ) (m : mem (base v A) p ≡ false) (fp : Free v A p) where
   own_free : Free v (A ++ Has p ∷ []) p
   own_free =

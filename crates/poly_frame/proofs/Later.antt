@@ -1,4 +1,4 @@
--- What a later design and more atoms make of what is open.
+-- How a later design and more atoms change what is open.
 use Rattle.std.proofs.Common.{◌≡◌, ℕ, Bool, true, not, ◌&&◌, ◌||◌, eqb, List, [], ◌∷◌, ◌++◌, ◌⊎◌, inl, inr, refl, sym, ap, subst, ◌∙◌, ◌≤◌, leb, min, max, nat_lt, arith}
 use Rattle.std.specs.List.{list_any, list_all}
 use Rattle.std.proofs.lemmas.Bool.{eq-eqb, and_parts, and_from, or_cases, or_left, or_right, both_ways, not-true, not_from_false, false_from_ne_true, cases_Bool, cond_both, leb-true, le-leb, ltb-true, lt-ltb}
@@ -15,7 +15,7 @@ use Rattle.poly_tiling.proofs.Counts.{tally_within, ascending_distinct}
 use Rattle.poly_atom.proofs.Bases.{base_in, base_up, in_base_has, in_base_pin}
 use Rattle.poly_tiling.proofs.Tilings.{same_item_is, same_item_self}
 
--- w is a later design than v, and the atoms B are those of A and what was laid on them since
+-- w is a later design than v, and the atoms B are those of A and the ones added since
 pub record Later (v : View) (A : List Atom) (w : View) (B : List Atom) : Type 0 where
   pub atoms : (a : Atom) → In a A → In a B
   pub placed : (p : ℕ) → In p w.live → In p v.live ⊎ In (Lacks p) B

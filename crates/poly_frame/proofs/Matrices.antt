@@ -40,7 +40,7 @@ module _ (v : View) (ns starts places new : List ℕ) (k : ℕ) (L : ListsTo v n
   new_start : get_or starts2 (k + 1) 0 ≡ length (places ++ new)
   new_start = ap (λ n. get_or starts2 n 0) (sym L.len) ∙ get_or-append_seam starts (length (places ++ new)) [] 0
 
-  -- one list more
+  -- after one more list
   pub lists_more : ListsTo v ns starts2 (places ++ new) (k + 1)
   lists_more = record {
     len = omega (arith, length-append starts (length (places ++ new) ∷ []), L.len);

@@ -1,4 +1,4 @@
--- What the rows say of an item that is starved once a placement is taken.
+-- What the rows say about an item that is starved once a placement is taken.
 use Rattle.std.proofs.Common.{◌≡◌, ℕ, ◌+◌, ◌-◌, ◌*◌, ◌/◌, ◌%◌, ◌<◌, ◌≤◌, Bool, true, false, not, ◌&&◌, ◌||◌, eqb, leb, List, [], ◌∷◌, ◌++◌, inl, inr, refl, sym, ap, subst, ◌∙◌, arith, length, get_or, take}
 use Rattle.std.specs.Int.{bit_at}
 use Rattle.std.specs.List.{list_any}
@@ -128,7 +128,7 @@ and_true true true = refl
 and_true true false = refl
 and_true false b = refl
 
--- an item without arms has what is not ruled out
+-- without arms, no placement of the item is excepted
 pub without_arms : (v : View) (A : List Atom) (i : Item) (xs : List ℕ) → tally (λ p. has_item v p i && not (ruled_out v A p)) xs ≡ tally (λ p. has_item v p i && not (ruled_out v A p) && not (mem [] p)) xs
 without_arms v A i [] = refl
 without_arms v A i (x ∷ xs) = omega (arith, ap one (and_true (has_item v x i) (not (ruled_out v A x))), without_arms v A i xs)

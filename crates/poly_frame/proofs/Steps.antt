@@ -51,7 +51,7 @@ leave_at false true c f e = refl
 leave_at false false c f true = sym (and_false (not (c || f)))
 leave_at false false c f false = sym (and_true_right (not (c || f)))
 
--- leaving p closes p alone
+-- leaving p closes only p
 pub open_leave : (v : View) (A : List Atom) (p q : ℕ) → open_in v (A ++ Lacks p ∷ []) q ≡ (open_in v A q && not (eqb p q))
 open_leave v A p q =
     let b : base v (A ++ Lacks p ∷ []) ≡ base v A = ap (λ xs. put_all xs (put_all v.pins [])) (base_leave v A p) in

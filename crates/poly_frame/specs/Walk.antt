@@ -23,7 +23,7 @@ back_to w n = record w { atoms = take n w.atoms }
 abbrev pub step_back : Walk → Walk
 step_back w = back_to w (length w.atoms - 1)
 
--- an item that the base covers too seldom
+-- an item that the base doesn't cover often enough
 abbrev pub is_due : Walk → Item → Bool
 is_due w i = nat_lt (count w.scene (base w.scene w.atoms) i) (asks w.scene w.atoms i)
 

@@ -39,7 +39,7 @@ pub(crate) fn take_out(words: &mut Vec<u64>, at: usize, j: usize)
     words[k] = word & !(1 << (j % 64));
 }
 
-/// What a word has and a second one hasn't.
+/// The bits that the first word has and the second doesn't.
 pub(crate) fn less(word: u64, row: u64) -> u64
     ensures { (t : ℕ) → t < 64 → (bit_at result t == 1) ≡ ((bit_at word t == 1) && not (bit_at row t == 1)) }
 {
@@ -76,7 +76,7 @@ pub(crate) fn copy_last(words: &mut Vec<u64>, width: usize)
     }
 }
 
-/// What both words have.
+/// The bits that both words have.
 pub(crate) fn both(word: u64, row: u64) -> u64
     ensures { (t : ℕ) → (bit_at result t == 1) ≡ ((bit_at word t == 1) && (bit_at row t == 1)) }
 {

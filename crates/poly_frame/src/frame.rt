@@ -88,8 +88,8 @@ impl<'a> Frame<'a> {
         Ok(frame)
     }
 
-    /// A frame of the view with these atoms and no step, from the view's matrix. It takes memory by the items, the atoms
-    /// and the placements that are open at the atoms alone. If most placements are open, it reads that matrix; else it
+    /// A frame of the view with these atoms and no step, from the view's matrix. Its memory depends only on the items, the
+    /// atoms and the placements that are open at the atoms. If most placements are open, it reads that matrix; otherwise it
     /// makes a smaller one.
     pub fn over(
         alloc: Global,
@@ -107,9 +107,8 @@ impl<'a> Frame<'a> {
         Ok(frame)
     }
 
-    /// A frame at the same place that begins there, if it would be much smaller than this one and there is still much to
-    /// search: fewer than a third of the placements that this one was made for are open, they were many, and some dozens
-    /// are open still.
+    /// A new frame that begins at this node, if it would be much smaller than this one and there is still much to search:
+    /// this frame was made for many placements, fewer than a third of them are open, and some dozens are still open.
     pub fn narrower(&self, alloc: Global) -> Result<Option<Frame<'a>>, Refusal>
         ensures made { IfOk result (λ o. IfSome o (λ f. f ≡ record { scene = self.now.scene; atoms = self.now.atoms; given = length self.now.atoms })) }
         ensures why { IfErr result (λ e. e ≡ Refusal.Memory) }
@@ -193,7 +192,7 @@ impl<'a> Frame<'a> {
         self.path.len()
     }
 
-    /// The atoms on the path: the given ones and the steps that were not taken back.
+    /// The atoms on the path: the given ones and the steps that were not undone.
     pub fn atoms(&self) -> &[Atom]
         ensures { result.now ≡ self.now.atoms }
     {
@@ -309,9 +308,9 @@ impl<'a> Frame<'a> {
         }
     }
 
-    /// An item that the base covers less often than the design and the atoms ask for; none if there is no such item. An
-    /// item that an atom asks for and the view does not have comes first: it has no option. Of the others it is one with
-    /// the fewest options beyond what it still needs.
+    /// An item that the base covers less often than the design and the atoms ask for; `None` if there is no such item. An
+    /// item that an atom asks for and the view does not have comes first, since it has no option. Of the others, the item
+    /// has the fewest options beyond what it still needs.
     pub fn next_due(&self) -> Option<Item>
         ensures { MatchOption result ((i : Item) → is_due self.now i ≡ false) (λ i. is_due self.now i ≡ true) }
     {
@@ -325,7 +324,7 @@ impl<'a> Frame<'a> {
         looks::next_due(&node, &self.steps, &self.members)
     }
 
-    /// Whether the placement is dead: no placement of the design now, or out by an atom.
+    /// Whether the placement is dead: it isn't a placement of the design now, or an atom leaves it out.
     pub fn dead(&self, placement: u32) -> bool
         ensures { result ≡ dead self.now.scene self.now.atoms placement }
     {

@@ -1,4 +1,4 @@
-//! A node of a search: a view, the atoms of a task and the steps since, and what is open, due and found there.
+//! A node of a search: a view, the atoms of a task and the steps since, and what is open, due and found at the node.
 #![tactic(auto)]
 
 mod bits;

@@ -18,7 +18,7 @@ use poly_design::Name;
 use poly_grid::Cell;
 use poly_tiling::{Item, View, has_number};
 
-/// Puts a number into its place in an ascending list, if it is not there.
+/// Puts a number into its place in an ascending list, unless the list has it already.
 pub(crate) fn put_number(numbers: &mut Vec<u32>, number: u32)
     requires { vec_len numbers.old < vec_capacity numbers.old }
     ensures items { numbers.new.items ≡ put number numbers.old.items }
@@ -224,7 +224,7 @@ fn is_listed(view: &View, item: &Item) -> bool
     view.items().iter().any(|b| b.0.is(item))
 }
 
-/// An item that an atom asks for, that is not in the view, and that the members cover too seldom. It has no option.
+/// An item that an atom asks for, that is not in the view, and that the members don't cover often enough. It has no option.
 pub(crate) fn due_elsewhere(view: &View, atoms: &[Atom], members: &[u32]) -> Option<Item>
     ensures { MatchOption result (list_all (of_asked (λ i. list_any (λ b. same_item b.0 i) view.now.bounds || not (nat_lt (count view.now members.now i) (asks view.now atoms.now i)))) atoms.now ≡ true) (λ i. nat_lt (count view.now members.now i) (asks view.now atoms.now i) ≡ true) }
 {
@@ -252,7 +252,7 @@ pub(crate) fn count_allowed(view: &View, atoms: &[Atom], members: &[u32], item: 
     n
 }
 
-/// What a tiling of the family has at least of the item.
+/// How many members with the item a tiling of the family has at least.
 pub(crate) fn lower_of(view: &View, atoms: &[Atom], members: &[u32], item: &Item) -> usize
     requires { members.now ≡ base view.now atoms.now }
     ensures { result ≡ lower view.now atoms.now item.now }

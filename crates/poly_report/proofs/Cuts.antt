@@ -24,7 +24,7 @@ use Rattle.poly_frame.proofs.Walks.{or_false}
 pub fit_once : (v : View) (A : List Atom) (i : Item) (ps : List ℕ) → arms_fit v A i ps ≡ true → distinct ps ≡ true
 fit_once v A i ps h = (and_parts (distinct ps) _ (and_parts (distinct ps && _) _ h).0).0
 
--- the placements of other arms are out, and that is all that the atoms add
+-- the Lacks atoms of the arms before leave out exactly their placements
 lacked_any : (before : List ℕ) (p : ℕ) → list_any (λ a. lacks a p) (map (λ q. Lacks q) before) ≡ mem before p
 lacked_any [] p = refl
 lacked_any (q ∷ before) p = ap (λ b. eqb q p || b) (lacked_any before p)
@@ -37,7 +37,7 @@ dead_behind v A before p n =
 atoms_behind : (A : List Atom) (before : List ℕ) (p : ℕ) → (A ++ map (λ q. Lacks q) before) ++ Has p ∷ [] ≡ A ++ arm_atoms before p
 atoms_behind A before p = append_assoc A (map (λ q. Lacks q) before) (Has p ∷ [])
 
--- an arm's tree behind the leaving of the arms before it
+-- an arm's tree, after the arms before it are left
 pub arm_holds : (v : View) (A : List Atom) (before : List ℕ) (p : ℕ) (t : Plan) → mem before p ≡ false →
     taken_holds v (A ++ map (λ q. Lacks q) before) p t ≡ (dead v A p || holds v (A ++ arm_atoms before p) t)
 arm_holds v A before p t n = ap (λ b. b || holds v ((A ++ map (λ q. Lacks q) before) ++ Has p ∷ []) t) (dead_behind v A before p n) ∙ ap (λ B. dead v A p || holds v B t) (atoms_behind A before p)
@@ -52,7 +52,7 @@ pub arm_rests : (v : View) (A : List Atom) (before : List ℕ) (p : ℕ) (t : Pl
 arm_rests v A before p t n =
     ap (λ b. cond b [] (rests v ((A ++ map (λ q. Lacks q) before) ++ Has p ∷ []) t)) (dead_behind v A before p n) ∙ ap (λ B. cond (dead v A p) [] (rests v B t)) (atoms_behind A before p)
 
--- the others have the number once
+-- the numbers before p in a list without repeats don't have p
 pub apart_from : (xs : List ℕ) (p : ℕ) (ys : List ℕ) → distinct (xs ++ p ∷ ys) ≡ true → mem xs p ≡ false
 apart_from [] p ys d = refl
 apart_from (x ∷ xs) p ys d =
@@ -140,7 +140,7 @@ leave_at v A g arms k a lt e w here =
     ∙ ap (λ (B : List Atom). let x : Walk = record { scene = v; atoms = B; given = g } in x)
     (append_assoc A (lacked (walked arms k)) (Lacks p ∷ []) ∙ ap (λ B. A ++ B) (sym (map-append (λ q. Lacks q) (walked arms k) (p ∷ []))) ∙ ap (λ xs. A ++ lacked xs) (sym (walked_at arms k a lt e)))
 
--- what a Branch comes to, by its arms
+-- whether a Branch holds, by its arms
 pub branch_says : (v : View) (A : List Atom) (t : Plan) (i : Item) (arms : List Arm) → t ≡ Branches i (arms_list arms) → (fit : Bool) → fit ≡ arms_fit v A i (heads (arms_list arms)) →
     holds v A t ≡ (fit && arms_hold v A [] (arms_list arms))
 branch_says v A t i arms e fit h = ap (λ x. holds v A x) e ∙ ap (λ b. b && arms_hold v A [] (arms_list arms)) (sym h)
@@ -155,7 +155,7 @@ length_at A arms k =
     let e = length-take k arms in
     omega arith
 
--- a placement that is not dead, with a Branch without arms: nothing but the count is asked, and it leaves nothing
+-- a Branch without arms, under a placement that is not dead: only the count matters, and the Branch leaves nothing
 bare : (x : Bool) → x ≡ (x && true)
 bare true = refl
 bare false = refl

@@ -31,7 +31,7 @@ not_all v A i arms d n =
     let few = ltb (tally (λ p. has_item v p i && not (ruled_out v A p) && not (mem ps p)) v.live) (lower v A i) in
     ap (λ b. b && few) (sym (all_heads (λ p. has_item v p i) arms ∙ n)) ∙ ap (λ b. b && list_all (λ p. has_item v p i) ps && few) (sym d)
 
--- others fit by the count alone
+-- other arms fit if the count does
 few_fit : (v : View) (A : List Atom) (i : Item) (arms : List Arm) (loose low : ℕ) → distinct (heads (arms_list arms)) ≡ true → list_all (λ a. has_item v a.placement i) arms ≡ true →
     loose ≡ tally (λ p. has_item v p i && not (ruled_out v A p) && not (mem (heads (arms_list arms)) p)) v.live → low ≡ lower v A i →
     ltb loose low ≡ arms_fit v A i (heads (arms_list arms))
@@ -45,7 +45,7 @@ tally_heads : (f : ℕ → Bool) (arms : List Arm) → tally f (heads (arms_list
 tally_heads f [] = refl
 tally_heads f (a ∷ arms) = ap (λ n. one (f a.placement) + n) (tally_heads f arms)
 
--- what is not ruled out isn't one of these placements, or it is
+-- the placements that are not ruled out, split into these placements and the others
 allowed_apart : (v : View) (A : List Atom) (i : Item) (ps : List ℕ) → distinct v.live ≡ true → distinct ps ≡ true → list_all (λ p. has_item v p i) ps ≡ true →
     tally (λ p. has_item v p i && not (ruled_out v A p) && not (mem ps p)) v.live + tally (λ p. mem v.live p && not (ruled_out v A p)) ps
     ≡ tally (λ p. has_item v p i && not (ruled_out v A p)) v.live
@@ -71,7 +71,7 @@ allowed_apart v A i ps once d h =
         let two = and_parts (f x) (mem ps x) e in
         (mem_in ps x two.1, and_from _ _ (in_mem v.live x k) (and_parts (has_item v x i) (not (ruled_out v A x)) two.0).1)
 
--- and so by how many have the item, how many arms are among these, and what is needed
+-- so whether arms fit depends on how many of them have the item, how many of these are arms, and how many are needed
 pub rest_fits : (v : View) (A : List Atom) (i : Item) (arms : List Arm) (all taken rest low : ℕ) → distinct v.live ≡ true → distinct (heads (arms_list arms)) ≡ true → list_all (λ a. has_item v a.placement i) arms ≡ true →
     all ≡ tally (λ p. has_item v p i && not (ruled_out v A p)) v.live → taken ≡ tally (λ a. mem v.live a.placement && not (ruled_out v A a.placement)) arms → rest ≡ all - taken → low ≡ lower v A i →
     ltb rest low ≡ arms_fit v A i (heads (arms_list arms))

@@ -45,11 +45,11 @@ mutual
     | inr j ↦ arms_after v arms A (before ++ p ∷ []) B j
   ]
 
--- so it has each of them
+-- so a rest has each of the atoms given
 pub rest_has : (v : View) (t : Plan) (A B : List Atom) → In B (rests v A t) → (a : Atom) → In a A → In a B
 rest_has v t A B i a k = let r = rest_after v t A B i in subst (λ C. In a C) (sym r.1) (in_append_left a A r.0 k)
 
--- outside the base its members are all others
+-- if p isn't in the base, all members of the base are others than p
 count_others : (v : View) (A : List Atom) (p : ℕ) (i : Item) → mem (base v A) p ≡ false → count v (base v A) i ≤ others v (base v A) p i
 count_others v A p i out = tally_within (λ q. has_item v q i) (λ q. has_item v q i && not (eqb q p)) (base v A) (base v A) (ascending_distinct (base v A) (base_up v A))
     (λ q k e. (k, and_from _ _ e (not_from_false _ (ne_eqb q p (λ s. both_ways (mem (base v A) p) out (in_mem (base v A) p (subst (λ z. In z (base v A)) s k)))))))
@@ -78,7 +78,7 @@ open_for v A p h =
           ]);
     }
 
--- so taking or leaving it makes a list neither hopeless nor hopeful
+-- so taking or leaving it doesn't change whether a list is hopeless
 hopeless_pick : (v : View) (A : List Atom) (p : ℕ) → can_take v A p ≡ true → hopeless v (A ++ Has p ∷ []) ≡ hopeless v A
 hopeless_pick v A p h = taking_keeps_hope_lem v A p (open_for v A p h)
 

@@ -1,4 +1,4 @@
--- A tree that holds shares its family out.
+-- A tree that holds divides its family among its tilings and its rests.
 use Rattle.std.proofs.Common.{◌≡◌, ℕ, ◌+◌, Bool, true, false, cond, not, ◌&&◌, ◌||◌, List, [], ◌∷◌, ◌++◌, inl, inr, refl, sym, ap, subst, ◌∙◌, arith, map, nat_lt}
 use Rattle.std.proofs.lemmas.List.{map-append}
 use Rattle.std.specs.List.{list_any, list_all}
@@ -45,7 +45,7 @@ found_at v T A t h true f false m = omega (
 found_at v T A t h false f true m = absurd (both_ways (in_family v A T) (subst (λ U. in_family v A U ≡ false) (found_same v T A (parts v T t) m h) f) (and_from (is_tiling v T) (meets_all v T A) t m))
 found_at v T A t h false f false m = refl
 
--- some arm is a member
+-- the placement of some arm is a member of the tiling
 some_arm : (v : View) (T : List ℕ) (A : List Atom) (i : Item) (ps : List ℕ) → IsTiling v T → meets_all v T A ≡ true → arms_fit v A i ps ≡ true → list_any (λ p. mem T p) ps ≡ true
 some_arm v T A i ps t m f = elim (cases_Bool (list_any (λ p. mem T p) ps)) [
   | inl y ↦ y

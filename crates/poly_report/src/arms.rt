@@ -1,4 +1,4 @@
-//! Whether the arms of a Branch fit, asked of a frame.
+//! Whether the arms of a Branch fit, checked on a frame.
 ghost use Rattle.std.specs.Prelude.{false, if◌then◌else◌, not, true, ◌&&◌, ◌==◌, ◌≡◌};
 ghost use Rattle.std.specs.List.{list_all};
 ghost use Rattle.poly_tiling.specs.Lists.{distinct, mem, tally};

@@ -1,4 +1,4 @@
-//! Whether a tree holds, and what it leaves: one walk over a frame tells both.
+//! Whether a tree holds, and what it leaves: one walk over a frame finds both.
 ghost use Rattle.std.specs.Prelude.{IfErr, IfOk, MatchOption, [], false, length, true, ◌+◌, ◌++◌, ◌<◌, ◌≡◌, ◌≤◌};
 ghost use Rattle.poly_tiling.specs.Lists.{distinct};
 ghost use Rattle.poly_frame.specs.Matrices.{IsWhole};
@@ -195,7 +195,7 @@ pub fn cut_up(
     Ok(cut)
 }
 
-/// What `cut_up` answers, from the view's matrix, which serves every tree that is checked against the view.
+/// Does what `cut_up` does, with the view's matrix, which serves every tree that is checked against the view.
 #[tactic(auto, using(crate::proofs::Measures::fits_total))]
 pub fn cut_up_over(
     alloc: Global,

@@ -56,7 +56,7 @@ impl Leaves {
         Ok(())
     }
 
-    /// Adds a rest with the frame's atoms and one more, so that no step is taken for it. The only refusal is `Memory`.
+    /// Adds a rest with the frame's atoms and one more atom, which saves a step of the frame. The only refusal is `Memory`.
     pub fn push_rest_with(
         &mut self,
         alloc: Global,

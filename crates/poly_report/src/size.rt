@@ -11,14 +11,14 @@ pub const NODES: u32 = 4096;
 /// The greatest depth of a tree that is handed in; a tree of one node has depth 1.
 pub const DEPTH: u32 = 512;
 
-/// Whether a tree has at most 4,096 nodes and at most the depth 512. Stops at the limit, however large the tree is.
+/// Whether a tree has at most 4,096 nodes and a depth of at most 512. Stops at the limit, however large the tree is.
 pub fn fits(tree: &Tree) -> bool
     ensures { result ≡ fits (plan_of tree.now) }
 {
     nodes_left(tree, NODES, DEPTH).is_some()
 }
 
-// How many of the nodes are left when the tree has taken its own, if it needs no more and is not too deep.
+// How many of `nodes` are left after the tree's own; `None` if the tree has more or is deeper than `depth`.
 fn nodes_left(tree: &Tree, nodes: u32, depth: u32) -> Option<u32>
     ensures left { IfSome result (λ left. (left + total (plan_of tree.now) ≡ nodes) × (deep (plan_of tree.now) ≤ depth)) }
     ensures none { IfNone result (total (plan_of tree.now) ≤ nodes → depth < deep (plan_of tree.now)) }

@@ -1,4 +1,4 @@
--- Ascending lists: with one number more, and two with the same members are one.
+-- Ascending lists: with one more number, and two with the same members, which are equal.
 use Rattle.std.proofs.Common.{Bool, List, [], ap, arith, cond, drop, eqb, false, get_or, inl, inr, length, ltb, refl, subst, suc, sym, true, zero, ℕ, ◌+◌, ◌-◌, ◌<◌, ◌∙◌, ◌∷◌, ◌≡◌, ◌≤◌, ◌⊎◌}
 use Rattle.std.proofs.lemmas.List.{at_drop_more}
 use Rattle.std.proofs.lemmas.Bool.{and_from, and_parts, eq-eqb, eqb-false, eqb-true, lt-ltb, ltb-false, ltb-true, true≢false}
@@ -87,7 +87,7 @@ tail_in : (x y : ℕ) (xs ys : List ℕ) → ascending (x ∷ xs) ≡ true → x
 tail_in x y xs ys h e z i (inl k) = let a = below_all x xs h z i in absurd (omega arith)
 tail_in x y xs ys h e z i (inr j) = j
 
--- two ascending lists with the same members are one list
+-- two ascending lists with the same members are equal
 pub ascending_same : (xs ys : List ℕ) → ascending xs ≡ true → ascending ys ≡ true →
     ((z : ℕ) → In z xs → In z ys) → ((z : ℕ) → In z ys → In z xs) → xs ≡ ys
 ascending_same [] [] hx hy to from = refl
@@ -147,7 +147,7 @@ ascends_more xs i low high l =
     ∙ sym (at_drop_more ascending xs i 0 high)
     ∙ ap (λ n. ascending (drop n xs)) back
 
--- one number and none ascend
+-- a list with at most one number ascends
 pub ascends_last : (xs : List ℕ) (n : ℕ) → length xs ≤ n + 1 → ascending (drop n xs) ≡ true
 ascends_last [] zero h = refl
 ascends_last [] (suc n) h = refl

@@ -1,4 +1,4 @@
--- Elements by their places and by recursion, and facts about each element and each later one.
+-- Elements by their indices and by recursion, and facts about each element and each later one.
 use Rattle.std.proofs.Common.{List, Some, [], ap, arith, get_or, inl, inr, length, refl, slice_get, subst, suc, zero, ℕ, ◌<◌, ◌∷◌, ◌≡◌, ◌≢◌}
 use Rattle.std.specs.List.{AllPairs, Contains}
 use Rattle.poly_tiling.proofs.Lists.{In}
@@ -56,7 +56,7 @@ low_get [] n l = absurd (omega arith)
 low_get (x ∷ xs) zero l = (x, refl)
 low_get (x ∷ xs) (suc n) l = low_get xs n (omega arith)
 
--- if no two elements are the same, each has one place
+-- if no two elements are the same, each has only one index
 pub one_place : {X : Type 0} (xs : List X) → AllPairs (λ x y. x ≢ y) xs → (m n : ℕ) (x : X) → slice_get xs m ≡ Some x → slice_get xs n ≡ Some x → m ≡ n
 one_place [] h m n x a b = cc
 one_place (y ∷ ys) h zero zero x a b = refl

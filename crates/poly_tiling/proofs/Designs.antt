@@ -1,4 +1,4 @@
--- Two views of one design, the later with more numbers, are one view that has grown.
+-- Of two views of one design, the later one with more numbers, the later is the earlier one, grown.
 use Rattle.std.proofs.Common.{List, Some, [], ap, inl, inr, refl, slice_get, subst, sym, true, ℕ, ◌∙◌, ◌∷◌, ◌≡◌}
 use Rattle.std.proofs.lemmas.Bool.{and_parts, both_ways}
 use Rattle.std.specs.List.{list_all}

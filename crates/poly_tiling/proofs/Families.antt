@@ -1,4 +1,4 @@
--- How the tilings that are left fall apart, and when none is.
+-- How the tilings that are left are divided, and when none is left.
 use Rattle.std.proofs.Common.{Bool, Err, List, None, Ok, Option, Result, Some, [], ap, arith, cond, eqb, false, inl, inr, leb, length, not, refl, subst, suc, sym, take, true, zero, ℕ, ◌&&◌, ◌++◌, ◌+◌, ◌<◌, ◌||◌, ◌∙◌, ◌∷◌, ◌≡◌, ◌≢◌, ◌≤◌, ◌⊎◌}
 use Rattle.std.proofs.lemmas.Bool.{and_from, and_parts, both_ways, cases_Bool, eq-eqb, eqb-true, false_from_ne_true, leb-true, ne_eqb, not-true, not_from_false, or_cases, or_left, or_right, true≢false}
 use Rattle.std.specs.Option.{IfNone, IfSome}
@@ -81,7 +81,7 @@ without_shorter p (x ∷ xs) (inr i) = elim (not (eqb x p)) as (λ b. length (co
 pub apart_in : (chosen free : List ℕ) → AreApart chosen free → (p : ℕ) → In p free → In p chosen → ⊥
 apart_in chosen free a p i j = both_ways (mem chosen p) (not-true _ (all_in (λ p. not (mem chosen p)) free a.apart p i)) (in_mem chosen p j)
 
--- each tiling that is left has p or it hasn't
+-- each tiling that is left has p or doesn't
 pub left_split : (v : View) (chosen free : List ℕ) (p : ℕ) (T : List ℕ) → AreApart chosen free → In p free →
     one (is_left v chosen free T) ≡ one (is_left v (chosen ++ p ∷ []) (without p free) T) + one (is_left v chosen (without p free) T)
 left_split v chosen free p T a i = elim (cases_Bool (mem T p)) [
@@ -209,7 +209,7 @@ any_true (x ∷ xs) h = absurd (true≢false h)
 pub no_number : (v : View) (free : List ℕ) → list_any (λ p. is_option v None p) free ≡ false → free ≡ []
 no_number v free h = any_true free h
 
--- with nothing free there is at most the list of the chosen numbers itself
+-- if no number is free, only the list of the chosen numbers may be left
 pub left_leaf : (v : View) (chosen S T : List ℕ) → ascending S ≡ true → ((n : ℕ) → mem S n ≡ mem chosen n) → is_left v chosen [] T ≡ (is_tiling v S && same_list T S)
 left_leaf v chosen S T up same = same_truth _ _
     (λ h.
@@ -228,13 +228,13 @@ left_leaf v chosen S T up same = same_truth _ _
       only = λ p i. inl (mem_in chosen p (sym (same p) ∙ in_mem S p (subst (λ l. In p l) is i)));
     }))
 
--- all tilings have the pins, and else only live numbers
+-- all tilings have the pins, and apart from them only live numbers
 pub left_first : (v : View) (T : List ℕ) → is_left v v.pins v.live T ≡ is_tiling v T
 left_first v T = same_truth _ _
     (λ h. (left_parts v v.pins v.live T h).tiles)
     (λ h. let t = parts v T h in left_whole v v.pins v.live T (record { tiles = h; has = t.pinned; only = λ p i. inr (t.placed p i) }))
 
--- what is found, and what it means that nothing is
+-- the number that is found, and what follows if none is
 pub find_in : (f : ℕ → Bool) (xs : List ℕ) (p : ℕ) → find f xs ≡ Some p → In p xs
 find_in f [] p e = cc
 find_in f (x ∷ xs) p e = find_in_at f x xs p (λ k. find_in f xs p k) (f x) e
@@ -281,7 +281,7 @@ ok_none (Ok u) None P h = h
 ok_none (Ok u) (Some i) P h = h
 ok_none (Err e) item P h = tt
 
--- what was found before the last step, with what was left then, is what there was with what was left at first
+-- the tilings found before the last step and those left then are, together, those there at first and those left at first
 pub record Sums (v : View) (chosen free rest : List ℕ) (old now : List (List ℕ)) : Type 0 where
   pub sums : (T : List ℕ) → tally (same_list T) now + one (is_left v chosen rest T) ≡ tally (same_list T) old + one (is_left v chosen free T)
 
@@ -315,7 +315,7 @@ adds_wide v c free old new d h = λ T. omega (arith, h T, ap one (left_narrowed 
 pub most_wide : (v : View) (c free : List ℕ) (old new : List (List ℕ)) → distinct c ≡ true → AddsAtMost v c (filter (λ q. fits_beside v c q) free) old new → AddsAtMost v c free old new
 most_wide v c free old new d h = λ T. omega (arith, h T, ap one (left_narrowed v c free T d))
 
--- what the search begins with leaves all tilings
+-- at the beginning of the search, all tilings are left
 pub first_left : (v : View) (chosen free T : List ℕ) → WellNamed v → chosen ≡ v.pins → free ≡ filter (λ q. fits_beside v chosen q) v.live → is_left v chosen free T ≡ is_tiling v T
 first_left v chosen free T wn pins is =
     ap (λ l. is_left v chosen l T) is

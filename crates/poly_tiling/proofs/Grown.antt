@@ -1,4 +1,4 @@
--- Giving numbers out changes no tiling.
+-- Assigning new numbers doesn't change whether a list is a tiling.
 use Rattle.std.proofs.Common.{List, [], ap, append_assoc, arith, eqb, not, refl, slice_get, subst, sym, ℕ, ◌&&◌, ◌++◌, ◌∙◌, ◌≡◌}
 use Rattle.std.proofs.lemmas.List.{append-nil}
 use Rattle.poly_tiling.specs.Puzzle.{Bound}
@@ -42,7 +42,7 @@ down v w T wn g t =
 pub numbers_may_grow_lem : NumbersMayGrow
 numbers_may_grow_lem v w T wn g = same_truth _ _ (λ t. whole v T (down v w T wn g (parts w T t))) (λ t. whole w T (up v w T wn g (parts v T t)))
 
--- growth goes on
+-- a view that grows twice has grown
 pub names_on : (u v w : View) → Names u v → Names v w → Names u w
 names_on u v w a b = (a.0 ++ b.0, b.1 ∙ ap (λ xs. xs ++ b.0) a.1 ∙ append_assoc u.placements a.0 b.0)
 

@@ -39,7 +39,7 @@ use Rattle.poly_tiling.proofs.Reached.{numbers_reach_lem}
 use Rattle.poly_tiling.proofs.Shown.{in_names, live_given, names_count, names_in, same_number, shows_to}
 use Rattle.poly_tiling.proofs.Tilings.{IsTiling, parts}
 
--- ---- orders that tell unequal things apart
+-- ---- orders in which only equal things compare as equal
 
 then_equal : (p q : Ordering) → ordering_then p q ≡ Equal → (p ≡ Equal) × (q ≡ Equal)
 then_equal Less q e = (e, absurd (cc))
@@ -145,7 +145,7 @@ placed_tiles v d T wn s h =
       placed_ascends v wn T,
     )
 
--- tilings with the same placements are one
+-- tilings with the same placements are equal
 number_kept : (v : View) (T U : List ℕ) → WellNamed v → IsTiling v T → placed v T ≡ placed v U → (n : ℕ) → In n T → In n U
 number_kept v T U wn t e n i =
     let x = live_given v wn n (t.placed n i) in
@@ -254,6 +254,6 @@ tally_sum : {X : Type 0} (f : X → Bool) (xs : List X) → tally f xs ≡ sum_b
 tally_sum f [] = refl
 tally_sum f (x ∷ xs) = let ih = tally_sum f xs in omega (arith, ih, sum_by-cons (λ x. one (f x)) x xs)
 
--- what has each tiling once has it once in any order
+-- a list that has each tiling once still does in any other order
 pub each_once_moved : (v : View) (old new : List (List ℕ)) → IsPermutation old new → HasEachOnce v old → HasEachOnce v new
 each_once_moved v old new moved once T = tally_sum (same_list T) new ∙ sum_by-IsPermutation (λ x. one (same_list T x)) old new moved ∙ sym (tally_sum (same_list T) old) ∙ once T

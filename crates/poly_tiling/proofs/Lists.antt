@@ -1,4 +1,4 @@
--- Membership, tests over lists, counts, and the element at a place.
+-- Membership, tests over lists, counts, and the element at an index.
 use Rattle.std.proofs.Common.{Bool, List, None, Option, [], ap, arith, cond, eqb, false, inl, inr, length, map, refl, slice_get, subst, suc, sym, true, zero, ℕ, ◌&&◌, ◌++◌, ◌+◌, ◌<◌, ◌||◌, ◌∙◌, ◌∷◌, ◌≡◌, ◌⊎◌}
 use Rattle.std.proofs.lemmas.Bool.{and_from, and_parts, both_ways, cases_lt, eq-eqb, eqb-true, false_from_ne_true, or_cases, or_left, or_right, true≢false}
 use Rattle.std.proofs.lemmas.Option.{slice_get_past}
@@ -101,13 +101,13 @@ same_truth true b to from = sym (to refl)
 same_truth false true to from = from refl
 same_truth false false to from = refl
 
--- what is there stays there
+-- an element keeps its index in a longer list
 pub slice_get_front : {X : Type 0} (xs ys : List X) (n : ℕ) → n < length xs → slice_get (xs ++ ys) n ≡ slice_get xs n
 slice_get_front [] ys n h = absurd (omega arith)
 slice_get_front (x ∷ xs) ys zero h = refl
 slice_get_front (x ∷ xs) ys (suc n) h = slice_get_front xs ys n (omega arith)
 
--- what is said of an element that is there is said of it in a longer list
+-- a fact about an element of a list holds in a longer list too
 pub slice_get_more : {X : Type 0} (P : Option X → Bool) (xs ys : List X) (n : ℕ) → P None ≡ false → P (slice_get xs n) ≡ true → P (slice_get (xs ++ ys) n) ≡ true
 slice_get_more P xs ys n none h = elim (cases_lt n (length xs)) [
   | inl l ↦ ap P (slice_get_front xs ys n l) ∙ h

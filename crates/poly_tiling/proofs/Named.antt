@@ -1,4 +1,4 @@
--- A later view says the same of the numbers of an earlier one.
+-- A later view says the same about the numbers of an earlier one.
 use Rattle.std.proofs.Common.{Bool, List, None, Option, Some, [], ap, arith, eqb, false, inl, inr, length, ltb, not, refl, slice_get, subst, true, ℕ, ◌&&◌, ◌++◌, ◌∙◌, ◌∷◌, ◌≡◌}
 use Rattle.std.proofs.lemmas.Bool.{and_from, and_parts, ltb-true}
 use Rattle.std.specs.List.{list_all, list_any}
@@ -10,7 +10,7 @@ use Rattle.poly_design.specs.declared.placement.Placement.{Placement}
 use Rattle.poly_tiling.proofs.Lists.{In, all_in, any_in, slice_get_front, slice_get_more}
 use Rattle.poly_tiling.proofs.Tilings.{same_item_is}
 
--- a number of the old design's names the same placement in both
+-- a number of the old design names the same placement in both views
 pub named : (old new : View) → WellNamed old → Names old new → (p : ℕ) → In p old.live → slice_get new.placements p ≡ slice_get old.placements p
 named old new wn names p i =
     let low = ltb-true p (length old.placements) (all_in (λ q. ltb q (length old.placements)) old.live wn.named p i) in

@@ -212,7 +212,7 @@ in_small n [] small x i = absurd i
 in_small n (y ∷ list) small x (inl e) = let s = small 0 (omega arith) in omega (arith, s, e)
 in_small n (y ∷ list) small x (inr i) = in_small n list (λ k l. small (suc k) (omega (arith, l))) x i
 
--- a list without repeats is no longer than there are numbers for it
+-- a list without repeats, of numbers below n, has at most n numbers
 pub count_fits : (list : List ℕ) (n : ℕ) → distinct list ≡ true → ((k : ℕ) → k < length list → get_or list k 0 < n) → length list ≤ n
 count_fits list n once small = length-le_from_distinct_below list n
     (IsDistinct-from_apart eqb list
@@ -220,7 +220,7 @@ count_fits list n once small = length-le_from_distinct_below list n
     (λ e. let is = one_at list once i j (get_or list j d) (get_is list i d (omega (arith, l, m)) ∙ ap Some e) (get_is list j d m) in omega (arith, l, is))))
     (λ q h. let r = any_in (eqb q) list h in let e = eqb-true q r.0 r.2 in let s = in_small n list small r.0 r.1 in omega (arith, e, s))
 
--- tilings in the order of their ranks are in their order
+-- tilings that are in the order of their ranks are in the order of tilings
 pub sorted_by_ranks : {R : Type 0} (v : View) (tiling : R → List ℕ) (ranks : R → List ℕ) (rs : List R) → WellNamed v → All (λ r. ranks r ≡ ranks_from 0 v.live (tiling r)) rs →
     IsSortedBy (λ x y. is_lt (slice_cmp nat_cmp (ranks x) (ranks y))) rs → IsSorted (tiling_cmp v) (map tiling rs)
 sorted_by_ranks v tiling ranks [] wn all up k d l m = absurd (omega arith)

@@ -148,7 +148,7 @@ pins_all pieces left old now pins s none =
     let whole : s.done ≡ pins_of pieces = sym (append-nil s.done) ∙ ap (λ l. s.done ++ pins_of l) (sym none) ∙ s.split in
     record { more = s.more; grown = s.grown; apart = s.apart; stand = subst (λ l. StandFor now pins l) whole s.stand; after = s.after }
 
--- what was found has its number, and what was not gets the next
+-- a placement that was found has its number; one that wasn't gets the next
 pub position_at : (f : Placement → Bool) (ps : List Placement) (n : ℕ) (p : Placement) → position f ps ≡ Some n → ((q : Placement) → f q ≡ true → q ≡ p) → slice_get ps n ≡ Some p
 position_at f ps n p e is =
     let r = position-Some f ps n p e in

@@ -37,7 +37,7 @@ pub ranks_high : (s : ℕ) (ns T : List ℕ) (k : ℕ) → In k (ranks_from s ns
 ranks_high s [] T k i = absurd i
 ranks_high s (n ∷ ns) T k i = ranks_high_at s n ns T k (λ j. ranks_high (s + 1) ns T k j) (mem T n) i
 
--- two lists that are told apart by what one of them begins with
+-- two lists that differ by what one of them begins with
 record Behind (s : ℕ) (x : Placement) (ks : List ℕ) (xs : List Placement) : Type 0 where
   even : length ks ≡ length xs
   ranks : (k : ℕ) → In k ks → s < k
@@ -74,7 +74,7 @@ first_there s x ra (k ∷ ks) na (y ∷ xs) h =
     ap (λ o. ordering_then o (slice_cmp nat_cmp ks ra)) (nat_more s k (h.ranks k (inl refl)))
     ∙ sym (ap (λ o. ordering_then o (slice_cmp placement_cmp xs na)) more)
 
--- as many ranks as placements
+-- there are as many ranks as placements
 even_at : (v : View) (s n : ℕ) (ns T : List ℕ) (x : Placement) → slice_get v.placements n ≡ Some x → length (ranks_from (s + 1) ns T) ≡ length (names v (filter (λ n. mem T n) ns)) →
     (b : Bool) → length (cond b (s ∷ ranks_from (s + 1) ns T) (ranks_from (s + 1) ns T)) ≡ length (names v (cond b (n ∷ filter (λ n. mem T n) ns) (filter (λ n. mem T n) ns)))
 even_at v s n ns T x e ih true = let l = ap (λ o. length (cons_option o (names v (filter (λ n. mem T n) ns)))) e in omega (arith, l, ih)

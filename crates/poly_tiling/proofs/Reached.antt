@@ -1,4 +1,4 @@
--- Each tiling of the design has just one list of numbers.
+-- Each tiling of the design has exactly one list of numbers.
 use Rattle.std.proofs.Common.{Bool, List, Some, [], ap, arith, cond, eqb, false, inl, inr, length, ltb, map, refl, slice_get, subst, sym, true, ℕ, ◌∙◌, ◌∷◌, ◌≡◌, ◌≢◌}
 use Rattle.std.proofs.lemmas.Bool.{and_from, false_from_ne_true, lt-ltb, ne_eqb}
 use Rattle.std.specs.List.{AllPairs, Contains, list_any}
@@ -51,7 +51,7 @@ counted v i [] (x ∷ S) e = cc
 counted v i (n ∷ N) [] e = cc
 counted v i (n ∷ N) (x ∷ S) e = let es = heads_stand v n N x S e in omega (arith, ap (λ o. one (list_any (λ j. same_item j i) (items_of o))) es.0, counted v i N S es.1)
 
--- in its order, the same is counted
+-- sorting doesn't change a count
 sorted_count : (f : ℕ → Bool) (N : List ℕ) → distinct N ≡ true → tally f (put_all N []) ≡ tally f N
 sorted_count f N h =
     let up = put_all_up N [] refl in

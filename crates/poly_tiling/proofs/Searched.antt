@@ -96,7 +96,7 @@ none_at bs i f none = bound_none bs i f (any_none (λ b. same_item b.0 i) bs (λ
     is_equal Equal e = refl
     is_equal Greater e = cc
 
--- what a search for an item answers, by any order that is that of the items
+-- what a search for an item returns, for any order that agrees with that of the items
 pub bound_found : (bs : List Bound) (i : Item) (ord : Bound → Ordering) → ((b : Bound) → ord b ≡ item_cmp b.0 i) → items_ascend bs ≡ true → (at : ℕ) → at < length bs → HoldsAt (λ b. ord b ≡ Equal) bs at →
     (b : Bound) → b ≡ get_or bs at b → (f : Bound → ℕ) → bound_in bs i f ≡ f b
 bound_found bs i ord is up at low here b same f = bound_at bs i f at b up low (sym (is (get_or bs at b)) ∙ here b) ∙ ap f (sym same)

@@ -22,7 +22,7 @@ range_suc a (suc n) =
 pub range_more : (a n : ℕ) → range_with_len a (n + 1) ≡ range_with_len a n ++ (a + n) ∷ []
 range_more a n = ap (λ m. range_with_len a m) (add-one n) ∙ range_suc a n
 
--- what has a number keeps it
+-- a placement that has a number keeps it
 pub get_stays : (ps more : List Placement) (n : ℕ) (x : Placement) → slice_get ps n ≡ Some x → slice_get (ps ++ more) n ≡ Some x
 get_stays ps more n x e = slice_get_front ps more n (get_low ps n x e) ∙ e
 

@@ -9,17 +9,17 @@ use Rattle.poly_tiling.specs.Names.{Grown, Names, WellNamed}
 use Rattle.poly_tiling.specs.Tilings.{IsTiling}
 use Rattle.poly_tiling.specs.Shows.{Shows, given, names}
 
--- Giving numbers out changes no tiling.
+-- Assigning new numbers doesn't change whether a list is a tiling.
 abbrev pub NumbersMayGrow : Type 0
 NumbersMayGrow = (v w : View) (T : List ℕ) → WellNamed v → Grown v w → is_tiling w T ≡ is_tiling v T
 
--- Where a view shows a design, an ascending list of given numbers is a tiling of the view exactly if the placements that
+-- If a view shows a design, an ascending list of given numbers is a tiling of the view exactly if the placements that
 -- it names are a tiling of the design.
 abbrev pub NumbersShow : Type 0
 NumbersShow = (v : View) (d : Layout) (T : List ℕ) → WellNamed v → Shows v d → ascending T ≡ true → given v T ≡ true →
     (is_tiling v T ≡ true) ↔ IsTiling d (names v T)
 
--- the only ascending list of given numbers that names just these placements
+-- the only ascending list of given numbers that names exactly these placements
 pub record IsNumbered (v : View) (S : List Placement) (T : List ℕ) : Type 0 where
   pub ascends : ascending T ≡ true
   pub given_out : given v T ≡ true
@@ -31,6 +31,6 @@ abbrev pub NumbersReach : Type 0
 NumbersReach = (v : View) (d : Layout) (S : List Placement) → WellNamed v → Shows v d → IsTiling d S →
     (T : List ℕ) × (is_tiling v T ≡ true) × IsNumbered v S T
 
--- Two views of one design, of which the later one names what the earlier one names, are one view under numbers that go on.
+-- If two views show one design and the later one names what the earlier one names, the later is the earlier one, grown.
 abbrev pub SameDesignGrows : Type 0
 SameDesignGrows = (v w : View) (d : Layout) → WellNamed v → WellNamed w → Shows v d → Shows w d → Names v w → Grown v w

@@ -9,13 +9,13 @@ use Rattle.poly_tiling.specs.Puzzle.{View, clash, count, has_item, is_piece, is_
 abbrev pub HasEachOnce : View → List (List ℕ) → Type 0
 HasEachOnce v list = (T : List ℕ) → tally (same_list T) list ≡ one (is_tiling v T)
 
--- there are more than n tilings: a list of tilings, none of them twice, is longer
+-- there are more than n tilings: some list of tilings, none of them twice, is longer than n
 pub record HasOver (n : ℕ) (v : View) : Type 0 where
   pub list : List (List ℕ)
   pub once : (T : List ℕ) → tally (same_list T) list ≤ one (is_tiling v T)
   pub long : n < length list
 
--- a tiling that has all the chosen numbers, and else only free ones
+-- a tiling that has all the chosen numbers, and apart from them only free ones
 unfoldable pub is_left : View → List ℕ → List ℕ → List ℕ → Bool
 is_left v chosen free T = is_tiling v T && list_all (λ p. mem T p) chosen && list_all (λ p. mem chosen p || mem free p) T
 
@@ -23,11 +23,11 @@ is_left v chosen free T = is_tiling v T && list_all (λ p. mem T p) chosen && li
 abbrev pub AddsLeft : View → List ℕ → List ℕ → List (List ℕ) → List (List ℕ) → Type 0
 AddsLeft v chosen free old new = (T : List ℕ) → tally (same_list T) new ≡ tally (same_list T) old + one (is_left v chosen free T)
 
--- of the tilings that are left, the new list may lack some
+-- the same, but the new list may lack some of the tilings that are left
 abbrev pub AddsAtMost : View → List ℕ → List ℕ → List (List ℕ) → List (List ℕ) → Type 0
 AddsAtMost v chosen free old new = (T : List ℕ) → tally (same_list T) new ≤ tally (same_list T) old + one (is_left v chosen free T)
 
--- q is none of the chosen, is in conflict with none of them, and its piece is not in as many of them as it may be
+-- q isn't chosen, is in conflict with no chosen number, and its piece may be in one more number than it is
 unfoldable pub fits_beside : View → List ℕ → ℕ → Bool
 fits_beside v chosen q =
     not (mem chosen q)

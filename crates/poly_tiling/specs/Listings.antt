@@ -19,21 +19,21 @@ use Rattle.poly_tiling.specs.Tilings.{IsTiling}
 abbrev pub IsTilingInOrder : Layout → List Placement → Type 0
 IsTilingInOrder d T = IsTiling d T × IsAscending placement_cmp T
 
--- the design's tilings, each as its placements in placement order, in the order of such lists, each once, nothing else
+-- the design's tilings, each as its placements in placement order, in the order of such lists, each once, and nothing else
 abbrev pub IsListOfTilings : Layout → List (List Placement) → Type 0
 IsListOfTilings d all = IsListOf (slice_cmp placement_cmp) (IsTilingInOrder d) all
 
--- there are more than n tilings: a list of tilings, none of them twice, is longer
+-- there are more than n tilings: some list of tilings, none of them twice, is longer than n
 pub record HasOverTilings (n : ℕ) (d : Layout) : Type 0 where
   pub list : List (List Placement)
   pub tilings : All (IsTilingInOrder d) list
   pub apart : AllPairs (λ S T. S ≢ T) list
   pub long : n < length list
 
--- Where a view shows a design, all tilings of the view in their order, each once, are the design's tilings.
+-- If a view shows a design, all tilings of the view in their order, each once, are the design's tilings.
 abbrev pub ListingsShow : Type 0
 ListingsShow = (v : View) (d : Layout) (lists : List (List ℕ)) → WellNamed v → Shows v d → HasEachOnce v lists → IsSorted (tiling_cmp v) lists → IsListOfTilings d (map (placed v) lists)
 
--- Where a view shows a design and has over n tilings, so has the design.
+-- If a view shows a design and has over n tilings, so has the design.
 abbrev pub OverShow : Type 0
 OverShow = (n : ℕ) (v : View) (d : Layout) → WellNamed v → Shows v d → HasOver n v → HasOverTilings n d

@@ -1,4 +1,4 @@
--- What every view keeps, and how numbers go on from one view to the next.
+-- What holds of every view, and how numbers continue from one view to the next.
 use Rattle.std.specs.List.{list_all, list_any, AllPairs}
 use Rattle.std.specs.Ordering.{is_lt}
 use Rattle.std.specs.Prelude.{Bool, List, None, Option, Some, false, length, nat_le, nat_lt, slice_get, true, ℕ, ◌&&◌, [], ◌++◌, ◌∷◌, ◌≡◌, ◌≢◌}
@@ -38,7 +38,7 @@ abbrev pub items_ascend : List (Item × ℕ × ℕ) → Bool
 items_ascend [] = true
 items_ascend (b ∷ bs) = list_all (λ c. is_lt (item_cmp b.0 c.0)) bs && items_ascend bs
 
--- each number that is a placement of the design or a pin is named; placements differ; numbers and items stand in
+-- each number of a placement of the design or of a pin names a placement; placements differ; numbers and items are in
 -- their orders; the items of the design's placements are items of the design; bounds are at most 16
 pub record WellNamed (v : View) : Type 0 where
   pub apart : AllPairs (λ x y. x ≢ y) v.placements
@@ -54,6 +54,6 @@ pub record WellNamed (v : View) : Type 0 where
 abbrev pub Names : View → View → Type 0
 Names old new = (more : List Placement) × (new.placements ≡ old.placements ++ more)
 
--- the same design under numbers that go on
+-- the same design, with numbers that continue those of the earlier view
 abbrev pub Grown : View → View → Type 0
 Grown v w = Names v w × (w.live ≡ v.live) × (w.bounds ≡ v.bounds) × (w.pins ≡ v.pins)

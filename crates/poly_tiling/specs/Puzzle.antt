@@ -59,7 +59,7 @@ abbrev pub bound_in : List Bound → Item → (Bound → ℕ) → ℕ
 bound_in [] i f = 0
 bound_in (b ∷ bs) i f = cond (same_item b.0 i) (f b) (bound_in bs i f)
 
--- the bounds of an item, 0 and 0 if it is not there
+-- the bounds of an item, 0 and 0 if the design doesn't have it
 abbrev pub least : View → Item → ℕ
 least v i = bound_in v.bounds i (λ b. b.1)
 

@@ -55,7 +55,7 @@ pin_of e = option_map (λ cells. record { name = e.0; cells = cells }) e.1.pin
 abbrev pub pins_of : List (List ℕ × Spec) → List Placement
 pins_of pieces = filter_map pin_of pieces
 
--- the numbers are the places of the design's placements in their order; what is named after them is a pin
+-- the numbers are the indices of the design's placements in their order; each number after these names a pin
 pub record IsPlain (v : View) (d : Layout) : Type 0 where
   pub places : List Placement
   pub more : List Placement
@@ -64,7 +64,7 @@ pub record IsPlain (v : View) (d : Layout) : Type 0 where
   pub first : v.live ≡ range_with_len 0 (length places)
   pub after : (p : Placement) → Contains more p → IsPin d p
 
--- the pins have numbers, and the placements that were there keep theirs
+-- the pins have numbers, and the placements that had numbers keep them
 pub record AddsPins (pieces : List (List ℕ × Spec)) (old new : List Placement) (pins : List ℕ) : Type 0 where
   pub more : List Placement
   pub grown : new ≡ old ++ more

@@ -33,7 +33,7 @@ bounds_of_piece None = record { least = 0; most = 0 }
 bounds_of_piece (Some spec) = spec.copies
 
 -- in how many members of a tiling an item is, at least and at most: 1 and 1 for a required cell, 0 and 1 for an optional
--- one, its copies for a piece, and 0 and 0 for an item that is not there
+-- one, its copies for a piece, and 0 and 0 for an item that the design doesn't have
 abbrev pub bounds_of : Layout → Item → Bounds
 bounds_of d (Cell c) = bounds_of_mode (mode_of d c)
 bounds_of d (Piece name) = bounds_of_piece (spec_of d name)

@@ -3,18 +3,18 @@ ghost use Rattle.poly_tiling.specs.Laws.{NumbersMayGrow, NumbersReach, NumbersSh
 ghost use Rattle.poly_tiling.specs.Listings.{ListingsShow, OverShow};
 ghost use Rattle.poly_tiling.specs.TilingOrder.{RanksCompare};
 
-/// Giving numbers out changes no tiling.
+/// Assigning new numbers doesn't change whether a list is a tiling.
 pub fn numbers_may_grow()
     ensures { NumbersMayGrow }
 {}
 
-/// Where a view shows a design, an ascending list of numbers is a tiling of the view exactly if the placements that it
+/// If a view shows a design, an ascending list of numbers is a tiling of the view exactly if the placements that it
 /// names are a tiling of the design.
 pub fn numbers_show()
     ensures { NumbersShow }
 {}
 
-/// Where a view shows a design, each tiling of the design, as a set, has exactly one ascending list of numbers.
+/// If a view shows a design, each tiling of the design, as a set, has exactly one ascending list of numbers.
 pub fn numbers_reach()
     ensures { NumbersReach }
 {}
@@ -24,7 +24,7 @@ pub fn ranks_compare()
     ensures { RanksCompare }
 {}
 
-/// Where a view shows a design, the view's tilings in their order, each once, are the design's: each as its placements
+/// If a view shows a design, the view's tilings in their order, each once, are the design's: each as its placements
 /// in placement order, in the order of such lists, each once, and nothing else.
 pub fn listings_show()
     ensures { ListingsShow }
@@ -35,7 +35,7 @@ pub fn over_shows()
     ensures { OverShow }
 {}
 
-/// If a later view of a design names what an earlier one names, both are one view under numbers that continue.
+/// If a later view of a design names what an earlier one names, the later is the earlier one with more numbers.
 pub fn same_design_grows()
     ensures { SameDesignGrows }
 {}

@@ -1,4 +1,4 @@
-//! The leading numbers of a row as the digits of one number, so that one comparison tells most rows apart.
+//! The leading numbers of a row as the digits of one number, so that most rows are compared by one comparison.
 ghost use Rattle.std.specs.Prelude.{◌*◌, ◌+◌, ◌<◌, ◌≡◌, ◌^◌};
 ghost use Rattle.poly_tiling.specs.Leading.{AreDigits, digit_at, leading};
 
@@ -16,7 +16,7 @@ pub(crate) fn digit_count(base: u64) -> usize
     64
 }
 
-/// The leading numbers of the row as so many digits of this base. The digit of a number is one more than the number, and
+/// The first `count` numbers of the row, as digits of this base. The digit of a number is one more than the number, and
 /// the digits past the end of the row are 0. So two rows compare as their results do, if the results differ.
 pub(crate) fn leading(row: &[u32], base: u64, count: usize) -> u64
     requires positive { 0 < base }

@@ -1,9 +1,9 @@
 //! The plain lister: all tilings of a view, by the plainest search.
 //!
-//! It takes the item that has the fewest options of those that still need one, and tries its options in turn; once no
-//! item needs one, it tries each open placement in turn. A placement that was tried is left out from then on, so that
-//! no tiling is found twice (Knuth, The Art of Computer Programming, volume 4B, section 7.2.2.1, without its links).
-//! What is faster is compared with this.
+//! Of the items that still need an option, it takes the one with the fewest, and tries its options in turn; once no item
+//! needs one, it tries each open placement in turn. A placement that was tried is left out from then on, so no tiling
+//! is found twice (Knuth, The Art of Computer Programming, volume 4B, section 7.2.2.1, without its links). Faster
+//! searches are compared with this one.
 ghost use Rattle.std.specs.Prelude.{[], Err, IfErr, IfNone, IfOk, IfSome, List, OnOk, Option, length, min, true, false, ◌++◌, ◌<◌, ◌∷◌, ◌≡◌, ◌≤◌, ◌⊎◌, ℕ, ◌==◌, not, nat_le, ◌&&◌};
 ghost use Rattle.std.specs.List.{filter, find};
 ghost use Rattle.poly_tiling.specs.Lists.{ascending, distinct, mem};
@@ -20,7 +20,7 @@ use std::alloc::Global;
 /// The most tilings that are listed.
 pub const MAX_TILINGS: usize = 1_000_000;
 
-/// All tilings of the view, each once, in no order that is promised.
+/// All tilings of the view, each once, in no promised order.
 ///
 /// Fails with `CatalogueFull` if there are over 1,000,000, and else only with `Memory`.
 pub fn list_tilings(alloc: Global, view: &View) -> Result<Vec<Tiling>, Refusal>
@@ -36,7 +36,7 @@ pub fn list_tilings(alloc: Global, view: &View) -> Result<Vec<Tiling>, Refusal>
     Ok(found)
 }
 
-// Adds the tilings that have all chosen numbers and else only free ones.
+// Adds the tilings that have all chosen numbers, and apart from them only free ones.
 #[cycle(extend)]
 fn extend(
     alloc: Global,
@@ -62,7 +62,7 @@ fn extend(
     finish(alloc, view, chosen, &item, found)
 }
 
-// Adds the tilings that have all chosen numbers and p, and else only free ones.
+// Adds the tilings that have all chosen numbers and p, and apart from them only free ones.
 #[cycle(extend)]
 fn take(
     alloc: Global,
@@ -88,7 +88,7 @@ fn take(
     Ok(())
 }
 
-// Where no item needs an option, adds the chosen numbers themselves, if they are a tiling.
+// If no item needs an option, adds the chosen numbers themselves, if they are a tiling.
 fn finish(
     alloc: Global,
     view: &View,
@@ -174,7 +174,7 @@ fn take_out(free: &mut Vec<u32>, p: u32)
     free.retain(|q| *q != p);
 }
 
-// The first free number that has the item, or simply the first if no item is given.
+// The first free number that has the item; the first free number if no item is given.
 fn next_option(view: &View, free: &[u32], item: &Option<Item>) -> Option<u32>
     ensures { result ≡ find (λ p. is_option view.now item.now p) free.now }
 {
@@ -190,7 +190,7 @@ fn is_option(view: &View, p: u32, item: &Option<Item>) -> bool
     }
 }
 
-// The item with the fewest options of those that are in fewer chosen numbers than they have to be.
+// The item with the fewest options, of the items that fewer chosen numbers have than must.
 fn unmet_item(view: &View, chosen: &[u32], free: &[u32]) -> Option<Item>
     ensures { IfSome result (λ i. count view.now chosen.now i < least view.now i) }
 {

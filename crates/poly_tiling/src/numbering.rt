@@ -15,8 +15,8 @@ use std::alloc::Global;
 use std::collections::BTreeMap;
 
 impl View {
-    /// The view of a design by itself. The numbers are the places of its placements in `Design::places`; a pin that is
-    /// no placement comes after them.
+    /// The view of a design by itself. The numbers are the indices of its placements in `Design::places`; a pin that isn't a
+    /// placement of the design comes after them.
     ///
     /// The only refusal is `Memory`.
     pub fn plain(alloc: Global, design: &Design) -> Result<View, Refusal>

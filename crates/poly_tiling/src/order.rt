@@ -181,7 +181,7 @@ fn place_of(places: &[Option<u32>], number: u32) -> Option<u32>
     }
 }
 
-// The key of each tiling, of which the row at its index has the ranks.
+// The key of each tiling. The row at the tiling's index has its ranks.
 fn keys_of(
     alloc: Global,
     tilings: &[Tiling],

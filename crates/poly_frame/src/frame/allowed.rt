@@ -1,4 +1,5 @@
-//! What no atom and no member of the base rules out: the rows tell what is open, and the members are asked one by one.
+//! Counts what no atom and no member of the base rules out: the rows tell which placements are open, and the members are
+//! checked one by one.
 ghost use Rattle.std.specs.Prelude.{Bool, MatchOption, length, max, not, slice_index, true, ℕ, ◌&&◌, ◌*◌, ◌+◌, ◌<◌, ◌^◌, ◌≡◌, ◌≤◌};
 ghost use Rattle.poly_tiling.specs.Lists.{mem, tally};
 ghost use Rattle.poly_tiling.specs.Puzzle.{has_item, same_item};
@@ -82,7 +83,7 @@ pub(crate) fn count(node: &Node<'_>, steps: &Steps, members: &[u32], item: &Item
     }
 }
 
-// The same of the item of a row.
+// `least` for the item of a row.
 fn least_of_row(node: &Node<'_>, steps: &Steps, b: usize, item: &Item) -> usize
     requires kept { IsAt node.now steps.now }
     requires row { b < length node.now.view.now.bounds }

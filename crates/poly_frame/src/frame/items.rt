@@ -88,7 +88,7 @@ fn is_cell(item: &Item, cell: Cell) -> bool
     }
 }
 
-// Where a cell stands.
+// The index of a cell, if the guess is right or a search finds it.
 fn cell_at(bounds: &[(Item, u8, u8)], guess: usize, cell: Cell) -> Option<usize>
     ensures { MatchOption result ((b : ℕ) → b < length bounds.now → same_item (item_at bounds.now b) (CellItem cell) ≡ false) (λ b. (b < length bounds.now) × (same_item (item_at bounds.now b) (CellItem cell) ≡ true)) }
 {
@@ -156,7 +156,7 @@ pub(crate) fn note_items(
     }
 }
 
-/// Counts each place once more.
+/// Raises the count at each place by one.
 pub(crate) fn raise(have: &mut Vec<u64>, places: &[usize])
     requires low { list_all (λ b. nat_lt b (length have.old.items)) places.now ≡ true }
     requires small { (b : ℕ) → b < length have.old.items → slice_index have.old.items b + length places.now < 2 ^ 64 }
@@ -168,7 +168,7 @@ pub(crate) fn raise(have: &mut Vec<u64>, places: &[usize])
     }
 }
 
-/// Counts each place once less.
+/// Lowers the count at each place by one.
 pub(crate) fn lower(have: &mut Vec<u64>, places: &[usize])
     requires low { list_all (λ b. nat_lt b (length have.old.items)) places.now ≡ true }
     requires enough { (b : ℕ) → b < length have.old.items → times places.now b ≤ slice_index have.old.items b }

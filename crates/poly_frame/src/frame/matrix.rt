@@ -22,7 +22,7 @@ pub(crate) struct Lists {
     pub(crate) places: Vec<usize>,
 }
 
-/// The exact cover matrix of a view. It is made once for a view, and then serves each frame of that view.
+/// The exact cover matrix of a view. It is made once for a view, and each frame of that view can use it.
 #[derive(Drop)]
 pub struct Matrix {
     pub(crate) numbers: Vec<u32>,
@@ -200,7 +200,7 @@ fn list_set(numbers: &[u32], row: &[u64], width: usize, into: &mut Vec<u32>)
     }
 }
 
-// The items of each number, asked of the view.
+// The items of each number, read from the view.
 fn list_items(
     alloc: Global,
     view: &View,

@@ -20,7 +20,7 @@ fn take_number(numbers: &mut Vec<u32>, number: u32)
     }
 }
 
-// Takes the placement of a Has out again.
+// Removes the placement of the atom, if it is a Has.
 fn take_last(numbers: &mut Vec<u32>, atom: &Atom)
     ensures asked { (p : ℕ) → atom.now ≡ Atom.Has p → numbers.new.items ≡ without p numbers.old.items }
     ensures other { ((p : ℕ) → atom.now ≢ Atom.Has p) → numbers.new.items ≡ numbers.old.items }
@@ -46,7 +46,7 @@ pub(crate) fn pick(node: &Node<'_>, members: &mut Vec<u32>, sizes: &mut Vec<usiz
     put_number(members, number);
 }
 
-/// Leaves a number: the base stays.
+/// Leaves a number: the base stays the same.
 pub(crate) fn leave(node: &Node<'_>, members: &[u32], sizes: &mut Vec<usize>, number: u32)
     requires base { members.now ≡ base node.now.view.now node.now.path.now }
     requires sizes { SizesShow node.now.view.now node.now.path.now node.now.given sizes.old.items }

@@ -1,4 +1,4 @@
-//! Notes of which items are due, a bit for each. A note is tested where it is read, so a wrong one costs time alone.
+//! Notes of which items are due, a bit for each. A note is tested when it is read, so a wrong one only costs time.
 ghost use Rattle.std.specs.Prelude.{IfErr, ◌≡◌};
 
 use poly_grid::Refusal;
@@ -19,14 +19,14 @@ fn note_item(due: &mut Vec<u64>, asked: &[u8], have: &[u64], b: usize) {
     }
 }
 
-/// Notes of the items at some places whether they are due now.
+/// Notes for the items at some places whether they are due now.
 pub(crate) fn note_due(due: &mut Vec<u64>, asked: &[u8], have: &[u64], places: &[usize]) {
     for b in places {
         note_item(due, asked, have, *b);
     }
 }
 
-/// Notes of all items.
+/// Notes for all items.
 pub(crate) fn notes_of(alloc: Global, asked: &[u8], have: &[u64]) -> Result<Vec<u64>, Refusal>
     ensures { IfErr result (λ e. e ≡ Refusal.Memory) }
 {

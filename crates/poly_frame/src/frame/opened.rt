@@ -48,7 +48,7 @@ fn full_row(alloc: Global, width: usize) -> Result<Vec<u64>, Refusal>
     Ok(row)
 }
 
-// Takes out all from `n` on.
+// Takes out all numbers from `n` on.
 fn cut_off(n: usize, width: usize, row: &mut Vec<u64>)
     requires narrow { width < 2 ^ 58 }
     requires wide { n ≤ 64 * width }
@@ -76,7 +76,7 @@ pub(crate) fn first_row(alloc: Global, n: usize, width: usize) -> Result<Vec<u64
     Ok(row)
 }
 
-// Takes out what has an item that is shut.
+// Takes out the numbers that have an item that is shut.
 fn take_out_shut(
     bounds: &[(Item, u8, u8)],
     whole: &Matrix,
@@ -143,8 +143,8 @@ fn take_out_members(whole: &Matrix, members: &[u32], row: &mut Vec<u64>)
     }
 }
 
-/// A row with a bit for each number of the matrix that is open at the atoms. `members` is their base, `uppers` and `have`
-/// are what each item may have at most and has there.
+/// A row with a bit for each number of the matrix that is open at the atoms. `members` is their base, `uppers` is how many
+/// members each item may have at most, and `have` how many it has.
 pub(crate) fn open_row(
     alloc: Global,
     view: &View,

@@ -76,8 +76,8 @@ fn are_kept(whole: &Matrix, atoms: &[Atom], members: &[u32]) -> bool
     true
 }
 
-/// For the given atoms alone: 1 if their base is known to be sound, else 0. It may be known before. `uppers` and `have`
-/// are what each item may have at most, and how many members have it.
+/// For the given atoms alone: 1 if their base is known to be sound, else 0. It may be known before. `uppers` is how many
+/// members each item may have at most, and `have` how many have it.
 pub(crate) fn begin(
     view: &View,
     part: &Matrix,
@@ -134,7 +134,7 @@ pub(crate) fn leave(node: &Node<'_>, sound: usize, number: u32, opened: bool) ->
     }
 }
 
-/// After the last step is taken back.
+/// After the last step is undone.
 pub(crate) fn back(node: &Node<'_>, sound: usize) -> usize
     requires shows { SoundShows node.now.view.now node.now.path.now node.now.given sound }
     requires some { node.now.given < length node.now.path.now }

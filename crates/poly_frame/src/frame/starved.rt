@@ -1,5 +1,5 @@
-//! Whether an item is starved once a placement is taken: no placement that has it stays open. The rows tell so without a
-//! step, so that an arm that leads nowhere costs little to check.
+//! Whether an item is starved once a placement is taken: no placement that has it stays open. The rows tell this without a
+//! step, so an arm that leads nowhere costs little to check.
 ghost use Rattle.std.specs.Prelude.{[], length, nat_le, nat_lt, not, slice_index, true, ℕ, ◌&&◌, ◌*◌, ◌++◌, ◌+◌, ◌-◌, ◌<◌, ◌==◌, ◌∷◌, ◌≡◌, ◌≤◌};
 ghost use Rattle.std.specs.List.{list_all, list_any};
 ghost use Rattle.std.specs.Int.{bit_at};

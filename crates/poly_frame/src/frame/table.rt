@@ -27,7 +27,7 @@ pub(crate) struct Table {
 ghost use Rattle.poly_frame.specs.Matrices.{IsMatrix};
 ghost use Rattle.poly_frame.specs.FrameTable.{AskedShow, HasOpen, HaveShows, TableShows, UppersShow, limit_at};
 
-// Lowers the most of the item that an atom speaks of.
+// Lowers the most of the item that an atom names.
 fn allow(bounds: &[(Item, u8, u8)], cells: &[usize], atom: &Atom, uppers: &mut Vec<u8>)
     requires order { items_ascend bounds.now ≡ true }
     requires len { length uppers.old.items ≡ length bounds.now }
@@ -41,7 +41,7 @@ fn allow(bounds: &[(Item, u8, u8)], cells: &[usize], atom: &Atom, uppers: &mut V
     }
 }
 
-// Raises the least of the item that an atom speaks of.
+// Raises the least of the item that an atom names.
 fn need(bounds: &[(Item, u8, u8)], cells: &[usize], atom: &Atom, asked: &mut Vec<u8>)
     requires order { items_ascend bounds.now ≡ true }
     requires len { length asked.old.items ≡ length bounds.now }
@@ -174,7 +174,7 @@ fn asks_listed(bounds: &[(Item, u8, u8)], atom: &Atom) -> bool
     }
 }
 
-// Whether the atoms ask for items of the view alone.
+// Whether the atoms ask only for items of the view.
 fn all_listed(bounds: &[(Item, u8, u8)], atoms: &[Atom]) -> bool
     ensures { result ≡ list_all (of_asked (λ i. list_any (λ b. same_item b.0 i) bounds.now)) atoms.now }
 {
