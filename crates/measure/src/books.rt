@@ -74,7 +74,7 @@ fn redo(rt: &HostRuntime, book: &mut Book) -> io::Result<()> {
     print_numbers(rt, book)
 }
 
-// Prints what became of a change.
+// Prints the result of a change.
 fn print_change(
     rt: &HostRuntime,
     what: &str,

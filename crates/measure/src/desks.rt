@@ -1,6 +1,6 @@
 //! What the calls of a desk cost, compared with the same calls of a book.
 //!
-//! A book and a desk of one design go through the same tasks and reports in turn. So both calls of a pair find the same
+//! A book and a desk of one design take turns with the same tasks and reports. So both calls of a pair find the same
 //! state, and whatever else runs on the machine disturbs both alike.
 ghost use Rattle.std.specs.Prelude.{◌≡◌};
 ghost use Rattle.poly_desk.specs.Changes.{cut_count};

@@ -69,7 +69,7 @@ fn planned(design: &Design, table: &mut Table, edit: &Edit) -> Result<(View, Pla
     requires { IsRight table.old design.now }
     ensures { IfOk result (λ p. IsChangeOf p.0 (arc_value p.1.view) p.1.delta) }
 {
-    // The contract of this call tells that the design is within its limits.
+    // The contract of this call guarantees that the design is within its limits.
     let _cells = design.cells();
     let view = table.view()?;
     let change = design.check(edit)?;

@@ -17,7 +17,7 @@ use std::time::{Duration, Instant};
 /// How often the report is handed in, each time to a new book.
 const TIMES: u32 = 100;
 
-/// The most nodes that aren't Rest of the report's tree.
+/// The most nodes of the report's tree that aren't Rest.
 const NODES: u32 = 100;
 
 // A new book, and a report on its opening task.

@@ -1,8 +1,8 @@
-//! Measures the parts of the workbench on one design. Standard input has a puzzle line, and then further lines.
+//! Measures the parts of the workbench on the designs that standard input gives.
 //!
-//! Without an argument each further line is an edit of that design, and is measured by itself. With the argument `book`
-//! the further lines are a session on one book. With the argument `desk` there are none, and the calls of a desk are
-//! compared with the same calls of a book.
+//! Without an argument, the first line is a puzzle line, and each further line is an edit of that design, measured by
+//! itself. With the argument `book`, the further lines are a session on one book. With the argument `desk`, each line is a
+//! puzzle line, and the calls of a desk of its design are compared with the same calls of a book.
 #![tactic(auto)]
 
 mod books;

@@ -22,8 +22,8 @@ struct Totals {
     checked: Duration,
 }
 
-/// Measures one worker alone, who explores the newest task first until none is pending, and the check of each report by
-/// one who doesn't trust it.
+/// Measures one worker alone, which explores the newest task first until none is pending, and the check of each report's
+/// tree.
 pub fn measure(rt: &HostRuntime, view: &View) -> io::Result<()> {
     let mut totals = Totals {
         reports: 0,

@@ -15,7 +15,7 @@ use std::time::Instant;
 const NODES: u32 = 256;
 
 /// Measures the design's placements, its view, a frame at the root and for each rest of a report, the solver, and, if the
-/// solver came to its end, the reports of a worker.
+/// solver finished, the reports of a worker.
 pub fn measure(rt: &HostRuntime, design: &Design) -> io::Result<()> {
     let begin = Instant::now(rt)?;
     let places = design.places();
@@ -107,7 +107,7 @@ fn measure_frames(
     println!(rt; "frames for {} tasks: {taken} us", tasks.len())
 }
 
-// Whether the search came to its end.
+// Measures the search. Returns whether it finished.
 fn measure_search(rt: &HostRuntime, view: &View) -> io::Result<bool> {
     let begin = Instant::now(rt)?;
     let found = search_all(rt.alloc(), view, &[]);

@@ -24,7 +24,7 @@ asked_append (AtMost i n ∷ A) B = asked_append A B
 mem_asked : (A B : List Atom) (p : ℕ) → mem (asked (A ++ B)) p ≡ (mem (asked A) p || mem (asked B) p)
 mem_asked A B p = ap (λ l. mem l p) (asked_append A B) ∙ any_append (λ y. eqb y p) (asked A) (asked B)
 
--- an atom that is written behind the first n
+-- an atom that is written after the first n
 pub gathered_new : (list new : List Atom) (n : ℕ) (a : Atom) → n < length list → new ≡ set list n a → (p : ℕ) → mem (asked (take (n + 1) new)) p ≡ (mem (asked (take n list)) p || mem (asked (a ∷ [])) p)
 gathered_new list new n a l is p = ap (λ z. mem (asked (take (n + 1) z)) p) is ∙ ap (λ z. mem (asked z) p) (take_more_set list n a l) ∙ mem_asked (take n list) (a ∷ []) p
 
@@ -38,7 +38,7 @@ gathered_more A i d a old new l is h next p =
 pub gathered_all : (A : List Atom) (i : ℕ) (new : List Atom) → length A ≤ i → ((p : ℕ) → mem (asked new) p ≡ mem (asked (take i A)) p) → AskTheSame new A
 gathered_all A i new l h p = h p ∙ ap (λ z. mem (asked z) p) (take_all i A l)
 
--- an atom of the one list is one of the other
+-- a Has of one list is in the other
 has_same : (D A : List Atom) → AskTheSame D A → (p : ℕ) → In (Has p) D → In (Has p) A
 has_same D A h p i = asked_in A p (mem_in (asked A) p (sym (h p) ∙ in_mem (asked D) p (in_asked D p i)))
 
@@ -112,7 +112,7 @@ bad_found v D A h (Lacks p) i b = found_beyond v D A (Lacks p) i (or_left (mem v
 bad_found v D A h (AtLeast j n) i b = found_beyond v D A (AtLeast j n) i b
 bad_found v D A h (AtMost j n) i b = found_beyond v D A (AtMost j n) i b
 
--- the gathered atoms and those that rule out tell all
+-- the gathered atoms and those that rule out decide whether the list is hopeless
 pub found_is : (v : View) (D A : List Atom) → AskTheSame D A → (list_any (λ a. lost v D a) D || list_any (λ a. beyond v D a) A) ≡ hopeless v A
 found_is v D A h = same_truth (list_any (λ a. lost v D a) D || list_any (λ a. beyond v D a) A) (hopeless v A)
     (λ e. elim (or_cases (list_any (λ a. lost v D a) D) (list_any (λ a. beyond v D a) A) e) [

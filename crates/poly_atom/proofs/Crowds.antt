@@ -190,7 +190,7 @@ same_all : (D A : List Atom) → ((p : ℕ) → mem (asked D) p ≡ mem (asked A
 same_all D A h [] = refl
 same_all D A h (p ∷ ps) = ap (λ b. b && list_all (λ p. mem (asked D) p) ps) (h p) ∙ ap (λ b. mem (asked A) p && b) (same_all D A h ps)
 
--- one atom more asks for one placement more, if it asks for one that none of them does
+-- one more atom asks for one more placement, if no other atom asks for that one
 asked_more : (A : List Atom) (a : Atom) → asked_count (A ++ a ∷ []) ≡ asked_count A + one (not (list_all (λ p. mem (asked A) p) (asked (a ∷ []))))
 asked_more A (Has p) =
     let same : mem (put_all (asked A) []) p ≡ mem (asked A) p = mem_put_all (asked A) [] p ∙ or_no (mem (asked A) p) in

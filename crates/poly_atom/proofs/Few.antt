@@ -1,4 +1,4 @@
--- A change sets and takes back few pins.
+-- A change sets and removes few pins.
 use Rattle.std.proofs.Common.{List, arith, length, ℕ, ◌≤◌}
 use Rattle.poly_shape.proofs.Ascending.{length-part}
 use Rattle.poly_design.specs.Layout.{Layout}

@@ -16,7 +16,7 @@ use Rattle.poly_atom.specs.Guards.{guards, guards_fresh, guards_least, guards_mo
 use Rattle.poly_atom.specs.Laws.{GuardsTell}
 use Rattle.poly_atom.proofs.Bases.{atom_met}
 
--- the four kinds of guards, in
+-- guards of the four kinds are in the list
 pub guard_lacks : (old new : View) (p : ℕ) → In p new.live → mem old.live p ≡ false → In (Lacks p) (guards old new)
 guard_lacks old new p i n =
     in_append_left (Lacks p) (guards_fresh old new) (guards_least old new ++ (guards_most old new ++ guards_pins old new))

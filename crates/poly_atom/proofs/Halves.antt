@@ -1,4 +1,4 @@
--- Looking for an element of a sorted list by halves.
+-- Binary search for an element of a sorted list.
 use Rattle.std.proofs.Common.{Bool, List, [], ap, arith, false, get_or, inl, inr, length, refl, subst, suc, sym, true, zero, ℕ, ◌+◌, ◌<◌, ◌∙◌, ◌∷◌, ◌≡◌, ◌≤◌}
 use Rattle.std.proofs.lemmas.Bool.{and_parts, both_ways, cases_lt}
 use Rattle.std.specs.List.{list_all, list_any}
@@ -21,7 +21,7 @@ sorted_places lt (x ∷ xs) i zero d h l m = absurd (omega arith)
 sorted_places lt (x ∷ xs) zero (suc j) d h l m = all_in (λ y. lt x y) xs (and_parts (list_all (λ y. lt x y) xs) (sorted lt xs) h).0 (get_or xs j d) (in_get xs j d (omega arith))
 sorted_places lt (x ∷ xs) (suc i) (suc j) d h l m = sorted_places lt xs i j d (and_parts (list_all (λ y. lt x y) xs) (sorted lt xs) h).1 (omega arith) (omega arith)
 
--- what has the place of x lies between two places
+-- each element equal to x lies between two indices
 pub record IsWithin {X : Type 0} (eq : X → X → Bool) (xs : List X) (x : X) (low high : ℕ) : Type 0 where
   pub at : (k : ℕ) → k < length xs → eq (get_or xs k x) x ≡ true → (low ≤ k) × (k < high)
 

@@ -167,7 +167,7 @@ guards_by_length v fresh ls ms gone =
     let g = length-append (map (λ n. AtMost (Piece n) (most v (Piece n))) ms) (map (λ p. Has p) gone) in
     omega (arith, a, b, c, d, e, f, g)
 
--- how many there are, there and back
+-- how many guards a change and its inverse have
 pub forth_count : (v w : View) (x : Delta) → IsChangeOf v w x → length x.fresh.items + (length x.unneeded.items + (length x.widened.items + length x.unpinned.items)) ≡ length (guards v w)
 forth_count v w x c = sym (guards_by_length v x.fresh.items x.unneeded.items x.widened.items x.unpinned.items) ∙ ap length (forth_is v w x c)
 

@@ -1,4 +1,4 @@
--- What a walk over two lists in one order finds.
+-- What a walk over two lists in the same order finds.
 use Rattle.std.proofs.Common.{Bool, List, None, Option, Some, [], ap, append_assoc, cond, drop, eqb, false, get_or, inl, inr, length, map, nat_lt, not, refl, suc, sym, true, zero, ℕ, ◌&&◌, ◌++◌, ◌+◌, ◌<◌, ◌||◌, ◌∙◌, ◌∷◌, ◌≡◌, ◌≤◌}
 use Rattle.std.proofs.lemmas.Bool.{and_from, and_parts, both_ways, cond-false, cond-true, eqb-true, false_from_ne_true}
 use Rattle.std.proofs.lemmas.List.{append-nil, at_drop_more, drop_all}
@@ -166,7 +166,7 @@ walk_rose make xs ys hx hy =
     walk_is bound_below same_bound items_order rose make xs ys (sorted_items xs hx) (sorted_items ys hy)
     ∙ ap (λ t. map make t) (filter_same_in (λ b. rose b (find (λ c. same_item c.0 b.0) ys)) (λ b. nat_lt b.2 (bound_in ys b.0 (λ c. c.2))) xs (λ b i. ap (λ n. nat_lt b.2 n) (first_bound ys b.0 (λ c. c.2))))
 
--- the walk over what is left from a place on
+-- the walk over what is left from an index on
 pub walk_more : {X A : Type 0} (lt eq : X → X → Bool) (test : X → Option X → Bool) (make : X → A) (xs : List X) (i : ℕ) (x : X) (ys zs : List X) →
     i < length xs → x ≡ get_or xs i x → zs ≡ behind (λ y. lt y x) ys →
     walk lt eq test make (drop i xs) ys ≡ cond (test x (front (λ y. eq y x) zs)) (make x ∷ walk lt eq test make (drop (i + 1) xs) zs) (walk lt eq test make (drop (i + 1) xs) zs)

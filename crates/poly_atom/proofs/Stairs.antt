@@ -1,4 +1,4 @@
--- Stairs share out what breaks a guard.
+-- A set that breaks a guard meets exactly one stair.
 use Rattle.std.proofs.Common.{Bool, List, [], ap, append_assoc, arith, false, leb, not, refl, sym, true, ℕ, ◌&&◌, ◌++◌, ◌+◌, ◌-◌, ◌<◌, ◌∙◌, ◌∷◌, ◌≡◌}
 use Rattle.std.proofs.lemmas.Bool.{and_parts, ltb-true}
 use Rattle.std.proofs.lemmas.Bool.Decides.{nat_tests}

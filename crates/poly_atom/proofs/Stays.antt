@@ -83,7 +83,7 @@ stair_ends B [] A i = absurd i
 stair_ends B (a ∷ g) A (inl e) = (a, inl refl, subst (λ C. In (negated a) C) e (in_append_right (negated a) B (negated a ∷ []) (inl refl)))
 stair_ends B (a ∷ g) A (inr i) = let r = stair_ends (B ++ a ∷ []) g A i in (r.0, inr r.1, r.2)
 
--- what has all atoms of a stair was hopeless
+-- a list with all atoms of a stair was hopeless
 pub stair_was_hopeless : (old new : View) (A B : List Atom) → In A (stairs (guards old new)) → ((a : Atom) → In a A → In a B) → hopeless old B ≡ true
 stair_was_hopeless old new A B i h =
     let r = stair_ends [] (guards old new) A i in
@@ -112,7 +112,7 @@ same_has_no_guards_lem v w g =
     ∙ ap (λ x. x ++ (guards_most v w ++ guards_pins v w)) low
     ∙ ap (λ x. x ++ guards_pins v w) high ∙ pins
 
--- what an answer says of a tiling, under more numbers
+-- a tiling meets the same atoms under more numbers
 pub meets_old : (old new : View) (T : List ℕ) → WellNamed old → Names old new → IsTiling old T → (a : Atom) → meets new T a ≡ meets old T a
 meets_old old new T wn names t (Has p) = refl
 meets_old old new T wn names t (Lacks p) = refl

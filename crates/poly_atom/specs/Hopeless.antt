@@ -40,7 +40,7 @@ hopeless v A = list_any (λ a. bad v A a) A
 abbrev pub AskTheSame : List Atom → List Atom → Type 0
 AskTheSame D A = (p : ℕ) → mem (asked D) p ≡ mem (asked A) p
 
--- an atom of D asks for a placement that isn't there, that is in conflict with the base, or whose piece is over its most
+-- an atom of D asks for a placement that the design doesn't have, that is in conflict with the base, or whose piece is over its most
 abbrev pub lost : View → List Atom → Atom → Bool
 lost v D (Has p) =
     not (mem v.live p) || list_any (λ q. clash v p q) (base v D)

@@ -61,6 +61,6 @@ HopelessMayGrow = (v w : View) (A : List Atom) → WellNamed v → Grown v w →
 abbrev pub GuardsMayGrow : Type 0
 GuardsMayGrow = (old more new most : View) → Grown old more → Grown new most → guards more most ≡ guards old new
 
--- Taking the last change's guards back undoes laying them.
+-- Removing the last change's guards undoes adding them.
 abbrev pub TakenBackIsUndone : Type 0
 TakenBackIsUndone = (log : List (List Atom)) (g : List Atom) → without_last (log ++ g ∷ []) ≡ log

@@ -9,7 +9,7 @@ abbrev pub flat : List (List Atom) → List Atom
 flat [] = []
 flat (g ∷ gs) = g ++ flat gs
 
--- the log has the stair's edition, and that edition's guards its index
+-- the log has the stair's edition, and that edition's guards have its index
 pub record IsStairOf (log : List (List Atom)) (s : Stair) : Type 0 where
   pub edition_in : s.edition < length log
   pub index_in : s.index < length (slice_index_or log s.edition [])

@@ -1,4 +1,4 @@
--- Two lists in the same order, gone through side by side.
+-- Two lists in the same order, read side by side.
 use Rattle.std.specs.Prelude.{Bool, List, None, Option, Some, [], cond, ◌∷◌}
 
 -- the rest of a list from its first element that does not pass

@@ -1,5 +1,5 @@
 //! The guards of a change: they tell the tilings of the earlier design among those of the later one. Each list of
-//! guards is found by going through the two designs' lists side by side, since both have the same order.
+//! guards is found by reading the two designs' lists side by side, since both have the same order.
 ghost use Rattle.std.specs.Prelude.{IfErr, IfOk, OnOk, [], if◌then◌else◌, map, nat_lt, not, true, ◌++◌, ◌∷◌, ◌≡◌};
 ghost use Rattle.std.specs.List.{filter};
 ghost use Rattle.poly_atom.specs.Atoms.{AllSmall};

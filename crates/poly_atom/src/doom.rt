@@ -68,7 +68,7 @@ fn gather(list: &mut [Atom], atoms: &[Atom]) -> Option<usize>
     Some(count)
 }
 
-// Writes the atom behind the first `count` if it asks for a placement that none of them does.
+// Writes the atom after the first `count` if it asks for a placement that none of them asks for.
 fn gather_one(list: &mut [Atom], count: usize, atom: Atom) -> Option<usize>
     requires { count ≤ length list.old }
     ensures long { length list.new ≡ length list.old }

@@ -63,7 +63,7 @@ pub fn guards_may_grow()
     ensures { GuardsMayGrow }
 {}
 
-/// Taking the last change's guards back undoes laying them.
+/// Removing the last change's guards undoes adding them.
 pub fn taken_back_is_undone()
     ensures { TakenBackIsUndone }
 {}

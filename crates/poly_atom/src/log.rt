@@ -84,7 +84,7 @@ impl GuardLog {
         Ok(())
     }
 
-    /// Takes the last change's guards back.
+    /// Removes the guards of the last change.
     pub fn pop(&mut self)
         requires { 0 < length self.old }
         ensures { self.new ≡ without_last self.old }

@@ -1,4 +1,4 @@
-//! Compares numbers by their placements, and items, and finds where one of them belongs in a list.
+//! Compares numbers by their placements, compares items, and finds where a number or an item belongs in a list.
 ghost use Rattle.std.specs.Prelude.{drop, is_some, length, true, ℕ, ◌==◌, ◌≡◌, ◌≤◌};
 ghost use Rattle.std.specs.List.{list_any};
 ghost use Rattle.std.specs.Ordering.{is_lt};
@@ -45,7 +45,7 @@ pub fn is_item_below(first: &Item, second: &Item) -> bool
     first < second
 }
 
-/// The first place from there on whose number isn't below this one.
+/// The first index, from `from` on, whose number isn't below this one.
 pub fn skip_numbers(view: &View, numbers: &[u32], from: usize, number: u32) -> usize
     requires { from ≤ length numbers.now }
     ensures rest { drop result numbers.now ≡ behind (λ p. below view.now p number) (drop from numbers.now) }
@@ -78,7 +78,7 @@ pub fn stands_at(numbers: &[u32], at: usize, number: u32) -> bool
     at < numbers.len() && numbers[at] == number
 }
 
-/// The first place from there on whose item isn't below this one.
+/// The first index, from `from` on, whose item isn't below this one.
 pub fn skip_items(bounds: &[(Item, u8, u8)], from: usize, item: &Item) -> usize
     requires { from ≤ length bounds.now }
     ensures rest { drop result bounds.now ≡ behind (λ b. is_lt (item_cmp b.0 item.now)) (drop from bounds.now) }

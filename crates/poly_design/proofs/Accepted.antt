@@ -122,7 +122,7 @@ place_with_forbidden F s forbidden more k p = record {
   lies = record { in_range = p.lies.in_range; moved = p.lies.moved; free = p.lies.free; allowed = λ h. p.lies.allowed (more k h) };
 }
 
--- ---- edits of a piece that is there
+-- ---- edits of a piece that the design has
 pub is_change_by : (d : Layout) (name : List ℕ) (f : Spec → Spec) (s : Spec) → spec_of d name ≡ Some s → Piece name (Some s) (Some (f s)) ≡ change_by d name f
 is_change_by d name f s found = ap (λ o. Piece name o (replaced f o)) (sym found)
 
@@ -145,7 +145,7 @@ design_by d name f s is found shape few =
     let len = length_known nat_list_cmp_total d.pieces name (f s) s is.pieces_ascend found in
     after_spec d name (Some s) (f s) is (omega (arith, len, is.few_pieces)) (ap (λ v. v.grid) shape ∙ is.of_grid name s entry) few
 
--- the placements after the change depend on its after side alone
+-- the placements after the change depend only on its after side
 pub few_here : (d : Layout) (name : List ℕ) (before : Option Spec) (f : Spec → Spec) (s after : Spec) → spec_of d name ≡ Some s → after ≡ f s
     → FewPlacements (changed d (Piece name before (Some after))) → FewPlacements (changed d (change_by d name f))
 few_here d name before f s after found same few =

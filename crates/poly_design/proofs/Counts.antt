@@ -187,7 +187,7 @@ module _ {X : Type 0} {R : X → X → Ordering} (o : IsTotalOrder R) where
       ]
     ]
 
-  -- there are no more of them than of all
+  -- a part has no more members than the whole
   pub count_part : (P Q : X → Type 0) (n : ℕ) (list : List X) → IsCount R P n → IsListOf R (λ x. P x × Q x) list → length list ≤ n
   count_part P Q n list count part =
       let le = length-part o list count.list part.ascending count.listed.ascending (λ x h. (count.listed.exact x).1 ((part.exact x).0 h).0) in

@@ -1,4 +1,4 @@
--- Which refusals of an edit are answered even if memory runs out.
+-- Which refusals of an edit are returned even if memory runs out.
 use Rattle.std.proofs.Common.{◌≡◌, ◌∙◌, ℕ, ◌<◌, ◌≤◌, ◌⊎◌, Bool, List, [], ◌∷◌, None, Result, Ok, Err, IfOk, IfErr, inl, inr, length, sym, ap, subst, arith}
 use Rattle.std.specs.BTreeMap.{is_at}
 use Rattle.std.specs.BTreeSet.{insert_key}
@@ -38,7 +38,7 @@ one_first (c ∷ cs) a b f g = elim f [
   | inr h ↦ elim g [ inl k ↦ absurd (h.0 k.1) | inr k ↦ one_first cs a b h.1 k.1 ]
 ]
 
--- an answer whose refusals have their cause, and that is `Memory` only past the early causes
+-- a result whose refusals have their cause, and that is `Memory` only if no early cause holds
 pub refuses_early : (d : Layout) (e : Edit) (r : Result Change Refusal) → IfOk r (λ change. IsAccepted d e change) → IfErr r (λ x. (x ≡ Memory) ⊎ IsRefused d e x)
     → (r ≡ Err Memory → NoneEarly (causes d e)) → RefusesEarly d e r
 refuses_early d e (Ok change) ok why memory x early first = absurd (none_first (causes d e) x ok.free first)

@@ -98,7 +98,7 @@ module _ {K X : Type 0} {R : K → K → Ordering} (o : IsTotalOrder R) where
         ∙ ap (λ l. e ∷ l) (taken_put exact es k w (tail_up e es up) later)
   ]) refl
 
-  -- what is not there is not taken out
+  -- taking out a key that no entry has changes nothing
   pub none_taken : (es : List (K × X)) (k : K) → lookup (is_at (R k)) es ≡ None → remove_entry (is_at (R k)) es ≡ es
   none_taken [] k none = refl
   none_taken (e ∷ es) k none = (elim (R k e.0) as (λ r. R k e.0 ≡ r → cond (is_eq r) es (e ∷ remove_entry (is_at (R k)) es) ≡ e ∷ es) [
@@ -191,7 +191,7 @@ module _ {K : Type 0} {R : K → K → Ordering} (o : IsTotalOrder R) where
       ap (λ l. y ∷ l) (remove_at_gap ys at x rest)
       ∙ sym (ap (λ r. cond (is_eq r) ys (y ∷ remove_key (is_at (R x)) ys)) (turned_less y x (gap.below zero x (omega arith) (omega arith))))
 
-  -- a key that was put in is there
+  -- the list has a key that was put in
   pub inserted_in : ((x y : K) → R x y ≡ Equal → x ≡ y) → (list : List K) (x : K) → Contains (insert_key R list x) x
   inserted_in exact [] x = (zero, omega arith, refl)
   inserted_in exact (y ∷ ys) x = (elim (R x y) as (λ r. R x y ≡ r → Contains (match_ordering r (x ∷ y ∷ ys) (y ∷ ys) (y ∷ insert_key R ys x)) x) [
@@ -211,7 +211,7 @@ module _ {K : Type 0} {R : K → K → Ordering} (o : IsTotalOrder R) where
     | Greater ↦ λ is. ap (λ l. y ∷ l) (remove_absent exact ys x (λ h. lacks (suc h.0, omega (arith, h.1), h.2)))
   ]) refl
 
-  -- a key that is there leaves a shorter list
+  -- taking out a key of the list leaves a shorter list
   pub removed_shorter : (list : List K) (x : K) → Contains list x → length list ≡ length (remove_key (is_at (R x)) list) + 1
   removed_shorter [] x here = absurd (omega (arith, here.1))
   removed_shorter (y ∷ ys) x (zero, lt, e) =

@@ -223,7 +223,7 @@ cell_kept d c before mode n is alike count = record {
   whole = count.whole;
 }
 
--- a cell that gets blocked takes placements away alone
+-- blocking a cell only takes placements away
 pub few_blocked : (d : Layout) (c : Spot) (before : Mode) → IsDesign d → FewPlacements (changed d (Cell c before Blocked))
 few_blocked d c before is = fewer d (changed d (Cell c before Blocked)) is.few_placements
     (λ p h. record { spec = h.spec; has = h.has; place = place_freed (IsUnblocked (changed d (Cell c before Blocked))) (IsUnblocked d) h.spec p.cells (λ x here. free x) h.place })

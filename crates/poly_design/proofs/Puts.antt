@@ -84,7 +84,7 @@ module _ {K X : Type 0} {R : K → K → Ordering} (o : IsTotalOrder R) where
     | false ↦ omega (arith, length_take es k)
   ]
 
-  -- an entry after one was put in is that one, or was there
+  -- after an entry is put in, each entry is that one or was there before
   pub put_cases : ((x y : K) → R x y ≡ Equal → x ≡ y) → (es : List (K × X)) (k : K) (v : X) (p : K × X) → Contains (insert_entry R es k v) p → ((k, v) ≡ p) ⊎ Contains es p
   put_cases exact [] k v p here = elim (first_or_later (k, v) [] p here) [ inl none ↦ inr none | inr is ↦ inl is ]
   put_cases exact (e ∷ es) k v p here = (elim (R k e.0) as (λ r. R k e.0 ≡ r → Contains (match_ordering r ((k, v) ∷ e ∷ es) ((e.0, v) ∷ es) (e ∷ insert_entry R es k v)) p → ((k, v) ≡ p) ⊎ Contains (e ∷ es) p) [

@@ -1,4 +1,4 @@
--- A change is taken back by its inverse.
+-- The inverse of a change undoes it.
 use Rattle.std.proofs.Common.{◌≡◌, ◌∙◌, ℕ, true, List, Option, Some, None, refl, sym, ap, subst}
 use Rattle.std.specs.Prelude.{unwrap_or}
 use Rattle.std.specs.Map.{keys_of, lookup}

@@ -36,7 +36,7 @@ use Rattle.poly_design.proofs.Shifts.{place_weaker}
 abbrev pub named : List ℕ → List Spot → Placement
 named name k = record { name = name; cells = k }
 
--- some entry has the placement's name, and P says of it that it can lie on the cells
+-- some entry has the placement's name, and by P it can lie on the cells
 abbrev pub IsOfEntry : (Spec → List Spot → Type 0) → List (List ℕ × Spec) → Placement → Type 0
 IsOfEntry P entries p = (s : Spec) × Contains entries (p.name, s) × P s p.cells
 
@@ -125,7 +125,7 @@ whole_list P entries rest list so is =
     let e : so.done ≡ entries = sym (append-nil so.done) ∙ rw (← is) so.split in
     subst (λ l. IsListOf placement_cmp (IsOfEntry P l) list) e so.listed
 
--- what is listed so far is of the entries
+-- each placement listed so far belongs to an entry
 pub listed_of : (P : Spec → List Spot → Type 0) (entries rest : List (List ℕ × Spec)) (list : List Placement) → IsListedSoFar P entries rest list → (p : Placement) → Contains list p → IsOfEntry P entries p
 listed_of P entries rest list so p here =
     let o = (so.listed.exact p).0 here in
@@ -164,7 +164,7 @@ placement_on_exactly grid cells pieces cell none p = (
   λ h. let o = (placement_exactly grid cells pieces none p).1 h.0 in (o.0, o.1, (o.2, h.1)),
 )
 
--- on a cell that is blocked lies nothing
+-- nothing lies on a blocked cell
 pub none_on_blocked : (grid : Grid) (cells : List (Spot × Mode)) (pieces : List (List ℕ × Spec)) (cell : Spot) → lookup (is_at (spot_cmp cell)) cells ≡ None
     → IsListOf placement_cmp (λ p. IsPlacement (record { grid = grid; cells = cells; pieces = pieces }) p × Contains p.cells cell) []
 none_on_blocked grid cells pieces cell none = record {

@@ -57,7 +57,7 @@ module _ (F : Spot → Type 0) (forbidden : List (List Spot)) where
         (b.1.0, b.1.1, record { right = s.right; down = s.down; shift = subst (λ v. IsShift s.right s.down v cell) e shift; lies = s.lies }),
   )
 
--- an image that lies on the board lands on it with each cell, and the other way round
+-- an image lies on the board exactly if each of its cells lands on the board
 pub lands : (board : List Spot) (forbidden : List (List Spot)) (image : List Spot) (right down : ℕ) (k : List Spot) → IsMovedTo (Contains board) forbidden image right down k → All (LandsOn board right down) image
 lands board forbidden image right down k lies i d lt =
     let c = get_or image i d in

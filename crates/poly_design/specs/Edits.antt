@@ -29,7 +29,7 @@ copies_of Optional = record { least = 0; most = 1 }
 abbrev pub new_spec : Figure → Need → Bool → Spec
 new_spec shape need mirror = record { shape = shape; copies = copies_of need; mirror = mirror; pin = None; forbidden = [] }
 
--- a piece that is there, replaced by what f makes of it
+-- a piece that the design has, replaced by f of it
 abbrev pub replaced : (Spec → Spec) → Option Spec → Option Spec
 replaced f None = None
 replaced f (Some s) = Some (f s)

@@ -5,18 +5,18 @@ use Rattle.std.specs.declared.cmp.Ordering.TheVariants.{Less, Greater}
 use Rattle.std.specs.List.{AllWithin, Contains}
 use Rattle.poly_shape.specs.Order.{IsAscending}
 
--- the list has each x that P says, once, in ascending order
+-- the list has each x that satisfies P, once, in ascending order
 pub record IsListOf {X : Type 0} (cmp : X → X → Ordering) (P : X → Type 0) (list : List X) : Type 0 where
   pub ascending : IsAscending cmp list
   pub exact : (x : X) → Contains list x ↔ P x
 
--- this many x are such as P says
+-- exactly this many x satisfy P
 pub record IsCount {X : Type 0} (cmp : X → X → Ordering) (P : X → Type 0) (count : ℕ) : Type 0 where
   pub list : List X
   pub listed : IsListOf cmp P list
   pub whole : length list ≡ count
 
--- the new list has what the old one has, and each x that P says
+-- the new list has what the old one has, and each x that satisfies P
 abbrev pub AddsAll : {X : Type 0} → (X → Type 0) → List X → List X → Type 0
 AddsAll {X} P old new = (x : X) → Contains new x ↔ (Contains old x ⊎ P x)
 

@@ -11,12 +11,12 @@ pub record LandsOn (board : List Spot) (right down : ℕ) (c : Spot) : Type 0 wh
   pub in_height : c.y + down < 64
   pub on : Contains board (spot_moved right down c)
 
--- moved right and down, the one cell comes to lie on the other
+-- moved right and down, the cell `from` lies on the cell `to`
 pub record IsShift (right down : ℕ) (from to : Spot) : Type 0 where
   pub x : from.x + right ≡ to.x
   pub y : from.y + down ≡ to.y
 
--- the cells are the image, moved so that the one cell comes to lie on the other, where it can lie there
+-- the cells are the image, moved so that `from` lies on `to`, and the image can lie there
 pub record IsShifted (IsFree : Spot → Type 0) (forbidden : List (List Spot)) (image : List Spot) (from to : Spot) (cells : List Spot) : Type 0 where
   pub right : ℕ
   pub down : ℕ

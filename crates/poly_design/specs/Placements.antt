@@ -38,7 +38,7 @@ pub record IsPlacement (d : Layout) (p : Placement) : Type 0 where
   pub has : Contains d.pieces (p.name, spec)
   pub place : IsPlace (IsUnblocked d) spec p.cells
 
--- what a piece that may be missing has for placements
+-- the placements of a piece that may be missing
 abbrev pub IsOfPiece : (Spot → Type 0) → List ℕ → Option Spec → Placement → Type 0
 IsOfPiece IsFree name spec p = (p.name ≡ name) × ((s : Spec) × (spec ≡ Some s) × IsPlace IsFree s p.cells)
 

@@ -1,4 +1,4 @@
-//! Changes of a design, and the way back.
+//! Changes of a design, and their inverses.
 ghost use Rattle.std.specs.Prelude.{◌≡◌, ◌↔◌, IsTrue, IfOk, IfErr};
 ghost use Rattle.poly_design.specs.Layout.{Layout};
 ghost use Rattle.poly_design.specs.Limits.{IsDesign};

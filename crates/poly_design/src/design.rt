@@ -171,7 +171,7 @@ impl Design {
         placements_on(self.alloc, &self.cells, &self.pieces, cell)
     }
 
-    /// Makes the change: puts its after side in, whatever was there. Requires that the result keeps the limits.
+    /// Makes the change: replaces whatever was there by its after side. Requires that the result keeps the limits.
     ///
     /// Fails only when out of memory, and then leaves the design unchanged.
     pub fn make(&mut self, change: &Change) -> Result<(), Refusal>

@@ -79,7 +79,7 @@ fn placements_of_a_design(rt: HostRuntime) {
     assert!(rt; design.places_on(cell(&rt, 2)).expect(&rt, "memory").len() == 1);
 }
 
-// Makes the edit and takes it back. Returns a copy of the change that takes it back.
+// Makes the edit and undoes it. Returns a copy of the change that undoes it.
 fn make_for_once(design: &mut Design, edit: &Edit) -> Result<Change, Refusal>
     ensures { OnOk result (design.new ≡ design.old) }
 {

@@ -26,7 +26,7 @@ AskedShow v A asked = (b : ℕ) → b < length v.bounds → slice_index asked b 
 abbrev pub shut_at : Item → ℕ → ℕ → Bool
 shut_at i most have = nat_le most have || (not (is_piece i) && nat_lt 0 have)
 
--- how many members with an item close the other placements that have it, once one more member has it: 0 for a cell
+-- from how many members on an item closes the other placements that have it, counted after one more member has it: 0 for a cell
 abbrev pub limit_at : Item → ℕ → ℕ
 limit_at i most = cond (is_piece i) most 0
 

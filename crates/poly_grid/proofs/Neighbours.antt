@@ -28,7 +28,7 @@ neighbours_are_mutual g p q (d, lt, e) =
     let at = at_below (LeadsBack g p) (length (steps g)) (each_leads_back g p) d lt in
     subst (λ (z : Point). AreNeighbours g z p) e (opposite g d, at.0, same_point _ _ at.1 at.2)
 
--- where a turn takes a direction: a rotation adds to it, and the first reflection takes it from a constant
+-- where a turn takes a direction: a rotation adds to it, and the first reflection subtracts it from a constant
 abbrev direction_after : Grid → ℕ → ℕ → ℕ
 direction_after Square t d = if nat_lt t 4 then (d + t) % 4 else ((6 - d + t) % 4)
 direction_after Hex t d = if nat_lt t 6 then (d + t) % 6 else ((7 - d + t) % 6)
@@ -48,7 +48,7 @@ carried g t p q a (d, b, e) =
     let at = at_both_below (Carries g p) (turn_count g true) (length (steps g)) (each_carried g p) t d a b in
     (direction_after g t d, at.0, same_point _ _ at.1 at.2 ∙ ap (turned_of g t) e)
 
--- what a turn takes to neighbours, its inverse shows to be neighbours
+-- points that a turn takes to neighbours are neighbours, as its inverse shows
 brought : (g : Grid) (t u : ℕ) (p q : Point) → u < turn_count g true → IsComposite g t u 0
     → AreNeighbours g (turned_of g t p) (turned_of g t q) → AreNeighbours g p q
 brought g t u p q b back near =

@@ -42,7 +42,7 @@ turns_compose g mirror t u a b =
     let at = composes g mirror t u a b in
     (composed (turn_count g false) t u, (at origin).0, λ p. same_point _ _ (at p).1 (at p).2)
 
--- the turn that takes back the turn t
+-- the turn that undoes the turn t
 abbrev undone : ℕ → ℕ → ℕ
 undone n t = if nat_lt t n then (n - t) % n else t
 

@@ -15,7 +15,7 @@ neighbour_of g d p =
     let step = slice_index_or (steps g) d (pos 0, pos 0) in
     record { x = p.x +ℤ step.0; y = p.y +ℤ step.1 }
 
--- some step leads from the one point to the other
+-- some step leads from the first point to the second
 abbrev pub AreNeighbours : Grid → Point → Point → Type 0
 AreNeighbours g p q = (d : ℕ) × (d < length (steps g)) × (neighbour_of g d p ≡ q)
 

@@ -8,7 +8,7 @@ use Rattle.poly_grid.specs.declared.grid.Point.{Point}
 use Rattle.poly_grid.specs.Grid.{AreNeighbours, turn_count, turned_of}
 use Rattle.poly_grid.specs.Spot.{Spot}
 
--- the one turn and then the other are together a third
+-- the first turn, followed by the second, is the turn `both`
 abbrev pub IsComposite : Grid → ℕ → ℕ → ℕ → Type 0
 IsComposite g first second both = (p : Point) → turned_of g second (turned_of g first p) ≡ turned_of g both p
 
@@ -35,7 +35,7 @@ TurnsDiffer = (g : Grid) (t u : ℕ) → t < turn_count g true → u < turn_coun
 abbrev pub RotationsArePowers : Type 0
 RotationsArePowers = (g : Grid) (t : ℕ) → t < turn_count g false → IsComposite g t 1 ((t + 1) % turn_count g false)
 
--- the first reflection and then a rotation are the reflection as many places further on
+-- the first reflection, followed by rotation t, is the reflection t places after the first
 abbrev pub ReflectionsFollow : Type 0
 ReflectionsFollow = (g : Grid) (t : ℕ) → t < turn_count g false
     → IsComposite g (turn_count g false) t (turn_count g false + t)
@@ -44,7 +44,7 @@ ReflectionsFollow = (g : Grid) (t : ℕ) → t < turn_count g false
 abbrev pub NeighboursAreMutual : Type 0
 NeighboursAreMutual = (g : Grid) (p q : Point) → AreNeighbours g p q → AreNeighbours g q p
 
--- a turn carries neighbours to neighbours, and nothing else to them
+-- a turn carries neighbours, and only neighbours, to neighbours
 abbrev pub TurnsKeepNeighbours : Type 0
 TurnsKeepNeighbours = (g : Grid) (t : ℕ) (p q : Point) → t < turn_count g true
     → (AreNeighbours g p q ↔ AreNeighbours g (turned_of g t p) (turned_of g t q))

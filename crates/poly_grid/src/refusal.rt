@@ -67,7 +67,7 @@ pub enum Refusal {
     Unsettled {
         /// What the caller had seen, or handed in.
         seen: u64,
-        /// What is there.
+        /// What was found instead.
         found: u64,
     },
     #[error("the change or its inverse has over 20,000 guards")]

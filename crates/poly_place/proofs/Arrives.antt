@@ -47,7 +47,7 @@ own_piece d name after e i none true h = (bytes_decides e.0 name).0 h
 own_piece d name after e i none false h = absurd (both_ways (has_bound (item_bounds d) (Piece e.0)) none
     (piece_there d e (spec_from d.pieces name after e (λ s. both_ways (pointwise nat_eq e.0 name) h (subst (λ z. pointwise nat_eq e.0 z ≡ true) s (nat_list_eq_equiv.refl e.0))) i)))
 
--- an item that the design has after the change and hadn't before is the change's cell or piece
+-- an item that the design has after the change and didn't have before is the change's cell or piece
 arrived : (d : Layout) (y : Change) (b : Bound) → In b (item_bounds (changed d y)) → has_bound (item_bounds d) b.0 ≡ false → b.0 ≡ item_of y
 arrived d (CellChange c before after) b i none = elim (in_append_cases b (map cell_bound (set_mode d.cells c after)) (map piece_bound d.pieces) i) [
   | inl j ↦

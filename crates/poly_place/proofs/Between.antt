@@ -22,7 +22,7 @@ use Rattle.poly_place.specs.Right.{IsRight}
 use Rattle.poly_place.specs.declared.delta.Delta.{Delta}
 use Rattle.poly_place.proofs.Differences.{in_order_filter}
 
--- the numbers of what P says and Q doesn't
+-- the numbers of the placements that satisfy P and not Q
 pub differ : (v : View) → WellNamed v → (A B list : List ℕ) (P Q : Placement → Type 0) → ((p : Placement) → IsNamed v A p ↔ P p) → ((p : Placement) → IsNamed v B p ↔ Q p) →
     ((p : Placement) → IsNamed v list p ↔ (P p × (¬ Q p))) → given v A ≡ true → given v list ≡ true → (n : ℕ) → mem list n ≡ (mem A n && not (mem B n))
 differ v wn A B list P Q a b l ga gl n = same_truth (mem list n) (mem A n && not (mem B n))
@@ -66,7 +66,7 @@ carried t v names ns low P h p = (
 pub carried_given : (t v : View) → Names t v → (ns : List ℕ) → ((n : ℕ) → In n ns → (x : Placement) × (slice_get t.placements n ≡ Some x)) → given v ns ≡ true
 carried_given t v names ns low = all_from (λ n. ltb n (length v.placements)) ns (λ n i. let x = low n i in lt-ltb n (length v.placements) (get_low v.placements n x.0 (later t v names n x.0 x.1)))
 
--- what the one list has and the other hasn't, in one order, is the list of what P says and Q doesn't
+-- the numbers that the first list has and the second doesn't, in order, are those of the placements that satisfy P and not Q
 rest_is : (v : View) → WellNamed v → (A B list : List ℕ) (P Q : Placement → Type 0) → ((p : Placement) → IsNamed v A p ↔ P p) → ((p : Placement) → IsNamed v B p ↔ Q p) →
     AreNumbersFor v (λ p. P p × (¬ Q p)) list → given v A ≡ true → in_order v A ≡ true → list ≡ filter (λ n. not (mem B n)) A
 rest_is v wn A B list P Q a b l ga up =

@@ -1,4 +1,4 @@
--- A table whose numbers go on shows the same.
+-- A table that gets more numbers shows the same design.
 use Rattle.std.proofs.Common.{Bool, List, [], ap, arith, inl, inr, length, refl, slice_get, sym, true, ℕ, ◌&&◌, ◌∙◌, ◌∷◌, ◌≡◌, ◌↔◌}
 use Rattle.std.specs.Prelude.{nat_lt}
 use Rattle.std.specs.List.{Contains, list_all, list_any}
@@ -86,7 +86,7 @@ grown_index t all rows w g x =
           (x.numbers i).apart;
     }
 
--- marks tell of what was live
+-- the marks stay right
 pub grown_marked : (t : View) (all : List Placement) (x : Change) (marks : List Bool) → WellNamed t → GoesOn t.placements all → AreMarked t x marks → AreMarked (grown t all) x marks
 grown_marked t all x marks w g m n live = m n live ∙ sym (ap (λ o. touches_named x o) (stays t.placements all g n (all_in (λ n. nat_lt n (length t.placements)) t.live w.named n (mem_in t.live n live))))
 

@@ -36,7 +36,7 @@ module _ {X : Type 0} (R : X → X → Type 0) where
 
 -- ---- merging
 
--- some of both lists are merged, in order, before all that is left
+-- the merged part of both lists is in order, and comes before all that is left
 pub record IsMerging (lt : ℕ → ℕ → Bool) (kept fresh : List ℕ) (i : ℕ) (rest live : List ℕ) : Type 0 where
   pub done : List ℕ
   pub all : kept ≡ done ++ rest
@@ -62,7 +62,7 @@ swapped a b c d =
     let to : a ++ ((c ++ b) ++ d) ≡ (a ++ c) ++ (b ++ d) = ap (λ l. a ++ l) (append_assoc c b d) ∙ sym (append_assoc a c (b ++ d)) in
     subst (λ l. IsPermutation ((a ++ b) ++ (c ++ d)) l) to (subst (λ l. IsPermutation l (a ++ ((c ++ b) ++ d))) from outer)
 
--- what is before the next number goes over, and then the number
+-- the kept numbers before the next fresh one are moved, and then that one
 pub merging_goes_on : (lt : ℕ → ℕ → Bool) → IsStrictWeakOrder lt → (kept fresh : List ℕ) (i : ℕ) (rest live : List ℕ) (n : ℕ) (chunk after live' : List ℕ) → IsMerging lt kept fresh i rest live →
     i < length fresh → n ≡ get_or fresh i n → rest ≡ chunk ++ after → ((x : ℕ) → In x chunk → lt x n ≡ true) → ((y : ℕ) → In y after → lt y n ≡ false) → live' ≡ (live ++ chunk) ++ n ∷ [] →
     IsMerging lt kept fresh (i + 1) after live'
@@ -102,7 +102,7 @@ merging_goes_on lt o kept fresh i rest live n chunk after live' w low is parts s
       ]));
     }
 
--- the rest goes over
+-- the rest is moved
 pub merging_ends : (lt : ℕ → ℕ → Bool) (kept fresh : List ℕ) (i : ℕ) (rest live live' : List ℕ) → IsMerging lt kept fresh i rest live → length fresh ≤ i → live' ≡ live ++ rest →
     IsPermutation (kept ++ fresh) live' × AllPairs (λ m n. lt n m ≡ false) live'
 merging_ends lt kept fresh i rest live live' w le grows =

@@ -64,7 +64,7 @@ low_named [] n p e = cc
 low_named (x ∷ xs) zero p e = omega arith
 low_named (x ∷ xs) (suc n) p e = omega (arith, low_named xs n p e)
 
--- what was named stays so
+-- a number that names a placement keeps naming it
 pub named_on : (all more : List Placement) (ns : List ℕ) (ps : List Placement) → AreNumbersOf all ns ps → AreNumbersOf (all ++ more) ns ps
 named_on all more [] [] e = refl
 named_on all more [] (p ∷ ps) e = cc
@@ -126,7 +126,7 @@ names_push all ps i ns p n ns' h lt is at pushed =
     let some : Placement → Option Placement = λ q. Some q in
     ap (λ l. map f l) pushed ∙ map-append f ns (n ∷ []) ∙ ap (λ l. l ++ f n ∷ []) h ∙ ap (λ o. map some (take i ps) ++ o ∷ []) (at ∙ ap some is) ∙ sym (map_more some ps i p lt)
 
--- one more
+-- after one more placement
 pub goes_on : (old ps now : List Placement) (i : ℕ) (ns : List ℕ) (p : Placement) (now' : List Placement) (n : ℕ) (ns' : List ℕ) → IsPartWay old ps now i ns → i < length ps → p ≡ get_or ps i p →
     Gives now p now' → slice_get now' n ≡ Some p → ns' ≡ ns ++ n ∷ [] → IsPartWay old ps now' (i + 1) ns'
 goes_on old ps now i ns p now' n ns' w lt is (inl e) at pushed = record {
@@ -153,7 +153,7 @@ goes_on old ps now i ns p now' n ns' w lt is (inr e) at pushed = record {
   names = names_push now' ps i ns p n ns' (subst (λ all. AreNumbersOf all ns (take i ps)) (sym e.1) (named_on now (p ∷ []) ns (take i ps) w.names)) lt is at pushed;
 }
 
--- all done
+-- after all placements
 pub all_given : (old ps now : List Placement) (i : ℕ) (ns : List ℕ) → IsPartWay old ps now i ns → length ps ≤ i → AreNumbersOf now ns ps × GoesOnWith old ps now
 all_given old ps now i ns w le =
     let whole : take i ps ≡ ps = take_all i ps le in (

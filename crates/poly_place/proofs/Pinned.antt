@@ -36,7 +36,7 @@ pins_more pins pins' rest rest' whole e before is added = ap (λ l. l ++ pins_in
 pub pins_all : (pins : List Placement) (rest whole : List Entry) → pins ++ pins_in rest ≡ pins_in whole → rest ≡ [] → pins ≡ pins_in whole
 pins_all pins rest whole before is = sym (append-nil pins) ∙ ap (λ r. pins ++ pins_in r) (sym is) ∙ before
 
--- the entry that a pin is of
+-- the entry that a pin belongs to
 record IsOf (p : Placement) (es : List Entry) : Type 0 where
   entry : Entry
   stands : In entry es

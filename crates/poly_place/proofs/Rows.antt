@@ -180,7 +180,7 @@ pub row_none : (rows : List Row) (i : Item) → place_in rows i ≡ None → row
 row_none [] i e = refl
 row_none (r ∷ rows) i e = row_none_by r rows i (row_none rows i) (same_item r.0 i) e
 
--- ---- one number more
+-- ---- one more number
 
 abbrev given : (Item → Bool) → ℕ → Row → Row
 given f n r = (r.0, r.1 ++ filter (λ m. f r.0) (n ∷ []))

@@ -1,4 +1,4 @@
--- Where numbers run out for a design's placements, or then for its pins, they run out for the design.
+-- If numbers run out for a design's placements, or after these for its pins, they run out for the design.
 use Rattle.std.proofs.Common.{List, inl, inr, subst}
 use Rattle.std.specs.List.{Contains}
 use Rattle.std.proofs.lemmas.List.Elements.{Contains-append_cases}

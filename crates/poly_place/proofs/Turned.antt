@@ -1,4 +1,4 @@
--- The numbers after a change of one cell or one piece: those that it leaves alone, and those of what is found anew.
+-- The numbers after a change of one cell or one piece: those that it leaves alone, and those of the placements listed again.
 use Rattle.std.proofs.Common.{Bool, Less, List, None, Option, Some, [], ap, arith, eqb, false, get_or, inl, inr, length, map, not, refl, slice_get, subst, suc, sym, true, zero, ℕ, ◌++◌, ◌+◌, ◌<◌, ◌∙◌, ◌∷◌, ◌≡◌, ◌≢◌, ◌⊎◌}
 use Rattle.std.specs.Prelude.{filter, slice_index_or}
 use Rattle.std.specs.List.{AllPairs, Contains, cons_option, filter_map, list_all}
@@ -40,7 +40,7 @@ use Rattle.poly_place.proofs.Numbers.{first_named, rest_named}
 use Rattle.poly_place.proofs.Righted.{in_number, number_in}
 use Rattle.poly_place.proofs.Untouched.{untouched_stays, untouched_was}
 
--- ---- numbers that stand once
+-- ---- numbers that occur once
 
 pub apart_list : (xs : List ℕ) → distinct xs ≡ true → AllPairs (λ x y. x ≢ y) xs
 apart_list [] h = pairs_none (λ x y. x ≢ y)
@@ -127,7 +127,7 @@ order_pairs v (n ∷ ns) h =
     let p = and_parts (list_all (λ q. below v n q) ns) (in_order v ns) h in
     pairs_cons (λ m n. below v m n ≡ true) n ns (λ m i. all_in (λ q. below v n q) ns p.0 m i) (order_pairs v ns p.1)
 
--- what stays of the live numbers
+-- the live numbers that stay
 pub kept_up : (v : View) (new found : List Placement) (marks : List Bool) → WellNamed v → GoesOnWith v.placements found new → AreInOrder new (unmarked_in v marks)
 kept_up v new found marks w g = AllPairs-filter (λ m n. comes_before new n m ≡ false) (λ n. not (slice_index_or marks n false)) v.live (λ i j d l low.
     let r = placed (slice_get v.placements (get_or v.live i d)) (slice_get v.placements (get_or v.live j d)) (order_pairs v v.live w.live_up i j d l low) in

@@ -1,4 +1,4 @@
--- What a change does not touch stays a placement, or stays none.
+-- Whatever a change doesn't touch is a placement after it exactly if it was one before.
 use Rattle.std.proofs.Common.{Bool, List, None, Option, Some, [], ap, cond, false, inl, inr, refl, subst, sym, true, ℕ, ◌∙◌, ◌∷◌, ◌≡◌, ◌≢◌}
 use Rattle.std.specs.Prelude.{nat_eq}
 use Rattle.std.specs.List.{Contains, list_any}
@@ -159,7 +159,7 @@ not_found : (es : List (List ℕ × Spec)) (name : List ℕ) (s : Spec) → In (
 not_found [] name s i none = absurd i
 not_found (e ∷ es) name s i none = not_found_at e es name s (not_found es name s) (is_eq (name_cmp name e.0)) refl i none
 
--- a piece that is not there has no placements
+-- a piece that the design doesn't have has no placements
 pub listed_none : (d : Layout) (name : List ℕ) (list : List Placement) → spec_of d name ≡ None → list ≡ [] → IsListOf placement_cmp (λ p. IsPlacement d p × (pointwise nat_eq p.name name ≡ true)) list
 listed_none d name list none is = rw is (record {
   ascending = pairs_none (λ a b. placement_cmp a b ≡ Less);

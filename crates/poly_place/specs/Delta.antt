@@ -18,13 +18,13 @@ use Rattle.poly_tiling.specs.Tilings.{IsPin, bounds_of}
 use Rattle.poly_place.specs.declared.delta.Delta.{Delta}
 use Rattle.poly_place.specs.Right.{IsRight}
 
--- the numbers of the placements that P says, each once, in placement order
+-- the numbers of the placements that satisfy P, each once, in placement order
 pub record AreNumbersFor (v : View) (P : Placement → Type 0) (numbers : List ℕ) : Type 0 where
   pub given_out : given v numbers ≡ true
   pub up : in_order v numbers ≡ true
   pub exact : (p : Placement) → IsNamed v numbers p ↔ P p
 
--- an item whose least is higher in the second design; an item that is not there has 0
+-- an item whose least is higher in the second design; the least is 0 if a design doesn't have the item
 abbrev pub LeastRises : Layout → Layout → Item → Type 0
 LeastRises d e i = (bounds_of d i).least < (bounds_of e i).least
 

@@ -21,7 +21,7 @@ abbrev pub row_in : List Row → Item → List ℕ
 row_in [] i = []
 row_in (r ∷ rs) i = cond (same_item r.0 i) r.1 (row_in rs i)
 
--- the place of the item's row
+-- the index of the item's row
 abbrev pub place_in : List Row → Item → Option ℕ
 place_in [] i = None
 place_in (r ∷ rs) i = cond (same_item r.0 i) (Some 0) (option_map suc (place_in rs i))
@@ -49,11 +49,11 @@ pub record IsIndexed (v : View) (rows : List Row) : Type 0 where
 abbrev pub has_of : List Placement → ℕ → Item → Bool
 has_of all n i = list_any (λ j. same_item j i) (items_of (slice_get all n))
 
--- each row goes on with those of the numbers that have its item
+-- each row, followed by those of the numbers that have its item
 abbrev pub with_numbers : (ℕ → Item → Bool) → List ℕ → List Row → List Row
 with_numbers has numbers rows = map (λ r. (r.0, r.1 ++ filter (λ n. has n r.0) numbers)) rows
 
--- a row for each bound's item, with what the old rows have of it that isn't marked
+-- a row for each bound's item, with the unmarked numbers of the item's old row
 abbrev pub rows_without : (ℕ → Bool) → List Row → List Bound → List Row
 rows_without marked old bounds = map (λ b. (b.0, filter (λ n. not (marked n)) (row_in old b.0))) bounds
 

@@ -13,7 +13,7 @@ use Rattle.poly_design.specs.declared.placement.Placement.{Placement}
 use Rattle.poly_tiling.specs.Lists.{mem}
 use Rattle.poly_tiling.specs.Puzzle.{View}
 
--- the placement covers the changed cell, or is one of the changed piece
+-- the placement covers the changed cell, or belongs to the changed piece
 abbrev pub touches : Change → Placement → Bool
 touches (Cell c before after) p = list_any (λ k. spot_eq k c) p.cells
 touches (Piece name before after) p = pointwise nat_eq p.name name
@@ -22,7 +22,7 @@ abbrev pub touches_named : Change → Option Placement → Bool
 touches_named x None = false
 touches_named x (Some p) = touches x p
 
--- the marks tell of each live number whether the change touches its placement
+-- the marks tell for each live number whether the change touches its placement
 abbrev pub AreMarked : View → Change → List Bool → Type 0
 AreMarked v x marks = (n : ℕ) → mem v.live n ≡ true → slice_index_or marks n false ≡ touches_named x (slice_get v.placements n)
 

@@ -19,7 +19,7 @@ use std::alloc::{AllocError, Global};
 pub struct Delta {
     /// The numbers that are no longer placements.
     pub gone: Vec<u32>,
-    /// The numbers that are a placement now and were none.
+    /// The numbers that are placements now and weren't before.
     pub fresh: Vec<u32>,
     /// The items whose least rose.
     pub needed: Vec<Item>,
@@ -102,7 +102,7 @@ fn mark(marks: &mut Vec<bool>, number: u32)
     marks[number as usize] = true;
 }
 
-// The least of an item, 0 if it isn't there.
+// The least of an item, 0 if the list doesn't have it.
 fn least_in(bounds: &[(Item, u8, u8)], item: &Item) -> u8
     requires { items_ascend bounds.now ≡ true }
     ensures { result ≡ bound_in bounds.now item.now (λ b. b.1) }
@@ -113,7 +113,7 @@ fn least_in(bounds: &[(Item, u8, u8)], item: &Item) -> u8
     }
 }
 
-// Whether the item is there with a lower most.
+// Whether the list has the item with a lower most.
 fn is_lower(bounds: &[(Item, u8, u8)], item: &Item, most: u8) -> bool
     requires { items_ascend bounds.now ≡ true }
     ensures { result ≡ (list_any (λ b. same_item b.0 item.now) bounds.now && nat_lt (bound_in bounds.now item.now (λ b. b.2)) most) }

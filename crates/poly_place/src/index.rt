@@ -1,7 +1,7 @@
 //! The numbers of the placements that have an item, item by item.
 //!
 //! Numbers are scattered: each goes to the rows of its placement's piece and cells, which are found by binary search. A
-//! change of one cell or one piece takes the numbers of that item out of all rows, and scatters those that it has after.
+//! change of one cell or one piece takes the numbers of that item out of all rows, and scatters the item's new numbers.
 ghost use Rattle.std.specs.Prelude.{◌≡◌, ◌++◌, ◌∷◌, ◌<◌, [], IfOk, IfSome, IfErr, List, OnOk, length, nat_lt, slice_index_or, true, false};
 ghost use Rattle.std.specs.List.{list_all, list_any};
 ghost use Rattle.poly_shape.specs.Order.{IsAscending, spot_cmp};
@@ -104,8 +104,8 @@ impl Index {
         Ok(marks)
     }
 
-    /// The index after a change of one cell or one piece of the design that this index is of: marked numbers go out, and
-    /// those that were found come in. The only refusal is `Memory`.
+    /// The index after a change of one cell or one piece of this index's design: without the marked numbers, and with those
+    /// that were found. The only refusal is `Memory`.
     pub(crate) fn changed_by(
         &self,
         alloc: Global,
@@ -142,7 +142,7 @@ fn changed_item(change: &Change) -> Item
     }
 }
 
-// The place of the item's row.
+// The index of the item's row.
 fn find(rows: &[Row], item: &Item) -> Option<usize>
     requires { AreRows rows.now }
     ensures place { result ≡ place_in rows.now item.now }
@@ -164,7 +164,7 @@ fn numbers_in<'a>(rows: &'a [Row], item: &Item) -> &'a [u32]
     }
 }
 
-// A row for each bound's item, with what the rows have of it that isn't marked.
+// A row for each bound's item, with the unmarked numbers of the item's old row.
 fn copied(
     alloc: Global,
     rows: &[Row],

@@ -33,7 +33,7 @@ impl Model for Interner {
 impl Interner {
     ghost use Rattle.poly_place.specs.Interned.{AreNumbered};
 
-    /// Without numbers.
+    /// An interner that has given out no number.
     pub fn new(alloc: Global) -> Interner
         ensures { result ≡ [] }
     {

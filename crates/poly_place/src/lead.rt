@@ -23,7 +23,7 @@ use poly_tiling::View;
 use std::alloc::Global;
 use std::sync::Arc;
 
-/// The plan of a change of the design that the sides show. After is the design after it.
+/// The plan of a change of the design that the sides show; `after` is the design after the change.
 ///
 /// Fails with `Spent` if there are more placements than numbers, and else only with `Memory`.
 pub(crate) fn lead(

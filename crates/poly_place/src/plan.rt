@@ -10,7 +10,7 @@ use crate::sides::Sides;
 use poly_tiling::View;
 use std::sync::Arc;
 
-/// What a change of the design does to a table, made ready so that it can be put in without memory.
+/// What a change of the design does to a table, prepared so that applying it takes no memory.
 #[derive(Drop)]
 pub struct Plan {
     /// The differences between the design before and the design after.

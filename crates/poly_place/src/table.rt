@@ -22,7 +22,7 @@ use poly_tiling::{Item, View};
 use std::alloc::Global;
 use std::marker::Model;
 
-/// A design by numbers. A number that was given out names its placement for good, also after the placement has gone.
+/// A design by numbers. A number that was given out names its placement forever, even after the placement has gone.
 #[derive(Drop)]
 pub struct Table {
     alloc: Global,
@@ -44,7 +44,7 @@ impl Model for Table {
 }
 
 impl Table {
-    /// The table of the design. Numbers go to the placements first, in their order, then to pins that are no placements.
+    /// The table of the design. Numbers go to the placements first, in their order, then to pins that aren't placements.
     ///
     /// The only refusal is `Memory`.
     pub fn of(alloc: Global, design: &Design) -> Result<Table, Refusal>
@@ -103,8 +103,7 @@ impl Table {
         }
     }
 
-    /// The plan of a change of the design that the table is right for, whose design after it the caller has made: `plan`
-    /// without the copy.
+    /// Does what `plan` does, for a caller that has already made `after`, the design after the change. It copies no design.
     pub fn plan_by(
         &mut self,
         design: &Design,
@@ -131,7 +130,7 @@ impl Table {
         )
     }
 
-    /// Puts the plan in, without memory. It has to be the last plan that the table made.
+    /// Applies the plan, which must be the last one that the table made. Takes no memory.
     pub fn make(&mut self, plan: Plan)
         requires { (arc_value plan.view).placements ≡ self.old.placements }
         ensures now { self.new ≡ arc_value plan.view }

@@ -180,7 +180,7 @@ fn a_blocked_cell_has_no_numbers(rt: HostRuntime) {
     expect_sizes(&rt, &table, [0, 2, 2, 4], b"A", 2);
 }
 
-// Makes the edit on the design and its table and asserts how long the delta's lists are. It answers gone and fresh.
+// Makes the edit on the design and its table and asserts how long the delta's lists are. Returns gone and fresh.
 fn led(
     rt: &(impl AllocGlobal + Abort),
     table: &mut Table,
@@ -311,7 +311,7 @@ fn a_plan_of_an_edit(rt: HostRuntime) {
     expect_numbers(&rt, plan.view.pins(), &[4]);
 }
 
-// Four tilings by two dominoes of two by two cells with one more beside them that may be covered, out of order.
+// Four tilings, out of order: two dominoes on two by two cells with an optional cell next to them.
 fn tilings(alloc: Global) -> Result<Vec<Tiling>, Refusal> {
     let mut tilings = Vec::new(alloc);
     tilings.push(Tiling::new(vec![in alloc; 2, 5]?))?;

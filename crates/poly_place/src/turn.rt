@@ -113,7 +113,7 @@ fn found_there(name: Name, after: &Design) -> Result<Vec<Placement>, Refusal>
     }
 }
 
-// Both lists in one. Where each fresh number belongs is found by halving, so few of the kept ones are looked at.
+// Merges both lists. Binary search finds where each fresh number belongs, so few of the kept ones are looked at.
 fn merged(
     alloc: Global,
     names: &Interner,

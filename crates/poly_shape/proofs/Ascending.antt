@@ -66,7 +66,7 @@ module _ {X : Type 0} {R : X → X → Ordering} (o : IsTotalOrder R) where
   pub sorted_from_ascending : (xs : List X) → IsAscending R xs → IsSortedBy (λ a b. is_lt (R a b)) xs
   sorted_from_ascending xs up k d low lt = ap is_lt (turned_less _ _ (up k (k + 1) d (omega arith) lt))
 
-  -- the comparisons with x rise along the list, as a binary search asks
+  -- the comparisons with x rise along the list, as a binary search requires
   pub searchable : (xs : List X) (x : X) → IsAscending R xs → IsNonDecreasingBy (λ y. ordering_index (R y x)) xs
   searchable xs x up = searchable_from_sorted o (λ y. y) xs x (sorted_from_ascending xs up)
 

@@ -70,7 +70,7 @@ spot_from_point a b e =
     let ey = ap (λ (p : Point). p.y) e in
     same_places a b (omega (arith, ints, ex)) (omega (arith, ints, ey))
 
--- two cells that lie at one place are one
+-- two cells that lie at the same place are equal
 same_source : (g : Grid) (t : ℕ) → t < turn_count g true → (s : Point) (a b c : Spot) → LiesAt g t s a c → LiesAt g t s b c → a ≡ b
 same_source g t known s a b c la lb = spot_from_point a b (one_to_one g t known (point_of a) (point_of b) (la ∙ sym lb))
 

@@ -1,4 +1,4 @@
--- Cells at their normal place and their translates: each tells the other.
+-- Cells at their normal place and their translates: each determines the other.
 use Rattle.std.proofs.Common.{◌≡◌, ℕ, pos, ◌+ℤ◌, ◌<◌, ◌≤◌, List, [], ◌∷◌, length, get_or, refl, ap, sym, subst, ◌∙◌, arith}
 use Rattle.std.proofs.lemmas.Int.{ints}
 use Rattle.std.proofs.lemmas.List.{get_or-map, length-map}
@@ -44,7 +44,7 @@ unmoved right down (x ∷ xs) (y ∷ ys) e =
     let rest = unmoved right down xs ys tail in
     λ i. same i ∷ rest i
 
--- two sets at their normal places with a translate in common are one, moved the same way
+-- two sets at their normal places with a translate in common are equal, and moved the same way
 pub same_translates : TranslatesTellTheNormalPlace
 same_translates a b right down right' down' na nb e =
     let le = moved_no_less a b right down right' down' na nb e in

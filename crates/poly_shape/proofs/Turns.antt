@@ -22,7 +22,7 @@ each_at P [] d p e k = p
 each_at P (x ∷ xs) d p e zero = e.0
 each_at P (x ∷ xs) d p e (suc k) = each_at P xs d p e.1 k
 
--- the coordinates that a turn can give, as what they make of a point's
+-- the coordinates that a turn can give, as functions of a point's coordinates
 pub record OfEach (Q : (ℤ → ℤ → ℤ) → Type 0) : Type 0 where
   pub x : Q (λ x y. x)
   pub y : Q (λ x y. y)
@@ -42,7 +42,7 @@ of_table Q q Hex = ((q.x, q.y), ((q.neg_y, q.both), ((q.neg_both, q.x), ((q.neg_
 pub of_turn : (Q : (ℤ → ℤ → ℤ) → Type 0) → OfEach Q → (g : Grid) (t : ℕ) → OfBoth Q (λ x y. ((turned_of g t (record { x = x; y = y })).x, (turned_of g t (record { x = x; y = y })).y))
 of_turn Q q g t = each_at (OfBoth Q) (turn_table g) (λ x y. (x, y)) (q.x, q.y) (of_table Q q g) t
 
--- two points with one image are one
+-- two points with the same image are equal
 pub one_to_one : (g : Grid) (t : ℕ) → t < turn_count g true → (p q : Point) → turned_of g t p ≡ turned_of g t q → p ≡ q
 one_to_one g t lt p q e =
     let back = turns_are_undone g true t lt in

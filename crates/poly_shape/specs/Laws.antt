@@ -11,7 +11,7 @@ use Rattle.poly_shape.specs.Shapes.{IsShape}
 abbrev pub ShapesAreTheirOrientations : Type 0
 ShapesAreTheirOrientations = (s : Figure) (mirror : Bool) (list : List (List Spot)) → IsShape s → AreOrientations s mirror list → Contains list s.cells
 
--- what a piece may do without being turned over, it may do with it
+-- an orientation by rotations alone is one of the orientations by all turns
 abbrev pub RotationsAreAmongAll : Type 0
 RotationsAreAmongAll = (s : Figure) (rotations all : List (List Spot)) → AreOrientations s false rotations → AreOrientations s true all
     → (image : List Spot) → Contains rotations image → Contains all image
@@ -20,7 +20,7 @@ RotationsAreAmongAll = (s : Figure) (rotations all : List (List Spot)) → AreOr
 abbrev pub OrientationsAreOneList : Type 0
 OrientationsAreOneList = (s : Figure) (mirror : Bool) (a b : List (List Spot)) → AreOrientations s mirror a → AreOrientations s mirror b → a ≡ b
 
--- cells at their normal place are known from any cells that they were moved to
+-- any translate of cells determines the cells at their normal place
 abbrev pub TranslatesTellTheNormalPlace : Type 0
 TranslatesTellTheNormalPlace = (a b : List Spot) (right down right' down' : ℕ) → IsNormal a → IsNormal b → moved_by right down a ≡ moved_by right' down' b
     → (a ≡ b) × (right ≡ right') × (down ≡ down')

@@ -1,4 +1,4 @@
-//! What a turn makes of a set of cells.
+//! The images of a set of cells under turns.
 
 ghost use Rattle.std.specs.Prelude.{◌≡◌, ℕ, ◌<◌, ◌≤◌, ◌≤ℤ◌, ◌+ℤ◌, pos, length, true, slice_index_or};
 ghost use Rattle.std.specs.List.{Contains};

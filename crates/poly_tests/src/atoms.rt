@@ -10,7 +10,7 @@ use poly_tiling::{Item, View};
 use std::alloc::{AllocGlobal, Global};
 use std::process::Abort;
 
-// The guards of the change and of its inverse, if `guards` and `guard_counts` say the same of the change.
+// The guards of the change and of its inverse, if `guards` and `guard_counts` agree on the change.
 fn compared(
     alloc: Global,
     before: &View,
@@ -103,7 +103,7 @@ fn pins_take_hope(rt: HostRuntime) {
     expect_hopeless(&rt, &view, &[Atom::Has(7)], false);
 }
 
-// More atoms than a design has items, each of which asks for a placement of its own, and as many that ask for one.
+// More atoms than a design has items: all ask for the same placement, or each asks for another one.
 #[test]
 fn long_lists(rt: HostRuntime) {
     let view = view(&rt, &design(&rt, DOMINOES));

@@ -48,7 +48,7 @@ fn expect_status(rt: &impl Abort, book: &Book, want: (u64, u64, u64)) {
     assert!(rt; (numbers.edition, numbers.listed, numbers.pending) == want);
 }
 
-// Settles the book and asserts how many tilings its Quiet has, and that it vouches for it.
+// Settles the book and asserts how many tilings its Quiet has, and that the book vouches for it.
 fn expect_quiet(rt: &impl Abort, book: &mut Book, want: usize) {
     let _ = book.settle(10_000, 256).expect(rt, "it settles");
     let quiet = book.quiet().expect(rt, "nothing is pending");
@@ -71,8 +71,7 @@ fn covering(rt: &impl Abort, alloc: Global, view: &View, item: &Item) -> Vec<u32
     numbers
 }
 
-// A Branch on the item whose arms are the placements that cover it, without this many of the last ones. Each arm has a
-// Rest.
+// A Branch on the item whose arms are the placements that cover it, except the last `less` of them. Each arm has a Rest.
 fn branch_on(rt: &impl Abort, alloc: Global, view: &View, item: Item, less: usize) -> Tree {
     let mut numbers = covering(rt, alloc, view, &item);
     for _ in 0..less {
@@ -86,7 +85,7 @@ fn branch_on(rt: &impl Abort, alloc: Global, view: &View, item: Item, less: usiz
     Tree::Branch { item, arms }
 }
 
-// A report on task 1: a Branch on the cell with all its arms but this many.
+// A report on task 1: a Branch on the cell with all its arms, except the last `less` of them.
 fn report_on(rt: &impl Abort, alloc: Global, book: &Book, cell: (u64, u64), less: usize) -> Report {
     Report {
         task: 1,
@@ -274,7 +273,7 @@ fn expect_all_done(rt: &impl Abort, replies: &[Reply]) {
     }
 }
 
-// Asserts that the solver gives as many tilings without atoms.
+// Asserts that the solver finds `want` tilings without atoms.
 fn expect_found(rt: &impl Abort, alloc: Global, book: &Book, want: usize) {
     let found = search_all(alloc, book.view(), &[]).expect(rt, "memory");
     assert!(rt; found.len() == want);

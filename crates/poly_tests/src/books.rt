@@ -54,7 +54,7 @@ pub(crate) fn expect_status(rt: &impl Abort, book: &Book, want: (u64, u64, u64))
     assert!(rt; (numbers.edition, numbers.listed, numbers.pending) == want);
 }
 
-/// Settles the book and asserts how many tilings its Quiet has, and that it vouches for it.
+/// Settles the book and asserts how many tilings its Quiet has, and that the book vouches for it.
 pub(crate) fn expect_quiet(rt: &impl Abort, book: &mut Book, want: usize) {
     let _ = book.settle(10_000, 256).expect(rt, "it settles");
     let quiet = book.quiet().expect(rt, "nothing is pending");

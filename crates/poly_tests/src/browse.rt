@@ -165,7 +165,7 @@ fn query(
     Ok(query)
 }
 
-// How many queries of one or two words the plain filter answers in the same way, or none if it answers one otherwise.
+// How many queries the plain filter answers in the same way; `None` if it answers one of them differently.
 fn agreeing(alloc: Global, puzzle: &[u8], lines: &[&[u8]]) -> Result<Option<u32>, Refusal> {
     let tiled = tilings_of(alloc, puzzle, lines)?;
     let mut queries = 0u32;
@@ -247,7 +247,7 @@ fn classes_go_by_names_and_required_cells(rt: HostRuntime) {
     );
 }
 
-// A board without symmetry: a domino has five places, and there is the tiling without it. A triangle of three hexagons:
+// A board without symmetry: a domino has five places, and one more tiling is without it. A triangle of three hexagons:
 // the domino's three places are one class.
 #[test]
 fn classes_go_by_the_board(rt: HostRuntime) {

@@ -1,6 +1,6 @@
 //! The test kit: designs, their views and their changes, from the lines that a session reads.
 //!
-//! A test says a design by its puzzle line and a change by its command line, for example
+//! A test gives a design by its puzzle line and a change by its command line, for example
 //!
 //! - `design(&rt, DOMINOES)` is the design of a puzzle line;
 //! - `edited(&rt, DOMINOES, &[b"pin A 0,0 0,1"])` is that design after edits;

@@ -1,7 +1,7 @@
 //! A catalogue that loses a tiling and gets it back.
 //!
 //! With ample memory this is a worked example of a catalogue. The test is run again with each allocation refused in
-//! turn: then a call that runs out of memory has to leave the list as it was, and succeeds when it is made again.
+//! turn: then a call that runs out of memory must leave the list as it was, and succeeds when it is made again.
 ghost use Rattle.std.specs.Prelude.{◌≡◌, [], OnOk, true};
 ghost use Rattle.std.specs.List.{list_all};
 ghost use Rattle.poly_tiling.specs.Puzzle.{is_tiling};

@@ -29,7 +29,7 @@ const ROW: &[u8] =
 
 const WITH: usize = 523_128;
 
-// The first so many tilings of the view that meet the atom.
+// The first `count` tilings of the view that meet the atom.
 fn family(alloc: Global, view: &View, atom: Atom, count: usize) -> Result<Vec<Tiling>, Refusal>
     ensures tilings { IfOk result (λ list. list_all (is_tiling view.now) list.items ≡ true) }
     ensures once { IfOk result (λ list. AreOnce list.items) }
@@ -40,8 +40,8 @@ fn family(alloc: Global, view: &View, atom: Atom, count: usize) -> Result<Vec<Ti
     Ok(found)
 }
 
-// Lists the tilings that have the first cell, and then so many of the others. Returns the refusal of these, if there is
-// one, and how many are listed at the end.
+// Lists the tilings that have the first cell, and then `count` of the others. Returns the refusal of the others, if there
+// is one, and how many tilings are listed at the end.
 fn listed(alloc: Global, count: usize) -> Result<(Option<Refusal>, usize), Refusal> {
     let design = design_of(alloc, ROW, &[])?;
     let view = View::plain(alloc, &design)?;
@@ -65,8 +65,8 @@ fn plan_of(design: &Design, table: &mut Table, change: &Change) -> Result<Plan, 
     }
 }
 
-// Lists the tilings that have the first cell, and with a change to up to 15 pieces exchanges those that it takes away for so
-// many of the others. Returns the refusal of the exchange, if there is one, and how many are listed at the end.
+// Lists the tilings that have the first cell. Then changes to up to 15 pieces, and exchanges the tilings that this takes away
+// for `count` others. Returns the refusal of the exchange, if there is one, and how many tilings are listed at the end.
 fn exchanged(alloc: Global, count: usize) -> Result<(Option<Refusal>, usize), Refusal> {
     let design = design_of(alloc, ROW, &[])?;
     let mut table = Table::of(alloc, &design)?;

@@ -1,5 +1,5 @@
 //! What the laws of a book say, on a small one: a report that was made before a run still holds after it, and a book
-//! vouches for the designs on its way alone.
+//! vouches only for the designs that it has had.
 ghost use Rattle.std.specs.Prelude.{◌≡◌, IfOk, true};
 ghost use Rattle.poly_report.specs.Shapes.{plan_of};
 ghost use Rattle.poly_book.specs.Happenings.{HoldsNow};
@@ -67,7 +67,7 @@ fn one_forbid(rt: &impl Abort, alloc: Global, book: &Book) -> Vec<Event> {
     events
 }
 
-// Asserts that there is one reply, and that it tells of a change.
+// Asserts that there is one reply, and that it reports a change.
 fn expect_one_change(rt: &impl Abort, replies: &[Reply]) {
     assert!(rt; replies.len() == 1);
     for reply in replies {

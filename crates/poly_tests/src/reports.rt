@@ -1,4 +1,4 @@
-//! Reports: what `holds`, `leaves` and `cut_up` say of small trees, and that what `explore` grows is a report.
+//! Reports: what `holds`, `leaves` and `cut_up` say about small trees, and that what `explore` grows is a report.
 ghost use Rattle.std.specs.Prelude.{◌≤◌};
 
 use crate::designs::{DOMINOES, design, view};
@@ -14,7 +14,7 @@ use std::process::Abort;
 const STRIP: &[u8] =
     b"{\"format\":1,\"grid\":\"square\",\"board\":[\"###\"],\"pieces\":[{\"name\":\"A\",\"cells\":[[0,0],[1,0]]},{\"name\":\"B\",\"cells\":[[0,0]]}]}";
 
-// Optional cells but for one, up to two dominoes of one name and at most one piece of one cell.
+// Optional cells except for one, up to two dominoes of one name and at most one piece of one cell.
 const OPTIONAL: &[u8] =
     b"{\"format\":2,\"grid\":\"square\",\"board\":[\"++++\",\"++#+\"],\"pieces\":[{\"name\":\"A\",\"cells\":[[0,0],[1,0]],\"least\":0,\"most\":2},{\"name\":\"B\",\"cells\":[[0,0]],\"least\":0,\"most\":1}]}";
 
@@ -202,7 +202,7 @@ fn what_is_explored_is_a_report(rt: HostRuntime) {
     }
 }
 
-// How many arms the root has that is explored with one node; none if it isn't a Branch.
+// How many arms the root has if it is explored with one node; `None` if it isn't a Branch.
 fn arms_of_root(alloc: Global, view: &View) -> Result<Option<usize>, Refusal> {
     match explore(alloc, view, &[], 1)? {
         Tree::Branch { arms, .. } => Ok(Some(arms.len())),

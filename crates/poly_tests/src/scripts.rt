@@ -61,8 +61,8 @@ impl Chance {
     }
 }
 
-// How many changes were made, how many reports were applied on time and late, and how many were refused since their task
-// had ended or for their tree.
+// How many changes were made, how many reports were applied on time and late, and how many were refused because their
+// task had ended or because of their tree.
 #[derive(Clone, Copy)]
 struct Tally {
     changed: u32,
@@ -151,7 +151,7 @@ impl Script {
         Ok(())
     }
 
-    // Makes an edit that is drawn, if it is accepted.
+    // Draws an edit, and makes it if it is accepted.
     fn edit(&mut self, alloc: Global) -> Result<(), Refusal> {
         let at = self.chance.below(16) as usize;
         let edit = edit_by(alloc, &self.book, LINES[at])?;
@@ -179,7 +179,7 @@ impl Script {
         }
     }
 
-    // Explores a pending task that is drawn, and keeps the report twice.
+    // Draws a pending task, explores it, and keeps the report twice.
     fn keep_reports(&mut self, alloc: Global) -> Result<(), Refusal> {
         let which = self.draw_task();
         let nodes = 1 + self.chance.below(3) as u32;
@@ -219,7 +219,7 @@ impl Script {
         }
     }
 
-    // Hands in a kept report that is drawn.
+    // Draws a kept report and hands it in.
     fn hand_in_any(&mut self) {
         let count = self.kept.len();
         if count == 0 {

@@ -24,15 +24,15 @@ const CORNER: &[u8] =
 const OPTIONAL: &[u8] =
     b"{\"format\":1,\"grid\":\"square\",\"board\":[\"++\"],\"pieces\":[{\"name\":\"A\",\"cells\":[[0,0],[1,0]],\"need\":\"optional\"}]}";
 
-// A board without cells. Without pieces it has the tiling that has nothing, and with a piece that has to lie there none.
+// A board without cells. Without pieces it has only the empty tiling, and with a piece that must be used it has none.
 const NOWHERE: &[u8] = b"{\"format\":1,\"grid\":\"square\",\"board\":[\".\"],\"pieces\":[]}";
 
 const NO_ROOM: &[u8] =
     b"{\"format\":1,\"grid\":\"square\",\"board\":[\".\"],\"pieces\":[{\"name\":\"A\",\"cells\":[[0,0]]}]}";
 
 // A hexagon and the six around it, all optional, and an optional domino. The domino lies in twelve ways: six from the
-// middle outwards, which turns carry to each other, and six along the edge, which they carry to each other too. With the
-// tiling without it these are three classes.
+// middle outwards, which turns carry to each other, and six along the edge, which they carry to each other too. Together
+// with the tiling without it, these are three classes.
 const FLOWER: &[u8] =
     b"{\"format\":1,\"grid\":\"hex\",\"board\":[\".++\",\"+++\",\"++.\"],\"pieces\":[{\"name\":\"A\",\"cells\":[[0,0],[1,0]],\"need\":\"optional\"}]}";
 
@@ -55,7 +55,7 @@ fn browsed(alloc: Global, quiet: &Quiet) -> Result<u64, Refusal> {
     Ok(answer.count)
 }
 
-// Asserts how many tilings a settled book has, how many `browse` counts, and how many classes they are.
+// Asserts how many tilings a settled book has, how many `browse` counts, and how many classes there are.
 fn expect_classes(rt: &(impl AllocGlobal + Abort), puzzle: &[u8], tilings: u64, want: u64) {
     let quiet = settled(rt.alloc(), puzzle).expect(rt, "it settles");
     let count = browsed(rt.alloc(), &quiet).expect(rt, "memory");

@@ -1,4 +1,4 @@
-//! A book beside all tilings of its design, as the plain lister finds them.
+//! Compares a book with all tilings of its design, as the plain lister finds them.
 
 use poly_atom::Atom;
 use poly_book::{Book, Job, Which};

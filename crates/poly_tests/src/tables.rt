@@ -1,4 +1,4 @@
-//! A table that was led through edits, undos and redos shows what a new table of the design shows, but for its numbers.
+//! A table that was led through edits, undos and redos shows what a new table of the design shows, except for its numbers.
 ghost use Rattle.std.specs.Prelude.{◌≡◌, IfOk, OnOk};
 ghost use Rattle.poly_design.specs.Changes.{changed};
 ghost use Rattle.poly_design.specs.Limits.{IsDesign};
@@ -96,13 +96,13 @@ fn is_as_new_back(
     Ok(undone && made_again)
 }
 
-// The change that the line asks for, and the change that takes it back.
+// The change that the line asks for, and the change that undoes it.
 fn both_ways(alloc: Global, design: &Design, line: &[u8]) -> Result<(Change, Change), Refusal>
     ensures before { OnOk result (IsDesign design.now) }
     ensures after { IfOk result (λ ways. IsDesign (changed design.now ways.0)) }
     ensures back { IfOk result (λ ways. changed (changed design.now ways.0) ways.1 ≡ design.now) }
 {
-    // The contract of this call tells that the design is within its limits.
+    // The contract of this call guarantees that the design is within its limits.
     let _cells = design.cells();
     match change_of(alloc, design, line) {
         Ok(change) => match change.copy() {
@@ -113,8 +113,8 @@ fn both_ways(alloc: Global, design: &Design, line: &[u8]) -> Result<(Change, Cha
     }
 }
 
-// Whether the table is as new all along the edits that the lines ask for, and on the way back, where each edit is undone,
-// made again and undone.
+// Whether the table is as new after each edit that the lines ask for, and on the way back, when each edit is undone, made
+// again and undone.
 fn is_as_new_along(
     alloc: Global,
     design: &mut Design,

@@ -281,7 +281,7 @@ ok_none (Ok u) None P h = h
 ok_none (Ok u) (Some i) P h = h
 ok_none (Err e) item P h = tt
 
--- the tilings found before the last step and those left then are, together, those there at first and those left at first
+-- the tilings found so far and those still left are, together, the tilings found at first and those left at first
 pub record Sums (v : View) (chosen free rest : List ℕ) (old now : List (List ℕ)) : Type 0 where
   pub sums : (T : List ℕ) → tally (same_list T) now + one (is_left v chosen rest T) ≡ tally (same_list T) old + one (is_left v chosen free T)
 

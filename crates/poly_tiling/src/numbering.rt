@@ -32,7 +32,7 @@ impl View {
     }
 }
 
-// The places of the list.
+// The indices of the list.
 fn first_numbers(alloc: Global, placements: &[Placement]) -> Result<Vec<u32>, Refusal>
     requires { length placements.now ≤ 20000 }
     ensures ok { IfOk result (λ list. list.items ≡ range_with_len 0 (length placements.now)) }

@@ -27,7 +27,7 @@ impl Model for Rows {
 }
 
 impl Rows {
-    /// No rows, with room for so many rows and numbers.
+    /// No rows, with room for this many rows and numbers.
     pub(crate) fn with_capacity(alloc: Global, rows: usize, numbers: usize) -> Result<Rows, Refusal>
         ensures ok { IfOk result (λ rows. rows ≡ []) }
         ensures why { IfErr result (λ e. e ≡ Refusal.Memory) }
@@ -49,7 +49,7 @@ impl Rows {
         Ok(())
     }
 
-    /// The row with this index. Without such a row it is empty.
+    /// The row with this index; empty if there is no such row.
     pub(crate) fn row(&self, index: usize) -> &[u32]
         ensures { result.now ≡ slice_index_or self.now index [] }
     {

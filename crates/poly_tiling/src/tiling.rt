@@ -39,7 +39,7 @@ impl Tiling {
         &self.numbers
     }
 
-    /// The list of the numbers itself, without memory.
+    /// The list of the numbers itself. Takes no memory.
     pub fn into_numbers(self) -> Vec<u32>
         ensures value { result.items ≡ self }
         ensures ascends { ascending result.items ≡ true }

@@ -255,7 +255,7 @@ fn has_cell_item(cells: &[Cell], item: &Item) -> bool
     cells.iter().any(|c| Item::Cell(*c).is(item))
 }
 
-/// The item with its least and its most, found by halving; none if the list lacks it. The items have to ascend.
+/// The item with its least and its most, found by binary search; `None` if the list lacks it. Requires items that ascend.
 pub fn find_bound(bounds: &[(Item, u8, u8)], item: &Item) -> Option<(Item, u8, u8)>
     requires { items_ascend bounds.now ≡ true }
     ensures bounds { (f : Bound → ℕ) → bound_in bounds.now item.now f ≡ found_or f result }
