@@ -54,7 +54,7 @@ module _ (v : View) (A : List Atom) (p : ℕ) (o : IsOpenFor v A p) where
   one_more i = tally_within (λ q. has_item v q i) (λ q. has_item v q i) (base v (A ++ Has p ∷ [])) (p ∷ base v A)
       (ascending_distinct (base v (A ++ Has p ∷ [])) (base_up v (A ++ Has p ∷ []))) (λ q j h. (joined q j, h))
 
-  -- a piece of the open placement may be in one more member
+  -- the piece of the open placement may be in one more member
   has_room : (i : Item) → In i (items v p) → is_piece i ≡ true → count v (base v A) i < most v i
   has_room i j is = elim (cases_Bool (nat_le (most v i) (count v (base v A) i))) [
     | inl e ↦ absurd (both_ways _ o.room (any_from (λ i. is_piece i && nat_le (most v i) (count v (base v A) i)) (items v p) i j (and_from _ _ is e)))

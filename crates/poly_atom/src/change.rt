@@ -15,10 +15,10 @@ use poly_grid::Refusal;
 use poly_tiling::{Item, View};
 use std::alloc::{AllocError, Global};
 
-/// The guards of the change from one design to another: `Lacks` of each new placement in placement order, `AtLeast` of
-/// each item whose least fell in item order, `AtMost` of each item whose most rose in item order, `Has` of each pin that
-/// went in the order of the pins. Requires that each number of the earlier view names the same placement in the later
-/// one. Fails only when out of memory.
+/// The guards of the change from one design to another: `Lacks` of each new placement, in placement order; `AtLeast` of
+/// each item whose least fell, in item order; `AtMost` of each item whose most rose, in item order; `Has` of each pin that
+/// was removed, in the order of the pins. Requires that each number of the earlier view names the same placement in the
+/// later one. Fails only when out of memory.
 pub fn guards(alloc: Global, before: &View, after: &View) -> Result<Vec<Atom>, Refusal>
     requires { Names before.now after.now }
     ensures ok { IfOk result (λ atoms. atoms.items ≡ guards before.now after.now) }

@@ -24,10 +24,10 @@ const MOST_ITEMS: usize = MAX_CELLS + MAX_PIECES;
 // Lists up to this length are compared as they are: gathering first would cost more.
 const FEW_ATOMS: usize = 8;
 
-/// Whether the atoms alone show that no tiling meets all of them. An atom shows it if it asks for a placement that isn't
-/// in the design, that another atom rules out, that is in conflict with a pin or with another placement asked for, or of
-/// whose piece too many placements are asked for; if it rules out a pin; or if its bound is beyond that of its item.
-/// Never allocates.
+/// Whether the atoms alone show that no tiling meets all of them. An atom shows it if it rules out a pin; if its bound is
+/// beyond that of its item; or if it asks for a placement that isn't in the design, that another atom rules out, that is
+/// in conflict with a pin or with another placement asked for, or whose piece has too many placements asked for. Never
+/// allocates.
 ///
 /// The time is in proportion to the number of atoms.
 pub fn hopeless(view: &View, atoms: &[Atom]) -> bool

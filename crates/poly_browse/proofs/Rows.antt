@@ -191,7 +191,7 @@ pub listed_sorted : (xs ys zs : List Placement) → IsPermutation xs ys → IsSo
 listed_sorted xs ys zs moved sorted kept = listed_from placement_total placement_eq placement_ties placement_same (Contains xs) xs ys zs
     (λ x. (λ c. inr c, λ c. elim c [ inl none ↦ absurd (lacks_nil x none) | inr h ↦ h ])) moved sorted kept
 
--- numbers that are sorted and freed of repeats are the same as if each were put in its place
+-- sorting numbers and dropping repeats gives the same list as putting each into its place
 pub image_sorted : (xs sorted out : List ℕ) → IsPermutation xs sorted → IsSorted nat_cmp sorted → IsFiltered (DiffersFromLast eqb) [] sorted out → out ≡ put_all xs []
 image_sorted xs sorted out moved up kept = ascending_same out (put_all xs []) (sorted_ascend sorted out up kept) (put_all_up xs [] refl)
     (λ z i. in_put_all_left xs [] z (mem_in xs z (sym (sorted_same xs sorted out moved kept z) ∙ in_mem out z i)))

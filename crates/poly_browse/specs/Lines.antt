@@ -1,4 +1,4 @@
--- The words of a query: the numbers that each word speaks of.
+-- The words of a query: the numbers that each word names.
 use Rattle.std.specs.Int.{bit_at}
 use Rattle.std.specs.List.{AllPairs, Contains, list_all, list_any}
 use Rattle.std.specs.Prelude.{Bool, List, [], bit_or, false, nat_eq, not, slice_index_or, ℕ, ◌&&◌, ◌↔◌, ◌∷◌, ◌≢◌}

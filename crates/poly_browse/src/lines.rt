@@ -1,4 +1,4 @@
-//! The words of a query by numbers: which numbers of the view each word speaks of.
+//! The words of a query by numbers: which numbers of the view each word names.
 //!
 //! The words are looked up once for a query, so the pass over the tilings looks at numbers and flags, and never at names or
 //! cells. The time for a tiling depends on its placements and not on the number of words: all placements to have share one

@@ -32,8 +32,8 @@ pub fn classes(alloc: Global, quiet: &Quiet) -> Result<u64, Refusal>
 }
 
 /// Returns the number of classes of the design's tilings: two tilings are in one class if a symmetry of the design carries
-/// one to the other. A symmetry is a turn, with or without a reflection whatever the pieces allow, and then a translation,
-/// which together carry the cells with their modes, the placements and the pins to themselves and keep the names.
+/// one to the other. A symmetry is a turn followed by a translation. Together they carry the cells with their modes, the
+/// placements and the pins to themselves and keep the names. The turn may be a reflection, whatever the pieces allow.
 ///
 /// Requires a view that shows the design, and all tilings of the design, each once, as numbers of that view. Fails with
 /// `Memory` only.

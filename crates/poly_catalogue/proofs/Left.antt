@@ -1,4 +1,4 @@
--- Steps of the loops over the entries of a tiling, and what the index says of a number.
+-- Steps of the loops over the entries of a tiling, and what the index says about a number.
 use Rattle.std.proofs.Common.{Bool, List, None, Option, Some, ap, arith, cond, eqb, false, get_or, inl, inr, leb, length, ltb, refl, slice_get, subst, sym, true, ℕ, ◌&&◌, ◌||◌, ◌+◌, ◌-◌, ◌<◌, ◌∙◌, ◌≡◌, ◌≤◌}
 use Rattle.std.proofs.lemmas.Bool.{and_right, cases_lt, cond-false, le-ltb, lt-leb, or_from}
 use Rattle.std.proofs.lemmas.Bool.Decides.{nat_tests}

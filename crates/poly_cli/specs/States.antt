@@ -1,4 +1,4 @@
--- The state of a session, and what edits, undo and redo make of it.
+-- The state of a session, and how edits, undo and redo change it.
 use Rattle.std.specs.Prelude.{Bool, List, [], false, true, ℕ, ◌+◌, ◌++◌, ◌∷◌, ◌≡◌, ◌⊎◌}
 use Rattle.poly_grid.specs.declared.refusal.Refusal.{Refusal}
 use Rattle.poly_grid.specs.declared.refusal.Refusal.TheVariants.{CatalogueFull, Memory, NothingToRedo, NothingToUndo, Spent, TooWide, Unfinished}

@@ -115,8 +115,8 @@ impl<'a, R: Threads + Wait + Sync> Engine for Team<'a, R> {
     }
 }
 
-// Lets the crew work on a book with pending tasks. If a task is still pending after that, fails as the crew did, if `stopped_by` lets
-// that failure through. Fails with `Unsettled` if the book doesn't come back.
+// Lets the crew work on a book with pending tasks. If a task is still pending after that, fails as the crew did, unless `stopped_by`
+// finds that the book can be settled alone. Fails with `Unsettled` if the book doesn't come back.
 fn crew_on<R: Threads + Wait + Sync>(
     rt: &R,
     alloc: Global,

@@ -15,8 +15,8 @@ use std::sync::Wait;
 use std::thread;
 use std::thread::Threads;
 
-/// Lets a worker for each pass take tasks of the bench, search them and hand the results in, each in a thread of its own,
-/// until no task is left to take, a worker has taken `turns` tasks, or a call is refused.
+/// Runs a worker for each pass, each in a thread of its own. A worker takes tasks of the bench, searches them and hands the
+/// results in, until no task is left to take, it has taken `turns` tasks, or a call is refused.
 ///
 /// A worker first takes the tasks that its own reports opened, those of the latest report before others; then tasks that
 /// other workers' reports opened; then any. Each search has at most `nodes` nodes.

@@ -1,7 +1,7 @@
 //! The rule of a lane, and what each kind of step changes.
 //!
 //! A lane has six kinds of step: making its view, a push, a pop, a steal, the split of its view for a thief, and the join
-//! of a thief's view when the thief's worker has ended. A join leaves a spent view; the rule says of it only that it has
+//! of a thief's view when the thief's worker has ended. A join leaves a spent view; the rule says only that this view has
 //! nothing. [`Lane::left`](crate::lane::Lane::left) reads a length and changes no view.
 
 ghost use Rattle.std.specs.Prelude.{◌≡◌, ◌+◌, ◌-◌, ◌++◌, [], true, false};

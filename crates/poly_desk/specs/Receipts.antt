@@ -1,4 +1,4 @@
--- Receipts, and what they say of a book.
+-- Receipts, and what they say about a book.
 use Rattle.std.specs.Global.{Global}
 use Rattle.std.specs.List.{All, flat_map, list_any}
 use Rattle.std.specs.Prelude.{Bool, List, Some, Vec, false, length, reverse, slice_get, slice_index_or, take, true, ℕ, ◌++◌, ◌+◌, ◌<◌, ◌==◌, ◌∷◌, ◌≡◌, ◌⊎◌}

@@ -63,7 +63,7 @@ open_leave v A p q =
     ∙ ap (λ x. not (mem (base v A) q) && not (((list_any (λ a. lacks a q) A || eqb p q) || list_any (λ r. clash v q r) (base v A)) || x)) full
     ∙ leave_at (mem (base v A) q) (list_any (λ a. lacks a q) A) (list_any (λ r. clash v q r) (base v A)) (list_any (λ i. leb (upper v A i) (others v (base v A) q i)) (items v q)) (eqb p q)
 
--- the base with one more
+-- the base with one more member
 pub base_pick : (v : View) (A : List Atom) (p : ℕ) → base v (A ++ Has p ∷ []) ≡ put p (base v A)
 base_pick v A p = ascending_same (base v (A ++ Has p ∷ [])) (put p (base v A)) (base_up v (A ++ Has p ∷ [])) (put_up p (base v A) (base_up v A))
     (λ x i. elim (base_in v (A ++ Has p ∷ []) x i) [
@@ -84,7 +84,7 @@ tally_put_at f p q qs ih true c e m = absurd (both_ways (mem (q ∷ qs) p) m (or
 tally_put_at f p q qs ih false true e m = omega arith
 tally_put_at f p q qs ih false false e m = let r = ih (false_from_ne_true (mem qs p) (λ y. both_ways (mem (q ∷ qs) p) m (or_right (eqb q p) (mem qs p) y))) in omega arith
 
--- a count with one more
+-- a count with one more number
 pub tally_put : (f : ℕ → Bool) (p : ℕ) (qs : List ℕ) → mem qs p ≡ false → tally f (put p qs) ≡ tally f qs + one (f p)
 tally_put f p [] m = omega arith
 tally_put f p (q ∷ qs) m = tally_put_at f p q qs (tally_put f p qs) (eqb p q) (ltb p q) refl m

@@ -5,14 +5,14 @@ use Rattle.poly_tiling.specs.Puzzle.{same_item}
 use Rattle.poly_atom.specs.declared.atom.Atom.{Atom}
 use Rattle.poly_atom.specs.declared.atom.Atom.TheVariants.{AtLeast, AtMost, Has, Lacks}
 
--- what one more atom leaves of a most
+-- the most after one more atom
 abbrev pub allowed : Atom → Item → ℕ → ℕ
 allowed (Has p) i n = n
 allowed (Lacks p) i n = n
 allowed (AtLeast j k) i n = n
 allowed (AtMost j k) i n = cond (same_item j i) (min k n) n
 
--- what one more atom makes of a least
+-- the least after one more atom
 abbrev pub needed : Atom → Item → ℕ → ℕ
 needed (Has p) i n = n
 needed (Lacks p) i n = n

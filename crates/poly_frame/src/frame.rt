@@ -45,7 +45,7 @@ use std::marker::Model;
 /// The most steps that a frame has at one time.
 pub const STEPS: usize = 4096;
 
-/// A node of a search. Steps are taken and undone without memory.
+/// A node of a search. Taking and undoing steps takes no memory.
 #[derive(Drop)]
 pub struct Frame<'a> {
     view: &'a View,

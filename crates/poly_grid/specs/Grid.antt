@@ -19,7 +19,7 @@ neighbour_of g d p =
 abbrev pub AreNeighbours : Grid → Point → Point → Type 0
 AreNeighbours g p q = (d : ℕ) × (d < length (steps g)) × (neighbour_of g d p ≡ q)
 
--- the turns, first the rotations and then the reflections, as what they make of (x, y), or of the axial (q, r)
+-- the turns, first the rotations and then the reflections, as functions of (x, y), or of the axial (q, r)
 abbrev pub turn_table : Grid → List (ℤ → ℤ → ℤ × ℤ)
 turn_table Square =
     (λ x y. (x, y)) ∷ (λ x y. (neg_ℤ y, x)) ∷ (λ x y. (neg_ℤ x, neg_ℤ y)) ∷ (λ x y. (y, neg_ℤ x))
@@ -34,7 +34,7 @@ abbrev pub turn_count : Grid → Bool → ℕ
 turn_count Square mirror = if mirror then 8 else 4
 turn_count Hex mirror = if mirror then 12 else 6
 
--- what a turn makes of a point
+-- the image of a point under a turn
 abbrev pub turned_of : Grid → ℕ → Point → Point
 turned_of g t p =
     let image = slice_index_or (turn_table g) t (λ x y. (x, y)) p.x p.y in

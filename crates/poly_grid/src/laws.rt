@@ -1,7 +1,7 @@
 //! What is true of turns and neighbours at every point, and of the order of cells.
 //!
-//! Each law is the contract of a function that does nothing: it speaks of all points, so no call
-//! could test it. The laws are about the tables from which the functions of `Grid` answer.
+//! Each law is the contract of a function that does nothing: it holds for all points, so no call
+//! could test it. The laws are about the tables from which the functions of `Grid` read.
 
 ghost use Rattle.poly_grid.specs.Laws.{FirstTurnStays, TurnsCompose, TurnsAreUndone, TurnsDiffer, RotationsArePowers, ReflectionsFollow, NeighboursAreMutual, TurnsKeepNeighbours, CellsGoByRow};
 

@@ -45,7 +45,7 @@ pub record IsDelta (v : View) (before after : Layout) (x : Delta) : Type 0 where
   pub pinned : AreNumbersFor v (λ p. IsPin after p × (¬ IsPin before p)) x.pinned.items
   pub unpinned : AreNumbersFor v (λ p. IsPin before p × (¬ IsPin after p)) x.unpinned.items
 
--- the numbers given out anew go to placements of the design, in their order, and then to its pins, in their order
+-- new numbers go to placements of the design, in their order, and then to its pins, in their order
 pub record GivesInOrder (d : Layout) (old new : List Placement) : Type 0 where
   pub places : List Placement
   pub pins : List Placement

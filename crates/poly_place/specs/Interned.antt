@@ -1,4 +1,4 @@
--- Placements in the order of their numbers, and how such a list goes on.
+-- Placements in the order of their numbers, and how such a list grows.
 use Rattle.std.specs.Prelude.{ℕ, ◌+◌, ◌^◌, ◌<◌, ◌≤◌, ◌≡◌, ◌≢◌, ◌⊎◌, List, [], ◌∷◌, ◌++◌, Some, length, map, slice_get}
 use Rattle.std.specs.List.{AllPairs, Contains}
 use Rattle.poly_shape.specs.Order.{IsAscending}
@@ -18,7 +18,7 @@ AreNumbersOf all numbers placements = map (λ n. slice_get all n) numbers ≡ ma
 abbrev pub Gives : List Placement → Placement → List Placement → Type 0
 Gives old p new = (new ≡ old) ⊎ ((¬ Contains old p) × (new ≡ old ++ p ∷ []))
 
--- the list goes on with some of the placements, those that it lacked, in their order
+-- the list is extended by those of the placements that it lacked, in their order
 pub record GoesOnWith (old placements new : List Placement) : Type 0 where
   pub more : List Placement
   pub appended : new ≡ old ++ more
@@ -26,7 +26,7 @@ pub record GoesOnWith (old placements new : List Placement) : Type 0 where
   pub ordered : IsAscending placement_cmp placements → IsAscending placement_cmp more
   pub few : length more ≤ length placements
 
--- the list goes on, and its placements stay different
+-- the list is extended, and its placements stay different
 pub record GoesOn (old new : List Placement) : Type 0 where
   pub more : List Placement
   pub appended : new ≡ old ++ more

@@ -94,7 +94,7 @@ impl Interner {
 
     /// The number of the placement. If it has none yet, it gets the next one.
     ///
-    /// Fails with `Spent` if the placement has no number and all are in use, and else only with `Memory`. A refused
+    /// Fails with `Spent` if the placement has no number and all are in use, and otherwise only with `Memory`. A refused
     /// call gives nothing out.
     pub fn give(&mut self, placement: &Placement) -> Result<u32, Refusal>
         ensures ok { IfOk result (λ n. slice_get self.new n ≡ Some placement.now) }
@@ -140,7 +140,7 @@ impl Interner {
 
     /// The numbers of the placements, in their order. Those that have none yet are given the next numbers.
     ///
-    /// Fails with `Spent` if there are more placements than numbers, and else only with `Memory`. A refused call gives
+    /// Fails with `Spent` if there are more placements than numbers, and otherwise only with `Memory`. A refused call gives
     /// nothing out.
     pub fn give_all(&mut self, placements: &[Placement]) -> Result<Vec<u32>, Refusal>
         ensures ok { IfOk result (λ numbers. AreNumbersOf self.new numbers.items placements.now) }

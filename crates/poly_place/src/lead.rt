@@ -25,7 +25,7 @@ use std::sync::Arc;
 
 /// The plan of a change of the design that the sides show; `after` is the design after the change.
 ///
-/// Fails with `Spent` if there are more placements than numbers, and else only with `Memory`.
+/// Fails with `Spent` if there are more placements than numbers, and otherwise only with `Memory`.
 pub(crate) fn lead(
     alloc: Global,
     names: &mut Interner,

@@ -24,7 +24,7 @@ pub(crate) struct Sides {
 impl Sides {
     /// The parts by numbers. New numbers go to placements first, then to pins.
     ///
-    /// Fails with `Spent` if there are more placements than numbers, and else only with `Memory`.
+    /// Fails with `Spent` if there are more placements than numbers, and otherwise only with `Memory`.
     pub(crate) fn of(names: &mut Interner, parts: Parts) -> Result<Sides, Refusal>
         ensures right { (d : Layout) → ArePartsOf d parts.places.items parts.pins.items parts.bounds.items → IfOk result (λ s. IsRight (record { placements = names.new; live = s.live.items; bounds = s.bounds.items; pins = s.pins.items }) d) }
         ensures grows { GoesOn names.old names.new }

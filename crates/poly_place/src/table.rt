@@ -84,7 +84,7 @@ impl Table {
 
     /// The plan of a change of the design that the table is right for.
     ///
-    /// Fails with `Spent` if there are more placements than numbers, and else only with `Memory`. Whether or not the
+    /// Fails with `Spent` if there are more placements than numbers, and otherwise only with `Memory`. Whether or not the
     /// plan is used, and even if the call is refused, the table stays right for the design before. Numbers that were
     /// assigned stay in use.
     pub fn plan(&mut self, design: &Design, change: &Change) -> Result<Plan, Refusal>

@@ -42,7 +42,7 @@ pub(crate) struct Turn {
 /// The design after the change. The marks tell which numbers of the design before it the change touches. New numbers go to
 /// placements first, then to pins.
 ///
-/// Fails with `Spent` if there are more placements than numbers, and else only with `Memory`.
+/// Fails with `Spent` if there are more placements than numbers, and otherwise only with `Memory`.
 pub(crate) fn turned(
     alloc: Global,
     names: &mut Interner,

@@ -71,7 +71,7 @@ allowed_apart v A i ps once d h =
         let two = and_parts (f x) (mem ps x) e in
         (mem_in ps x two.1, and_from _ _ (in_mem v.live x k) (and_parts (has_item v x i) (not (ruled_out v A x)) two.0).1)
 
--- so whether arms fit depends on how many of them have the item, how many of these are arms, and how many are needed
+-- so three counts decide whether arms fit: the placements of the item that are not ruled out, the arms among these, and what is needed
 pub rest_fits : (v : View) (A : List Atom) (i : Item) (arms : List Arm) (all taken rest low : ℕ) → distinct v.live ≡ true → distinct (heads (arms_list arms)) ≡ true → list_all (λ a. has_item v a.placement i) arms ≡ true →
     all ≡ tally (λ p. has_item v p i && not (ruled_out v A p)) v.live → taken ≡ tally (λ a. mem v.live a.placement && not (ruled_out v A a.placement)) arms → rest ≡ all - taken → low ≡ lower v A i →
     ltb rest low ≡ arms_fit v A i (heads (arms_list arms))

@@ -9,7 +9,7 @@ pub enum Tree {
     Rest,
     /// No placement is open, so the family has at most one tiling.
     Found,
-    /// An item that the other placements can't cover often enough without those of the arms.
+    /// An item that can't be covered often enough without a placement of the arms.
     Branch {
         item: Item,
         arms: Vec<Arm>,
@@ -37,7 +37,7 @@ pub struct Arm {
 pub struct Report {
     /// The task's number.
     pub task: u32,
-    /// The edition at which the tree was made. It decides nothing.
+    /// The edition at which the tree was made. It doesn't affect whether the report is accepted, only whether it counts as late.
     pub edition: u64,
     /// How the family of the task is cut up.
     pub tree: Tree,

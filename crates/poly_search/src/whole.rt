@@ -11,7 +11,7 @@ use std::alloc::Global;
 
 /// All tilings that meet the atoms, each once, in no order.
 ///
-/// Fails with `CatalogueFull` if there are over 1,000,000, and else only with `Memory`.
+/// Fails with `CatalogueFull` if there are over 1,000,000, and otherwise only with `Memory`.
 pub fn search_all(alloc: Global, view: &View, atoms: &[Atom]) -> Result<Vec<Tiling>, Refusal>
     ensures all { IfOk result (λ found. IsFamily view.now atoms.now found.items) }
     ensures few { IfOk result (λ found. length found.items ≤ 1000000) }

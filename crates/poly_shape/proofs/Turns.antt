@@ -1,4 +1,4 @@
--- What the table of turns says of every turn: each coordinate of a turned point is a coordinate of the point, the sum of both,
+-- What the table of turns says about every turn: each coordinate of a turned point is a coordinate of the point, the sum of both,
 -- or the negation of one of these; different points go to different points, and neighbours to neighbours.
 use Rattle.std.proofs.Common.{◌≡◌, ℕ, zero, suc, ℤ, neg_ℤ, ◌+ℤ◌, ◌<◌, ◌≤◌, Bool, true, false, List, [], ◌∷◌, get_or, refl, ap, sym, ◌∙◌, arith}
 use Rattle.std.proofs.lemmas.Int.{ints}

@@ -131,7 +131,7 @@ fn coordinates_of(word: &[u8]) -> Result<(u64, u64), Refusal>
 }
 
 /// Returns the cell that the word names by its column and its row, each in 1 to 9 decimal digits, with a comma between them. Fails
-/// with `BadCommand` if the word has another form, and else with `BadCell` if the column or the row is over 63.
+/// with `BadCommand` if the word has another form, and otherwise with `BadCell` if the column or the row is over 63.
 pub fn cell_of(word: &[u8]) -> Result<Cell, Refusal>
     ensures { result ≡ cell_of word.now }
 {
@@ -189,7 +189,7 @@ pub fn read_set(words: &[&[u8]]) -> Result<Option<Cells>, Refusal>
 }
 
 /// Returns the set of the cells that the text lists with slashes between them, or `None` if there are over 16 or one comes twice.
-/// Fails with `BadCommand` if a part has another form than a cell, else with `BadCell` if a column or a row is over 63. `Memory` may
+/// Fails with `BadCommand` if a part has another form than a cell, otherwise with `BadCell` if a column or a row is over 63. `Memory` may
 /// come in place of these.
 pub fn listed_set(alloc: Global, text: &[u8]) -> Result<Option<Cells>, Refusal>
     ensures ok { IfOk result (λ set. (cells : List Spot) × (listed_cells text.now ≡ Ok cells) × MakesSet cells set) }

@@ -1,4 +1,4 @@
--- Of two views of one design, the later one with more numbers, the later is the earlier one, grown.
+-- If two views show one design and the later one has more numbers, it is the earlier one, grown.
 use Rattle.std.proofs.Common.{List, Some, [], ap, inl, inr, refl, slice_get, subst, sym, true, ℕ, ◌∙◌, ◌∷◌, ◌≡◌}
 use Rattle.std.proofs.lemmas.Bool.{and_parts, both_ways}
 use Rattle.std.specs.List.{list_all}

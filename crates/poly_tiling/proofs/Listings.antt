@@ -56,7 +56,7 @@ same_placement a b e =
 same_placements : IsAntisymmetric (slice_cmp placement_cmp)
 same_placements = slice_cmp-IsAntisymmetric same_placement
 
--- neither above nor the same is below
+-- what is neither above nor equal is below
 pub below_by : {X : Type 0} {R : X → X → Ordering} → IsTotalOrder R → IsAntisymmetric R → (x y : X) → is_lt (R y x) ≡ false → x ≢ y → R x y ≡ Less
 below_by {X} {R} o same x y h d = go (R x y) refl
   where

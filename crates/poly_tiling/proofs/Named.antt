@@ -51,6 +51,6 @@ pub all_same : {X : Type 0} (f g : X → Bool) (xs : List X) → ((x : X) → f 
 all_same f g [] h = refl
 all_same f g (x ∷ xs) h = ap (λ b. b && list_all f xs) (h x) ∙ ap (λ b. g x && b) (all_same f g xs h)
 
--- an item's test that passes goes on
+-- if an item of a number passes a test in the earlier view, one does in the later view
 pub any_items : (v w : View) → Names v w → (Q : Item → Bool) (p : ℕ) → list_any Q (items v p) ≡ true → list_any Q (items w p) ≡ true
 any_items v w names Q p h = ap (λ xs. list_any Q (items_of (slice_get xs p))) names.1 ∙ slice_get_more (λ o. list_any Q (items_of o)) v.placements names.0 p refl h

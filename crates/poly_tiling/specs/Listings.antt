@@ -34,6 +34,6 @@ pub record HasOverTilings (n : ℕ) (d : Layout) : Type 0 where
 abbrev pub ListingsShow : Type 0
 ListingsShow = (v : View) (d : Layout) (lists : List (List ℕ)) → WellNamed v → Shows v d → HasEachOnce v lists → IsSorted (tiling_cmp v) lists → IsListOfTilings d (map (placed v) lists)
 
--- If a view shows a design and has over n tilings, so has the design.
+-- If a view shows a design and has over n tilings, the design has over n tilings too.
 abbrev pub OverShow : Type 0
 OverShow = (n : ℕ) (v : View) (d : Layout) → WellNamed v → Shows v d → HasOver n v → HasOverTilings n d

@@ -30,7 +30,7 @@ pub fn listings_show()
     ensures { ListingsShow }
 {}
 
-/// If a view shows a design and has over a number of tilings, so has the design.
+/// If a view shows a design and has more than some number of tilings, so does the design.
 pub fn over_shows()
     ensures { OverShow }
 {}

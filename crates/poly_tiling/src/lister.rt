@@ -22,7 +22,7 @@ pub const MAX_TILINGS: usize = 1_000_000;
 
 /// All tilings of the view, each once, in no promised order.
 ///
-/// Fails with `CatalogueFull` if there are over 1,000,000, and else only with `Memory`.
+/// Fails with `CatalogueFull` if there are over 1,000,000, and otherwise only with `Memory`.
 pub fn list_tilings(alloc: Global, view: &View) -> Result<Vec<Tiling>, Refusal>
     ensures ok { IfOk result (λ found. HasEachOnce view.now found.items) }
     ensures few { IfOk result (λ found. length found.items ≤ 1000000) }
