@@ -75,7 +75,7 @@ mode_low Required = omega arith
 mode_low Optional = omega arith
 mode_low Blocked = omega arith
 
--- a cell of a design is in at most one placement, and no cell is in more
+-- the most of a cell is 1
 cell_most : (d : Layout) → IsDesign d → (c : Bound) (k : Spot) → In c (item_bounds d) → c.0 ≡ Cell k → c.2 ≡ 1
 cell_most d is c k i e = elim (in_append_cases c (map cell_bound d.cells) (map piece_bound d.pieces) i) [
   | inl j ↦

@@ -33,7 +33,7 @@ StairsWereHopeless = (old new : View) → list_all (λ A. hopeless old A) (stair
 abbrev pub HopelessStays : Type 0
 HopelessStays = (v w : View) (A B : List Atom) → Grown v w → hopeless v A ≡ true → hopeless w (A ++ B) ≡ true
 
--- The same design has no guards.
+-- A change to the same design has no guards.
 abbrev pub SameHasNoGuards : Type 0
 SameHasNoGuards = (v w : View) → Grown v w → guards v w ≡ []
 

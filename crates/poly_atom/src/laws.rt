@@ -28,7 +28,7 @@ pub fn hopeless_stays()
     ensures { HopelessStays }
 {}
 
-/// The same design has no guards.
+/// A change to the same design has no guards.
 pub fn same_has_no_guards()
     ensures { SameHasNoGuards }
 {}

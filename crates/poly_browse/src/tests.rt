@@ -183,7 +183,7 @@ fn classes(alloc: Global, puzzle: &Puzzle) -> Result<u64, Refusal> {
     classes_of(alloc, &design, &view, &tilings)
 }
 
-// What an answer says: the two bounds are of the numbers of options.
+// What an answer says, with the least and the most options of an item.
 #[derive(Debug, Clone, Copy, PartialEq, Eq)]
 struct Summary {
     count: u64,

@@ -39,8 +39,7 @@ fn are_same(some: &[Tiling], others: &[Tiling]) -> bool {
     true
 }
 
-// Lists all tilings of the view, at the second try if the first one is refused. Returns whether a refusal left the list
-// empty.
+// Lists all tilings of the view, with a second try if the first is refused. Returns whether a refusal left the list empty.
 fn list(alloc: Global, catalogue: &mut Catalogue, view: &View) -> Result<bool, Refusal>
     requires { catalogue.old ≡ [] }
     ensures { OnOk result (list_all (is_tiling view.now) catalogue.new ≡ true) }
@@ -56,8 +55,8 @@ fn list(alloc: Global, catalogue: &mut Catalogue, view: &View) -> Result<bool, R
     Ok(kept)
 }
 
-// Gives the placement back and lists what it brings, at the second try if the first one is refused. Returns whether a
-// refusal left the list as it was.
+// Gives the placement back and lists the tilings that it brings, with a second try if the first is refused. Returns
+// whether a refusal left the list as it was.
 fn give_back(
     alloc: Global,
     design: &Design,

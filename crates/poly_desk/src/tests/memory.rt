@@ -79,7 +79,7 @@ fn are_same(some: &[Tiling], others: &[Tiling]) -> bool {
     true
 }
 
-// A change that is made at the first or at the second try.
+// A change to make; if memory runs out, it is tried a second time.
 #[derive(Clone, Copy)]
 enum Asked {
     Forbid,

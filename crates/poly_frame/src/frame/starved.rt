@@ -78,8 +78,8 @@ fn are_shut(
     true
 }
 
-// The same of the numbers that are open and have the item at `b`, and the items of the number at `j`, which is open and
-// hasn't that item.
+// Whether taking the number at `j` starves the item at `b`: the item is asked for and no member has it; the number is open
+// and doesn't have the item; and its items shut each open number that has it.
 fn is_starved_at(node: &Node<'_>, steps: &Steps, b: usize, j: usize) -> bool
     requires kept { IsAt node.now steps.now }
     requires row { b < length steps.now.have.items }
