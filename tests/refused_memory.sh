@@ -1,9 +1,10 @@
 #!/usr/bin/env bash
-# Refuses each allocation of the program in turn, counting up until a run ends in which none was refused.
+# Runs the program again and again: the first run is refused its first allocation, the second its second, and so on, until a
+# run ends before the allocation that it would be refused.
 #
 # One reply may then be `no 22 Memory`, and nothing else may change: the refused command leaves no trace, so all other
-# replies are those of the session without it. Only the numbers of `status` may differ, since a refused question keeps what
-# was found until then. If there is no memory to read the arguments, they are refused, and nothing is answered.
+# replies are those of the session without it. Only the numbers of `status` may differ, since a refused question keeps the
+# tilings that it had found. If there is no memory to read the arguments, they are refused, and nothing is answered.
 . "$(dirname "${BASH_SOURCE[0]}")/setup.bash"
 
 if ! cc -O1 -shared -fPIC -o "$room/refuse.so" tests/refuse_allocation.c -ldl; then
@@ -42,7 +43,7 @@ is_right() {
     fi
 }
 
-# Plays the transcript once for each of its allocations, which is refused.
+# Plays the transcript once for each allocation that it makes, with that allocation refused.
 play() {
     local name=$1 at=0 before=$failed status
     sed -n 's/^> //p' "tests/transcripts/$name.txt" | grep -v '^ *$' >"$room/input"

@@ -21,7 +21,7 @@ use std::io::Write;
 // The most placements of a tiling: each covers a cell, and there are at most 256.
 const MOST_PLACED: usize = 256;
 
-/// Answers lines with an engine. It takes the memory of its reply lines once, so no reply can run out of memory halfway.
+/// Answers lines with an engine. It allocates its reply lines once, so no reply can run out of memory halfway.
 #[derive(Drop)]
 pub struct Answerer {
     pub(crate) alloc: Global,

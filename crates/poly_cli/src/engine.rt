@@ -15,7 +15,7 @@ use poly_grid::Refusal;
 /// A design that is edited, and all its tilings.
 pub trait Engine {
     /// The design with its edition, its steps to undo and redo, and whether a question about all tilings was answered since the last
-    /// change; however the engine keeps them.
+    /// change. How the engine keeps these is its own affair.
     ghost state: { Self → State };
 
     /// Holds before and after each call.

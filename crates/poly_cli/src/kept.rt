@@ -17,7 +17,8 @@ pub(crate) enum Kept {
     Lost(Remains),
 }
 
-/// What is left of a book that a desk has: its last numbers, and the refusal of every question. Contracts see its last state too.
+/// What is left of a book that a desk has: its last numbers, and the refusal that each question is answered with. Contracts also
+/// see its last state.
 #[derive(Drop)]
 pub(crate) struct Remains {
     pub(crate) was: Snapshot<Solo>,

@@ -33,7 +33,7 @@ pub(crate) struct Crewing {
 }
 
 /// Runs a crew on the book. The design, the undo steps and the redo steps don't change. If there is no memory for the desk or for
-/// a pass, no crew runs. Fails with `Unsettled` if the desk isn't settled up; the book is lost then.
+/// a pass, no crew runs. Fails with `Unsettled` if the desk can't be settled up; the book is lost then.
 pub(crate) fn work_on<R: Threads + Wait + Sync>(
     rt: &R,
     alloc: Global,

@@ -47,8 +47,8 @@ pub struct NotSettled<C: Ledger, K: Ledger, O: Opening> {
 }
 
 impl<C: Ledger, K: Ledger, O: Opening> Desk<C, K, O> {
-    /// A desk with the book, and a first pass, which has noted the book's numbers. The book has what the opening names.
-    /// Fails only when out of memory, and then hands the book back.
+    /// A desk with the book, and a first pass, which has noted the book's numbers. Requires that the book has what the
+    /// opening names. Fails only when out of memory, and then hands the book back.
     pub fn begin(
         alloc: Global,
         changes: Blank,
@@ -76,7 +76,7 @@ impl<C: Ledger, K: Ledger, O: Opening> Desk<C, K, O> {
         }
     }
 
-    /// The floor's `pass`: a further pass, which has noted the same numbers as the given one then has.
+    /// The floor's `pass`: a further pass, which has noted the same numbers as the given one has after the call.
     #[tactic(auto, using(crate::proofs::Told::met_later, crate::proofs::Told::pass_down))]
     pub fn pass<R: Wait>(
         &self,

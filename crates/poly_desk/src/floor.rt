@@ -25,8 +25,8 @@ use std::alloc::Global;
 use std::marker::{Model, PhantomData};
 use std::sync::ledger::{Blank, Ledger};
 
-/// A book, with the number of its opening steps, its poster, the totals of all passes, what no pass has, and flags for
-/// settling up. Contracts see the book and the number of passes.
+/// A book, with the number of its opening steps, its poster, the totals of changes and cuts, the parts of the totals that
+/// no pass has, and flags for settling up. Contracts see the book and the number of passes.
 #[derive(Drop)]
 pub struct Floor<C: Ledger, K: Ledger, O: Opening> {
     pub(crate) book: Book,
@@ -59,8 +59,8 @@ pub struct NotBegun {
 }
 
 impl<C: Ledger, K: Ledger, O: Opening> Floor<C, K, O> {
-    /// A floor with the book, and a first pass, which has noted the book's numbers. The book has what the opening names.
-    /// Fails only when out of memory, and then hands the book back.
+    /// A floor with the book, and a first pass, which has noted the book's numbers. Requires that the book has what the
+    /// opening names. Fails only when out of memory, and then hands the book back.
     pub fn begin(
         alloc: Global,
         changes: Blank,
@@ -110,7 +110,7 @@ impl<C: Ledger, K: Ledger, O: Opening> Floor<C, K, O> {
         Ok((floor, pass))
     }
 
-    /// A further pass, which has noted the same numbers as the given one then has.
+    /// A further pass, which has noted the same numbers as the given one has after the call.
     ///
     /// Like every call, fails with `Unsettled` if the book's edition is below the one that the pass has noted. Then fails with
     /// `Spent` if there are 10,000 passes, and with `Memory`.

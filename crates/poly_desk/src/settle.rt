@@ -20,9 +20,14 @@ impl<C: Ledger, K: Ledger, O: Opening> Desk<C, K, O> {
     /// Returns the book if the passes made all changes and cuts since the desk began, each receipt is right, and no two of
     /// one kind have the same place. Never allocates or waits.
     ///
-    /// Fails only with `Unsettled`, and then hands everything back. The causes, the first that applies: the sum of the passes'
-    /// changes (seen) isn't the total (found); their sum of cuts isn't the total; a receipt (seen: its place) isn't right
-    /// (found: the number of entries), or is the second of its kind for its place (found: 2). Sums saturate at 2^64 - 1.
+    /// Fails only with `Unsettled`, and then hands everything back. The refusal names the first cause that applies:
+    ///
+    /// 1. the sum of the passes' changes (`seen`) isn't the total (`found`);
+    /// 2. the sum of the passes' cuts (`seen`) isn't the total (`found`);
+    /// 3. a receipt, with its place as `seen`, isn't right (`found`: how many steps or endings the book has), or is the second
+    ///    of its kind for its place (`found`: 2).
+    ///
+    /// Sums saturate at 2^64 - 1.
     pub fn settle_up(
         self,
         passes: Vec<Pass<C, K, O>>,

@@ -7,7 +7,7 @@ use crate::receipt::Receipt;
 use poly_book::{Book, Ending, Kind, Step};
 
 impl Receipt {
-    /// Its place, counted from 1.
+    /// The receipt's place, counted from 1.
     pub(crate) fn place(&self) -> u64
         ensures { result ≡ place_of self.now }
     {
@@ -17,7 +17,7 @@ impl Receipt {
         }
     }
 
-    /// How many entries of its kind the book has.
+    /// How many steps the book has, for a change, or how many endings, for a cut.
     pub(crate) fn entries(&self, book: &Book) -> u64
         ensures { result ≡ entries book.now self.now }
     {
@@ -28,7 +28,7 @@ impl Receipt {
         }
     }
 
-    /// Whether the book has, at its place, what it says.
+    /// Whether the book has, at the receipt's place, what the receipt says.
     pub(crate) fn stands(&self, book: &Book) -> bool
         ensures { IsTrue result ↔ Stands book.now self.now }
     {

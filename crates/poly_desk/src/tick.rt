@@ -11,7 +11,7 @@ use poly_book::Book;
 use poly_grid::Refusal;
 
 /// Succeeds if each receipt is right, and no two of one kind have the same place. If not, the refusal names one of them.
-/// All flags are down before.
+/// Requires that all flags are down.
 pub(crate) fn check_receipts(
     book: &Book,
     marks: &mut Marks,

@@ -1,4 +1,4 @@
--- Numbers that are found, given out one after another, and taken back.
+-- Numbers that are found, assigned one after another, and removed again.
 use Rattle.std.proofs.Common.{Bool, if◌then◌else◌, List, Option, Some, [], ap, arith, false, get_or, inl, inr, length, map, position, refl, slice_get, subst, suc, sym, take, true, zero, ℕ, ◌&&◌, ◌++◌, ◌+◌, ◌<◌, ◌^◌, ◌∙◌, ◌∷◌, ◌≡◌, ◌≢◌, ◌≤◌, nat_eq, append_assoc}
 use mathlib.Core.Bool.{true≢false}
 use Rattle.std.specs.Cmp.Lexicographic.{pointwise}
@@ -64,7 +64,7 @@ low_named [] n p e = cc
 low_named (x ∷ xs) zero p e = omega arith
 low_named (x ∷ xs) (suc n) p e = omega (arith, low_named xs n p e)
 
--- a number that names a placement keeps naming it
+-- a number that names a placement keeps naming it when more placements are appended
 pub named_on : (all more : List Placement) (ns : List ℕ) (ps : List Placement) → AreNumbersOf all ns ps → AreNumbersOf (all ++ more) ns ps
 named_on all more [] [] e = refl
 named_on all more [] (p ∷ ps) e = cc
@@ -75,9 +75,9 @@ named_on all more (n ∷ ns) (p ∷ ps) e =
     let rest = named_on all more ns ps (rest_named all ps n ns p e) in
     λ i. head i ∷ rest i
 
--- ---- giving out
+-- ---- assigning numbers
 
--- some of the placements have their numbers
+-- the first `done` placements have their numbers
 pub record IsPartWay (old placements now : List Placement) (done : ℕ) (numbers : List ℕ) : Type 0 where
   pub more : List Placement
   pub appended : now ≡ old ++ more
@@ -126,7 +126,7 @@ names_push all ps i ns p n ns' h lt is at pushed =
     let some : Placement → Option Placement = λ q. Some q in
     ap (λ l. map f l) pushed ∙ map-append f ns (n ∷ []) ∙ ap (λ l. l ++ f n ∷ []) h ∙ ap (λ o. map some (take i ps) ++ o ∷ []) (at ∙ ap some is) ∙ sym (map_more some ps i p lt)
 
--- after one more placement
+-- one more placement has its number
 pub goes_on : (old ps now : List Placement) (i : ℕ) (ns : List ℕ) (p : Placement) (now' : List Placement) (n : ℕ) (ns' : List ℕ) → IsPartWay old ps now i ns → i < length ps → p ≡ get_or ps i p →
     Gives now p now' → slice_get now' n ≡ Some p → ns' ≡ ns ++ n ∷ [] → IsPartWay old ps now' (i + 1) ns'
 goes_on old ps now i ns p now' n ns' w lt is (inl e) at pushed = record {
@@ -153,7 +153,7 @@ goes_on old ps now i ns p now' n ns' w lt is (inr e) at pushed = record {
   names = names_push now' ps i ns p n ns' (subst (λ all. AreNumbersOf all ns (take i ps)) (sym e.1) (named_on now (p ∷ []) ns (take i ps) w.names)) lt is at pushed;
 }
 
--- after all placements
+-- all placements have their numbers
 pub all_given : (old ps now : List Placement) (i : ℕ) (ns : List ℕ) → IsPartWay old ps now i ns → length ps ≤ i → AreNumbersOf now ns ps × GoesOnWith old ps now
 all_given old ps now i ns w le =
     let whole : take i ps ≡ ps = take_all i ps le in (

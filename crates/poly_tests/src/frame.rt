@@ -10,7 +10,7 @@ use poly_tiling::{Item, View};
 use std::alloc::{AllocGlobal, Global};
 use std::process::Abort;
 
-// Two dominoes on the square of four cells. A lies on the upper row under number 0, and B on the lower row under 7.
+// Two dominoes on the square of four cells. Placement 0 is A on the upper row, and placement 7 is B on the lower row.
 const SQUARE: &[u8] =
     b"{\"format\":1,\"grid\":\"square\",\"board\":[\"##\",\"##\"],\"pieces\":[{\"name\":\"A\",\"cells\":[[0,0],[1,0]]},{\"name\":\"B\",\"cells\":[[0,0],[1,0]]}]}";
 
@@ -34,7 +34,7 @@ fn counts(alloc: Global, view: &View, frame: &mut Frame<'_>) -> Result<Vec<usize
     Ok(counts)
 }
 
-// Asserts these counts.
+// Asserts that the items have as many options as `want` says.
 fn expect_counts(
     rt: &(impl AllocGlobal + Abort),
     view: &View,

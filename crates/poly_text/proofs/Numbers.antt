@@ -13,14 +13,14 @@ use Rattle.poly_text.specs.Words.{is_number, number_of, coordinate_of}
 least_of : (v d M : ℕ) → min (min (min v M * 10) M + d) M ≡ min (v * 10 + d) M
 least_of v d M = omega arith
 
--- one more digit; a number over M is read as M
+-- the number after one more digit; a number over `M` is read as `M`
 pub number_step : (word : List ℕ) (i b number digit scaled new M : ℕ) → i < length word → b ≡ get_or word i 0 → number ≡ min (digits_value 10 (take i word)) M
     → digit ≡ digit_value b → scaled ≡ min (number * 10) M → new ≡ min (scaled + digit) M → new ≡ min (digits_value 10 (take (i + 1) word)) M
 number_step word i b number digit scaled new M lt is so_far value times plus =
     let more : digits_value 10 (take (i + 1) word) ≡ digits_value 10 (take i word) * 10 + digit_value (get_or word i 0) = digits_value_more 10 word i lt in
     rw (plus, times, so_far, value, is, more) (least_of (digits_value 10 (take i word)) (digit_value (get_or word i 0)) M)
 
--- one more element that passes
+-- if the element at `i` passes, all from `i` on pass exactly if all after it do
 pub all_step : (p : ℕ → Bool) (word : List ℕ) (i b : ℕ) (all : Bool) → i < length word → b ≡ get_or word i 0 → p b ≡ true → list_all p (drop i word) ≡ all → list_all p (drop (i + 1) word) ≡ all
 all_step p word i b all lt is passes so_far =
     let here : drop i word ≡ get_or word i 0 ∷ drop (i + 1) word = rw (drop-cons word i 0 lt, add-one i) refl in

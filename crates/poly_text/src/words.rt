@@ -54,7 +54,7 @@ pub fn need_of(word: &[u8]) -> Option<Need>
     }
 }
 
-/// What the word switches: true for `on`, false for `off`.
+/// The value of the word: true for `on`, false for `off`.
 pub fn switch_of(word: &[u8]) -> Option<bool>
     ensures { result ≡ switch_of word.now }
 {

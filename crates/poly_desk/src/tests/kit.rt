@@ -7,7 +7,7 @@ use poly_shape::Shape;
 use std::alloc::Global;
 use std::process::Abort;
 
-/// Ends the test.
+/// Fails the test with this message.
 pub(crate) fn fail<T>(rt: &impl Abort, why: &str) -> T {
     let none: Option<T> = None;
     none.expect(rt, why)

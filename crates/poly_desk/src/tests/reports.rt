@@ -62,7 +62,7 @@ pub(crate) fn full_report(rt: &impl Abort, alloc: Global, view: &View) -> Report
     }
 }
 
-/// Takes a task that has to be pending.
+/// Takes a task. The test fails if there is none to take.
 pub(crate) fn take<C: Ledger, K: Ledger, O: Opening, R: Wait + Abort>(
     rt: &R,
     desk: &Desk<C, K, O>,
@@ -73,7 +73,7 @@ pub(crate) fn take<C: Ledger, K: Ledger, O: Opening, R: Wait + Abort>(
     taken.expect(rt, "a pending task")
 }
 
-/// What exploring the task gives.
+/// The report that exploring the task gives.
 pub(crate) fn report_on(rt: &impl Abort, alloc: Global, job: &Job) -> Report {
     let tree = match explore(alloc, &job.view, &job.atoms, 256) {
         Ok(tree) => tree,

@@ -4,14 +4,14 @@ use poly_design::Placement;
 use poly_tiling::Item;
 use std::marker::Model;
 
-/// What a tiling is to have, lack and cover, each list in the order of the words. A question without words is met by every tiling.
+/// What a tiling must have, lack and cover, each list in the order of the words. Every tiling meets a question without words.
 #[derive(Debug, Drop)]
 pub struct Question {
-    /// Placements that the tiling is to have.
+    /// Placements that the tiling must have.
     pub has: Vec<Placement>,
-    /// Placements that the tiling is not to have.
+    /// Placements that the tiling must not have.
     pub lacks: Vec<Placement>,
-    /// Items that a placement of the tiling is to have.
+    /// Items that the tiling must cover: for each, one of its placements has the item.
     pub covers: Vec<Item>,
 }
 

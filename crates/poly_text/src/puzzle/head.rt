@@ -31,7 +31,7 @@ struct Outer<'v> {
     pieces: &'v [Value],
 }
 
-/// The outer object, with its values judged.
+/// The outer object, with its values checked.
 #[derive(Clone, Copy)]
 pub struct Head<'v> {
     /// How the pieces give their copies.
@@ -40,7 +40,7 @@ pub struct Head<'v> {
     pub grid: Grid,
     /// The rows of the board: a text each, within the limits of a board.
     pub rows: &'v [Value],
-    /// The pieces, at most 64 objects that are not judged yet.
+    /// The pieces, at most 64 objects that are not checked yet.
     pub pieces: &'v [Value],
 }
 

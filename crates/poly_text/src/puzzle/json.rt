@@ -17,7 +17,7 @@ pub fn as_list(value: &Value) -> Option<&[Value]>
     Some(list.as_slice())
 }
 
-/// The elements of the list at the key, if the value is an object with a list there.
+/// The elements of the list at the key, if the value is an object that has a list at this key.
 pub fn list_at<'v>(value: &'v Value, name: &str) -> Option<&'v [Value]>
     ensures { option_map (λ l. views l.now) result ≡ json.list_at name.now (view value.now) }
 {
@@ -25,7 +25,7 @@ pub fn list_at<'v>(value: &'v Value, name: &str) -> Option<&'v [Value]>
     as_list(found)
 }
 
-/// The text at the key, if the value is an object with a text there.
+/// The text at the key, if the value is an object that has a text at this key.
 pub fn text_at<'v>(value: &'v Value, name: &str) -> Option<&'v str>
     ensures { option_map (λ t. t.now) result ≡ json.text_at name.now (view value.now) }
 {
