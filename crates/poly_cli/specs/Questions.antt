@@ -44,6 +44,6 @@ Tells Says s out t =
     ((t ≡ answered s) × ((all : List (List Placement)) × IsListOfTilings s.design all × Says s.design all out))
     ⊎ ((e : Refusal) × IsUnanswered s.design e × ((t ≡ s) ⊎ (t ≡ answered s)) × (out ≡ refusal_text e))
 
--- the numbers are told, and nothing changes
+-- the output is a `status` line with right numbers, and nothing changes
 abbrev pub TellsNumbers : State → List ℕ → State → Type 0
 TellsNumbers s out t = (t ≡ s) × ((n : Numbers) × AreNumbers s n × (out ≡ status_text n.edition n.listed n.pending))

@@ -11,12 +11,12 @@ abbrev pub Runs : {S : Type 0} → (S → Option (List ℕ) → List ℕ → S �
 Runs {S} Says s [] out = out ≡ []
 Runs {S} Says s (line ∷ lines) out = (first rest : List ℕ) × (t : S) × Says s line first t × Runs Says t lines rest × (out ≡ first ++ rest)
 
--- what was written of out: all of it, or at a fault a first part
+-- what the writer took of `out`: all of it, or, if it failed, only the beginning
 abbrev pub Writes : Result (Unit {0}) Fault → Option (List ℕ) → Option (List ℕ) → List ℕ → Type 0
 Writes (Ok x) old new out = Appends old new out
 Writes (Err e) old new out = (e ≡ Write) × (wrote rest : List ℕ) × Appends old new wrote × (wrote ++ rest ≡ out)
 
--- how long a line, how many bytes and how many lines there may be
+-- the most bytes of a line, the most bytes of an input, and the most lines of an input
 pub record Limits : Type 0 where
   pub line : ℕ
   pub bytes : ℕ

@@ -36,7 +36,7 @@ impl Answerer {
         write_whole(writer, self.reply.as_bytes())
     }
 
-    // Makes the reply line the one of the tiling.
+    // Makes the reply line the `tiling` line of the tiling.
     fn make_line(&mut self, view: &View, tiling: &Tiling)
         requires { IsPrintable view.now tiling.now }
         ensures { self.new.reply ≡ tiling_text (placed view.now tiling.now) }

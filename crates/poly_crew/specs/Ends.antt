@@ -8,7 +8,7 @@ use Rattle.poly_crew.specs.declared.rule.Fair.{Fair}
 use Rattle.poly_crew.specs.Rule.{hand}
 use Rattle.poly_crew.specs.Sight.{DequeId}
 
--- a lane pops its oldest hint, and its view is the owner's
+-- the deque of a lane pops its oldest hint, and its view is the owner's, not a thief's
 pub record IsOwner (worker : Worker ℕ Global Hand Fair) : Type 0 where
   pub fifo : worker_flavor worker ≡ 0
   pub owner : (worker_view worker).is_owner ≡ true

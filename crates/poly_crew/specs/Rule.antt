@@ -8,7 +8,7 @@ use Rattle.poly_crew.specs.Hints.{weigh}
 abbrev pub hand : Bool → ℕ → ℕ → List ℕ → List ℕ → Hand
 hand is_owner out thief pushed taken = record { is_owner = is_owner; out = out; thief = thief; pushed = pushed; taken = taken }
 
--- the sum of one number of each view
+-- the sum of `f` over the views
 abbrev pub total : (Hand → ℕ) → List Hand → ℕ
 total f [] = 0
 total f (v ∷ vs) = f v + total f vs

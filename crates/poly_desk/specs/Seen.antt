@@ -15,7 +15,7 @@ use Rattle.poly_desk.specs.declared.receipt.Receipt.TheVariants as receipt
 abbrev pub IsUpTo : Posted → Posted → Type 0
 IsUpTo p q = (p.edition < q.edition) ⊎ ((p.edition ≡ q.edition) × (p.endings ≤ q.endings))
 
--- one of the two, and below neither
+-- the later of two posts: it is one of them, and below neither
 pub record IsLaterOf (noted given later : Posted) : Type 0 where
   pub one : (later ≡ noted) ⊎ (later ≡ given)
   pub noted_up_to : IsUpTo noted later

@@ -18,13 +18,13 @@ named sum = min sum 18446744073709551615
 abbrev pub IsMismatch : ℕ → ℕ → Refusal → Type 0
 IsMismatch sum total e = (e ≡ Unsettled (named sum) total) × (¬ (sum ≡ total))
 
--- a sum of shares isn't the total, of changes first and then of cuts; or both are, and a receipt is bad
+-- the shares of changes don't add up to the total; or they do, and those of cuts don't; or both do, and a receipt is bad
 abbrev pub IsUneven : State → ℕ → ℕ → ℕ → ℕ → List Receipt → Refusal → Type 0
 IsUneven b changes cuts changes_given cuts_given rs e =
     IsMismatch changes_given changes e
     ⊎ ((changes_given ≡ changes) × (IsMismatch cuts_given cuts e ⊎ ((cuts_given ≡ cuts) × IsBadReceipt b rs e)))
 
--- e is such a cause for a book that began with this opening and has made these changes and cuts since
+-- `e` is such a cause for a book that began with this opening, if the passes' shares add up to `changes_given` and `cuts_given`
 pub record IsNotSettled (o : Layout) (ss : List Step) (k changes_given cuts_given : ℕ) (rs : List Receipt) (e : Refusal) : Type 0 where
   pub book : State
   pub changes : ℕ

@@ -24,7 +24,7 @@ pub(crate) fn check_shares<C: Ledger, K: Ledger, O: Opening>(
     compare(cuts_of(passes), cuts)
 }
 
-// Whether the two are the same.
+// Succeeds if the two numbers are equal.
 fn compare(seen: u64, found: u64) -> Result<(), Refusal>
     ensures ok { OnOk result (seen ≡ found) }
     ensures why { IfErr result (λ e. (e ≡ Refusal.Unsettled seen found) × (¬ (seen ≡ found))) }

@@ -32,7 +32,7 @@ pub(crate) fn check_receipts(
     Ok(())
 }
 
-// Ticks the receipts of a list off, after those for which flags are up.
+// Ticks off the receipts of one list. The flags that are up already are those of receipts that were ticked off before.
 fn tick_list(book: &Book, marks: &mut Marks, receipts: &[Receipt]) -> Result<(), Refusal>
     requires flags { HasFlags book.now marks.old }
     ensures flags { HasFlags book.now marks.new }

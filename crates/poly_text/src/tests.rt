@@ -29,7 +29,7 @@ fn pins(edit: &Edit, piece: &[u8]) -> bool {
     }
 }
 
-// Whether the command is such an edit.
+// Whether the command is an edit that pins that piece to two cells.
 fn asks_for_pin(command: &Option<Command>, piece: &[u8]) -> bool {
     match command {
         Some(Command::Edit(edit)) => pins(edit, piece),
@@ -37,7 +37,7 @@ fn asks_for_pin(command: &Option<Command>, piece: &[u8]) -> bool {
     }
 }
 
-// Asserts that the line asks for such an edit.
+// Asserts that the line asks for an edit that pins that piece to two cells.
 fn expect_pin(rt: &(impl AllocGlobal + Abort), line: &[u8], piece: &[u8]) {
     let command = asked(rt.alloc(), Grid::Square, line).expect(rt, "a command");
     assert!(rt; asks_for_pin(&command, piece), "{command:?}");

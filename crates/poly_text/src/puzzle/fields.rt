@@ -104,7 +104,7 @@ fn copies_of(least: u64, most: u64) -> Option<Copies>
     Copies::new(least, most)
 }
 
-// The copies by the value at `need`, if it has one: exactly one without it.
+// The copies that the value at the key `need` gives, if it is valid; exactly one copy if the key is missing.
 fn copies_by_need(need: Option<&Value>) -> Option<Copies>
     ensures { result ≡ copies_by_need (option_map (λ v. view v.now) need.entry) }
 {
@@ -121,7 +121,7 @@ fn copies_by_need(need: Option<&Value>) -> Option<Copies>
     }
 }
 
-// The value at `mirror`: true without it.
+// The truth value at the key `mirror`, if it is one; true if the key is missing.
 fn mirror_of(mirror: Option<&Value>) -> Option<bool>
     ensures { result ≡ mirror_of (option_map (λ v. view v.now) mirror.entry) }
 {
