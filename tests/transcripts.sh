@@ -1,14 +1,14 @@
 #!/usr/bin/env bash
 # Plays the transcripts tests/transcripts/*.txt, those of README.md and docs/GUIDE.md, and the sessions examples/*.txt with
 # the built program, and compares its replies. Each is played by one thread and by four workers, and a few by 1, 2 and 16
-# workers too: the replies are the same bytes. They are so even if the turns run out, since then more workers leave tasks too.
+# workers too: the replies are the same bytes. In one_turn the turns run out, whatever the number of workers.
 #
 # In a transcript a line that begins with `> ` is typed, and the lines after it are the replies. A line that begins with `#`
 # is a comment, but `# status N` says that the program must end with status N, not 0, and `# arguments WORD..` gives the
 # program's arguments. The blocks of a document between ```text and ``` belong to one transcript, up to the next puzzle line.
 . "$(dirname "${BASH_SOURCE[0]}")/setup.bash"
 
-# Plays the transcript in the file under the name, with further arguments of the program.
+# Plays the transcript in a file, with further arguments of the program. `name` is what a failure is reported under.
 play_with() {
     local name=$1 transcript=$2 wanted status arguments
     shift 2

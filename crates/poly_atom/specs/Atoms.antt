@@ -31,7 +31,7 @@ meets_all v T A = list_all (λ a. meets v T a) A
 abbrev pub in_family : View → List Atom → List ℕ → Bool
 in_family v A T = is_tiling v T && meets_all v T A
 
--- its negation has a number of 8 bits
+-- the number of the atom's negation fits into 8 bits
 abbrev pub IsSmall : Atom → Type 0
 IsSmall (Has p) = Unit {0}
 IsSmall (Lacks p) = Unit {0}

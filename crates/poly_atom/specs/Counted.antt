@@ -14,7 +14,7 @@ adds v (Lacks p) A i = false
 adds v (AtLeast j n) A i = false
 adds v (AtMost j n) A i = false
 
--- how many of the atoms add one
+-- how many of the atoms add a placement that has the item
 abbrev pub extra : View → List Atom → Item → ℕ
 extra v [] i = 0
 extra v (a ∷ A) i = one (adds v a A i) + extra v A i

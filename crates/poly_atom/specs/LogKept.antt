@@ -19,7 +19,7 @@ abbrev pub offsets : ℕ → List (List Atom) → List ℕ
 offsets n [] = []
 offsets n (g ∷ gs) = n ∷ offsets (n + length g) gs
 
--- the parts are the whole list, and each can be negated
+-- the parts together are the whole list, and each atom can be negated
 pub record IsKept (starts : List ℕ) (all : List Atom) : Type 0 where
   pub starts_are : starts ≡ offsets 0 (rows starts all)
   pub all_are : all ≡ flat (rows starts all)

@@ -12,7 +12,7 @@ pub record Agree (numbers positions rows : ℕ → ℕ → Option ℕ) : Type 0 
 abbrev pub Once : (ℕ → ℕ → Option ℕ) → Type 0
 Once numbers = (t k l p : ℕ) → numbers t k ≡ Some p → numbers t l ≡ Some p → k ≡ l
 
--- some of the numbers
+-- `part` is `whole`, perhaps with entries missing
 abbrev pub IsPart : (ℕ → ℕ → Option ℕ) → (ℕ → ℕ → Option ℕ) → Type 0
 IsPart part whole = (t k p : ℕ) → part t k ≡ Some p → whole t k ≡ Some p
 

@@ -12,7 +12,7 @@ no_bound = (Cell (record { x = 0; y = 0 }), 0, 0)
 abbrev pub item_at : List Bound → ℕ → Item
 item_at bounds b = (slice_index_or bounds b no_bound).0
 
--- the item at a place of the view's items
+-- the item at an index of the view's items
 abbrev pub item_of : View → ℕ → Item
 item_of v b = item_at v.bounds b
 
@@ -20,7 +20,7 @@ item_of v b = item_at v.bounds b
 abbrev pub times : List ℕ → ℕ → ℕ
 times xs b = tally (λ x. x == b) xs
 
--- the places of those items that are items of the view, each once
+-- `places` has the index of each item of `is` that is an item of the view, each once
 pub record Noted (bounds : List Bound) (is : List Item) (places : List ℕ) : Type 0 where
   pub few : length places ≤ length is
   pub low : list_all (λ b. nat_lt b (length bounds)) places ≡ true

@@ -13,7 +13,7 @@ use Rattle.poly_frame.specs.Open.{ruled_out}
 abbrev pub is_sound : View → List Atom → Bool
 is_sound v A = list_all (λ p. mem v.live p && not (ruled_out v A p)) (base v A)
 
--- the base was sound after the given atoms and after each of the first steps, as many as are counted
+-- the base is sound at the first `sound` levels: after the first `first + k` atoms, for each `k` below `sound`
 pub record SoundShows (v : View) (A : List Atom) (first sound : ℕ) : Type 0 where
   pub few : sound + first ≤ length A + 1
   pub levels : (k : ℕ) → k < sound → is_sound v (take (first + k) A) ≡ true

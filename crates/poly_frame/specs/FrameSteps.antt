@@ -16,7 +16,7 @@ use Rattle.poly_frame.specs.declared.frame.node.Node.{Node}
 use Rattle.poly_frame.specs.declared.frame.table.Table.{Table}
 use Rattle.poly_frame.specs.declared.frame.steps.Steps.{Steps}
 
--- how many places were raised before the step after level k
+-- the length of `raised` before the step after level `k`
 abbrev pub mark_of : List ℕ → List ℕ → ℕ → ℕ
 mark_of marks raised k = slice_index_or marks k (length raised)
 
@@ -27,11 +27,11 @@ RowShows v A ns w live k = record {
   past : (j : ℕ) → length ns ≤ j → j < 64 * w → has_bit live (place w k j) ≡ false;
 }
 
--- the counts, less what was raised since, are those of the atoms
+-- the counts, without what was raised since `mark`, are those of the base of the atoms
 abbrev pub HaveAt : View → List Atom → List ℕ → List ℕ → ℕ → Type 0
 HaveAt v A have raised mark = (b : ℕ) → b < length v.bounds → slice_index have b ≡ count v (base v A) (item_of v b) + times (drop mark raised) b
 
--- one level
+-- what the lists keep for level `k`, whose atoms are `A`
 pub record LevelShows (v : View) (A0 A : List Atom) (matrix : Matrix) (t : Table) (live have raised marks : List ℕ) (k : ℕ) : Type 0 where
   pub row : RowShows v A matrix.numbers.items matrix.width live k
   pub counted : HaveAt v A have raised (mark_of marks raised k)

@@ -22,11 +22,11 @@ UppersShow v A uppers = (b : ℕ) → b < length v.bounds → slice_index uppers
 abbrev pub AskedShow : View → List Atom → List ℕ → Type 0
 AskedShow v A asked = (b : ℕ) → b < length v.bounds → slice_index asked b ≡ asks v A (item_of v b)
 
--- an item at most `most` times, which the base has `have` times, closes the placements that have it
+-- whether an item closes the placements that have it, if it may be in `most` members and is in `have` members of the base
 abbrev pub shut_at : Item → ℕ → ℕ → Bool
 shut_at i most have = nat_le most have || (not (is_piece i) && nat_lt 0 have)
 
--- from how many members on an item closes the other placements that have it, counted after one more member has it: 0 for a cell
+-- if at least this many members have the item, a new one included, all other placements that have it are closed
 abbrev pub limit_at : Item → ℕ → ℕ
 limit_at i most = cond (is_piece i) most 0
 

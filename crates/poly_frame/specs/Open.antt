@@ -45,7 +45,7 @@ open_in v A p = not (mem (base v A) p) && not (ruled_out v A p)
 abbrev pub dead : View → List Atom → ℕ → Bool
 dead v A p = not (mem v.live p) || list_any (λ a. lacks a p) A
 
--- the placements that a branch on an item takes in turn are right: too few others that have it are left
+-- a Branch on the item may have these arms: all have the item, and too few other placements that have it are left
 abbrev pub arms_fit : View → List Atom → Item → List ℕ → Bool
 arms_fit v A i ps =
     distinct ps

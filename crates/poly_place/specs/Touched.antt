@@ -26,7 +26,7 @@ touches_named x (Some p) = touches x p
 abbrev pub AreMarked : View → Change → List Bool → Type 0
 AreMarked v x marks = (n : ℕ) → mem v.live n ≡ true → slice_index_or marks n false ≡ touches_named x (slice_get v.placements n)
 
--- two numbers in the order of what they name
+-- compares two numbers by the placements that they name
 abbrev pub number_cmp : List Placement → ℕ → ℕ → Ordering
 number_cmp all m n = option_cmp placement_cmp (slice_get all m) (slice_get all n)
 

@@ -25,6 +25,6 @@ abbrev mutual
   arms_opened v A before NoArms = true
   arms_opened v A before (OneArm p t arms) = can_take v (A ++ map (λ q. Lacks q) before) p && (opened v (A ++ arm_atoms before p) t && arms_opened v A (before ++ p ∷ []) arms)
 
--- the lists are hopeless exactly if A is
+-- each of the lists is hopeless exactly if `A` is
 abbrev pub as_hopeless : View → List Atom → List (List Atom) → Bool
 as_hopeless v A Bs = list_all (λ B. cond (hopeless v A) (hopeless v B) (not (hopeless v B))) Bs

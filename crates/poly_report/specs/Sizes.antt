@@ -53,13 +53,13 @@ is_rest (Splits q taken left) = false
 abbrev pub all_fewer : View → List Atom → List (List Atom) → Bool
 all_fewer v A Bs = list_all (λ B. nat_lt (open_count v B) (open_count v A)) Bs
 
--- a tree that was grown for the atoms
+-- a tree grown for the atoms: it holds, is no deeper than `depth`, and is Rest or has only rests with fewer open placements
 pub record Grown (v : View) (A : List Atom) (depth : ℕ) (t : Plan) : Type 0 where
   pub right : holds v A t ≡ true
   pub low : deep t ≤ depth
   pub less : (is_rest t || all_fewer v A (rests v A t)) ≡ true
 
--- the arms that were grown so far
+-- arms grown for the atoms: their trees hold and are no deeper than `depth`, and all their rests have fewer open placements
 pub record ArmsGrown (v : View) (A : List Atom) (depth : ℕ) (arms : Arms) : Type 0 where
   pub right : arms_hold v A [] arms ≡ true
   pub low : arms_deep arms ≤ depth

@@ -18,7 +18,7 @@ pub record Serves (v : View) (A : List Atom) (depth : ℕ) (t : Plan) : Type 0 w
   pub low : deep t ≤ depth
   pub less : all_fewer v A (rests v A t) ≡ true
 
--- what any end of the chain must satisfy
+-- what the tree at the end of a chain over the arms of `ps` must satisfy
 pub record Ends (v : View) (A : List Atom) (depth : ℕ) (ps : List ℕ) (end : Plan) : Type 0 where
   pub right : holds v (A ++ map (λ q. Lacks q) ps) end ≡ true
   pub low : deep end + length ps ≤ depth

@@ -17,7 +17,7 @@ pub record CanChain (w : Walk) (depth kept nodes held : ℕ) (arms : List Arm) :
   pub shallow : length arms < depth
   pub linked : Chains w.scene w.atoms depth (arms_list arms)
 
--- the arms for the first of the options; `nodes` are left, and `held` of those that aren't Rest are held back
+-- `arms` are the arms for the first options; `nodes` nodes are left, and `held` nodes that aren't Rest are held back
 pub record Walked (w : Walk) (depth kept : ℕ) (options : List ℕ) (nodes held : ℕ) (arms : List Arm) : Type 0 where
   pub few : length arms ≤ length options
   pub names : heads (arms_list arms) ≡ take (length arms) options

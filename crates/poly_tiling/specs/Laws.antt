@@ -13,13 +13,13 @@ use Rattle.poly_tiling.specs.Shows.{Shows, given, names}
 abbrev pub NumbersMayGrow : Type 0
 NumbersMayGrow = (v w : View) (T : List ℕ) → WellNamed v → Grown v w → is_tiling w T ≡ is_tiling v T
 
--- If a view shows a design, an ascending list of given numbers is a tiling of the view exactly if the placements that
--- it names are a tiling of the design.
+-- If a view shows a design, an ascending list of numbers that name placements is a tiling of the view exactly if the
+-- placements that it names are a tiling of the design.
 abbrev pub NumbersShow : Type 0
 NumbersShow = (v : View) (d : Layout) (T : List ℕ) → WellNamed v → Shows v d → ascending T ≡ true → given v T ≡ true →
     (is_tiling v T ≡ true) ↔ IsTiling d (names v T)
 
--- the only ascending list of given numbers that names exactly these placements
+-- the only ascending list of numbers that names exactly these placements
 pub record IsNumbered (v : View) (S : List Placement) (T : List ℕ) : Type 0 where
   pub ascends : ascending T ≡ true
   pub given_out : given v T ≡ true

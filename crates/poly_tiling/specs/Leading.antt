@@ -22,7 +22,7 @@ digit_of (Some x) = x + 1
 abbrev pub digit_at : List ℕ → ℕ → ℕ
 digit_at xs i = digit_of (slice_get xs i)
 
--- a number of leading digits of the list, as one number
+-- the first digits of the list, as one number to the base
 abbrev pub leading : ℕ → List ℕ → ℕ → ℕ
 leading base xs zero = 0
 leading base xs (suc n) = leading base xs n * base + digit_at xs n

@@ -28,7 +28,7 @@ same_item (Cell c) (Piece n) = false
 same_item (Piece m) (Cell d) = false
 same_item (Piece m) (Piece n) = pointwise nat_eq m n
 
--- The items of a placement are its piece and its cells; a number that was not given out has none.
+-- The items of a placement are its piece and its cells; a number that names no placement has none.
 abbrev pub items_of : Option Placement → List Item
 items_of None = []
 items_of (Some p) = Piece p.name ∷ map (λ c. Cell c) p.cells

@@ -40,7 +40,7 @@ pub record Shows (v : View) (d : Layout) : Type 0 where
 abbrev pub names : View → List ℕ → List Placement
 names v T = filter_map (λ n. slice_get v.placements n) T
 
--- each number was given out
+-- each number names a placement of the view
 abbrev pub given : View → List ℕ → Bool
 given v T = list_all (λ n. nat_lt n (length v.placements)) T
 
