@@ -11,7 +11,7 @@ use poly_tiling::listings_show;
 use std::alloc::Global;
 use std::marker::Model;
 
-/// The most nodes of a tree that one turn explores.
+/// The most nodes that aren't Rest of a tree that one turn explores.
 pub(crate) const NODES: u32 = 256;
 
 /// A book, with the most turns that settling it may take.

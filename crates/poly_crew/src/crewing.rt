@@ -19,7 +19,7 @@ use std::thread::Threads;
 /// results in, until no task is left to take, it has taken `turns` tasks, or a call is refused.
 ///
 /// A worker first takes the tasks that its own reports opened, those of the latest report before others; then tasks that
-/// other workers' reports opened; then any. Each search has at most `nodes` nodes.
+/// other workers' reports opened; then any. Each tree has at most `nodes` nodes that aren't Rest.
 pub fn crew<R: Threads + Wait + Sync, B: Bench + Sync, G: Gate + Sync>(
     rt: &R,
     alloc: Global,

@@ -48,7 +48,7 @@ impl Scene {
     }
 }
 
-/// Searches the job with at most `nodes` nodes, in the scene that was kept or else in a new one, which is then kept.
+/// Searches the job with at most `nodes` nodes that aren't Rest, in the kept scene or else in a new one, which is then kept.
 ///
 /// The kept scene can be used if it has the job's edition: the bench makes the same promises about both views.
 pub(crate) fn explore_job<B: Bench>(

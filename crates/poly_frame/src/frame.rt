@@ -237,7 +237,7 @@ impl<'a> Frame<'a> {
         self.path.push_reserved(Atom::Lacks(placement));
     }
 
-    /// Takes the last step back.
+    /// Undoes the last step.
     pub fn back(&mut self)
         requires { self.old.given < length self.old.atoms }
         ensures { self.new ≡ step_back self.old }
@@ -256,7 +256,7 @@ impl<'a> Frame<'a> {
         self.path.truncate(mark);
     }
 
-    /// Takes back the steps after a mark.
+    /// Undoes the steps after a mark.
     pub fn back_to(&mut self, mark: usize)
         requires { self.old.given ≤ mark }
         ensures { self.new ≡ back_to self.old mark }
@@ -425,7 +425,7 @@ impl<'a> Frame<'a> {
         }
     }
 
-    // The base, if it is a tiling that meets the atoms, by asking the view.
+    // `found` for a base that the rows do not decide: checks it against the view.
     fn found_plainly(&self) -> Option<&[u32]>
         ensures { MatchOption result (in_family self.now.scene self.now.atoms (base self.now.scene self.now.atoms) ≡ false) (λ t. (t.now ≡ base self.now.scene self.now.atoms) × (in_family self.now.scene self.now.atoms (base self.now.scene self.now.atoms) ≡ true)) }
     {

@@ -211,7 +211,7 @@ fn filled_words(matrix: &Matrix, b: usize) -> Busy {
     }
 }
 
-// The first 8,192 items are noted; a design has at most 320.
+// How many words note which items are due: room for 8,192 items. A design has at most 320.
 const NOTED: usize = 128;
 
 // Where an item is due, and how many options it has beyond what it still needs, plus one.
@@ -244,7 +244,8 @@ fn scarcer(node: &Node<'_>, steps: &Steps, at: usize, busy: &Busy, b: usize, bes
     }
 }
 
-// The same of the items from `first` on whose bits are in the word. It stops at one that has too few options.
+// The scarcest of `best` and the due items whose bits are in the word, counted from `first`. Stops at one that has too few
+// options.
 fn scarcest_in(
     node: &Node<'_>,
     steps: &Steps,
@@ -276,8 +277,8 @@ fn scarcest_in(
     best
 }
 
-// Of the items that are noted as due, one of which the base has too few, with the fewest options beyond what it still
-// needs.
+// The index of an item that is noted as due and of which the base has too few: one with the fewest options beyond what
+// it still needs.
 fn next_noted(node: &Node<'_>, steps: &Steps) -> Option<usize>
     requires kept { IsAt node.now steps.now }
     ensures { IfSome result (λ b. (b < length steps.now.have.items) × (nat_lt (slice_index steps.now.have.items b) (slice_index node.now.table.now.asked.items b) ≡ true)) }
@@ -294,7 +295,7 @@ fn next_noted(node: &Node<'_>, steps: &Steps) -> Option<usize>
     best.place
 }
 
-// The same of the items of the view.
+// The index of the item of the view that is due next: a noted one if there is any.
 fn next_listed(node: &Node<'_>, steps: &Steps) -> Option<usize>
     requires kept { IsAt node.now steps.now }
     ensures { MatchOption result ((b : ℕ) → b < length node.now.view.now.bounds → nat_lt (count node.now.view.now (base node.now.view.now node.now.path.now) (item_of node.now.view.now b)) (asks node.now.view.now node.now.path.now (item_of node.now.view.now b)) ≡ false) (λ b. (b < length node.now.view.now.bounds) × (nat_lt (count node.now.view.now (base node.now.view.now node.now.path.now) (item_of node.now.view.now b)) (asks node.now.view.now node.now.path.now (item_of node.now.view.now b)) ≡ true)) }
@@ -305,7 +306,7 @@ fn next_listed(node: &Node<'_>, steps: &Steps) -> Option<usize>
     }
 }
 
-// The same, whatever is noted.
+// The index of the due item of the view with the fewest options beyond what it still needs, whatever is noted.
 fn next_unnoted(node: &Node<'_>, steps: &Steps) -> Option<usize>
     requires kept { IsAt node.now steps.now }
     ensures { MatchOption result ((b : ℕ) → b < length node.now.view.now.bounds → nat_lt (count node.now.view.now (base node.now.view.now node.now.path.now) (item_of node.now.view.now b)) (asks node.now.view.now node.now.path.now (item_of node.now.view.now b)) ≡ false) (λ b. (b < length node.now.view.now.bounds) × (nat_lt (count node.now.view.now (base node.now.view.now node.now.path.now) (item_of node.now.view.now b)) (asks node.now.view.now node.now.path.now (item_of node.now.view.now b)) ≡ true)) }
@@ -328,7 +329,7 @@ fn next_unnoted(node: &Node<'_>, steps: &Steps) -> Option<usize>
     best
 }
 
-// The same as an item.
+// The item of the view that is due next.
 fn listed_due(node: &Node<'_>, steps: &Steps) -> Option<Item>
     requires kept { IsAt node.now steps.now }
     ensures { MatchOption result ((b : ℕ) → b < length node.now.view.now.bounds → nat_lt (count node.now.view.now (base node.now.view.now node.now.path.now) (item_of node.now.view.now b)) (asks node.now.view.now node.now.path.now (item_of node.now.view.now b)) ≡ false) (λ i. nat_lt (count node.now.view.now (base node.now.view.now node.now.path.now) i) (asks node.now.view.now node.now.path.now i) ≡ true) }

@@ -243,7 +243,7 @@ fn copy_lists(alloc: Global, whole: &Matrix, numbers: &[u32]) -> Result<Lists, R
     Ok(Lists { starts, places })
 }
 
-// A number that is above each of these numbers.
+// The length of a list that has an entry at each of these numbers.
 fn size_for(numbers: &[u32]) -> usize
     ensures above { list_all (λ p. nat_lt p result) numbers.now ≡ true }
     ensures small { result ≤ 2 ^ 32 }

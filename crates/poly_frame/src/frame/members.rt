@@ -58,7 +58,7 @@ pub(crate) fn leave(node: &Node<'_>, members: &[u32], sizes: &mut Vec<usize>, nu
     sizes.push_reserved(members.len());
 }
 
-/// Takes the last step back.
+/// Undoes the last step.
 pub(crate) fn back(node: &Node<'_>, members: &mut Vec<u32>, sizes: &mut Vec<usize>)
     requires base { members.old.items ≡ base node.now.view.now node.now.path.now }
     requires sizes { SizesShow node.now.view.now node.now.path.now node.now.given sizes.old.items }

@@ -65,7 +65,7 @@ fn note_list(list: &[usize], noted: &mut Vec<usize>)
     }
 }
 
-// Takes out all that have an item at one of the places and are closed by its count.
+// Closes the placements that have an item at one of the places, if the item's count says that no more may have it.
 fn close(
     matrix: &Matrix,
     table: &Table,
@@ -145,7 +145,7 @@ pub(crate) fn leave(node: &Node<'_>, steps: &mut Steps, number: u32)
     }
 }
 
-/// Takes the last step back.
+/// Undoes the last step.
 pub(crate) fn back(node: &Node<'_>, steps: &mut Steps)
     requires kept { IsAt node.now steps.old }
     requires room { HasRoom node.now.matrix.now steps.old }

@@ -14,8 +14,8 @@ use poly_grid::Refusal;
 use poly_tiling::{Item, View};
 use std::alloc::Global;
 
-/// For each item how many members shut it, and how many the atoms ask for; from the place `asked_end` on they ask for
-/// none.
+/// For each item, how many members close its other placements, and how many members the atoms ask for. From index
+/// `asked_end` on they ask for none.
 #[derive(Drop)]
 pub(crate) struct Table {
     pub(crate) limits: Vec<u8>,
@@ -181,7 +181,7 @@ fn all_listed(bounds: &[(Item, u8, u8)], atoms: &[Atom]) -> bool
     atoms.iter().all(|a| asks_listed(bounds, a))
 }
 
-// Where the last item that is asked for ends: none is asked for from there on.
+// The index after the last item that is asked for.
 fn end_of(asked: &[u8]) -> usize
     ensures { (b : ℕ) → result ≤ b → b < length asked.now → slice_index asked.now b ≡ 0 }
 {
