@@ -53,7 +53,7 @@ impl Split<View> for Copying {
     ghost right = { λ v. view false v.posts [] };
 }
 
-/// A join: the seat is told what the other one knows, and still knows what it knew.
+/// A join: the seat is told which posts the other seat knows, and still knows what it knew.
 pub struct Telling;
 
 impl Join<View> for Telling {
@@ -62,7 +62,7 @@ impl Join<View> for Telling {
     ghost spent = { view false [] [] };
 }
 
-/// A join: the seat, which is a look's, knows what the other one knew.
+/// A join: the seat, which is a look's, comes to know what the other seat knew.
 pub struct Learning;
 
 impl Join<View> for Learning {

@@ -137,7 +137,7 @@ swap_tally f xs t d l =
 pub swap_before : (xs : List (List ℕ)) (t : ℕ) (d : List ℕ) → t < length xs → take t (swap_remove xs t d) ≡ take t xs
 swap_before xs t d l = take-take t (length xs - 1) (set xs t (get_or xs (length xs - 1) d)) (omega arith) ∙ take-set-le t xs t (get_or xs (length xs - 1) d) (omega arith)
 
--- the same lists under other names
+-- an index of three lists is an index of three equal lists
 pub agree_as : (F : List (List ℕ) → ℕ → ℕ → Option ℕ) (ts ts1 bs bs1 rs rs1 : List (List ℕ)) → ts1 ≡ ts → bs1 ≡ bs → rs1 ≡ rs → Agree (F ts) (at bs) (at rs) → Agree (F ts1) (at bs1) (at rs1)
 agree_as F ts ts1 bs bs1 rs rs1 a b c g = subst (λ us. Agree (F us) (at bs1) (at rs1)) (sym a) (subst (λ us. Agree (F ts) (at us) (at rs1)) (sym b) (subst (λ us. Agree (F ts) (at bs) (at us)) (sym c) g))
 

@@ -17,7 +17,7 @@ pub struct Spec {
     pub mirror: bool,
     /// The cells that a copy has to lie on, if any.
     pub pin: Option<Cells>,
-    /// Sets of cells such that no copy may cover exactly the cells of one.
+    /// The forbidden sets of cells: no copy may cover exactly the cells of one of them.
     pub forbidden: CellsSet,
 }
 

@@ -10,7 +10,7 @@ use Rattle.poly_frame.specs.Open.{ruled_out, open_in}
 use Rattle.poly_tiling.proofs.Lists.{In, mem_in, in_mem, in_append_left}
 use Rattle.poly_frame.proofs.Later.{Later, later_base, later_ruled}
 
--- the same design with more atoms
+-- if only atoms are added and the design stays, the later list is a `Later` one
 pub same_later : (v : View) (A B : List Atom) → distinct v.live ≡ true → Later v A v (A ++ B)
 same_later v A B d = record {
   atoms = λ a i. in_append_left a A B i;

@@ -9,6 +9,6 @@ pub at_below : (P : ℕ → Type 0) (n : ℕ) → EachBelow P n → (k : ℕ) �
 at_below P zero each k lt = absurd (omega arith)
 at_below P (suc n) each k lt = below_more P n (at_below P n each.0) each.1 k (omega arith)
 
--- the same for two numbers
+-- if `P j k` holds for each `k` below `n` and each `j` below `m`, it holds for any two such numbers
 pub at_both_below : (P : ℕ → ℕ → Type 0) (m n : ℕ) → EachBelow (λ j. EachBelow (P j) n) m → (j k : ℕ) → j < m → k < n → P j k
 at_both_below P m n each j k a b = at_below (P j) n (at_below (λ i. EachBelow (P i) n) m each j a) k b

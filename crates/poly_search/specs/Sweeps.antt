@@ -28,7 +28,7 @@ pub record Swept (v : View) (A : List Atom) (found found' : List (List ℕ)) (re
 abbrev pub IsLighter : View → List Atom → List (List Atom) → List (List Atom) → Type 0
 IsLighter v A rests rests' = weights v rests' < weights v rests + 3 ^ open_count v A
 
--- The same for a part of the family that was swept. The family of B is still to be swept.
+-- What a sweep has added so far: it has swept the family of `A` except for that of `B`, which is still to be swept.
 pub record Partly (v : View) (A B : List Atom) (found found' : List (List ℕ)) (rests rests' : List (List Atom)) : Type 0 where
   pub shared : (T : List ℕ) → is_tiling v T ≡ true → times v T found' rests' + one (meets_all v T B) ≡ times v T found rests + one (meets_all v T A)
   pub only : all_tilings v found → all_tilings v found'

@@ -12,7 +12,7 @@ use std::process::Abort;
 const SEVEN: &[u8] =
     b"{\"format\":1,\"grid\":\"square\",\"board\":[\"+++++++\"],\"pieces\":[{\"name\":\"A\",\"cells\":[[0,0]],\"need\":\"optional\"},{\"name\":\"B\",\"cells\":[[0,0]],\"need\":\"optional\"},{\"name\":\"C\",\"cells\":[[0,0]],\"need\":\"optional\"},{\"name\":\"D\",\"cells\":[[0,0]],\"need\":\"optional\"},{\"name\":\"E\",\"cells\":[[0,0]],\"need\":\"optional\"},{\"name\":\"F\",\"cells\":[[0,0]],\"need\":\"optional\"},{\"name\":\"G\",\"cells\":[[0,0]],\"need\":\"optional\"}]}";
 
-// The same with eight of each: 1,441,729 tilings.
+// A row of eight optional cells and eight optional pieces of one cell: 1,441,729 tilings.
 const EIGHT: &[u8] =
     b"{\"format\":1,\"grid\":\"square\",\"board\":[\"++++++++\"],\"pieces\":[{\"name\":\"A\",\"cells\":[[0,0]],\"need\":\"optional\"},{\"name\":\"B\",\"cells\":[[0,0]],\"need\":\"optional\"},{\"name\":\"C\",\"cells\":[[0,0]],\"need\":\"optional\"},{\"name\":\"D\",\"cells\":[[0,0]],\"need\":\"optional\"},{\"name\":\"E\",\"cells\":[[0,0]],\"need\":\"optional\"},{\"name\":\"F\",\"cells\":[[0,0]],\"need\":\"optional\"},{\"name\":\"G\",\"cells\":[[0,0]],\"need\":\"optional\"},{\"name\":\"H\",\"cells\":[[0,0]],\"need\":\"optional\"}]}";
 

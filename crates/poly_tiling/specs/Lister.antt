@@ -23,7 +23,7 @@ is_left v chosen free T = is_tiling v T && list_all (λ p. mem T p) chosen && li
 abbrev pub AddsLeft : View → List ℕ → List ℕ → List (List ℕ) → List (List ℕ) → Type 0
 AddsLeft v chosen free old new = (T : List ℕ) → tally (same_list T) new ≡ tally (same_list T) old + one (is_left v chosen free T)
 
--- the same, but the new list may lack some of the tilings that are left
+-- the new list has each tiling at most as often as the old one, or once more if it is one of the tilings that are left
 abbrev pub AddsAtMost : View → List ℕ → List ℕ → List (List ℕ) → List (List ℕ) → Type 0
 AddsAtMost v chosen free old new = (T : List ℕ) → tally (same_list T) new ≤ tally (same_list T) old + one (is_left v chosen free T)
 
