@@ -33,8 +33,8 @@ impl Model for Look {
 }
 
 impl Look {
-    /// Returns the last post, read in one load. It is at or after each post that this look, or the look that it was split
-    /// from, has returned. Never allocates or waits.
+    /// Returns the last post, read in one load. Never returns a post from before one that this look, or the look that it was
+    /// split from, has returned. Never allocates or waits.
     pub fn look(&mut self) -> Posted
         ensures board { self.new.board ≡ self.old.board }
         ensures later { StartsWith self.new.posts self.old.posts }

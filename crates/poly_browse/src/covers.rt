@@ -1,4 +1,4 @@
-//! The items that a tiling is to cover, by numbers.
+//! The items that a tiling must cover, by numbers.
 //!
 //! Each item has a bit, and each number a mask of the items that its placement has. So for up to 64 items a tiling is judged
 //! by one look at each of its numbers. A design has at most 320 items: 256 cells and 64 pieces.
@@ -45,7 +45,7 @@ impl Masks {
     }
 }
 
-/// The items that a tiling is to cover.
+/// The items that a tiling must cover.
 #[derive(Drop)]
 pub(crate) struct Covers {
     // Whether each of the items is in some placement. No tiling covers an item that isn't.

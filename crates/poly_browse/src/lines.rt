@@ -62,7 +62,7 @@ impl Line {
     }
 }
 
-/// The placements that a tiling is to have.
+/// The placements that a tiling must have.
 #[derive(Drop)]
 pub(crate) struct Has {
     // Whether each of the placements has a number. No tiling has a placement without a number.
@@ -85,9 +85,9 @@ impl Has {
 #[derive(Drop)]
 pub(crate) struct Words {
     has: Has,
-    // The numbers of the placements that a tiling is to lack.
+    // The numbers of the placements that a tiling must not have.
     lacks: Line,
-    // The items that a tiling is to cover.
+    // The items that a tiling must cover.
     covers: Covers,
 }
 

@@ -3,14 +3,14 @@
 use poly_design::Placement;
 use poly_tiling::Item;
 
-/// What a tiling is to have, lack and cover. A query without words is met by every tiling.
+/// What a tiling must have, lack and cover. Every tiling meets a query without words.
 #[derive(Drop)]
 pub struct Query {
-    /// Placements that the tiling is to have. No tiling has a placement that the design doesn't have.
+    /// Placements that the tiling must have. No tiling has a placement that the design doesn't have.
     pub has: Vec<Placement>,
-    /// Placements that the tiling is not to have.
+    /// Placements that the tiling must not have.
     pub lacks: Vec<Placement>,
-    /// Items that a placement of the tiling is to have. Nothing covers an item that isn't in the design.
+    /// Items that the tiling must cover. Nothing covers an item that isn't in the design.
     pub covers: Vec<Item>,
 }
 

@@ -104,7 +104,7 @@ impl<C: Drop, K: Drop> History<C, K> {
         stood
     }
 
-    /// Redoes the step ahead: it becomes the last one. Keeps `kept` with it, and returns what was kept with it before.
+    /// Redoes the next step: it becomes the last one. Keeps `kept` with it, and returns what was kept with it before.
     /// Requires a step to redo.
     pub fn forward(&mut self, kept: Option<K>) -> Option<K>
         requires { 0 < length self.old.redo }
