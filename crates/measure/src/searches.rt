@@ -5,14 +5,19 @@ use crate::reports;
 use poly_atom::Atom;
 use poly_design::Design;
 use poly_frame::{Frame, Matrix};
+use poly_grid::Refusal;
 use poly_report::leaves;
 use poly_search::{Explored, explore_over, search_all};
 use poly_tiling::View;
+use std::alloc::Global;
 use std::io;
 use std::time::Instant;
 
 // The nodes of the report whose rests are measured, as a worker asks for them.
 const NODES: u32 = 256;
+
+// How often the frames for these rests are made.
+const ROUNDS: u32 = 100;
 
 /// Measures the design's placements, its view, a frame at the root and for each rest of a report, the solver, and, if the
 /// solver finished, the reports of a worker.
@@ -88,7 +93,8 @@ fn measure_report(rt: &HostRuntime, view: &View, matrix: &Matrix) -> io::Result<
     measure_frames(rt, view, matrix, &found.rests)
 }
 
-// Measures a frame for each of the tasks.
+// Measures a frame for each of the tasks. All of them are made several times, since the first ones wait for fresh memory,
+// and a worker makes frames all the time.
 fn measure_frames(
     rt: &HostRuntime,
     view: &View,
@@ -98,13 +104,30 @@ fn measure_frames(
     requires { IsWhole view.now matrix.now }
 {
     let begin = Instant::now(rt)?;
-    for atoms in tasks {
-        if let Err(refusal) = Frame::over(rt.alloc(), view, matrix, atoms) {
+    for _ in 0..ROUNDS {
+        if let Err(refusal) = make_frames(rt.alloc(), view, matrix, tasks) {
             return println!(rt; "a frame was refused: {}", refusal.name());
         }
     }
     let taken = begin.elapsed(rt)?.as_micros();
-    println!(rt; "frames for {} tasks: {taken} us", tasks.len())
+    println!(rt;
+        "frames for {} tasks, {ROUNDS} times each: {taken} us",
+        tasks.len()
+    )
+}
+
+fn make_frames(
+    alloc: Global,
+    view: &View,
+    matrix: &Matrix,
+    tasks: &[Vec<Atom>],
+) -> Result<(), Refusal>
+    requires { IsWhole view.now matrix.now }
+{
+    for atoms in tasks {
+        Frame::over(alloc, view, matrix, atoms)?;
+    }
+    Ok(())
 }
 
 // Measures the search. Returns whether it finished.
