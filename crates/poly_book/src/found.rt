@@ -1,12 +1,13 @@
 //! Reports that a search made. Their trees fit and hold for the atoms and the view that were searched, and their leaves were
 //! gathered as they grew. So a check finds nothing new if the task has these atoms and the book this view.
-ghost use Rattle.std.specs.Prelude.{◌≡◌, ◌≤◌, ◌↔◌, ◌==◌, IfErr, IfOk, IsTrue, OnErr, Some};
+ghost use Rattle.std.specs.Prelude.{◌≡◌, ◌≤◌, ◌↔◌, ◌==◌, false, IfErr, IfOk, IsTrue, OnErr, Some};
 ghost use Rattle.std.specs.Arc.{arc_value};
 ghost use Rattle.std.specs.List.{position_from};
 ghost use Rattle.poly_tiling.specs.Listings.{HasOverTilings};
 ghost use Rattle.poly_frame.specs.Matrices.{IsWhole};
 ghost use Rattle.poly_report.specs.Gather.{lists};
 ghost use Rattle.poly_report.specs.Shapes.{plan_of};
+ghost use Rattle.poly_report.specs.Sizes.{inner, is_rest};
 ghost use Rattle.poly_book.specs.Findings.{HasAtoms, IsFound};
 ghost use Rattle.poly_book.specs.Keeps.{Keeps, state_of};
 ghost use Rattle.poly_book.specs.Refused.{IsNotApplied};
@@ -57,6 +58,8 @@ impl Found {
         ensures edition { IfOk result (λ f. f.report.edition ≡ job.edition) }
         ensures atoms { IfOk result (λ f. f.atoms.items ≡ job.atoms.items) }
         ensures view { IfOk result (λ f. arc_value f.view ≡ arc_value view) }
+        ensures nodes { IfOk result (λ f. inner (plan_of f.report.tree) ≤ nodes) }
+        ensures root { IfOk result (λ f. is_rest (plan_of f.report.tree) ≡ false) }
         ensures why { IfErr result (λ e. e ≡ Refusal.Memory) }
     {
         let Job {
