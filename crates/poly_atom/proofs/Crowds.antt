@@ -8,11 +8,12 @@ use Rattle.std.specs.Prelude.{drop, nat_lt}
 use Rattle.std.specs.Cmp.Lexicographic.{bytes_decides}
 use Rattle.poly_grid.specs.Spot.{Spot}
 use Rattle.poly_design.specs.declared.placement.Placement.{Placement}
+use Rattle.poly_tiling.specs.declared.bound.Bound.{Bound}
 use Rattle.poly_tiling.specs.declared.item.Item.{Item}
 use Rattle.poly_tiling.specs.declared.item.Item.TheVariants.{Cell, Piece}
 use Rattle.poly_tiling.specs.Lists.{ascending, distinct, mem, one, put, put_all, tally}
 use Rattle.poly_tiling.specs.Names.{WellNamed}
-use Rattle.poly_tiling.specs.Puzzle.{Bound, View, clash, count, is_piece, items, items_of, most, same_item}
+use Rattle.poly_tiling.specs.Puzzle.{View, clash, count, is_piece, items, items_of, most, same_item}
 use Rattle.poly_tiling.proofs.Ascending.{ascending_same, distinct_rest, in_put_all_left, in_put_self, in_put, not_head, put_all_in, put_all_up, put_in, put_up}
 use Rattle.poly_tiling.proofs.Contained.{in_contains}
 use Rattle.poly_tiling.proofs.Counts.{ascending_distinct, tally_within}
@@ -63,7 +64,7 @@ first_item name (c ∷ cs) = Cell c
 
 abbrev leads_of : Bound → Option Placement → Bool
 leads_of b None = false
-leads_of b (Some x) = same_item b.0 (first_item x.name x.cells)
+leads_of b (Some x) = same_item b.item (first_item x.name x.cells)
 
 -- the bound is that of the placement's own item
 abbrev leads : View → Bound → ℕ → Bool
@@ -80,10 +81,10 @@ leads_one : (v : View) → WellNamed v → (b : Bound) (p q : ℕ) → In p v.li
 leads_one v w b p q i j free hp hq =
     let x = live_given v w p i in
     let y = live_given v w q j in
-    let kp : same_item b.0 (first_item x.0.name x.0.cells) ≡ true = sym (ap (λ o. leads_of b o) x.1) ∙ hp in
-    let kq : same_item b.0 (first_item y.0.name y.0.cells) ≡ true = sym (ap (λ o. leads_of b o) y.1) ∙ hq in
+    let kp : same_item b.item (first_item x.0.name x.0.cells) ≡ true = sym (ap (λ o. leads_of b o) x.1) ∙ hp in
+    let kq : same_item b.item (first_item y.0.name y.0.cells) ≡ true = sym (ap (λ o. leads_of b o) y.1) ∙ hq in
     let both : same_item (first_item x.0.name x.0.cells) (first_item y.0.name y.0.cells) ≡ true =
-    subst (λ k. same_item k (first_item y.0.name y.0.cells) ≡ true) (same_item_is b.0 (first_item x.0.name x.0.cells) kp) kq in
+    subst (λ k. same_item k (first_item y.0.name y.0.cells) ≡ true) (same_item_is b.item (first_item x.0.name x.0.cells) kp) kq in
     let one_number : x.0 ≡ y.0 → p ≡ q = λ same. same_number v w p q x.0 x.1 (y.1 ∙ ap (λ (z : Placement). Some z) (sym same)) in
     elim (shares x.0.name y.0.name x.0.cells y.0.cells both) [
       | inl e ↦ one_number (λ k. record { name = e.0 k; cells = e.1 k })
@@ -99,18 +100,18 @@ leads_one v w b p q i j free hp hq =
       ]
     ]
 
-leads_in_at : (v : View) (p : ℕ) (o : Option Placement) → slice_get v.placements p ≡ o → (x : Placement) → o ≡ Some x → list_all (λ i. list_any (λ b. same_item b.0 i) v.bounds) (items_of o) ≡ true →
-    list_any (λ b. same_item b.0 (first_item x.name x.cells)) v.bounds ≡ true
-leads_in_at v p o is x named listed = here x.name x.cells (sym (ap (λ u. list_all (λ i. list_any (λ b. same_item b.0 i) v.bounds) (items_of u)) named) ∙ listed)
+leads_in_at : (v : View) (p : ℕ) (o : Option Placement) → slice_get v.placements p ≡ o → (x : Placement) → o ≡ Some x → list_all (λ i. list_any (λ b. same_item b.item i) v.bounds) (items_of o) ≡ true →
+    list_any (λ b. same_item b.item (first_item x.name x.cells)) v.bounds ≡ true
+leads_in_at v p o is x named listed = here x.name x.cells (sym (ap (λ u. list_all (λ i. list_any (λ b. same_item b.item i) v.bounds) (items_of u)) named) ∙ listed)
   where
-    here : (m : List ℕ) (cs : List Spot) → list_all (λ i. list_any (λ b. same_item b.0 i) v.bounds) (Piece m ∷ map (λ c. Cell c) cs) ≡ true → list_any (λ b. same_item b.0 (first_item m cs)) v.bounds ≡ true
-    here m [] h = all_in (λ i. list_any (λ b. same_item b.0 i) v.bounds) (Piece m ∷ []) h (Piece m) (inl refl)
-    here m (c ∷ cs) h = all_in (λ i. list_any (λ b. same_item b.0 i) v.bounds) (Piece m ∷ (Cell c ∷ map (λ c. Cell c) cs)) h (Cell c) (inr (inl refl))
+    here : (m : List ℕ) (cs : List Spot) → list_all (λ i. list_any (λ b. same_item b.item i) v.bounds) (Piece m ∷ map (λ c. Cell c) cs) ≡ true → list_any (λ b. same_item b.item (first_item m cs)) v.bounds ≡ true
+    here m [] h = all_in (λ i. list_any (λ b. same_item b.item i) v.bounds) (Piece m ∷ []) h (Piece m) (inl refl)
+    here m (c ∷ cs) h = all_in (λ i. list_any (λ b. same_item b.item i) v.bounds) (Piece m ∷ (Cell c ∷ map (λ c. Cell c) cs)) h (Cell c) (inr (inl refl))
 
 leads_in : (v : View) → WellNamed v → (p : ℕ) → In p v.live → list_any (λ b. leads v b p) v.bounds ≡ true
 leads_in v w p i =
     let x = live_given v w p i in
-    let listed = all_in (λ p. list_all (λ i. list_any (λ b. same_item b.0 i) v.bounds) (items v p)) v.live w.listed p i in
+    let listed = all_in (λ p. list_all (λ i. list_any (λ b. same_item b.item i) v.bounds) (items v p)) v.live w.listed p i in
     ap (λ o. list_any (λ b. leads_of b o) v.bounds) x.1 ∙ leads_in_at v p (slice_get v.placements p) refl x.0 x.1 listed
 
 -- ---- more placements than items

@@ -60,15 +60,15 @@ bad_same v w A wn g known (Has p) k =
     let clashes = ap (λ xs. list_any (λ q. clash w p q) xs) bases ∙ any_same_in (λ q. clash w p q) (λ q. clash v p q) (base v A) (λ q i. clash_named v w g.0 p q here (low q i)) in
     let over = ap (λ o. list_any (λ i. is_piece i && nat_lt (most w i) (count w (base w A) i)) (items_of o)) (slot_same v w g.0 p here)
     ∙ any_same_in (λ i. is_piece i && nat_lt (most w i) (count w (base w A) i)) (λ i. is_piece i && nat_lt (most v i) (count v (base v A) i)) (items v p)
-    (λ i j. ap (λ m. is_piece i && nat_lt m (count w (base w A) i)) (grown_bound v w g i (λ b. b.2))
+    (λ i j. ap (λ m. is_piece i && nat_lt m (count w (base w A) i)) (grown_bound v w g i (λ b. b.most))
     ∙ ap (λ n. is_piece i && nat_lt (most v i) n) (ap (λ T. count w T i) bases ∙ count_named v w g.0 (base v A) low i)) in
     ap (λ b. b || list_any (λ a. lacks a p) A || list_any (λ q. clash w p q) (base w A) || list_any (λ i. is_piece i && nat_lt (most w i) (count w (base w A) i)) (items w p)) gone
     ∙ ap (λ b. not (mem v.live p) || list_any (λ a. lacks a p) A || b || list_any (λ i. is_piece i && nat_lt (most w i) (count w (base w A) i)) (items w p)) clashes
     ∙ ap (λ b. not (mem v.live p) || list_any (λ a. lacks a p) A || list_any (λ q. clash v p q) (base v A) || b) over
 bad_same v w A wn g known (Lacks p) k = ap (λ xs. mem xs p) g.3
 bad_same v w A wn g known (AtLeast i n) k =
-    ap (λ bs. list_any (λ b. same_item b.0 i) bs && nat_lt (most w i) n) g.2 ∙ ap (λ m. list_any (λ b. same_item b.0 i) v.bounds && nat_lt m n) (grown_bound v w g i (λ b. b.2))
-bad_same v w A wn g known (AtMost i n) k = ap (λ m. nat_lt n m) (grown_bound v w g i (λ b. b.1))
+    ap (λ bs. list_any (λ b. same_item b.item i) bs && nat_lt (most w i) n) g.2 ∙ ap (λ m. list_any (λ b. same_item b.item i) v.bounds && nat_lt m n) (grown_bound v w g i (λ b. b.most))
+bad_same v w A wn g known (AtMost i n) k = ap (λ m. nat_lt n m) (grown_bound v w g i (λ b. b.least))
 
 lost_somewhere : (v : View) (ps : List ℕ) → list_all (λ p. mem v.live p) ps ≡ false → (p : ℕ) × In p ps × (mem v.live p ≡ false)
 lost_somewhere v [] h = absurd (true≢false h)
@@ -91,11 +91,11 @@ guards_may_grow_lem v w x y g h =
     let fresh : guards_fresh w y ≡ guards_fresh v x =
     ap (λ l. map (λ p. Lacks p) (filter (λ p. not (mem l p)) y.live)) g.1 ∙ ap (λ l. map (λ p. Lacks p) (filter (λ p. not (mem v.live p)) l)) h.1 in
     let low : guards_least w y ≡ guards_least v x =
-    ap (λ bs. map (λ b. AtLeast b.0 (bound_in bs b.0 (λ c. c.1))) (filter (λ b. nat_lt (least y b.0) (bound_in bs b.0 (λ c. c.1))) bs)) g.2
-    ∙ ap (λ bs. map (λ b. AtLeast b.0 (least v b.0)) (filter (λ b. nat_lt (bound_in bs b.0 (λ c. c.1)) (least v b.0)) v.bounds)) h.2 in
+    ap (λ bs. map (λ b. AtLeast b.item (bound_in bs b.item (λ c. c.least))) (filter (λ b. nat_lt (least y b.item) (bound_in bs b.item (λ c. c.least))) bs)) g.2
+    ∙ ap (λ bs. map (λ b. AtLeast b.item (least v b.item)) (filter (λ b. nat_lt (bound_in bs b.item (λ c. c.least)) (least v b.item)) v.bounds)) h.2 in
     let high : guards_most w y ≡ guards_most v x =
-    ap (λ bs. map (λ b. AtMost b.0 (bound_in bs b.0 (λ c. c.2))) (filter (λ b. nat_lt (bound_in bs b.0 (λ c. c.2)) (most y b.0)) bs)) g.2
-    ∙ ap (λ bs. map (λ b. AtMost b.0 (most v b.0)) (filter (λ b. nat_lt (most v b.0) (bound_in bs b.0 (λ c. c.2))) v.bounds)) h.2 in
+    ap (λ bs. map (λ b. AtMost b.item (bound_in bs b.item (λ c. c.most))) (filter (λ b. nat_lt (bound_in bs b.item (λ c. c.most)) (most y b.item)) bs)) g.2
+    ∙ ap (λ bs. map (λ b. AtMost b.item (most v b.item)) (filter (λ b. nat_lt (most v b.item) (bound_in bs b.item (λ c. c.most))) v.bounds)) h.2 in
     let pins : guards_pins w y ≡ guards_pins v x =
     ap (λ l. map (λ p. Has p) (filter (λ p. not (mem l p)) w.pins)) h.3 ∙ ap (λ l. map (λ p. Has p) (filter (λ p. not (mem x.pins p)) l)) g.3 in
     ap (λ a. a ++ (guards_least w y ++ (guards_most w y ++ guards_pins w y))) fresh

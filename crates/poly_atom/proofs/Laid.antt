@@ -20,7 +20,8 @@ use Rattle.poly_place.proofs.Between.{fresh_is, gone_is, pinned_is, unpinned_is}
 use Rattle.poly_place.proofs.Differences.{bound_of_in, key_piece, listed_item, piece_key, risen_up}
 use Rattle.poly_tiling.specs.Lists.{mem}
 use Rattle.poly_tiling.specs.Names.{WellNamed, item_cmp}
-use Rattle.poly_tiling.specs.Puzzle.{Bound, View, least, most, same_item}
+use Rattle.poly_tiling.specs.declared.bound.Bound.{Bound}
+use Rattle.poly_tiling.specs.Puzzle.{View, least, most, same_item}
 use Rattle.poly_tiling.specs.Shows.{Shows, cell_bound, item_bounds, piece_bound}
 use Rattle.poly_tiling.specs.Tilings.{bounds_of_mode}
 use Rattle.poly_tiling.specs.declared.item.Item.{Item}
@@ -37,33 +38,33 @@ map_twice g f [] = refl
 map_twice g f (x ∷ xs) = ap (λ ys. g (f x) ∷ ys) (map_twice g f xs)
 
 abbrev item_of : Bound → Item
-item_of b = b.0
+item_of b = b.item
 
 -- ---- leasts that fell
 
 abbrev fell : View → View → Bound → Bool
-fell a b c = nat_lt (least b c.0) (least a c.0)
+fell a b c = nat_lt (least b c.item) (least a c.item)
 
 leasts_are : (a b : View) (d e : Layout) (ls : List Item) → WellNamed a → Shows a d → Shows b e → IsListOf item_cmp (LeastRises e d) ls → ls ≡ map item_of (filter (fell a b) a.bounds)
 leasts_are a b d e ls wn s t l = same_ascending item_total ls (map item_of (filter (fell a b) a.bounds)) l.ascending (risen_up (fell a b) a.bounds wn.items_up)
     (λ i h.
     let rises : LeastRises e d i = (l.exact i).0 h in
     let lower : least b i < least a i = omega (arith, rises, shown_least a d s i, shown_least b e t i) in
-    let r = listed_item a.bounds i (λ c. c.1) (omega (arith, lower)) (list_any (λ c. same_item c.0 i) a.bounds) refl in
+    let r = listed_item a.bounds i (λ c. c.least) (omega (arith, lower)) (list_any (λ c. same_item c.item i) a.bounds) refl in
     in_contains (map item_of (filter (fell a b) a.bounds)) i
     (subst (λ j. In j (map item_of (filter (fell a b) a.bounds))) r.2
     (in_map item_of (filter (fell a b) a.bounds) r.0 (in_filter (fell a b) a.bounds r.0 r.1 (subst (λ j. nat_lt (least b j) (least a j) ≡ true) (sym r.2) (lt-ltb (least b i) (least a i) lower))))))
     (λ i h.
     let r = map_in item_of (filter (fell a b) a.bounds) i (contains_in (map item_of (filter (fell a b) a.bounds)) i h) in
     let q = filter_in (fell a b) a.bounds r.0 r.1 in
-    let lower = ltb-true (least b r.0.0) (least a r.0.0) q.1 in
-    let rises : LeastRises e d r.0.0 = omega (arith, lower, shown_least a d s r.0.0, shown_least b e t r.0.0) in
+    let lower = ltb-true (least b r.0.item) (least a r.0.item) q.1 in
+    let rises : LeastRises e d r.0.item = omega (arith, lower, shown_least a d s r.0.item, shown_least b e t r.0.item) in
     (l.exact i).1 (subst (λ j. LeastRises e d j) r.2 rises))
 
 -- ---- mosts that rose
 
 abbrev rose : View → View → Bound → Bool
-rose a b c = nat_lt (most a c.0) (most b c.0)
+rose a b c = nat_lt (most a c.item) (most b c.item)
 
 mode_high : (m : Mode) → (m ≢ Blocked) → (bounds_of_mode m).most ≡ 1
 mode_high Required n = refl
@@ -76,11 +77,11 @@ mode_low Optional = omega arith
 mode_low Blocked = omega arith
 
 -- the most of a cell is 1
-cell_most : (d : Layout) → IsDesign d → (c : Bound) (k : Spot) → In c (item_bounds d) → c.0 ≡ Cell k → c.2 ≡ 1
+cell_most : (d : Layout) → IsDesign d → (c : Bound) (k : Spot) → In c (item_bounds d) → c.item ≡ Cell k → c.most ≡ 1
 cell_most d is c k i e = elim (in_append_cases c (map cell_bound d.cells) (map piece_bound d.pieces) i) [
   | inl j ↦
       let r = map_in cell_bound d.cells c j in
-      ap (λ (z : Bound). z.2) (sym r.2) ∙ mode_high r.0.1 (is.unblocked r.0.0 r.0.1 (in_contains d.cells r.0 r.1))
+      ap (λ (z : Bound). z.most) (sym r.2) ∙ mode_high r.0.1 (is.unblocked r.0.0 r.0.1 (in_contains d.cells r.0 r.1))
   | inr j ↦ let r = map_in piece_bound d.pieces c j in let no : Piece r.0.0 ≡ Cell k = ap item_of r.2 ∙ e in cc
 ]
 
@@ -91,12 +92,12 @@ pieces_up (m ∷ ms) up = pairs_cons (λ i j. item_cmp i j ≡ Less) (Piece m) (
     (pieces_up ms (pairs_rest (λ j k. name_cmp j k ≡ Less) m ms up))
 
 module _ (a b : View) (d e : Layout) (wn : WellNamed a) (first : IsDesign d) (s : Shows a d) (t : Shows b e) where
-  own_bound : (c : Bound) → In c a.bounds → most a c.0 ≡ c.2
-  own_bound c i = bound_of_in a.bounds wn.items_up c i (λ z. z.2)
+  own_bound : (c : Bound) → In c a.bounds → most a c.item ≡ c.most
+  own_bound c i = bound_of_in a.bounds wn.items_up c i (λ z. z.most)
 
-  falls_from : (n : List ℕ) → (c : Bound) → In c a.bounds → c.0 ≡ Piece n → most a (Piece n) < most b (Piece n) → MostFalls e d n
+  falls_from : (n : List ℕ) → (c : Bound) → In c a.bounds → c.item ≡ Piece n → most a (Piece n) < most b (Piece n) → MostFalls e d n
   falls_from n c i is l =
-      let r = listed_item b.bounds (Piece n) (λ z. z.2) (omega (arith, l)) (list_any (λ z. same_item z.0 (Piece n)) b.bounds) refl in
+      let r = listed_item b.bounds (Piece n) (λ z. z.most) (omega (arith, l)) (list_any (λ z. same_item z.item (Piece n)) b.bounds) refl in
       record {
         in_first = piece_key e r.0 n (subst (λ bs. In r.0 bs) t.bounds r.1) r.2;
         in_second = piece_key d c n (subst (λ bs. In c bs) s.bounds i) is;
@@ -104,10 +105,10 @@ module _ (a b : View) (d e : Layout) (wn : WellNamed a) (first : IsDesign d) (s 
       }
 
   -- only a piece can rise
-  pub risen_piece : (i : Item) (c : Bound) → In c a.bounds → c.0 ≡ i → most a i < most b i → (n : List ℕ) × (i ≡ Piece n) × MostFalls e d n
+  pub risen_piece : (i : Item) (c : Bound) → In c a.bounds → c.item ≡ i → most a i < most b i → (n : List ℕ) × (i ≡ Piece n) × MostFalls e d n
   risen_piece (Cell k) c i is l =
       let one = cell_most d first c k (subst (λ bs. In c bs) s.bounds i) is in
-      let here : most a (Cell k) ≡ c.2 = ap (most a) (sym is) ∙ own_bound c i in
+      let here : most a (Cell k) ≡ c.most = ap (most a) (sym is) ∙ own_bound c i in
       absurd (omega (arith, l, one, here, shown_most b e t (Cell k), mode_low (mode_of e k)))
   risen_piece (Piece n) c i is l = (n, refl, falls_from n c i is l)
 
@@ -127,8 +128,8 @@ module _ (a b : View) (d e : Layout) (wn : WellNamed a) (first : IsDesign d) (s 
       (λ i h.
       let r = map_in item_of (filter (rose a b) a.bounds) i (contains_in (map item_of (filter (rose a b) a.bounds)) i h) in
       let q = filter_in (rose a b) a.bounds r.0 r.1 in
-      let l2 = ltb-true (most a r.0.0) (most b r.0.0) q.1 in
-      let p = risen_piece r.0.0 r.0 q.0 refl l2 in
+      let l2 = ltb-true (most a r.0.item) (most b r.0.item) q.1 in
+      let p = risen_piece r.0.item r.0 q.0 refl l2 in
       in_contains (map (λ n. Piece n) ms) i
       (subst (λ j. In j (map (λ n. Piece n) ms)) (sym p.1 ∙ r.2) (in_map (λ n. Piece n) ms p.0 (contains_in ms p.0 ((l.exact p.0).1 p.2)))))
 

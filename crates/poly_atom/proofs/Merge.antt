@@ -7,9 +7,10 @@ use Rattle.std.specs.List.{filter, find, list_all}
 use Rattle.std.specs.Option.{is_some}
 use Rattle.std.specs.Ordering.{is_lt}
 use Rattle.poly_tiling.specs.Lists.{mem}
+use Rattle.poly_tiling.specs.declared.bound.Bound.{Bound}
 use Rattle.poly_tiling.specs.declared.item.Item.{Item}
 use Rattle.poly_tiling.specs.Names.{WellNamed, below, in_order, item_cmp, items_ascend}
-use Rattle.poly_tiling.specs.Puzzle.{Bound, View, bound_in, found_or, least, most, same_item}
+use Rattle.poly_tiling.specs.Puzzle.{View, bound_in, found_or, least, most, same_item}
 use Rattle.poly_tiling.proofs.Lists.{In, all_in, filter_in}
 use Rattle.poly_tiling.proofs.Searched.{item_total}
 use Rattle.poly_tiling.proofs.Ranks.{lt_less}
@@ -100,10 +101,10 @@ sorted_numbers v [] h = refl
 sorted_numbers v (p ∷ ps) h = let hs = and_parts (list_all (λ q. below v p q) ps) (in_order v ps) h in and_from _ _ hs.0 (sorted_numbers v ps hs.1)
 
 abbrev pub bound_below : Bound → Bound → Bool
-bound_below b c = is_lt (item_cmp b.0 c.0)
+bound_below b c = is_lt (item_cmp b.item c.item)
 
 abbrev pub same_bound : Bound → Bound → Bool
-same_bound b c = same_item b.0 c.0
+same_bound b c = same_item b.item c.item
 
 pub sorted_items : (bs : List Bound) → items_ascend bs ≡ true → sorted bound_below bs ≡ true
 sorted_items [] h = refl
@@ -118,9 +119,9 @@ numbers_order v = record {
 
 pub items_order : IsOrder bound_below same_bound
 items_order = record {
-  trans = λ b c d h k. ap is_lt (item_total.trans b.0 c.0 d.0 (lt_less _ h) (lt_less _ k));
-  apart = λ b c h e. both_ways (is_lt (item_cmp b.0 c.0)) (ap (λ i. is_lt (item_cmp b.0 i)) (sym (same_item_is b.0 c.0 e)) ∙ ap is_lt (tied_itself item_total b.0)) h;
-  along = λ b c d h e. ap (λ i. is_lt (item_cmp b.0 i)) (sym (same_item_is c.0 d.0 e)) ∙ h;
+  trans = λ b c d h k. ap is_lt (item_total.trans b.item c.item d.item (lt_less _ h) (lt_less _ k));
+  apart = λ b c h e. both_ways (is_lt (item_cmp b.item c.item)) (ap (λ i. is_lt (item_cmp b.item i)) (sym (same_item_is b.item c.item e)) ∙ ap is_lt (tied_itself item_total b.item)) h;
+  along = λ b c d h e. ap (λ i. is_lt (item_cmp b.item i)) (sym (same_item_is c.item d.item e)) ∙ h;
 }
 
 some_or : (b : Bool) (y : ℕ) (o : Option ℕ) → is_some (cond b (Some y) o) ≡ (b || is_some o)
@@ -135,18 +136,18 @@ found_cond : (f : Bound → ℕ) (t : Bool) (b : Bound) (o : Option Bound) → f
 found_cond f true b o = refl
 found_cond f false b o = refl
 
-first_bound : (bs : List Bound) (i : Item) (f : Bound → ℕ) → found_or f (find (λ b. same_item b.0 i) bs) ≡ bound_in bs i f
+first_bound : (bs : List Bound) (i : Item) (f : Bound → ℕ) → found_or f (find (λ b. same_item b.item i) bs) ≡ bound_in bs i f
 first_bound [] i f = refl
-first_bound (b ∷ bs) i f = found_cond f (same_item b.0 i) b (find (λ c. same_item c.0 i) bs) ∙ ap (λ n. cond (same_item b.0 i) (f b) n) (first_bound bs i f)
+first_bound (b ∷ bs) i f = found_cond f (same_item b.item i) b (find (λ c. same_item c.item i) bs) ∙ ap (λ n. cond (same_item b.item i) (f b) n) (first_bound bs i f)
 
 abbrev pub is_missing : ℕ → Option ℕ → Bool
 is_missing p o = not (is_some o)
 
 abbrev pub fell : Bound → Option Bound → Bool
-fell b o = nat_lt (found_or (λ c. c.1) o) b.1
+fell b o = nat_lt (found_or (λ c. c.least) o) b.least
 
 abbrev pub rose : Bound → Option Bound → Bool
-rose b o = nat_lt b.2 (found_or (λ c. c.2) o)
+rose b o = nat_lt b.most (found_or (λ c. c.most) o)
 
 pub walk_missing : {A : Type 0} (v : View) (make : ℕ → A) (xs ys : List ℕ) → in_order v xs ≡ true → in_order v ys ≡ true →
     walk (below v) (λ p q. eqb p q) is_missing make xs ys ≡ map make (filter (λ p. not (mem ys p)) xs)
@@ -155,16 +156,16 @@ walk_missing v make xs ys hx hy =
     ∙ ap (λ t. map make t) (filter_same_in (λ p. not (is_some (find (λ y. eqb y p) ys))) (λ p. not (mem ys p)) xs (λ p i. ap not (first_mem ys p)))
 
 pub walk_fell : {A : Type 0} (make : Bound → A) (xs ys : List Bound) → items_ascend xs ≡ true → items_ascend ys ≡ true →
-    walk bound_below same_bound fell make xs ys ≡ map make (filter (λ b. nat_lt (bound_in ys b.0 (λ c. c.1)) b.1) xs)
+    walk bound_below same_bound fell make xs ys ≡ map make (filter (λ b. nat_lt (bound_in ys b.item (λ c. c.least)) b.least) xs)
 walk_fell make xs ys hx hy =
     walk_is bound_below same_bound items_order fell make xs ys (sorted_items xs hx) (sorted_items ys hy)
-    ∙ ap (λ t. map make t) (filter_same_in (λ b. fell b (find (λ c. same_item c.0 b.0) ys)) (λ b. nat_lt (bound_in ys b.0 (λ c. c.1)) b.1) xs (λ b i. ap (λ n. nat_lt n b.1) (first_bound ys b.0 (λ c. c.1))))
+    ∙ ap (λ t. map make t) (filter_same_in (λ b. fell b (find (λ c. same_item c.item b.item) ys)) (λ b. nat_lt (bound_in ys b.item (λ c. c.least)) b.least) xs (λ b i. ap (λ n. nat_lt n b.least) (first_bound ys b.item (λ c. c.least))))
 
 pub walk_rose : {A : Type 0} (make : Bound → A) (xs ys : List Bound) → items_ascend xs ≡ true → items_ascend ys ≡ true →
-    walk bound_below same_bound rose make xs ys ≡ map make (filter (λ b. nat_lt b.2 (bound_in ys b.0 (λ c. c.2))) xs)
+    walk bound_below same_bound rose make xs ys ≡ map make (filter (λ b. nat_lt b.most (bound_in ys b.item (λ c. c.most))) xs)
 walk_rose make xs ys hx hy =
     walk_is bound_below same_bound items_order rose make xs ys (sorted_items xs hx) (sorted_items ys hy)
-    ∙ ap (λ t. map make t) (filter_same_in (λ b. rose b (find (λ c. same_item c.0 b.0) ys)) (λ b. nat_lt b.2 (bound_in ys b.0 (λ c. c.2))) xs (λ b i. ap (λ n. nat_lt b.2 n) (first_bound ys b.0 (λ c. c.2))))
+    ∙ ap (λ t. map make t) (filter_same_in (λ b. rose b (find (λ c. same_item c.item b.item) ys)) (λ b. nat_lt b.most (bound_in ys b.item (λ c. c.most))) xs (λ b i. ap (λ n. nat_lt b.most n) (first_bound ys b.item (λ c. c.most))))
 
 -- the walk over what is left from an index on
 pub walk_more : {X A : Type 0} (lt eq : X → X → Bool) (test : X → Option X → Bool) (make : X → A) (xs : List X) (i : ℕ) (x : X) (ys zs : List X) →
@@ -224,26 +225,26 @@ pub walk_done : {X A : Type 0} (lt eq : X → X → Bool) (test : X → Option X
 walk_done lt eq test make xs i ys out h = ap (λ t. out ++ walk lt eq test make t ys) (drop_all i xs h) ∙ append-nil out
 
 -- an item's bounds are those next to it in the list
-not_itself : (b : Bound) (bs : List Bound) (c : Bound) → list_all (λ d. bound_below b d) bs ≡ true → In c bs → same_item b.0 c.0 ≡ false
-not_itself b bs c h i = false_from_ne_true (same_item b.0 c.0) (items_order.apart b c (all_in (λ d. bound_below b d) bs h c i))
+not_itself : (b : Bound) (bs : List Bound) (c : Bound) → list_all (λ d. bound_below b d) bs ≡ true → In c bs → same_item b.item c.item ≡ false
+not_itself b bs c h i = false_from_ne_true (same_item b.item c.item) (items_order.apart b c (all_in (λ d. bound_below b d) bs h c i))
 
-pub bound_of : (bs : List Bound) (f : Bound → ℕ) → items_ascend bs ≡ true → (c : Bound) → In c bs → bound_in bs c.0 f ≡ f c
+pub bound_of : (bs : List Bound) (f : Bound → ℕ) → items_ascend bs ≡ true → (c : Bound) → In c bs → bound_in bs c.item f ≡ f c
 bound_of [] f h c i = absurd i
-bound_of (b ∷ bs) f h c (inl e) = cond-true (same_item b.0 c.0) (f b) (bound_in bs c.0 f) (ap (λ d. same_item b.0 d.0) (sym e) ∙ same_item_self b.0) ∙ ap f e
+bound_of (b ∷ bs) f h c (inl e) = cond-true (same_item b.item c.item) (f b) (bound_in bs c.item f) (ap (λ d. same_item b.item d.item) (sym e) ∙ same_item_self b.item) ∙ ap f e
 bound_of (b ∷ bs) f h c (inr i) =
     let hs = and_parts (list_all (λ d. bound_below b d) bs) (items_ascend bs) h in
-    cond-false (same_item b.0 c.0) (f b) (bound_in bs c.0 f) (not_itself b bs c hs.0 i) ∙ bound_of bs f hs.1 c i
+    cond-false (same_item b.item c.item) (f b) (bound_in bs c.item f) (not_itself b bs c hs.0 i) ∙ bound_of bs f hs.1 c i
 
-pub least_walked : (old new : View) → WellNamed old → map (λ b. AtLeast b.0 b.1) (filter (λ b. nat_lt (bound_in new.bounds b.0 (λ c. c.1)) b.1) old.bounds) ≡ guards_least old new
+pub least_walked : (old new : View) → WellNamed old → map (λ b. AtLeast b.item b.least) (filter (λ b. nat_lt (bound_in new.bounds b.item (λ c. c.least)) b.least) old.bounds) ≡ guards_least old new
 least_walked old new w =
-    let own : (b : Bound) → In b old.bounds → least old b.0 ≡ b.1 = λ b i. bound_of old.bounds (λ c. c.1) w.items_up b i in
-    ap (λ bs. map (λ b. AtLeast b.0 b.1) bs) (filter_same_in (λ b. nat_lt (least new b.0) b.1) (λ b. nat_lt (least new b.0) (least old b.0)) old.bounds (λ b i. ap (λ n. nat_lt (least new b.0) n) (sym (own b i))))
-    ∙ map_same_in (λ b. AtLeast b.0 b.1) (λ b. AtLeast b.0 (least old b.0)) (filter (λ b. nat_lt (least new b.0) (least old b.0)) old.bounds)
-    (λ b i. ap (λ n. AtLeast b.0 n) (sym (own b (filter_in (λ c. nat_lt (least new c.0) (least old c.0)) old.bounds b i).0)))
+    let own : (b : Bound) → In b old.bounds → least old b.item ≡ b.least = λ b i. bound_of old.bounds (λ c. c.least) w.items_up b i in
+    ap (λ bs. map (λ b. AtLeast b.item b.least) bs) (filter_same_in (λ b. nat_lt (least new b.item) b.least) (λ b. nat_lt (least new b.item) (least old b.item)) old.bounds (λ b i. ap (λ n. nat_lt (least new b.item) n) (sym (own b i))))
+    ∙ map_same_in (λ b. AtLeast b.item b.least) (λ b. AtLeast b.item (least old b.item)) (filter (λ b. nat_lt (least new b.item) (least old b.item)) old.bounds)
+    (λ b i. ap (λ n. AtLeast b.item n) (sym (own b (filter_in (λ c. nat_lt (least new c.item) (least old c.item)) old.bounds b i).0)))
 
-pub most_walked : (old new : View) → WellNamed old → map (λ b. AtMost b.0 b.2) (filter (λ b. nat_lt b.2 (bound_in new.bounds b.0 (λ c. c.2))) old.bounds) ≡ guards_most old new
+pub most_walked : (old new : View) → WellNamed old → map (λ b. AtMost b.item b.most) (filter (λ b. nat_lt b.most (bound_in new.bounds b.item (λ c. c.most))) old.bounds) ≡ guards_most old new
 most_walked old new w =
-    let own : (b : Bound) → In b old.bounds → most old b.0 ≡ b.2 = λ b i. bound_of old.bounds (λ c. c.2) w.items_up b i in
-    ap (λ bs. map (λ b. AtMost b.0 b.2) bs) (filter_same_in (λ b. nat_lt b.2 (most new b.0)) (λ b. nat_lt (most old b.0) (most new b.0)) old.bounds (λ b i. ap (λ n. nat_lt n (most new b.0)) (sym (own b i))))
-    ∙ map_same_in (λ b. AtMost b.0 b.2) (λ b. AtMost b.0 (most old b.0)) (filter (λ b. nat_lt (most old b.0) (most new b.0)) old.bounds)
-    (λ b i. ap (λ n. AtMost b.0 n) (sym (own b (filter_in (λ c. nat_lt (most old c.0) (most new c.0)) old.bounds b i).0)))
+    let own : (b : Bound) → In b old.bounds → most old b.item ≡ b.most = λ b i. bound_of old.bounds (λ c. c.most) w.items_up b i in
+    ap (λ bs. map (λ b. AtMost b.item b.most) bs) (filter_same_in (λ b. nat_lt b.most (most new b.item)) (λ b. nat_lt (most old b.item) (most new b.item)) old.bounds (λ b i. ap (λ n. nat_lt n (most new b.item)) (sym (own b i))))
+    ∙ map_same_in (λ b. AtMost b.item b.most) (λ b. AtMost b.item (most old b.item)) (filter (λ b. nat_lt (most old b.item) (most new b.item)) old.bounds)
+    (λ b i. ap (λ n. AtMost b.item n) (sym (own b (filter_in (λ c. nat_lt (most old c.item) (most new c.item)) old.bounds b i).0)))

@@ -117,8 +117,8 @@ module _ (v w : View) (x : Delta) (y : Change) (A : List Atom) (c : IsChangeOf v
   by_count : (p : ℕ) (i : Item) → In (Has p) A → In p w.live → In i (items w p) → is_piece i ≡ true → most w i < count w (base w A) i → touched w x (item_of y) (Has p) ≡ true
   by_count p i k here j is l = elim (cases_lt (most w i) (most v i)) [
     | inl m ↦
-        let b = any_in (λ b. same_item b.0 i) w.bounds (listed_item w c.turned.well p here i (item_there w p i j)) in
-        let r = risen_piece w v c.after c.before c.turned.well c.second c.turned.shows c.shown.shows i b.0 b.1 (same_item_is b.0.0 i b.2) m in
+        let b = any_in (λ b. same_item b.item i) w.bounds (listed_item w c.turned.well p here i (item_there w p i j)) in
+        let r = risen_piece w v c.after c.before c.turned.well c.second c.turned.shows c.shown.shows i b.0 b.1 (same_item_is b.0.item i b.2) m in
         or_left _ _ (or_right (mem x.gone.items p) _ (any_from (λ n. has_item w p (Piece n)) x.narrowed.items r.0 (narrowed_has r.0 r.2) (subst (λ z. has_item w p z ≡ true) r.1 (item_there w p i j))))
     | inr g ↦ elim (cases_Bool (list_any (λ q. has_item w q i) x.pinned.items)) [
       | inl e ↦
@@ -148,19 +148,19 @@ module _ (v w : View) (x : Delta) (y : Change) (A : List Atom) (c : IsChangeOf v
   ]
   bad_touched is (Lacks p) k h = in_mem x.pinned.items p (pin_new p (mem_in w.pins p h) (false_from_ne_true (mem v.pins p) (λ e. not_bad (Lacks p) k e)))
   bad_touched is (AtLeast i n) k h =
-      let both = and_parts (list_any (λ b. same_item b.0 i) w.bounds) (nat_lt (most w i) n) h in
-      let b = any_in (λ b. same_item b.0 i) w.bounds both.0 in
+      let both = and_parts (list_any (λ b. same_item b.item i) w.bounds) (nat_lt (most w i) n) h in
+      let b = any_in (λ b. same_item b.item i) w.bounds both.0 in
       let l = ltb-true (most w i) n both.1 in
-      elim (cases_Bool (list_any (λ b. same_item b.0 i) v.bounds)) [
+      elim (cases_Bool (list_any (λ b. same_item b.item i) v.bounds)) [
         | inl e ↦
             let high : nat_lt (most v i) n ≡ false = false_from_ne_true _ (λ m. not_bad (AtLeast i n) k (and_from _ _ e m)) in
             let g = ltb-false (most v i) n high in
             let m : most w i < most v i = omega (arith, l, g) in
-            let r = risen_piece w v c.after c.before c.turned.well c.second c.turned.shows c.shown.shows i b.0 b.1 (same_item_is b.0.0 i b.2) m in
+            let r = risen_piece w v c.after c.before c.turned.well c.second c.turned.shows c.shown.shows i b.0 b.1 (same_item_is b.0.item i b.2) m in
             or_left _ _ (any_from (λ m. same_item (Piece m) i) x.narrowed.items r.0 (narrowed_has r.0 r.2) (subst (λ z. same_item z i ≡ true) r.1 (same_item_self i)))
         | inr e ↦
-            let here : list_any (λ b. same_item b.0 i) (item_bounds (changed c.before y)) ≡ true = ap (λ d. list_any (λ b. same_item b.0 i) (item_bounds d)) (sym is) ∙ ap (λ bs. list_any (λ b. same_item b.0 i) bs) (sym c.turned.shows.bounds) ∙ both.0 in
-            let none : list_any (λ b. same_item b.0 i) (item_bounds c.before) ≡ false = ap (λ bs. list_any (λ b. same_item b.0 i) bs) (sym c.shown.shows.bounds) ∙ e in
+            let here : list_any (λ b. same_item b.item i) (item_bounds (changed c.before y)) ≡ true = ap (λ d. list_any (λ b. same_item b.item i) (item_bounds d)) (sym is) ∙ ap (λ bs. list_any (λ b. same_item b.item i) bs) (sym c.turned.shows.bounds) ∙ both.0 in
+            let none : list_any (λ b. same_item b.item i) (item_bounds c.before) ≡ false = ap (λ bs. list_any (λ b. same_item b.item i) bs) (sym c.shown.shows.bounds) ∙ e in
             or_right _ _ (subst (λ z. same_item z i ≡ true) (arrives c.before y i here none) (same_item_self i))
       ]
   bad_touched is (AtMost i n) k h =

@@ -3,8 +3,9 @@ use Rattle.std.proofs.Common.{Bool, List, [], arith, cond, drop, false, inl, inr
 use Rattle.std.proofs.lemmas.Bool.{and_parts, leb-true}
 use Rattle.std.specs.List.{list_all}
 use Rattle.std.specs.Prelude.{nat_le}
+use Rattle.poly_tiling.specs.declared.bound.Bound.{Bound}
 use Rattle.poly_tiling.specs.declared.item.Item.{Item}
-use Rattle.poly_tiling.specs.Puzzle.{Bound, View, bound_in, most, same_item}
+use Rattle.poly_tiling.specs.Puzzle.{View, bound_in, most, same_item}
 use Rattle.poly_tiling.specs.Names.{WellNamed}
 use Rattle.poly_tiling.proofs.Lists.{In}
 use Rattle.poly_atom.specs.declared.atom.Atom.{Atom}
@@ -31,15 +32,15 @@ pub small_from : (A : List Atom) → ((a : Atom) → In a A → IsSmall a) → A
 small_from [] h = tt
 small_from (a ∷ A) h = (h a (inl refl), small_from A (λ b i. h b (inr i)))
 
-low_at : (b : Bound) (bs : List Bound) (i : Item) (t : Bool) → b.2 ≤ 16 → bound_in bs i (λ c. c.2) ≤ 16 → cond t b.2 (bound_in bs i (λ c. c.2)) ≤ 16
+low_at : (b : Bound) (bs : List Bound) (i : Item) (t : Bool) → b.most ≤ 16 → bound_in bs i (λ c. c.most) ≤ 16 → cond t b.most (bound_in bs i (λ c. c.most)) ≤ 16
 low_at b bs i true h r = h
 low_at b bs i false h r = r
 
-bounds_low : (bs : List Bound) (i : Item) → list_all (λ b. nat_le b.1 b.2 && nat_le b.2 16) bs ≡ true → bound_in bs i (λ b. b.2) ≤ 16
+bounds_low : (bs : List Bound) (i : Item) → list_all (λ b. nat_le b.least b.most && nat_le b.most 16) bs ≡ true → bound_in bs i (λ b. b.most) ≤ 16
 bounds_low [] i h = omega arith
 bounds_low (b ∷ bs) i h =
-    let hs = and_parts (nat_le b.1 b.2 && nat_le b.2 16) (list_all (λ c. nat_le c.1 c.2 && nat_le c.2 16) bs) h in
-    low_at b bs i (same_item b.0 i) (leb-true b.2 16 (and_parts (nat_le b.1 b.2) (nat_le b.2 16) hs.0).1) (bounds_low bs i hs.1)
+    let hs = and_parts (nat_le b.least b.most && nat_le b.most 16) (list_all (λ c. nat_le c.least c.most && nat_le c.most 16) bs) h in
+    low_at b bs i (same_item b.item i) (leb-true b.most 16 (and_parts (nat_le b.least b.most) (nat_le b.most 16) hs.0).1) (bounds_low bs i hs.1)
 
 -- no item is in more than 16 members
 pub most_low : (v : View) → WellNamed v → (i : Item) → most v i ≤ 16

@@ -30,10 +30,10 @@ count_more v w A B g h i = tally_within (λ p. has_item v p i) (λ p. has_item w
     (λ p k e. (base_more v w A B g h p k, any_items v w g.0 (λ j. same_item j i) p e))
 
 most_same : (v w : View) → Grown v w → (i : Item) → most w i ≡ most v i
-most_same v w g i = grown_bound v w g i (λ b. b.2)
+most_same v w g i = grown_bound v w g i (λ b. b.most)
 
 least_same : (v w : View) → Grown v w → (i : Item) → least w i ≡ least v i
-least_same v w g i = grown_bound v w g i (λ b. b.1)
+least_same v w g i = grown_bound v w g i (λ b. b.least)
 
 any_more : {X : Type 0} (f g : X → Bool) (xs : List X) → ((x : X) → f x ≡ true → g x ≡ true) → list_any f xs ≡ true → list_any g xs ≡ true
 any_more f g xs h e = let x = any_in f xs e in any_from g xs x.0 x.1 (h x.0 x.2)
@@ -59,8 +59,8 @@ bad_more v w A B g h (Has p) e = elim (or_cases (not (mem v.live p) || list_any 
 ]
 bad_more v w A B g h (Lacks p) e = ap (λ xs. mem xs p) g.3 ∙ e
 bad_more v w A B g h (AtLeast i n) e =
-    let es = and_parts (list_any (λ b. same_item b.0 i) v.bounds) (nat_lt (most v i) n) e in
-    and_from _ _ (ap (λ bs. list_any (λ b. same_item b.0 i) bs) g.2 ∙ es.0) (ap (λ k. nat_lt k n) (most_same v w g i) ∙ es.1)
+    let es = and_parts (list_any (λ b. same_item b.item i) v.bounds) (nat_lt (most v i) n) e in
+    and_from _ _ (ap (λ bs. list_any (λ b. same_item b.item i) bs) g.2 ∙ es.0) (ap (λ k. nat_lt k n) (most_same v w g i) ∙ es.1)
 bad_more v w A B g h (AtMost i n) e = ap (λ k. nat_lt n k) (least_same v w g i) ∙ e
 
 -- with more atoms and more numbers
@@ -105,8 +105,8 @@ not_less a b e = false_from_ne_true (nat_lt a b) (λ l. let k = ltb-true a b l i
 pub same_has_no_guards_lem : SameHasNoGuards
 same_has_no_guards_lem v w g =
     let fresh : guards_fresh v w ≡ [] = ap (λ ps. map (λ p. Lacks p) ps) (filter_none (λ p. not (mem v.live p)) w.live (λ p i. not_in _ (in_mem v.live p (subst (λ xs. In p xs) g.1 i)))) in
-    let low : guards_least v w ≡ [] = ap (λ bs. map (λ b. AtLeast b.0 (least v b.0)) bs) (filter_none (λ b. nat_lt (least w b.0) (least v b.0)) v.bounds (λ b i. not_less _ _ (least_same v w g b.0))) in
-    let high : guards_most v w ≡ [] = ap (λ bs. map (λ b. AtMost b.0 (most v b.0)) bs) (filter_none (λ b. nat_lt (most v b.0) (most w b.0)) v.bounds (λ b i. not_less _ _ (sym (most_same v w g b.0)))) in
+    let low : guards_least v w ≡ [] = ap (λ bs. map (λ b. AtLeast b.item (least v b.item)) bs) (filter_none (λ b. nat_lt (least w b.item) (least v b.item)) v.bounds (λ b i. not_less _ _ (least_same v w g b.item))) in
+    let high : guards_most v w ≡ [] = ap (λ bs. map (λ b. AtMost b.item (most v b.item)) bs) (filter_none (λ b. nat_lt (most v b.item) (most w b.item)) v.bounds (λ b i. not_less _ _ (sym (most_same v w g b.item)))) in
     let pins : guards_pins v w ≡ [] = ap (λ ps. map (λ p. Has p) ps) (filter_none (λ p. not (mem w.pins p)) v.pins (λ p i. not_in _ (in_mem w.pins p (subst (λ xs. In p xs) (sym g.3) i)))) in
     ap (λ x. x ++ (guards_least v w ++ (guards_most v w ++ guards_pins v w))) fresh
     ∙ ap (λ x. x ++ (guards_most v w ++ guards_pins v w)) low

@@ -12,10 +12,10 @@ abbrev pub guards_fresh : View → View → List Atom
 guards_fresh old new = map (λ p. Lacks p) (filter (λ p. not (mem old.live p)) new.live)
 
 abbrev pub guards_least : View → View → List Atom
-guards_least old new = map (λ b. AtLeast b.0 (least old b.0)) (filter (λ b. nat_lt (least new b.0) (least old b.0)) old.bounds)
+guards_least old new = map (λ b. AtLeast b.item (least old b.item)) (filter (λ b. nat_lt (least new b.item) (least old b.item)) old.bounds)
 
 abbrev pub guards_most : View → View → List Atom
-guards_most old new = map (λ b. AtMost b.0 (most old b.0)) (filter (λ b. nat_lt (most old b.0) (most new b.0)) old.bounds)
+guards_most old new = map (λ b. AtMost b.item (most old b.item)) (filter (λ b. nat_lt (most old b.item) (most new b.item)) old.bounds)
 
 abbrev pub guards_pins : View → View → List Atom
 guards_pins old new = map (λ p. Has p) (filter (λ p. not (mem new.pins p)) old.pins)

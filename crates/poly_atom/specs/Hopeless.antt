@@ -30,7 +30,7 @@ bad v A (Has p) =
     not (mem v.live p) || list_any (λ a. lacks a p) A || list_any (λ q. clash v p q) (base v A)
     || list_any (λ i. is_piece i && nat_lt (most v i) (count v (base v A) i)) (items v p)
 bad v A (Lacks p) = mem v.pins p
-bad v A (AtLeast i n) = list_any (λ b. same_item b.0 i) v.bounds && nat_lt (most v i) n
+bad v A (AtLeast i n) = list_any (λ b. same_item b.item i) v.bounds && nat_lt (most v i) n
 bad v A (AtMost i n) = nat_lt n (least v i)
 
 abbrev pub hopeless : View → List Atom → Bool

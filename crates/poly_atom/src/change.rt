@@ -12,7 +12,7 @@ ghost use Rattle.poly_atom.specs.declared.atom.Atom.TheVariants.{AtLeast, AtMost
 use crate::atom::Atom;
 use crate::order::{bounds_at, past, skip_items, skip_numbers, stands_at};
 use poly_grid::Refusal;
-use poly_tiling::{Item, View};
+use poly_tiling::{Bound, View};
 use std::alloc::{AllocError, Global};
 
 /// The guards of the change from one design to another: `Lacks` of each new placement, in placement order; `AtLeast` of
@@ -71,38 +71,30 @@ pub(crate) fn has_all(alloc: Global, numbers: &[u32]) -> Result<Vec<Atom>, Alloc
     numbers.iter().map(|p| Atom::Has(*p)).collect(alloc)
 }
 
-fn with_fallen(
-    old: &[(Item, u8, u8)],
-    new: &[(Item, u8, u8)],
-    mut atoms: Vec<Atom>,
-) -> Result<Vec<Atom>, AllocError>
+fn with_fallen(old: &[Bound], new: &[Bound], mut atoms: Vec<Atom>) -> Result<Vec<Atom>, AllocError>
     requires old_up { items_ascend old.now ≡ true }
     requires new_up { items_ascend new.now ≡ true }
-    ensures { IfOk result (λ all. all.items ≡ atoms.items ++ map (λ b. AtLeast b.0 b.1) (filter (λ b. nat_lt (bound_in new.now b.0 (λ c. c.1)) b.1) old.now)) }
+    ensures { IfOk result (λ all. all.items ≡ atoms.items ++ map (λ b. AtLeast b.item b.least) (filter (λ b. nat_lt (bound_in new.now b.item (λ c. c.least)) b.least) old.now)) }
 {
     let mut at = 0;
     for bound in old {
-        at = skip_items(new, at, &bound.0);
-        let fell = bounds_at(new, at, &bound.0).0 < bound.1;
-        add_if(fell, Atom::AtLeast(bound.0, bound.1), &mut atoms)?;
+        at = skip_items(new, at, &bound.item);
+        let fell = bounds_at(new, at, &bound.item).0 < bound.least;
+        add_if(fell, Atom::AtLeast(bound.item, bound.least), &mut atoms)?;
     }
     Ok(atoms)
 }
 
-fn with_risen(
-    old: &[(Item, u8, u8)],
-    new: &[(Item, u8, u8)],
-    mut atoms: Vec<Atom>,
-) -> Result<Vec<Atom>, AllocError>
+fn with_risen(old: &[Bound], new: &[Bound], mut atoms: Vec<Atom>) -> Result<Vec<Atom>, AllocError>
     requires old_up { items_ascend old.now ≡ true }
     requires new_up { items_ascend new.now ≡ true }
-    ensures { IfOk result (λ all. all.items ≡ atoms.items ++ map (λ b. AtMost b.0 b.2) (filter (λ b. nat_lt b.2 (bound_in new.now b.0 (λ c. c.2))) old.now)) }
+    ensures { IfOk result (λ all. all.items ≡ atoms.items ++ map (λ b. AtMost b.item b.most) (filter (λ b. nat_lt b.most (bound_in new.now b.item (λ c. c.most))) old.now)) }
 {
     let mut at = 0;
     for bound in old {
-        at = skip_items(new, at, &bound.0);
-        let rose = bound.2 < bounds_at(new, at, &bound.0).1;
-        add_if(rose, Atom::AtMost(bound.0, bound.2), &mut atoms)?;
+        at = skip_items(new, at, &bound.item);
+        let rose = bound.most < bounds_at(new, at, &bound.item).1;
+        add_if(rose, Atom::AtMost(bound.item, bound.most), &mut atoms)?;
     }
     Ok(atoms)
 }

@@ -154,7 +154,7 @@ fn is_too_many(view: &View, item: &Item, n: u8) -> bool
 {
     match find_bound(view.items(), item) {
         None => false,
-        Some(bound) => bound.2 < n,
+        Some(bound) => bound.most < n,
     }
 }
 
@@ -163,7 +163,7 @@ fn is_too_few(view: &View, item: &Item, n: u8) -> bool
 {
     match find_bound(view.items(), item) {
         None => false,
-        Some(bound) => n < bound.1,
+        Some(bound) => n < bound.least,
     }
 }
 
@@ -213,7 +213,7 @@ fn most_of(view: &View, item: &Item) -> usize
 {
     match find_bound(view.items(), item) {
         None => 0,
-        Some(bound) => bound.2 as usize,
+        Some(bound) => bound.most as usize,
     }
 }
 

@@ -5,10 +5,10 @@ ghost use Rattle.std.specs.Ordering.{is_lt};
 ghost use Rattle.poly_atom.specs.Merge.{behind, front, past};
 ghost use Rattle.poly_tiling.specs.Lists.{mem};
 ghost use Rattle.poly_tiling.specs.Names.{below, in_order, item_cmp, items_ascend, placement_cmp};
-ghost use Rattle.poly_tiling.specs.Puzzle.{Bound, bound_in, found_or, same_item};
+ghost use Rattle.poly_tiling.specs.Puzzle.{bound_in, found_or, same_item};
 
 use poly_design::Placement;
-use poly_tiling::{Item, View};
+use poly_tiling::{Bound, Item, View};
 
 /// Whether the placement of the first number comes before that of the second.
 pub fn is_below(view: &View, first: u32, second: u32) -> bool
@@ -79,13 +79,13 @@ pub fn stands_at(numbers: &[u32], at: usize, number: u32) -> bool
 }
 
 /// The first index, from `from` on, whose item isn't below this one.
-pub fn skip_items(bounds: &[(Item, u8, u8)], from: usize, item: &Item) -> usize
+pub fn skip_items(bounds: &[Bound], from: usize, item: &Item) -> usize
     requires { from ≤ length bounds.now }
-    ensures rest { drop result bounds.now ≡ behind (λ b. is_lt (item_cmp b.0 item.now)) (drop from bounds.now) }
+    ensures rest { drop result bounds.now ≡ behind (λ b. is_lt (item_cmp b.item item.now)) (drop from bounds.now) }
     ensures inside { result ≤ length bounds.now }
 {
     for at in from..bounds.len() {
-        if !is_item_below(&bounds[at].0, item) {
+        if !is_item_below(&bounds[at].item, item) {
             return at;
         }
     }
@@ -93,16 +93,16 @@ pub fn skip_items(bounds: &[(Item, u8, u8)], from: usize, item: &Item) -> usize
 }
 
 /// The least and the most of the item at the place; 0 and 0 if another item is there.
-pub fn bounds_at(bounds: &[(Item, u8, u8)], at: usize, item: &Item) -> (u8, u8)
-    ensures least { result.0 ≡ found_or (λ b. b.1) (front (λ b. same_item b.0 item.now) (drop at bounds.now)) }
-    ensures most { result.1 ≡ found_or (λ b. b.2) (front (λ b. same_item b.0 item.now) (drop at bounds.now)) }
+pub fn bounds_at(bounds: &[Bound], at: usize, item: &Item) -> (u8, u8)
+    ensures least { result.0 ≡ found_or (λ b. b.least) (front (λ b. same_item b.item item.now) (drop at bounds.now)) }
+    ensures most { result.1 ≡ found_or (λ b. b.most) (front (λ b. same_item b.item item.now) (drop at bounds.now)) }
 {
     if at >= bounds.len() {
         return (0, 0);
     }
     let bound = bounds[at];
-    if bound.0.is(item) {
-        return (bound.1, bound.2);
+    if bound.item.is(item) {
+        return (bound.least, bound.most);
     }
     (0, 0)
 }

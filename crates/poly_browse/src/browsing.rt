@@ -66,14 +66,14 @@ fn options(
     view: &View,
     used: &[u32],
 ) -> Result<Vec<(Item, u64)>, Refusal>
-    ensures items { IfOk result (λ list. map (λ o. o.0) list.items ≡ map (λ b. b.0) (item_bounds design.now)) }
+    ensures items { IfOk result (λ list. map (λ o. o.0) list.items ≡ map (λ b. b.item) (item_bounds design.now)) }
     ensures counts { IfOk result (λ list. All (λ o. o.1 ≡ count view.now used.now o.0) list.items) }
     ensures why { IfErr result (λ e. e ≡ Refusal.Memory) }
 {
     let items = item_list(alloc, design)?;
     let mut options = Vec::with_capacity(alloc, items.len())?;
     for bound in &items {
-        let item = bound.0;
+        let item = bound.item;
         options.push((item, view.count(used, &item) as u64))?;
     }
     Ok(options)

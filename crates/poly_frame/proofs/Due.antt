@@ -12,8 +12,8 @@ use Rattle.poly_frame.specs.Open.{asks}
 use Rattle.poly_frame.specs.Plain.{asks_for, of_asked}
 
 -- an item that neither the design nor an atom names isn't asked for
-asks_none : (v : View) (A : List Atom) (i : Item) → list_any (λ b. same_item b.0 i) v.bounds ≡ false → list_any (asks_for i) A ≡ false → asks v A i ≡ 0
-asks_none v [] i n m = bound_none v.bounds i (λ b. b.1) n
+asks_none : (v : View) (A : List Atom) (i : Item) → list_any (λ b. same_item b.item i) v.bounds ≡ false → list_any (asks_for i) A ≡ false → asks v A i ≡ 0
+asks_none v [] i n m = bound_none v.bounds i (λ b. b.least) n
 asks_none v (Has p ∷ A) i n m = asks_none v A i n m
 asks_none v (Lacks p ∷ A) i n m = asks_none v A i n m
 asks_none v (AtLeast j k ∷ A) i n m =
@@ -29,13 +29,13 @@ asked_one f i (AtMost j n) s h = absurd (cc)
 
 -- if no item of the design and none that an atom asks for is due, no item is
 pub none_due : (v : View) (A : List Atom) (T : List ℕ) →
-    list_all (λ b. not (nat_lt (count v T b.0) (asks v A b.0))) v.bounds ≡ true →
+    list_all (λ b. not (nat_lt (count v T b.item) (asks v A b.item))) v.bounds ≡ true →
     list_all (of_asked (λ i. not (nat_lt (count v T i) (asks v A i)))) A ≡ true →
     (i : Item) → nat_lt (count v T i) (asks v A i) ≡ false
 none_due v A T bounds atoms i =
     let free = λ (k : Item). not (nat_lt (count v T k) (asks v A k)) in
-    elim (cases_Bool (list_any (λ b. same_item b.0 i) v.bounds)) [
-      | inl y ↦ let x = any_in (λ b. same_item b.0 i) v.bounds y in not-true _ (subst (λ k. free k ≡ true) (same_item_is x.0.0 i x.2) (all_in (λ b. free b.0) v.bounds bounds x.0 x.1))
+    elim (cases_Bool (list_any (λ b. same_item b.item i) v.bounds)) [
+      | inl y ↦ let x = any_in (λ b. same_item b.item i) v.bounds y in not-true _ (subst (λ k. free k ≡ true) (same_item_is x.0.item i x.2) (all_in (λ b. free b.item) v.bounds bounds x.0 x.1))
       | inr n ↦ elim (cases_Bool (list_any (asks_for i) A)) [
         | inl y ↦ let x = any_in (asks_for i) A y in not-true _ (asked_one free i x.0 x.2 (all_in (of_asked free) A atoms x.0 x.1))
         | inr m ↦ let e = asks_none v A i n m in false_from_ne_true (nat_lt (count v T i) (asks v A i)) (λ h. let l = ltb-true _ _ h in omega arith)

@@ -10,11 +10,12 @@ use Rattle.std.proofs.lemmas.List.{take_more, length-append, map-append, get_or_
 use Rattle.poly_grid.specs.Spot.{Spot}
 use Rattle.std.specs.declared.cmp.Ordering.TheVariants.{Equal, Less}
 use Rattle.poly_shape.specs.Order.{IsAscending, spot_cmp, spot_total}
+use Rattle.poly_tiling.specs.declared.bound.Bound.{Bound}
 use Rattle.poly_tiling.specs.declared.item.Item.{Item}
 use Rattle.poly_tiling.specs.declared.item.Item.TheVariants.{Cell, Piece}
 use Rattle.poly_tiling.specs.Lists.{one}
 use Rattle.poly_tiling.specs.Names.{item_cmp, items_ascend}
-use Rattle.poly_tiling.specs.Puzzle.{Bound, same_item}
+use Rattle.poly_tiling.specs.Puzzle.{same_item}
 use Rattle.poly_tiling.proofs.Lists.{In, all_append, all_in, any_append, any_in, map_in, same_truth, tally_append}
 use Rattle.poly_tiling.proofs.Tilings.{same_item_is, same_item_self}
 use Rattle.poly_frame.specs.FrameItems.{Noted, item_at, no_bound, times}
@@ -28,10 +29,10 @@ bound_in_list [] b h = absurd (omega arith)
 bound_in_list (x ∷ bs) zero h = inl refl
 bound_in_list (x ∷ bs) (suc b) h = inr (bound_in_list bs b (omega arith))
 
-head_apart : (x : Bound) (bs : List Bound) (b : ℕ) → items_ascend (x ∷ bs) ≡ true → b < length bs → item_at bs b ≡ x.0 → ⊥
+head_apart : (x : Bound) (bs : List Bound) (b : ℕ) → items_ascend (x ∷ bs) ≡ true → b < length bs → item_at bs b ≡ x.item → ⊥
 head_apart x bs b up h e =
-    both_ways (is_lt (item_cmp x.0 x.0)) (never_below x.0)
-    (subst (λ i. is_lt (item_cmp x.0 i) ≡ true) e (all_in (λ c. is_lt (item_cmp x.0 c.0)) bs (and_parts _ (items_ascend bs) up).0 (get_or bs b no_bound) (bound_in_list bs b h)))
+    both_ways (is_lt (item_cmp x.item x.item)) (never_below x.item)
+    (subst (λ i. is_lt (item_cmp x.item i) ≡ true) e (all_in (λ c. is_lt (item_cmp x.item c.item)) bs (and_parts _ (items_ascend bs) up).0 (get_or bs b no_bound) (bound_in_list bs b h)))
 
 -- an item has one index
 pub item_once : (bs : List Bound) (a b : ℕ) → items_ascend bs ≡ true → a < length bs → b < length bs → item_at bs a ≡ item_at bs b → a ≡ b
@@ -39,7 +40,7 @@ item_once [] a b up h k e = absurd (omega arith)
 item_once (x ∷ bs) zero zero up h k e = refl
 item_once (x ∷ bs) zero (suc b) up h k e = absurd (head_apart x bs b up (omega arith) (sym e))
 item_once (x ∷ bs) (suc a) zero up h k e = absurd (head_apart x bs a up (omega arith) e)
-item_once (x ∷ bs) (suc a) (suc b) up h k e = ap suc (item_once bs a b (and_parts (list_all (λ c. is_lt (item_cmp x.0 c.0)) bs) (items_ascend bs) up).1 (omega arith) (omega arith) e)
+item_once (x ∷ bs) (suc a) (suc b) up h k e = ap suc (item_once bs a b (and_parts (list_all (λ c. is_lt (item_cmp x.item c.item)) bs) (items_ascend bs) up).1 (omega arith) (omega arith) e)
 
 or_false : (b : Bool) → (b || false) ≡ b
 or_false true = refl

@@ -4,9 +4,10 @@ use Rattle.std.specs.List.{filter, list_any, list_all}
 use Rattle.std.proofs.Math.Nat.{mul-le-mul_left}
 use Rattle.std.proofs.lemmas.List.{length-drop, take_more, take_all, take_rest, take-append-drop}
 use Rattle.std.proofs.lemmas.Bool.{and_from, and_parts, both_ways, cases_lt, false_from_ne_true, le-ltb, not_from_false, not-true, or_cases}
+use Rattle.poly_tiling.specs.declared.bound.Bound.{Bound}
 use Rattle.poly_tiling.specs.declared.item.Item.{Item}
 use Rattle.poly_tiling.specs.Lists.{distinct, mem}
-use Rattle.poly_tiling.specs.Puzzle.{Bound, View, count, has_item, same_item}
+use Rattle.poly_tiling.specs.Puzzle.{View, count, has_item, same_item}
 use Rattle.poly_tiling.proofs.Lists.{In, all_from, all_in, in_mem, mem_in, same_truth}
 use Rattle.poly_tiling.proofs.Named.{listed_item}
 use Rattle.poly_tiling.proofs.Orders.{live_once}
@@ -34,26 +35,26 @@ all_bounds (x ∷ bs) f h = and_from _ _ (h zero (omega arith)) (all_bounds bs f
 
 -- if no item of the view is due, and none that an atom asks for is both due and elsewhere, the atoms ask for none that is due
 none_elsewhere : (v : View) (A : List Atom) (T : List ℕ) (X : List Atom) → ((b : ℕ) → b < length v.bounds → nat_lt (count v T (item_of v b)) (asks v A (item_of v b)) ≡ false) →
-    list_all (of_asked (λ i. list_any (λ b. same_item b.0 i) v.bounds || not (nat_lt (count v T i) (asks v A i)))) X ≡ true → list_all (of_asked (λ i. not (nat_lt (count v T i) (asks v A i)))) X ≡ true
+    list_all (of_asked (λ i. list_any (λ b. same_item b.item i) v.bounds || not (nat_lt (count v T i) (asks v A i)))) X ≡ true → list_all (of_asked (λ i. not (nat_lt (count v T i) (asks v A i)))) X ≡ true
 none_elsewhere v A T [] n h = refl
 none_elsewhere v A T (Has p ∷ X) n h = none_elsewhere v A T X n h
 none_elsewhere v A T (Lacks p ∷ X) n h = none_elsewhere v A T X n h
 none_elsewhere v A T (AtMost i k ∷ X) n h = none_elsewhere v A T X n h
 none_elsewhere v A T (AtLeast i k ∷ X) n h =
-    let here = list_any (λ b. same_item b.0 i) v.bounds in
+    let here = list_any (λ b. same_item b.item i) v.bounds in
     let free = not (nat_lt (count v T i) (asks v A i)) in
-    let hs = and_parts (here || free) (list_all (of_asked (λ j. list_any (λ b. same_item b.0 j) v.bounds || not (nat_lt (count v T j) (asks v A j)))) X) h in
+    let hs = and_parts (here || free) (list_all (of_asked (λ j. list_any (λ b. same_item b.item j) v.bounds || not (nat_lt (count v T j) (asks v A j)))) X) h in
     let yes : free ≡ true = elim (or_cases here free hs.0) [
       | inl y ↦ let w = place_of v.bounds i y in not_from_false _ (subst (λ j. nat_lt (count v T j) (asks v A j) ≡ false) w.2 (n w.0 w.1))
       | inr e ↦ e
     ] in
     and_from free (list_all (of_asked (λ j. not (nat_lt (count v T j) (asks v A j)))) X) yes (none_elsewhere v A T X n hs.1)
 
-pub none_asked : (v : View) (A : List Atom) (T : List ℕ) → T ≡ base v A → list_all (of_asked (λ i. list_any (λ b. same_item b.0 i) v.bounds || not (nat_lt (count v T i) (asks v A i)))) A ≡ true →
+pub none_asked : (v : View) (A : List Atom) (T : List ℕ) → T ≡ base v A → list_all (of_asked (λ i. list_any (λ b. same_item b.item i) v.bounds || not (nat_lt (count v T i) (asks v A i)))) A ≡ true →
     ((b : ℕ) → b < length v.bounds → nat_lt (count v (base v A) (item_of v b)) (asks v A (item_of v b)) ≡ false) → (i : Item) → nat_lt (count v (base v A) i) (asks v A i) ≡ false
 none_asked v A T e h n i =
-    let h2 = subst (λ (xs : List ℕ). list_all (of_asked (λ i. list_any (λ b. same_item b.0 i) v.bounds || not (nat_lt (count v xs i) (asks v A i)))) A ≡ true) e h in
-    none_due v A (base v A) (all_bounds v.bounds (λ b. not (nat_lt (count v (base v A) b.0) (asks v A b.0))) (λ b l. not_from_false _ (n b l))) (none_elsewhere v A (base v A) A n h2) i
+    let h2 = subst (λ (xs : List ℕ). list_all (of_asked (λ i. list_any (λ b. same_item b.item i) v.bounds || not (nat_lt (count v xs i) (asks v A i)))) A ≡ true) e h in
+    none_due v A (base v A) (all_bounds v.bounds (λ b. not (nat_lt (count v (base v A) b.item) (asks v A b.item))) (λ b l. not_from_false _ (n b l))) (none_elsewhere v A (base v A) A n h2) i
 
 -- no item at all is due if none of the view's is
 pub all_due : (v : View) (A : List Atom) (o : Option Item) → MatchOption o ((b : ℕ) → b < length v.bounds → nat_lt (count v (base v A) (item_of v b)) (asks v A (item_of v b)) ≡ false) (λ i. nat_lt (count v (base v A) i) (asks v A i) ≡ true) →
@@ -62,11 +63,11 @@ pub all_due : (v : View) (A : List Atom) (o : Option Item) → MatchOption o ((b
 all_due v A None h f = f h
 all_due v A (Some i) h f = h
 
-due_atoms : (v : View) (f : Item → Bool) (A : List Atom) → list_all (of_asked (λ i. list_any (λ b. same_item b.0 i) v.bounds)) A ≡ true → ((i : Item) → ((b : ℕ) × (b < length v.bounds) × (item_of v b ≡ i)) → f i ≡ true) → list_all (of_asked f) A ≡ true
+due_atoms : (v : View) (f : Item → Bool) (A : List Atom) → list_all (of_asked (λ i. list_any (λ b. same_item b.item i) v.bounds)) A ≡ true → ((i : Item) → ((b : ℕ) × (b < length v.bounds) × (item_of v b ≡ i)) → f i ≡ true) → list_all (of_asked f) A ≡ true
 due_atoms v f [] h g = refl
 due_atoms v f (Has p ∷ A) h g = due_atoms v f A h g
 due_atoms v f (Lacks p ∷ A) h g = due_atoms v f A h g
-due_atoms v f (AtLeast i n ∷ A) h g = let hs = and_parts (list_any (λ b. same_item b.0 i) v.bounds) (list_all (of_asked (λ i. list_any (λ b. same_item b.0 i) v.bounds)) A) h in and_from (f i) (list_all (of_asked f) A) (g i (place_of v.bounds i hs.0)) (due_atoms v f A hs.1 g)
+due_atoms v f (AtLeast i n ∷ A) h g = let hs = and_parts (list_any (λ b. same_item b.item i) v.bounds) (list_all (of_asked (λ i. list_any (λ b. same_item b.item i) v.bounds)) A) h in and_from (f i) (list_all (of_asked f) A) (g i (place_of v.bounds i hs.0)) (due_atoms v f A hs.1 g)
 due_atoms v f (AtMost i n ∷ A) h g = due_atoms v f A h g
 
 filter_append : (f : ℕ → Bool) (xs ys : List ℕ) → filter f (xs ++ ys) ≡ filter f xs ++ filter f ys
@@ -186,7 +187,7 @@ module _ (v : View) (A : List Atom) (first : ℕ) (matrix : Matrix) (t : Table) 
   none_else y n i =
       let same = λ (k : Item). (top_level v A first matrix t live have raised marks K).asked k in
       ap (λ m. nat_lt (count v (base v A) i) m) (same i) ∙ none_due v (take first A) (base v A)
-      (all_bounds v.bounds (λ b. not (nat_lt (count v (base v A) b.0) (asks v (take first A) b.0))) (λ b h. not_from_false _ (ap (λ m. nat_lt (count v (base v A) (item_of v b)) m) (sym (same (item_of v b))) ∙ n b h)))
+      (all_bounds v.bounds (λ b. not (nat_lt (count v (base v A) b.item) (asks v (take first A) b.item))) (λ b h. not_from_false _ (ap (λ m. nat_lt (count v (base v A) (item_of v b)) m) (sym (same (item_of v b))) ∙ n b h)))
       (due_atoms v (λ k. not (nat_lt (count v (base v A) k) (asks v (take first A) k))) (take first A) (K.table.listed y) (λ k w. not_from_false _ (subst (λ j. nat_lt (count v (base v A) j) (asks v (take first A) j) ≡ false) w.2 (ap (λ m. nat_lt (count v (base v A) (item_of v w.0)) m) (sym (same (item_of v w.0))) ∙ n w.0 w.1)))) i
 
 -- some placement is open

@@ -5,11 +5,12 @@ use Rattle.std.proofs.lemmas.Bool.{eq-eqb, ne_eqb, and_parts, and_from, or_parts
 use Rattle.poly_grid.specs.Spot.{Spot}
 use Rattle.poly_shape.specs.Order.{spot_eq, spot_equiv}
 use Rattle.poly_design.specs.declared.placement.Placement.{Placement}
+use Rattle.poly_tiling.specs.declared.bound.Bound.{Bound}
 use Rattle.poly_tiling.specs.declared.item.Item.{Item}
 use Rattle.poly_tiling.specs.declared.item.Item.TheVariants.{Cell, Piece}
 use Rattle.poly_tiling.specs.Lists.{one, tally, mem, put, put_all}
 use Rattle.poly_tiling.specs.Names.{WellNamed}
-use Rattle.poly_tiling.specs.Puzzle.{Bound, View, clash, count, has_cell, has_item, is_piece, items, items_of, same_item, share_cell}
+use Rattle.poly_tiling.specs.Puzzle.{View, clash, count, has_cell, has_item, is_piece, items, items_of, same_item, share_cell}
 use Rattle.poly_tiling.proofs.Lists.{In, any_append, any_from, any_in, in_map, in_mem, map_in, mem_in, same_truth}
 use Rattle.poly_tiling.proofs.Ascending.{in_put_self, ascending_same, put_in, in_put, put_up}
 use Rattle.poly_tiling.proofs.Named.{listed_item}
@@ -145,10 +146,10 @@ count_pick v A p i m = ap (λ xs. count v xs i) (base_pick v A p) ∙ tally_put 
 pub count_leave : (v : View) (A : List Atom) (p : ℕ) (i : Item) → count v (base v (A ++ Lacks p ∷ [])) i ≡ count v (base v A) i
 count_leave v A p i = ap (λ xs. count v (put_all xs (put_all v.pins [])) i) (base_leave v A p)
 
-pub place_of : (bs : List Bound) (i : Item) → list_any (λ b. same_item b.0 i) bs ≡ true → (b : ℕ) × (b < length bs) × (item_at bs b ≡ i)
+pub place_of : (bs : List Bound) (i : Item) → list_any (λ b. same_item b.item i) bs ≡ true → (b : ℕ) × (b < length bs) × (item_at bs b ≡ i)
 place_of [] i h = absurd (true≢false (sym h))
-place_of (x ∷ bs) i h = elim (or_cases (same_item x.0 i) (list_any (λ b. same_item b.0 i) bs) h) [
-  | inl e ↦ (zero, omega arith, same_item_is x.0 i e)
+place_of (x ∷ bs) i h = elim (or_cases (same_item x.item i) (list_any (λ b. same_item b.item i) bs) h) [
+  | inl e ↦ (zero, omega arith, same_item_is x.item i e)
   | inr e ↦ let r = place_of bs i e in let l : suc r.0 < length (x ∷ bs) = omega (arith, r.1) in (suc r.0, l, r.2)
 ]
 

@@ -4,10 +4,11 @@ use Rattle.std.proofs.Math.ListN.{set}
 use Rattle.std.specs.List.{filter}
 use Rattle.std.proofs.lemmas.Bool.{and_parts, both_ways, false_from_ne_true, cases_Bool, cases_eq, cond-false}
 use Rattle.std.proofs.lemmas.List.{take_more, get_or-set_other, get_or-set_same}
+use Rattle.poly_tiling.specs.declared.bound.Bound.{Bound}
 use Rattle.poly_tiling.specs.declared.item.Item.{Item}
 use Rattle.poly_tiling.specs.Lists.{one, tally}
 use Rattle.poly_tiling.specs.Names.{items_ascend}
-use Rattle.poly_tiling.specs.Puzzle.{Bound, View, bound_in, count, has_item, items, same_item}
+use Rattle.poly_tiling.specs.Puzzle.{View, bound_in, count, has_item, items, same_item}
 use Rattle.poly_tiling.proofs.Lists.{tally_append}
 use Rattle.poly_tiling.proofs.Tilings.{same_item_is, same_item_self}
 use Rattle.poly_atom.specs.declared.atom.Atom.{Atom}
@@ -21,9 +22,9 @@ use Rattle.poly_frame.proofs.FrameItems.{item_once}
 -- the bounds of the item at a place
 pub bound_at : (bs : List Bound) (b : ℕ) (f : Bound → ℕ) → items_ascend bs ≡ true → b < length bs → bound_in bs (item_at bs b) f ≡ f (get_or bs b no_bound)
 bound_at [] b f up h = absurd (omega arith)
-bound_at (x ∷ bs) zero f up h = ap (λ t. cond t (f x) (bound_in bs x.0 f)) (same_item_self x.0)
+bound_at (x ∷ bs) zero f up h = ap (λ t. cond t (f x) (bound_in bs x.item f)) (same_item_self x.item)
 bound_at (x ∷ bs) (suc b) f up h =
-    cond-false (same_item x.0 (item_at bs b)) (f x) (bound_in bs (item_at bs b) f) (false_from_ne_true _ (λ e. apart (item_once (x ∷ bs) zero (suc b) up (omega arith) h (same_item_is _ _ e))))
+    cond-false (same_item x.item (item_at bs b)) (f x) (bound_in bs (item_at bs b) f) (false_from_ne_true _ (λ e. apart (item_once (x ∷ bs) zero (suc b) up (omega arith) h (same_item_is _ _ e))))
     ∙ bound_at bs b f (and_parts _ (items_ascend bs) up).1 (omega arith)
   where
     apart : zero ≡ suc b → ⊥
@@ -54,11 +55,11 @@ drop_end : (A : List Atom) → drop (length A) A ≡ []
 drop_end [] = refl
 drop_end (a ∷ A) = drop_end A
 
-pub uppers_start : (v : View) (A : List Atom) (us : List ℕ) → items_ascend v.bounds ≡ true → us ≡ map (λ b. b.2) v.bounds → UppersShow v (drop (length A) A) us
-uppers_start v A us up e b h = ap (λ xs. get_or xs b 0) e ∙ map_at (λ b. b.2) v.bounds b h ∙ sym (ap (λ B. upper v B (item_of v b)) (drop_end A) ∙ bound_at v.bounds b (λ b. b.2) up h)
+pub uppers_start : (v : View) (A : List Atom) (us : List ℕ) → items_ascend v.bounds ≡ true → us ≡ map (λ b. b.most) v.bounds → UppersShow v (drop (length A) A) us
+uppers_start v A us up e b h = ap (λ xs. get_or xs b 0) e ∙ map_at (λ b. b.most) v.bounds b h ∙ sym (ap (λ B. upper v B (item_of v b)) (drop_end A) ∙ bound_at v.bounds b (λ b. b.most) up h)
 
-pub asked_start : (v : View) (A : List Atom) (us : List ℕ) → items_ascend v.bounds ≡ true → us ≡ map (λ b. b.1) v.bounds → AskedShow v (drop (length A) A) us
-asked_start v A us up e b h = ap (λ xs. get_or xs b 0) e ∙ map_at (λ b. b.1) v.bounds b h ∙ sym (ap (λ B. asks v B (item_of v b)) (drop_end A) ∙ bound_at v.bounds b (λ b. b.1) up h)
+pub asked_start : (v : View) (A : List Atom) (us : List ℕ) → items_ascend v.bounds ≡ true → us ≡ map (λ b. b.least) v.bounds → AskedShow v (drop (length A) A) us
+asked_start v A us up e b h = ap (λ xs. get_or xs b 0) e ∙ map_at (λ b. b.least) v.bounds b h ∙ sym (ap (λ B. asks v B (item_of v b)) (drop_end A) ∙ bound_at v.bounds b (λ b. b.least) up h)
 
 -- a write at the item's own place
 module _ (bs : List Bound) (us : List ℕ) (a x : ℕ) (i : Item) (up : items_ascend bs ≡ true) (len : length us ≡ length bs) (w : (a < length bs) × (same_item (item_at bs a) i ≡ true)) where

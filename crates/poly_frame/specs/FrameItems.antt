@@ -1,16 +1,17 @@
 -- Items by their indices among the items of a view.
 use Rattle.std.specs.Prelude.{List, length, nat_lt, slice_index_or, true, ℕ, ◌<◌, ◌==◌, ◌≡◌, ◌≤◌}
 use Rattle.std.specs.List.{list_all, list_any}
+use Rattle.poly_tiling.specs.declared.bound.Bound.{Bound}
 use Rattle.poly_tiling.specs.declared.item.Item.{Item}
 use Rattle.poly_tiling.specs.declared.item.Item.TheVariants.{Cell}
 use Rattle.poly_tiling.specs.Lists.{one, tally}
-use Rattle.poly_tiling.specs.Puzzle.{Bound, View, same_item}
+use Rattle.poly_tiling.specs.Puzzle.{View, same_item}
 
 abbrev pub no_bound : Bound
-no_bound = (Cell (record { x = 0; y = 0 }), 0, 0)
+no_bound = record { item = Cell (record { x = 0; y = 0 }); least = 0; most = 0 }
 
 abbrev pub item_at : List Bound → ℕ → Item
-item_at bounds b = (slice_index_or bounds b no_bound).0
+item_at bounds b = (slice_index_or bounds b no_bound).item
 
 -- the item at an index of the view's items
 abbrev pub item_of : View → ℕ → Item

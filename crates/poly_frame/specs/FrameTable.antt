@@ -42,6 +42,6 @@ pub record TableShows (v : View) (A : List Atom) (m : Matrix) (t : Table) : Type
   pub limits_len : length t.limits.items ≡ length v.bounds
   pub asked : AskedShow v A t.asked.items
   pub asked_len : length t.asked.items ≡ length v.bounds
-  pub listed : t.listed ≡ true → list_all (of_asked (λ i. list_any (λ b. same_item b.0 i) v.bounds)) A ≡ true
+  pub listed : t.listed ≡ true → list_all (of_asked (λ i. list_any (λ b. same_item b.item i) v.bounds)) A ≡ true
   pub quiet : (b : ℕ) → t.asked_end ≤ b → b < length v.bounds → slice_index t.asked.items b ≡ 0
   pub small : (i : Item) → count v (base v A) i < 2 ^ 63

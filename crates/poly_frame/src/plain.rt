@@ -219,14 +219,14 @@ fn is_due(view: &View, atoms: &[Atom], members: &[u32], item: &Item) -> bool
 }
 
 fn is_listed(view: &View, item: &Item) -> bool
-    ensures { result ≡ list_any (λ b. same_item b.0 item.now) view.now.bounds }
+    ensures { result ≡ list_any (λ b. same_item b.item item.now) view.now.bounds }
 {
-    view.items().iter().any(|b| b.0.is(item))
+    view.items().iter().any(|b| b.item.is(item))
 }
 
 /// An item that an atom asks for, that is not in the view, and that the members don't cover often enough. It has no option.
 pub(crate) fn due_elsewhere(view: &View, atoms: &[Atom], members: &[u32]) -> Option<Item>
-    ensures { MatchOption result (list_all (of_asked (λ i. list_any (λ b. same_item b.0 i) view.now.bounds || not (nat_lt (count view.now members.now i) (asks view.now atoms.now i)))) atoms.now ≡ true) (λ i. nat_lt (count view.now members.now i) (asks view.now atoms.now i) ≡ true) }
+    ensures { MatchOption result (list_all (of_asked (λ i. list_any (λ b. same_item b.item i) view.now.bounds || not (nat_lt (count view.now members.now i) (asks view.now atoms.now i)))) atoms.now ≡ true) (λ i. nat_lt (count view.now members.now i) (asks view.now atoms.now i) ≡ true) }
 {
     for atom in atoms {
         if let Atom::AtLeast(item, _) = atom {

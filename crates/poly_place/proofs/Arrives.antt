@@ -14,7 +14,8 @@ use Rattle.poly_design.specs.declared.change.Change.TheVariants.{Cell as CellCha
 use Rattle.poly_design.specs.declared.mode.Mode.{Mode}
 use Rattle.poly_design.specs.declared.mode.Mode.TheVariants.{Blocked, Optional, Required}
 use Rattle.poly_design.specs.declared.spec.Spec.{Spec}
-use Rattle.poly_tiling.specs.Puzzle.{Bound, same_item}
+use Rattle.poly_tiling.specs.declared.bound.Bound.{Bound}
+use Rattle.poly_tiling.specs.Puzzle.{same_item}
 use Rattle.poly_tiling.specs.Shows.{cell_bound, item_bounds, piece_bound}
 use Rattle.poly_tiling.specs.declared.item.Item.{Item}
 use Rattle.poly_tiling.specs.declared.item.Item.TheVariants.{Cell, Piece}
@@ -29,13 +30,13 @@ mode_from cells c Optional e d i = in_put same_spot cells c Optional e d i
 mode_from cells c Blocked e d i = in_taken same_spot cells c e i
 
 abbrev has_bound : List Bound → Item → Bool
-has_bound bs i = list_any (λ b. same_item b.0 i) bs
+has_bound bs i = list_any (λ b. same_item b.item i) bs
 
 cell_there : (d : Layout) (e : Spot × Mode) → In e d.cells → has_bound (item_bounds d) (Cell e.0) ≡ true
-cell_there d e i = any_from (λ b. same_item b.0 (Cell e.0)) (item_bounds d) (cell_bound e) (in_append_left (cell_bound e) (map cell_bound d.cells) (map piece_bound d.pieces) (in_map cell_bound d.cells e i)) (same_item_self (Cell e.0))
+cell_there d e i = any_from (λ b. same_item b.item (Cell e.0)) (item_bounds d) (cell_bound e) (in_append_left (cell_bound e) (map cell_bound d.cells) (map piece_bound d.pieces) (in_map cell_bound d.cells e i)) (same_item_self (Cell e.0))
 
 piece_there : (d : Layout) (e : List ℕ × Spec) → In e d.pieces → has_bound (item_bounds d) (Piece e.0) ≡ true
-piece_there d e i = any_from (λ b. same_item b.0 (Piece e.0)) (item_bounds d) (piece_bound e) (in_append_right (piece_bound e) (map cell_bound d.cells) (map piece_bound d.pieces) (in_map piece_bound d.pieces e i)) (same_item_self (Piece e.0))
+piece_there d e i = any_from (λ b. same_item b.item (Piece e.0)) (item_bounds d) (piece_bound e) (in_append_right (piece_bound e) (map cell_bound d.cells) (map piece_bound d.pieces) (in_map piece_bound d.pieces e i)) (same_item_self (Piece e.0))
 
 own_cell : (d : Layout) (c : Spot) (m : Mode) (e : Spot × Mode) → In e (set_mode d.cells c m) → has_bound (item_bounds d) (Cell e.0) ≡ false → (b : Bool) → spot_eq e.0 c ≡ b → e.0 ≡ c
 own_cell d c m e i none true h = same_spot_is e.0 c h
@@ -48,28 +49,28 @@ own_piece d name after e i none false h = absurd (both_ways (has_bound (item_bou
     (piece_there d e (spec_from d.pieces name after e (λ s. both_ways (pointwise nat_eq e.0 name) h (subst (λ z. pointwise nat_eq e.0 z ≡ true) s (nat_list_eq_equiv.refl e.0))) i)))
 
 -- an item that the design has after the change and didn't have before is the change's cell or piece
-arrived : (d : Layout) (y : Change) (b : Bound) → In b (item_bounds (changed d y)) → has_bound (item_bounds d) b.0 ≡ false → b.0 ≡ item_of y
+arrived : (d : Layout) (y : Change) (b : Bound) → In b (item_bounds (changed d y)) → has_bound (item_bounds d) b.item ≡ false → b.item ≡ item_of y
 arrived d (CellChange c before after) b i none = elim (in_append_cases b (map cell_bound (set_mode d.cells c after)) (map piece_bound d.pieces) i) [
   | inl j ↦
       let r = map_in cell_bound (set_mode d.cells c after) b j in
-      let is : Cell r.0.0 ≡ b.0 = ap (λ (z : Bound). z.0) r.2 in
+      let is : Cell r.0.0 ≡ b.item = ap (λ (z : Bound). z.item) r.2 in
       sym is ∙ ap Cell (own_cell d c after r.0 r.1 (ap (has_bound (item_bounds d)) is ∙ none) (spot_eq r.0.0 c) refl)
   | inr j ↦
       let r = map_in piece_bound d.pieces b j in
-      absurd (both_ways (has_bound (item_bounds d) b.0) none (ap (has_bound (item_bounds d)) (sym (ap (λ (z : Bound). z.0) r.2)) ∙ piece_there d r.0 r.1))
+      absurd (both_ways (has_bound (item_bounds d) b.item) none (ap (has_bound (item_bounds d)) (sym (ap (λ (z : Bound). z.item) r.2)) ∙ piece_there d r.0 r.1))
 ]
 arrived d (PieceChange name before after) b i none = elim (in_append_cases b (map cell_bound d.cells) (map piece_bound (set_spec d.pieces name after)) i) [
   | inl j ↦
       let r = map_in cell_bound d.cells b j in
-      absurd (both_ways (has_bound (item_bounds d) b.0) none (ap (has_bound (item_bounds d)) (sym (ap (λ (z : Bound). z.0) r.2)) ∙ cell_there d r.0 r.1))
+      absurd (both_ways (has_bound (item_bounds d) b.item) none (ap (has_bound (item_bounds d)) (sym (ap (λ (z : Bound). z.item) r.2)) ∙ cell_there d r.0 r.1))
   | inr j ↦
       let r = map_in piece_bound (set_spec d.pieces name after) b j in
-      let is : Piece r.0.0 ≡ b.0 = ap (λ (z : Bound). z.0) r.2 in
+      let is : Piece r.0.0 ≡ b.item = ap (λ (z : Bound). z.item) r.2 in
       sym is ∙ ap Piece (own_piece d name after r.0 r.1 (ap (has_bound (item_bounds d)) is ∙ none) (pointwise nat_eq r.0.0 name) refl)
 ]
 
 pub arrives : (d : Layout) (y : Change) (i : Item) → has_bound (item_bounds (changed d y)) i ≡ true → has_bound (item_bounds d) i ≡ false → i ≡ item_of y
 arrives d y i here none =
-    let r = any_in (λ b. same_item b.0 i) (item_bounds (changed d y)) here in
-    let is : r.0.0 ≡ i = same_item_is r.0.0 i r.2 in
+    let r = any_in (λ b. same_item b.item i) (item_bounds (changed d y)) here in
+    let is : r.0.item ≡ i = same_item_is r.0.item i r.2 in
     sym is ∙ arrived d y r.0 r.1 (ap (has_bound (item_bounds d)) is ∙ none)

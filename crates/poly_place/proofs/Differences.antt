@@ -14,11 +14,12 @@ use Rattle.poly_design.specs.Listed.{IsListOf}
 use Rattle.poly_design.specs.Name.{name_cmp}
 use Rattle.poly_design.specs.declared.placement.Placement.{Placement}
 use Rattle.poly_design.specs.declared.spec.Spec.{Spec}
+use Rattle.poly_tiling.specs.declared.bound.Bound.{Bound}
 use Rattle.poly_tiling.specs.declared.item.Item.{Item}
 use Rattle.poly_tiling.specs.declared.item.Item.TheVariants.{Cell, Piece}
 use Rattle.poly_tiling.specs.Lists.{mem}
 use Rattle.poly_tiling.specs.Names.{below, in_order, item_cmp, items_ascend}
-use Rattle.poly_tiling.specs.Puzzle.{Bound, View, bound_in, same_item}
+use Rattle.poly_tiling.specs.Puzzle.{View, bound_in, same_item}
 use Rattle.poly_tiling.specs.Shows.{IsNamed, cell_bound, given, item_bounds, piece_bound}
 use Rattle.poly_tiling.specs.Tilings.{bounds_of}
 use Rattle.poly_tiling.proofs.Bounded.{shown_bounds}
@@ -75,57 +76,57 @@ lt_less Less h = refl
 lt_less Equal h = cc
 lt_less Greater h = cc
 
-less_later : (b : Bound) (bs : List Bound) → items_ascend (b ∷ bs) ≡ true → (c : Bound) → In c bs → item_cmp b.0 c.0 ≡ Less
-less_later b bs up c i = lt_less (item_cmp b.0 c.0) (all_in (λ c. is_lt (item_cmp b.0 c.0)) bs (and_parts (list_all (λ c. is_lt (item_cmp b.0 c.0)) bs) (items_ascend bs) up).0 c i)
+less_later : (b : Bound) (bs : List Bound) → items_ascend (b ∷ bs) ≡ true → (c : Bound) → In c bs → item_cmp b.item c.item ≡ Less
+less_later b bs up c i = lt_less (item_cmp b.item c.item) (all_in (λ c. is_lt (item_cmp b.item c.item)) bs (and_parts (list_all (λ c. is_lt (item_cmp b.item c.item)) bs) (items_ascend bs) up).0 c i)
 
 rest_up : (b : Bound) (bs : List Bound) → items_ascend (b ∷ bs) ≡ true → items_ascend bs ≡ true
-rest_up b bs up = (and_parts (list_all (λ c. is_lt (item_cmp b.0 c.0)) bs) (items_ascend bs) up).1
+rest_up b bs up = (and_parts (list_all (λ c. is_lt (item_cmp b.item c.item)) bs) (items_ascend bs) up).1
 
 abbrev item_of : Bound → Item
-item_of b = b.0
+item_of b = b.item
 
 risen_at : (f : Bound → Bool) (b : Bound) (bs : List Bound) → items_ascend (b ∷ bs) ≡ true → IsAscending item_cmp (map item_of (filter f bs)) → (t : Bool) → IsAscending item_cmp (map item_of (cond t (b ∷ filter f bs) (filter f bs)))
-risen_at f b bs up ih true = pairs_cons (λ i j. item_cmp i j ≡ Less) b.0 (map item_of (filter f bs))
-    (λ i h. let r = map_in item_of (filter f bs) i h in subst (λ j. item_cmp b.0 j ≡ Less) r.2 (less_later b bs up r.0 (filter_in f bs r.0 r.1).0)) ih
+risen_at f b bs up ih true = pairs_cons (λ i j. item_cmp i j ≡ Less) b.item (map item_of (filter f bs))
+    (λ i h. let r = map_in item_of (filter f bs) i h in subst (λ j. item_cmp b.item j ≡ Less) r.2 (less_later b bs up r.0 (filter_in f bs r.0 r.1).0)) ih
 risen_at f b bs up ih false = ih
 
 pub risen_up : (f : Bound → Bool) (bs : List Bound) → items_ascend bs ≡ true → IsAscending item_cmp (map item_of (filter f bs))
 risen_up f [] up = pairs_none (λ i j. item_cmp i j ≡ Less)
 risen_up f (b ∷ bs) up = risen_at f b bs up (risen_up f bs (rest_up b bs up)) (f b)
 
-pub bound_of_in : (bs : List Bound) → items_ascend bs ≡ true → (b : Bound) → In b bs → (f : Bound → ℕ) → bound_in bs b.0 f ≡ f b
-bound_of_in bs up b i f = let k = in_contains bs b i in bound_at bs b.0 f k.0 b up k.1 (ap (λ c. item_cmp c.0 b.0) k.2 ∙ tied_itself item_total b.0) ∙ ap f k.2
+pub bound_of_in : (bs : List Bound) → items_ascend bs ≡ true → (b : Bound) → In b bs → (f : Bound → ℕ) → bound_in bs b.item f ≡ f b
+bound_of_in bs up b i f = let k = in_contains bs b i in bound_at bs b.item f k.0 b up k.1 (ap (λ c. item_cmp c.item b.item) k.2 ∙ tied_itself item_total b.item) ∙ ap f k.2
 
-pub least_of : (d : Layout) (i : Item) → bound_in (item_bounds d) i (λ b. b.1) ≡ (bounds_of d i).least
+pub least_of : (d : Layout) (i : Item) → bound_in (item_bounds d) i (λ b. b.least) ≡ (bounds_of d i).least
 least_of d i = shown_bounds d (λ x. x.least) refl i
 
-pub most_of : (d : Layout) (i : Item) → bound_in (item_bounds d) i (λ b. b.2) ≡ (bounds_of d i).most
+pub most_of : (d : Layout) (i : Item) → bound_in (item_bounds d) i (λ b. b.most) ≡ (bounds_of d i).most
 most_of d i = shown_bounds d (λ x. x.most) refl i
 
-pub listed_item : (bs : List Bound) (i : Item) (f : Bound → ℕ) → 0 < bound_in bs i f → (t : Bool) → list_any (λ b. same_item b.0 i) bs ≡ t → (b : Bound) × In b bs × (b.0 ≡ i)
-listed_item bs i f pos true h = let r = any_in (λ b. same_item b.0 i) bs h in (r.0, r.1, same_item_is r.0.0 i r.2)
+pub listed_item : (bs : List Bound) (i : Item) (f : Bound → ℕ) → 0 < bound_in bs i f → (t : Bool) → list_any (λ b. same_item b.item i) bs ≡ t → (b : Bound) × In b bs × (b.item ≡ i)
+listed_item bs i f pos true h = let r = any_in (λ b. same_item b.item i) bs h in (r.0, r.1, same_item_is r.0.item i r.2)
 listed_item bs i f pos false h = absurd (omega (arith, pos, bound_none bs i f h))
 
 pub risen_for : (d e : Layout) → items_ascend (item_bounds e) ≡ true →
-    IsListOf item_cmp (LeastRises d e) (map (λ b. b.0) (filter (λ b. nat_lt (bound_in (item_bounds d) b.0 (λ c. c.1)) b.1) (item_bounds e)))
+    IsListOf item_cmp (LeastRises d e) (map (λ b. b.item) (filter (λ b. nat_lt (bound_in (item_bounds d) b.item (λ c. c.least)) b.least) (item_bounds e)))
 risen_for d e up =
     let bs : List Bound = item_bounds e in
-    let test : Bound → Bool = λ b. nat_lt (bound_in (item_bounds d) b.0 (λ c. c.1)) b.1 in
+    let test : Bound → Bool = λ b. nat_lt (bound_in (item_bounds d) b.item (λ c. c.least)) b.least in
     record {
       ascending = risen_up test bs up;
       exact = λ i. (
         λ h. let r = map_in item_of (filter test bs) i (contains_in (map item_of (filter test bs)) i h) in
             let s = filter_in test bs r.0 r.1 in
-            let lt = ltb-true (bound_in (item_bounds d) r.0.0 (λ c. c.1)) r.0.1 s.1 in
-            let own = bound_of_in bs up r.0 s.0 (λ c. c.1) in
-            let rises : (bounds_of d r.0.0).least < (bounds_of e r.0.0).least = omega (arith, lt, own, least_of d r.0.0, least_of e r.0.0) in
+            let lt = ltb-true (bound_in (item_bounds d) r.0.item (λ c. c.least)) r.0.least s.1 in
+            let own = bound_of_in bs up r.0 s.0 (λ c. c.least) in
+            let rises : (bounds_of d r.0.item).least < (bounds_of e r.0.item).least = omega (arith, lt, own, least_of d r.0.item, least_of e r.0.item) in
             subst (λ j. LeastRises d e j) r.2 rises,
-        λ h. let r = listed_item bs i (λ c. c.1) (omega (arith, least_of e i, h)) (list_any (λ b. same_item b.0 i) bs) refl in
-            let rises : (bounds_of d r.0.0).least < (bounds_of e r.0.0).least = subst (λ j. LeastRises d e j) (sym r.2) h in
-            let own = bound_of_in bs up r.0 r.1 (λ c. c.1) in
-            let lt : bound_in (item_bounds d) r.0.0 (λ c. c.1) < r.0.1 = omega (arith, own, rises, least_of d r.0.0, least_of e r.0.0) in
+        λ h. let r = listed_item bs i (λ c. c.least) (omega (arith, least_of e i, h)) (list_any (λ b. same_item b.item i) bs) refl in
+            let rises : (bounds_of d r.0.item).least < (bounds_of e r.0.item).least = subst (λ j. LeastRises d e j) (sym r.2) h in
+            let own = bound_of_in bs up r.0 r.1 (λ c. c.least) in
+            let lt : bound_in (item_bounds d) r.0.item (λ c. c.least) < r.0.least = omega (arith, own, rises, least_of d r.0.item, least_of e r.0.item) in
             in_contains (map item_of (filter test bs)) i
-            (subst (λ j. In j (map item_of (filter test bs))) r.2 (in_map item_of (filter test bs) r.0 (in_filter test bs r.0 r.1 (lt-ltb (bound_in (item_bounds d) r.0.0 (λ c. c.1)) r.0.1 lt)))),
+            (subst (λ j. In j (map item_of (filter test bs))) r.2 (in_map item_of (filter test bs) r.0 (in_filter test bs r.0 r.1 (lt-ltb (bound_in (item_bounds d) r.0.item (λ c. c.least)) r.0.least lt)))),
       );
     }
 
@@ -151,47 +152,47 @@ in_filter_map h (z ∷ xs) x y (inr i) e = in_cons (h z) (filter_map h xs) y (in
 
 pub record Falls (to : List Bound) (i : Item) (m : ℕ) (y : List ℕ) : Type 0 where
   pub piece : i ≡ Piece y
-  pub there : list_any (λ b. same_item b.0 (Piece y)) to ≡ true
-  pub lower : bound_in to (Piece y) (λ b. b.2) < m
+  pub there : list_any (λ b. same_item b.item (Piece y)) to ≡ true
+  pub lower : bound_in to (Piece y) (λ b. b.most) < m
 
-falls_is_at : (to : List Bound) (n : List ℕ) (m : ℕ) (y : List ℕ) (a b : Bool) → list_any (λ b. same_item b.0 (Piece n)) to ≡ a → nat_lt (bound_in to (Piece n) (λ b. b.2)) m ≡ b →
+falls_is_at : (to : List Bound) (n : List ℕ) (m : ℕ) (y : List ℕ) (a b : Bool) → list_any (λ b. same_item b.item (Piece n)) to ≡ a → nat_lt (bound_in to (Piece n) (λ b. b.most)) m ≡ b →
     (if (a && b) then Some n else None) ≡ Some y → Falls to (Piece n) m y
 falls_is_at to n m y true true ha hb e =
     let same : n ≡ y = cc in
     record {
       piece = ap Piece same;
-      there = subst (λ k. list_any (λ b. same_item b.0 (Piece k)) to ≡ true) same ha;
-      lower = subst (λ k. bound_in to (Piece k) (λ b. b.2) < m) same (ltb-true (bound_in to (Piece n) (λ b. b.2)) m hb);
+      there = subst (λ k. list_any (λ b. same_item b.item (Piece k)) to ≡ true) same ha;
+      lower = subst (λ k. bound_in to (Piece k) (λ b. b.most) < m) same (ltb-true (bound_in to (Piece n) (λ b. b.most)) m hb);
     }
 falls_is_at to n m y true false ha hb e = cc
 falls_is_at to n m y false b ha hb e = cc
 
 falls_is : (to : List Bound) (i : Item) (m : ℕ) (y : List ℕ) → falls_at to i m ≡ Some y → Falls to i m y
 falls_is to (Cell c) m y e = cc
-falls_is to (Piece n) m y e = falls_is_at to n m y (list_any (λ b. same_item b.0 (Piece n)) to) (nat_lt (bound_in to (Piece n) (λ b. b.2)) m) refl refl e
+falls_is to (Piece n) m y e = falls_is_at to n m y (list_any (λ b. same_item b.item (Piece n)) to) (nat_lt (bound_in to (Piece n) (λ b. b.most)) m) refl refl e
 
 pub falls_some : (to : List Bound) (i : Item) (m : ℕ) (y : List ℕ) → Falls to i m y → falls_at to i m ≡ Some y
 falls_some to i m y f =
     ap (λ j. falls_at to j m) f.piece
-    ∙ ap (λ t. if (t && nat_lt (bound_in to (Piece y) (λ b. b.2)) m) then Some y else None) f.there
-    ∙ ap (λ t. if t then Some y else None) (lt-ltb (bound_in to (Piece y) (λ b. b.2)) m f.lower)
+    ∙ ap (λ t. if (t && nat_lt (bound_in to (Piece y) (λ b. b.most)) m) then Some y else None) f.there
+    ∙ ap (λ t. if t then Some y else None) (lt-ltb (bound_in to (Piece y) (λ b. b.most)) m f.lower)
 
 falls_at_false : (y : List ℕ) (a b : Bool) → b ≡ false → (if (a && b) then Some y else None) ≡ None
 falls_at_false y true b e = ap (λ t. if t then Some y else None) e
 falls_at_false y false b e = refl
 
-fallen_at : (h : Bound → Option (List ℕ)) → ((b : Bound) (y : List ℕ) → h b ≡ Some y → b.0 ≡ Piece y) → (b : Bound) (bs : List Bound) → items_ascend (b ∷ bs) ≡ true → IsAscending name_cmp (filter_map h bs) →
+fallen_at : (h : Bound → Option (List ℕ)) → ((b : Bound) (y : List ℕ) → h b ≡ Some y → b.item ≡ Piece y) → (b : Bound) (bs : List Bound) → items_ascend (b ∷ bs) ≡ true → IsAscending name_cmp (filter_map h bs) →
     (o : Option (List ℕ)) → h b ≡ o → IsAscending name_cmp (cons_option o (filter_map h bs))
 fallen_at h is b bs up ih None e = ih
 fallen_at h is b bs up ih (Some n) e = pairs_cons (λ m k. name_cmp m k ≡ Less) n (filter_map h bs) (λ y i.
     let r = filter_map_in h bs y i in
-    subst (λ j. item_cmp (Piece n) j ≡ Less) (is r.0 y r.2) (subst (λ j. item_cmp j r.0.0 ≡ Less) (is b n e) (less_later b bs up r.0 r.1))) ih
+    subst (λ j. item_cmp (Piece n) j ≡ Less) (is r.0 y r.2) (subst (λ j. item_cmp j r.0.item ≡ Less) (is b n e) (less_later b bs up r.0 r.1))) ih
 
-fallen_up : (h : Bound → Option (List ℕ)) → ((b : Bound) (y : List ℕ) → h b ≡ Some y → b.0 ≡ Piece y) → (bs : List Bound) → items_ascend bs ≡ true → IsAscending name_cmp (filter_map h bs)
+fallen_up : (h : Bound → Option (List ℕ)) → ((b : Bound) (y : List ℕ) → h b ≡ Some y → b.item ≡ Piece y) → (bs : List Bound) → items_ascend bs ≡ true → IsAscending name_cmp (filter_map h bs)
 fallen_up h is [] up = pairs_none (λ m k. name_cmp m k ≡ Less)
 fallen_up h is (b ∷ bs) up = fallen_at h is b bs up (fallen_up h is bs (rest_up b bs up)) (h b) refl
 
-pub piece_key : (d : Layout) (b : Bound) (y : List ℕ) → In b (item_bounds d) → b.0 ≡ Piece y → Contains (keys_of d.pieces) y
+pub piece_key : (d : Layout) (b : Bound) (y : List ℕ) → In b (item_bounds d) → b.item ≡ Piece y → Contains (keys_of d.pieces) y
 piece_key d b y i e = elim (in_append_cases b (map cell_bound d.cells) (map piece_bound d.pieces) i) [
   | inl c ↦ let r = map_in cell_bound d.cells b c in let no : Cell r.0.0 ≡ Piece y = ap item_of r.2 ∙ e in cc
   | inr p ↦
@@ -201,7 +202,7 @@ piece_key d b y i e = elim (in_append_cases b (map cell_bound d.cells) (map piec
       subst (λ n. Contains (keys_of d.pieces) n) same (in_contains (keys_of d.pieces) r.0.0 (in_map (λ (x : List ℕ × Spec). x.0) d.pieces r.0 r.1))
 ]
 
-pub key_piece : (d : Layout) (y : List ℕ) → Contains (keys_of d.pieces) y → (b : Bound) × In b (item_bounds d) × (b.0 ≡ Piece y)
+pub key_piece : (d : Layout) (y : List ℕ) → Contains (keys_of d.pieces) y → (b : Bound) × In b (item_bounds d) × (b.item ≡ Piece y)
 key_piece d y h =
     let r = map_in (λ (x : List ℕ × Spec). x.0) d.pieces y (contains_in (keys_of d.pieces) y h) in
     (piece_bound r.0, in_append_right (piece_bound r.0) (map cell_bound d.cells) (map piece_bound d.pieces) (in_map piece_bound d.pieces r.0 r.1), ap Piece r.2)
@@ -211,25 +212,25 @@ fallen_for d e up =
     let h : Bound → Option (List ℕ) = falls (item_bounds e) in
     let bs : List Bound = item_bounds d in
     record {
-      ascending = fallen_up h (λ b y is. (falls_is (item_bounds e) b.0 b.2 y is).piece) bs up;
+      ascending = fallen_up h (λ b y is. (falls_is (item_bounds e) b.item b.most y is).piece) bs up;
       exact = λ y. (
         λ here. let r = filter_map_in h bs y (contains_in (filter_map h bs) y here) in
-            let s = falls_is (item_bounds e) r.0.0 r.0.2 y r.2 in
-            let t = any_in (λ b. same_item b.0 (Piece y)) (item_bounds e) s.there in
-            let own : bound_in bs (Piece y) (λ c. c.2) ≡ r.0.2 = subst (λ i. bound_in bs i (λ c. c.2) ≡ r.0.2) s.piece (bound_of_in bs up r.0 r.1 (λ c. c.2)) in
+            let s = falls_is (item_bounds e) r.0.item r.0.most y r.2 in
+            let t = any_in (λ b. same_item b.item (Piece y)) (item_bounds e) s.there in
+            let own : bound_in bs (Piece y) (λ c. c.most) ≡ r.0.most = subst (λ i. bound_in bs i (λ c. c.most) ≡ r.0.most) s.piece (bound_of_in bs up r.0 r.1 (λ c. c.most)) in
             record {
               in_first = piece_key d r.0 y r.1 s.piece;
-              in_second = piece_key e t.0 y t.1 (same_item_is t.0.0 (Piece y) t.2);
+              in_second = piece_key e t.0 y t.1 (same_item_is t.0.item (Piece y) t.2);
               lower = omega (arith, s.lower, own, most_of d (Piece y), most_of e (Piece y));
             },
         λ m. let r = key_piece d y m.in_first in
             let t = key_piece e y m.in_second in
-            let own : bound_in bs (Piece y) (λ c. c.2) ≡ r.0.2 = subst (λ i. bound_in bs i (λ c. c.2) ≡ r.0.2) r.2 (bound_of_in bs up r.0 r.1 (λ c. c.2)) in
-            let is : Falls (item_bounds e) r.0.0 r.0.2 y = record {
+            let own : bound_in bs (Piece y) (λ c. c.most) ≡ r.0.most = subst (λ i. bound_in bs i (λ c. c.most) ≡ r.0.most) r.2 (bound_of_in bs up r.0 r.1 (λ c. c.most)) in
+            let is : Falls (item_bounds e) r.0.item r.0.most y = record {
               piece = r.2;
-              there = any_from (λ b. same_item b.0 (Piece y)) (item_bounds e) t.0 t.1 (subst (λ i. same_item i (Piece y) ≡ true) (sym t.2) (same_item_self (Piece y)));
+              there = any_from (λ b. same_item b.item (Piece y)) (item_bounds e) t.0 t.1 (subst (λ i. same_item i (Piece y) ≡ true) (sym t.2) (same_item_self (Piece y)));
               lower = omega (arith, m.lower, own, most_of d (Piece y), most_of e (Piece y));
             } in
-            in_contains (filter_map h bs) y (in_filter_map h bs r.0 y r.1 (falls_some (item_bounds e) r.0.0 r.0.2 y is)),
+            in_contains (filter_map h bs) y (in_filter_map h bs r.0 y r.1 (falls_some (item_bounds e) r.0.item r.0.most y is)),
       );
     }

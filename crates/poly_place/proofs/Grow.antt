@@ -52,8 +52,8 @@ grown_well t all w g =
       live_up = order_same t (grown t all) t.live (same t.live w.named) ∙ w.live_up;
       pins_up = order_same t (grown t all) t.pins (same t.pins w.pins_named) ∙ w.pins_up;
       items_up = w.items_up;
-      listed = all_same_in (λ n. list_all (λ i. list_any (λ b. same_item b.0 i) t.bounds) (items (grown t all) n)) (λ n. list_all (λ i. list_any (λ b. same_item b.0 i) t.bounds) (items t n)) t.live
-          (λ n i. ap (λ o. list_all (λ j. list_any (λ b. same_item b.0 j) t.bounds) (items_of o)) (same t.live w.named n i))
+      listed = all_same_in (λ n. list_all (λ i. list_any (λ b. same_item b.item i) t.bounds) (items (grown t all) n)) (λ n. list_all (λ i. list_any (λ b. same_item b.item i) t.bounds) (items t n)) t.live
+          (λ n i. ap (λ o. list_all (λ j. list_any (λ b. same_item b.item j) t.bounds) (items_of o)) (same t.live w.named n i))
           ∙ w.listed;
       small = w.small;
     }

@@ -32,21 +32,21 @@ use Rattle.poly_place.proofs.Turned.{apart_both, apart_list}
 use Rattle.poly_place.proofs.Untouched.{untouched_stays, untouched_was}
 
 -- the items of the design's placements are items of the design
-listed_item : (v : View) → WellNamed v → (n : ℕ) (i : Item) → In n v.live → has_item v n i ≡ true → list_any (λ b. same_item b.0 i) v.bounds ≡ true
+listed_item : (v : View) → WellNamed v → (n : ℕ) (i : Item) → In n v.live → has_item v n i ≡ true → list_any (λ b. same_item b.item i) v.bounds ≡ true
 listed_item v w n i l h =
     let r = any_in (λ j. same_item j i) (items v n) h in
-    let all = all_in (λ p. list_all (λ j. list_any (λ b. same_item b.0 j) v.bounds) (items v p)) v.live w.listed n l in
-    subst (λ z. list_any (λ b. same_item b.0 z) v.bounds ≡ true) (same_item_is r.0 i r.2) (all_in (λ j. list_any (λ b. same_item b.0 j) v.bounds) (items v n) all r.0 r.1)
+    let all = all_in (λ p. list_all (λ j. list_any (λ b. same_item b.item j) v.bounds) (items v p)) v.live w.listed n l in
+    subst (λ z. list_any (λ b. same_item b.item z) v.bounds ≡ true) (same_item_is r.0 i r.2) (all_in (λ j. list_any (λ b. same_item b.item j) v.bounds) (items v n) all r.0 r.1)
 
-none_with : (v : View) → WellNamed v → (i : Item) → list_any (λ b. same_item b.0 i) v.bounds ≡ false → AreNumbersWith v i []
-none_with v w i f = with_from v i [] (λ n j. absurd j) (λ n j h. absurd (both_ways (list_any (λ b. same_item b.0 i) v.bounds) f (listed_item v w n i j h))) (pairs_none (λ x y. x ≢ y))
+none_with : (v : View) → WellNamed v → (i : Item) → list_any (λ b. same_item b.item i) v.bounds ≡ false → AreNumbersWith v i []
+none_with v w i f = with_from v i [] (λ n j. absurd j) (λ n j h. absurd (both_ways (list_any (λ b. same_item b.item i) v.bounds) f (listed_item v w n i j h))) (pairs_none (λ x y. x ≢ y))
 
 -- rows that are right for the items of the design are an index
-index_from : (v : View) (rows : List Row) → WellNamed v → map (λ r. r.0) rows ≡ map (λ b. b.0) v.bounds →
-    ((i : Item) → list_any (λ b. same_item b.0 i) v.bounds ≡ true → AreNumbersWith v i (row_in rows i)) → IsIndex v rows
+index_from : (v : View) (rows : List Row) → WellNamed v → map (λ r. r.0) rows ≡ map (λ b. b.item) v.bounds →
+    ((i : Item) → list_any (λ b. same_item b.item i) v.bounds ≡ true → AreNumbersWith v i (row_in rows i)) → IsIndex v rows
 index_from v rows w e h = record {
   items = e;
-  numbers = λ i. elim (cases_Bool (list_any (λ b. same_item b.0 i) v.bounds)) [
+  numbers = λ i. elim (cases_Bool (list_any (λ b. same_item b.item i) v.bounds)) [
     | inl t ↦ h i t
     | inr f ↦ subst (λ ns. AreNumbersWith v i ns) (sym (no_row_in rows i (same_rows rows v.bounds i e ∙ f))) (none_with v w i f)
   ];
@@ -59,14 +59,14 @@ all_with v w i =
 
 -- the rows of the items, grown by numbers
 grown_row : (v : View) (marked : ℕ → Bool) (old : List Row) (ns : List ℕ) (rows : List Row) (i : Item) → rows ≡ with_numbers (has_of v.placements) ns (rows_without marked old v.bounds) →
-    list_any (λ b. same_item b.0 i) v.bounds ≡ true → row_in rows i ≡ filter (λ n. not (marked n)) (row_in old i) ++ filter (λ n. has_item v n i) ns
+    list_any (λ b. same_item b.item i) v.bounds ≡ true → row_in rows i ≡ filter (λ n. not (marked n)) (row_in old i) ++ filter (λ n. has_item v n i) ns
 grown_row v marked old ns rows i e t =
     let kept = rows_without marked old v.bounds in
     ap (λ rs. row_in rs i) e
     ∙ row_grown (has_of v.placements) ns kept i (same_rows kept v.bounds i (items_without marked old v.bounds) ∙ t)
     ∙ ap (λ l. l ++ filter (λ n. has_item v n i) ns) (row_kept marked old v.bounds i t)
 
-grown_items : (v : View) (marked : ℕ → Bool) (old : List Row) (ns : List ℕ) (rows : List Row) → rows ≡ with_numbers (has_of v.placements) ns (rows_without marked old v.bounds) → map (λ r. r.0) rows ≡ map (λ b. b.0) v.bounds
+grown_items : (v : View) (marked : ℕ → Bool) (old : List Row) (ns : List ℕ) (rows : List Row) → rows ≡ with_numbers (has_of v.placements) ns (rows_without marked old v.bounds) → map (λ r. r.0) rows ≡ map (λ b. b.item) v.bounds
 grown_items v marked old ns rows e = ap (λ (rs : List Row). map (λ r. r.0) rs) e ∙ items_stay (has_of v.placements) ns (rows_without marked old v.bounds) ∙ items_without marked old v.bounds
 
 pub whole_index : (v : View) (marked : ℕ → Bool) (rows : List Row) → WellNamed v → rows ≡ with_numbers (has_of v.placements) v.live (rows_without marked [] v.bounds) → IsIndex v rows

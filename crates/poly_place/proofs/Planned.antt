@@ -1,5 +1,5 @@
 -- The differences by numbers are those of the designs.
-use Rattle.std.proofs.Common.{List, ap, filter, map, refl, subst, sym, true, ℕ, ◌++◌, ◌∙◌, ◌≡◌, ◌↔◌}
+use Rattle.std.proofs.Common.{List, ap, filter, map, refl, subst, sym, true, ℕ, ◌∙◌, ◌≡◌, ◌↔◌}
 use Rattle.std.specs.Prelude.{nat_lt}
 use Rattle.std.specs.List.{filter_map}
 use Rattle.poly_design.specs.Layout.{Layout}
@@ -8,25 +8,24 @@ use Rattle.poly_design.specs.Name.{name_cmp}
 use Rattle.poly_design.specs.Placements.{IsPlacement}
 use Rattle.poly_design.specs.declared.placement.Placement.{Placement}
 use Rattle.poly_tiling.specs.Names.{WellNamed, item_cmp, items_ascend}
-use Rattle.poly_tiling.specs.Puzzle.{Bound, bound_in}
+use Rattle.poly_tiling.specs.declared.bound.Bound.{Bound}
+use Rattle.poly_tiling.specs.Puzzle.{bound_in}
 use Rattle.poly_tiling.specs.Shows.{IsNamed, Shows, item_bounds}
 use Rattle.poly_tiling.specs.Tilings.{IsPin}
 use Rattle.poly_place.specs.declared.delta.Delta.{Delta}
 use Rattle.poly_place.specs.declared.sides.Sides.{Sides}
-use Rattle.poly_place.specs.Delta.{AreNumbersFor, GivesInOrder, IsDelta, LeastRises, MostFalls}
+use Rattle.poly_place.specs.Delta.{AreNumbersFor, IsDelta, LeastRises, MostFalls}
 use Rattle.poly_place.specs.Differences.{AreDifferences}
 use Rattle.poly_place.specs.Falls.{falls}
-use Rattle.poly_place.specs.Interned.{GoesOnWith}
-use Rattle.poly_place.specs.Parts.{ArePartsOf}
 use Rattle.poly_place.specs.Sides.{by_sides}
 use Rattle.poly_place.proofs.Differences.{fallen_for, others, risen_for}
 use Rattle.poly_place.proofs.Grow.{order_same}
 
 risen_here : (d e : Layout) (from to : List Bound) → from ≡ item_bounds d → to ≡ item_bounds e → items_ascend to ≡ true →
-    IsListOf item_cmp (LeastRises d e) (map (λ b. b.0) (filter (λ b. nat_lt (bound_in from b.0 (λ c. c.1)) b.1) to))
+    IsListOf item_cmp (LeastRises d e) (map (λ b. b.item) (filter (λ b. nat_lt (bound_in from b.item (λ c. c.least)) b.least) to))
 risen_here d e from to a b up =
-    subst (λ (f : List Bound). IsListOf item_cmp (LeastRises d e) (map (λ b. b.0) (filter (λ b. nat_lt (bound_in f b.0 (λ c. c.1)) b.1) to))) (sym a)
-    (subst (λ (t : List Bound). IsListOf item_cmp (LeastRises d e) (map (λ b. b.0) (filter (λ b. nat_lt (bound_in (item_bounds d) b.0 (λ c. c.1)) b.1) t))) (sym b)
+    subst (λ (f : List Bound). IsListOf item_cmp (LeastRises d e) (map (λ b. b.item) (filter (λ b. nat_lt (bound_in f b.item (λ c. c.least)) b.least) to))) (sym a)
+    (subst (λ (t : List Bound). IsListOf item_cmp (LeastRises d e) (map (λ b. b.item) (filter (λ b. nat_lt (bound_in (item_bounds d) b.item (λ c. c.least)) b.least) t))) (sym b)
     (risen_for d e (ap items_ascend (sym b) ∙ up)))
 
 fallen_here : (d e : Layout) (from to : List Bound) → from ≡ item_bounds d → to ≡ item_bounds e → items_ascend from ≡ true → IsListOf name_cmp (MostFalls d e) (filter_map (falls to) from)

@@ -17,9 +17,10 @@ use Rattle.poly_design.specs.declared.mode.Mode.{Mode}
 use Rattle.poly_design.specs.declared.placement.Placement.{Placement}
 use Rattle.poly_design.specs.declared.spec.Spec.{Spec}
 use Rattle.poly_design.proofs.Rows.{unblocked_exactly}
+use Rattle.poly_tiling.specs.declared.bound.Bound.{Bound}
 use Rattle.poly_tiling.specs.declared.item.Item.TheVariants.{Cell, Piece}
 use Rattle.poly_tiling.specs.Names.{below, in_order, item_cmp, items_ascend, placed_below}
-use Rattle.poly_tiling.specs.Puzzle.{Bound, View, items, items_of, same_item}
+use Rattle.poly_tiling.specs.Puzzle.{View, items, items_of, same_item}
 use Rattle.poly_tiling.specs.Shows.{IsNamed, cell_bound, item_bounds, piece_bound}
 use Rattle.poly_tiling.proofs.Contained.{contains_in, in_contains, pairs_head, pairs_rest}
 use Rattle.poly_tiling.proofs.Lists.{In, all_append, all_from, all_map, any_from, in_append_left, in_append_right, in_map}
@@ -73,29 +74,29 @@ ordered v (n ∷ ns) (p ∷ ps) e up = and_from _ _
 
 -- ---- items
 
-cells_first : (c : Spot) (pieces : List (List ℕ × Spec)) → list_all (λ b. is_lt (item_cmp (Cell c) b.0)) (map piece_bound pieces) ≡ true
+cells_first : (c : Spot) (pieces : List (List ℕ × Spec)) → list_all (λ b. is_lt (item_cmp (Cell c) b.item)) (map piece_bound pieces) ≡ true
 cells_first c [] = refl
 cells_first c (e ∷ es) = cells_first c es
 
 pieces_up : (pieces : List (List ℕ × Spec)) → IsAscending name_cmp (keys_of pieces) → items_ascend (map piece_bound pieces) ≡ true
 pieces_up [] up = refl
 pieces_up (e ∷ es) up = and_from _ _
-    (all_map (λ (b : Bound). is_lt (item_cmp (Piece e.0) b.0)) piece_bound es
+    (all_map (λ (b : Bound). is_lt (item_cmp (Piece e.0) b.item)) piece_bound es
     ∙ all_from (λ (x : List ℕ × Spec). is_lt (name_cmp e.0 x.0)) es (λ x i. ap is_lt (pairs_head (λ a b. name_cmp a b ≡ Less) e.0 (keys_of es) up x.0 (in_map (λ (y : List ℕ × Spec). y.0) es x i))))
     (pieces_up es (pairs_rest (λ a b. name_cmp a b ≡ Less) e.0 (keys_of es) up))
 
 pub items_up : (cells : List (Spot × Mode)) (pieces : List (List ℕ × Spec)) → IsAscending spot_cmp (keys_of cells) → IsAscending name_cmp (keys_of pieces) → items_ascend (map cell_bound cells ++ map piece_bound pieces) ≡ true
 items_up [] pieces up vp = pieces_up pieces vp
 items_up (e ∷ es) pieces up vp = and_from _ _
-    (all_append (λ (b : Bound). is_lt (item_cmp (Cell e.0) b.0)) (map cell_bound es) (map piece_bound pieces)
+    (all_append (λ (b : Bound). is_lt (item_cmp (Cell e.0) b.item)) (map cell_bound es) (map piece_bound pieces)
     ∙ and_from _ _
-    (all_map (λ (b : Bound). is_lt (item_cmp (Cell e.0) b.0)) cell_bound es
+    (all_map (λ (b : Bound). is_lt (item_cmp (Cell e.0) b.item)) cell_bound es
     ∙ all_from (λ (x : Spot × Mode). is_lt (spot_cmp e.0 x.0)) es (λ x i. ap is_lt (pairs_head (λ a b. spot_cmp a b ≡ Less) e.0 (keys_of es) up x.0 (in_map (λ (y : Spot × Mode). y.0) es x i))))
     (cells_first e.0 pieces))
     (items_up es pieces (pairs_rest (λ a b. spot_cmp a b ≡ Less) e.0 (keys_of es) up) vp)
 
-piece_listed : (d : Layout) (name : List ℕ) (spec : Spec) → Contains d.pieces (name, spec) → list_any (λ b. same_item b.0 (Piece name)) (item_bounds d) ≡ true
-piece_listed d name spec h = any_from (λ (b : Bound). same_item b.0 (Piece name)) (item_bounds d) (piece_bound (name, spec))
+piece_listed : (d : Layout) (name : List ℕ) (spec : Spec) → Contains d.pieces (name, spec) → list_any (λ b. same_item b.item (Piece name)) (item_bounds d) ≡ true
+piece_listed d name spec h = any_from (λ (b : Bound). same_item b.item (Piece name)) (item_bounds d) (piece_bound (name, spec))
     (in_append_right (piece_bound (name, spec)) (map cell_bound d.cells) (map piece_bound d.pieces) (in_map piece_bound d.pieces (name, spec) (contains_in d.pieces (name, spec) h)))
     (same_item_self (Piece name))
 
@@ -104,26 +105,26 @@ in_keys [] c i = absurd i
 in_keys (e ∷ es) c (inl same) = let is : e ≡ (c, e.1) = λ i. (same i, e.1) in (e.1, inl is)
 in_keys (e ∷ es) c (inr i) = let r = in_keys es c i in (r.0, inr r.1)
 
-cell_listed : (d : Layout) (c : Spot) → Contains (keys_of d.cells) c → list_any (λ b. same_item b.0 (Cell c)) (item_bounds d) ≡ true
+cell_listed : (d : Layout) (c : Spot) → Contains (keys_of d.cells) c → list_any (λ b. same_item b.item (Cell c)) (item_bounds d) ≡ true
 cell_listed d c h =
     let r = in_keys d.cells c (contains_in (keys_of d.cells) c h) in
-    any_from (λ (b : Bound). same_item b.0 (Cell c)) (item_bounds d) (cell_bound (c, r.0))
+    any_from (λ (b : Bound). same_item b.item (Cell c)) (item_bounds d) (cell_bound (c, r.0))
     (in_append_left (cell_bound (c, r.0)) (map cell_bound d.cells) (map piece_bound d.pieces) (in_map cell_bound d.cells (c, r.0) r.1))
     (same_item_self (Cell c))
 
 -- the items of a placement of the design are items of the design
-pub placement_listed : (d : Layout) → IsDesign d → (p : Placement) → IsPlacement d p → list_all (λ i. list_any (λ b. same_item b.0 i) (item_bounds d)) (items_of (Some p)) ≡ true
+pub placement_listed : (d : Layout) → IsDesign d → (p : Placement) → IsPlacement d p → list_all (λ i. list_any (λ b. same_item b.item i) (item_bounds d)) (items_of (Some p)) ≡ true
 placement_listed d ok p h = and_from _ _
     (piece_listed d p.name h.spec h.has)
-    (all_map (λ i. list_any (λ b. same_item b.0 i) (item_bounds d)) (λ c. Cell c) p.cells
-    ∙ all_from (λ c. list_any (λ b. same_item b.0 (Cell c)) (item_bounds d)) p.cells
+    (all_map (λ i. list_any (λ b. same_item b.item i) (item_bounds d)) (λ c. Cell c) p.cells
+    ∙ all_from (λ c. list_any (λ b. same_item b.item (Cell c)) (item_bounds d)) p.cells
     (λ c i. cell_listed d c ((unblocked_exactly d.cells ok.unblocked c).1 (h.place.lies.free c (in_contains p.cells c i)))))
 
 all_listed : (v : View) (d : Layout) → IsDesign d → (ns : List ℕ) (ps : List Placement) → AreNumbersOf v.placements ns ps → ((p : Placement) → In p ps → IsPlacement d p) →
-    list_all (λ n. list_all (λ i. list_any (λ b. same_item b.0 i) (item_bounds d)) (items v n)) ns ≡ true
-all_listed v d ok ns ps e each = all_from (λ n. list_all (λ i. list_any (λ b. same_item b.0 i) (item_bounds d)) (items v n)) ns (λ n i.
+    list_all (λ n. list_all (λ i. list_any (λ b. same_item b.item i) (item_bounds d)) (items v n)) ns ≡ true
+all_listed v d ok ns ps e each = all_from (λ n. list_all (λ i. list_any (λ b. same_item b.item i) (item_bounds d)) (items v n)) ns (λ n i.
     let r = number_in v.placements ns ps e n i in
-    ap (λ o. list_all (λ j. list_any (λ b. same_item b.0 j) (item_bounds d)) (items_of o)) r.2 ∙ placement_listed d ok r.0 (each r.0 r.1))
+    ap (λ o. list_all (λ j. list_any (λ b. same_item b.item j) (item_bounds d)) (items_of o)) r.2 ∙ placement_listed d ok r.0 (each r.0 r.1))
 
 -- ---- the table
 
@@ -136,7 +137,7 @@ right_at v d places pins parts ok live pinned = record {
     live_up = ordered v v.live places live parts.places.ascending;
     pins_up = ordered v v.pins pins pinned parts.pins.ascending;
     items_up = ap items_ascend parts.bounds ∙ items_up d.cells d.pieces parts.design.cells_ascend parts.design.pieces_ascend;
-    listed = ap (λ bs. list_all (λ n. list_all (λ i. list_any (λ b. same_item b.0 i) bs) (items v n)) v.live) parts.bounds
+    listed = ap (λ bs. list_all (λ n. list_all (λ i. list_any (λ b. same_item b.item i) bs) (items v n)) v.live) parts.bounds
         ∙ all_listed v d parts.design v.live places live (λ p i. (parts.places.exact p).0 (in_contains places p i));
     small = parts.small;
   };

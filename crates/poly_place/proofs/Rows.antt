@@ -13,11 +13,12 @@ use Rattle.std.proofs.lemmas.List.Elements.{filter-append}
 use Rattle.std.proofs.lemmas.List.Sorted.{searchable_from_sorted}
 use Rattle.poly_grid.specs.Spot.{Spot}
 use Rattle.poly_shape.specs.Order.{IsAscending, spot_cmp}
+use Rattle.poly_tiling.specs.declared.bound.Bound.{Bound}
 use Rattle.poly_tiling.specs.declared.item.Item.{Item}
 use Rattle.poly_tiling.specs.declared.item.Item.TheVariants.{Cell, Piece}
 use Rattle.poly_tiling.specs.Names.{item_cmp, items_ascend}
 use Rattle.poly_tiling.specs.Lists.{mem}
-use Rattle.poly_tiling.specs.Puzzle.{Bound, View, has_item, same_item}
+use Rattle.poly_tiling.specs.Puzzle.{View, has_item, same_item}
 use Rattle.poly_tiling.proofs.Contained.{at_in, in_contains, pairs_cons, pairs_head, pairs_none, pairs_rest}
 use Rattle.poly_tiling.proofs.Lists.{In, all_in, any_append, any_in, in_mem, map_in, mem_in, same_truth}
 use Rattle.poly_tiling.proofs.Ranks.{lt_less}
@@ -37,11 +38,11 @@ flips i j = same_truth (same_item i j) (same_item j i)
 
 -- ---- rows in item order
 
-bounds_later : (b : Bound) (bs : List Bound) → items_ascend (b ∷ bs) ≡ true → (c : Bound) → In c bs → item_cmp b.0 c.0 ≡ Less
-bounds_later b bs up c i = lt_less (item_cmp b.0 c.0) (all_in (λ c. is_lt (item_cmp b.0 c.0)) bs (and_parts (list_all (λ c. is_lt (item_cmp b.0 c.0)) bs) (items_ascend bs) up).0 c i)
+bounds_later : (b : Bound) (bs : List Bound) → items_ascend (b ∷ bs) ≡ true → (c : Bound) → In c bs → item_cmp b.item c.item ≡ Less
+bounds_later b bs up c i = lt_less (item_cmp b.item c.item) (all_in (λ c. is_lt (item_cmp b.item c.item)) bs (and_parts (list_all (λ c. is_lt (item_cmp b.item c.item)) bs) (items_ascend bs) up).0 c i)
 
 bounds_rest : (b : Bound) (bs : List Bound) → items_ascend (b ∷ bs) ≡ true → items_ascend bs ≡ true
-bounds_rest b bs up = (and_parts (list_all (λ c. is_lt (item_cmp b.0 c.0)) bs) (items_ascend bs) up).1
+bounds_rest b bs up = (and_parts (list_all (λ c. is_lt (item_cmp b.item c.item)) bs) (items_ascend bs) up).1
 
 cons_head : {X : Type 0} (x y : X) (xs ys : List X) → x ∷ xs ≡ y ∷ ys → x ≡ y
 cons_head x y xs ys e = cc
@@ -59,24 +60,24 @@ abbrev keys : List Row → List Item
 keys rows = map (λ r. r.0) rows
 
 abbrev items_of_bounds : List Bound → List Item
-items_of_bounds bs = map (λ b. b.0) bs
+items_of_bounds bs = map (λ b. b.item) bs
 
-items_in : (rows : List Row) (bs : List Bound) → map (λ r. r.0) rows ≡ map (λ b. b.0) bs → (r : Row) → In r rows → (b : Bound) × In b bs × (b.0 ≡ r.0)
+items_in : (rows : List Row) (bs : List Bound) → map (λ r. r.0) rows ≡ map (λ b. b.item) bs → (r : Row) → In r rows → (b : Bound) × In b bs × (b.item ≡ r.0)
 items_in [] bs e r i = absurd i
 items_in (s ∷ rows) [] e r i = absurd (cons_none s.0 (keys rows) e)
-items_in (s ∷ rows) (b ∷ bs) e r (inl same) = (b, inl refl, sym (cons_head s.0 b.0 (keys rows) (items_of_bounds bs) e) ∙ ap (λ (z : Row). z.0) same)
-items_in (s ∷ rows) (b ∷ bs) e r (inr i) = let t = items_in rows bs (cons_tail s.0 b.0 (keys rows) (items_of_bounds bs) e) r i in (t.0, inr t.1, t.2)
+items_in (s ∷ rows) (b ∷ bs) e r (inl same) = (b, inl refl, sym (cons_head s.0 b.item (keys rows) (items_of_bounds bs) e) ∙ ap (λ (z : Row). z.0) same)
+items_in (s ∷ rows) (b ∷ bs) e r (inr i) = let t = items_in rows bs (cons_tail s.0 b.item (keys rows) (items_of_bounds bs) e) r i in (t.0, inr t.1, t.2)
 
 -- rows of the items of ascending bounds
-pub rows_up : (rows : List Row) (bs : List Bound) → map (λ r. r.0) rows ≡ map (λ b. b.0) bs → items_ascend bs ≡ true → AreRows rows
+pub rows_up : (rows : List Row) (bs : List Bound) → map (λ r. r.0) rows ≡ map (λ b. b.item) bs → items_ascend bs ≡ true → AreRows rows
 rows_up [] bs e up = pairs_none before
 rows_up (r ∷ rows) [] e up = absurd (cons_none r.0 (keys rows) e)
 rows_up (r ∷ rows) (b ∷ bs) e up =
-    let first : b.0 ≡ r.0 = sym (cons_head r.0 b.0 (keys rows) (items_of_bounds bs) e) in
-    let rest : keys rows ≡ items_of_bounds bs = cons_tail r.0 b.0 (keys rows) (items_of_bounds bs) e in
+    let first : b.item ≡ r.0 = sym (cons_head r.0 b.item (keys rows) (items_of_bounds bs) e) in
+    let rest : keys rows ≡ items_of_bounds bs = cons_tail r.0 b.item (keys rows) (items_of_bounds bs) e in
     pairs_cons before r rows (λ s i.
     let t = items_in rows bs rest s i in
-    subst (λ k. item_cmp k s.0 ≡ Less) first (subst (λ k. item_cmp b.0 k ≡ Less) t.2 (bounds_later b bs up t.0 t.1)))
+    subst (λ k. item_cmp k s.0 ≡ Less) first (subst (λ k. item_cmp b.item k ≡ Less) t.2 (bounds_later b bs up t.0 t.1)))
     (rows_up rows bs rest (bounds_rest b bs up))
 
 pub rows_stay : (has : ℕ → Item → Bool) (ns : List ℕ) (rows : List Row) → AreRows rows → AreRows (with_numbers has ns rows)
@@ -89,9 +90,9 @@ pub items_stay : (has : ℕ → Item → Bool) (ns : List ℕ) (rows : List Row)
 items_stay has ns [] = refl
 items_stay has ns (r ∷ rows) = ap (λ is. r.0 ∷ is) (items_stay has ns rows)
 
-pub items_without : (marked : ℕ → Bool) (old : List Row) (bs : List Bound) → map (λ r. r.0) (rows_without marked old bs) ≡ map (λ b. b.0) bs
+pub items_without : (marked : ℕ → Bool) (old : List Row) (bs : List Bound) → map (λ r. r.0) (rows_without marked old bs) ≡ map (λ b. b.item) bs
 items_without marked old [] = refl
-items_without marked old (b ∷ bs) = ap (λ is. b.0 ∷ is) (items_without marked old bs)
+items_without marked old (b ∷ bs) = ap (λ is. b.item ∷ is) (items_without marked old bs)
 
 -- other rows are of other items
 others : (r : Row) (rows : List Row) (i : Item) → AreRows (r ∷ rows) → same_item r.0 i ≡ true → (s : Row) → In s rows → same_item s.0 i ≡ false
@@ -313,16 +314,16 @@ row_grown has ns [] i e = cc
 row_grown has ns (r ∷ rows) i e = row_grown_by has ns r rows i (row_grown has ns rows i) (same_item r.0 i) refl e
 
 row_kept_by : (marked : ℕ → Bool) (old : List Row) (b : Bound) (bs : List Bound) (i : Item) →
-    (list_any (λ c. same_item c.0 i) bs ≡ true → row_in (rows_without marked old bs) i ≡ filter (λ n. not (marked n)) (row_in old i)) →
-    (t : Bool) → same_item b.0 i ≡ t → (t || list_any (λ c. same_item c.0 i) bs) ≡ true →
-    cond t (filter (λ n. not (marked n)) (row_in old b.0)) (row_in (rows_without marked old bs) i) ≡ filter (λ n. not (marked n)) (row_in old i)
-row_kept_by marked old b bs i ih true is e = ap (λ j. filter (λ n. not (marked n)) (row_in old j)) (same_item_is b.0 i is)
+    (list_any (λ c. same_item c.item i) bs ≡ true → row_in (rows_without marked old bs) i ≡ filter (λ n. not (marked n)) (row_in old i)) →
+    (t : Bool) → same_item b.item i ≡ t → (t || list_any (λ c. same_item c.item i) bs) ≡ true →
+    cond t (filter (λ n. not (marked n)) (row_in old b.item)) (row_in (rows_without marked old bs) i) ≡ filter (λ n. not (marked n)) (row_in old i)
+row_kept_by marked old b bs i ih true is e = ap (λ j. filter (λ n. not (marked n)) (row_in old j)) (same_item_is b.item i is)
 row_kept_by marked old b bs i ih false is e = ih e
 
-pub row_kept : (marked : ℕ → Bool) (old : List Row) (bs : List Bound) (i : Item) → list_any (λ b. same_item b.0 i) bs ≡ true →
+pub row_kept : (marked : ℕ → Bool) (old : List Row) (bs : List Bound) (i : Item) → list_any (λ b. same_item b.item i) bs ≡ true →
     row_in (rows_without marked old bs) i ≡ filter (λ n. not (marked n)) (row_in old i)
 row_kept marked old [] i e = cc
-row_kept marked old (b ∷ bs) i e = row_kept_by marked old b bs i (row_kept marked old bs i) (same_item b.0 i) refl e
+row_kept marked old (b ∷ bs) i e = row_kept_by marked old b bs i (row_kept marked old bs i) (same_item b.item i) refl e
 
 no_row_by_item : (r : Row) (rows : List Row) (i : Item) → (list_any (λ s. same_item s.0 i) rows ≡ false → row_in rows i ≡ []) →
     (b : Bool) → (b || list_any (λ s. same_item s.0 i) rows) ≡ false → cond b r.1 (row_in rows i) ≡ []
@@ -334,14 +335,14 @@ no_row_in [] i e = refl
 no_row_in (r ∷ rows) i e = no_row_by_item r rows i (no_row_in rows i) (same_item r.0 i) e
 
 -- rows of the same items
-pub same_rows : (rows : List Row) (bs : List Bound) (i : Item) → map (λ r. r.0) rows ≡ map (λ b. b.0) bs → list_any (λ r. same_item r.0 i) rows ≡ list_any (λ b. same_item b.0 i) bs
+pub same_rows : (rows : List Row) (bs : List Bound) (i : Item) → map (λ r. r.0) rows ≡ map (λ b. b.item) bs → list_any (λ r. same_item r.0 i) rows ≡ list_any (λ b. same_item b.item i) bs
 same_rows [] [] i e = refl
-same_rows [] (b ∷ bs) i e = absurd (none_cons b.0 (items_of_bounds bs) e)
+same_rows [] (b ∷ bs) i e = absurd (none_cons b.item (items_of_bounds bs) e)
 same_rows (r ∷ rows) [] i e = absurd (cons_none r.0 (keys rows) e)
 same_rows (r ∷ rows) (b ∷ bs) i e =
-    let first : r.0 ≡ b.0 = cons_head r.0 b.0 (keys rows) (items_of_bounds bs) e in
-    let rest = same_rows rows bs i (cons_tail r.0 b.0 (keys rows) (items_of_bounds bs) e) in
-    ap (λ k. same_item k i || list_any (λ s. same_item s.0 i) rows) first ∙ ap (λ t. same_item b.0 i || t) rest
+    let first : r.0 ≡ b.item = cons_head r.0 b.item (keys rows) (items_of_bounds bs) e in
+    let rest = same_rows rows bs i (cons_tail r.0 b.item (keys rows) (items_of_bounds bs) e) in
+    ap (λ k. same_item k i || list_any (λ s. same_item s.0 i) rows) first ∙ ap (λ t. same_item b.item i || t) rest
 
 -- ---- rows that were lent
 

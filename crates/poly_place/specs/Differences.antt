@@ -10,8 +10,8 @@ use Rattle.poly_place.specs.Falls.{falls}
 pub record AreDifferences (old new : Sides) (x : Delta) : Type 0 where
   pub gone : x.gone.items ≡ filter (λ n. not (mem new.live.items n)) old.live.items
   pub fresh : x.fresh.items ≡ filter (λ n. not (mem old.live.items n)) new.live.items
-  pub needed : x.needed.items ≡ map (λ b. b.0) (filter (λ b. nat_lt (bound_in old.bounds.items b.0 (λ c. c.1)) b.1) new.bounds.items)
-  pub unneeded : x.unneeded.items ≡ map (λ b. b.0) (filter (λ b. nat_lt (bound_in new.bounds.items b.0 (λ c. c.1)) b.1) old.bounds.items)
+  pub needed : x.needed.items ≡ map (λ b. b.item) (filter (λ b. nat_lt (bound_in old.bounds.items b.item (λ c. c.least)) b.least) new.bounds.items)
+  pub unneeded : x.unneeded.items ≡ map (λ b. b.item) (filter (λ b. nat_lt (bound_in new.bounds.items b.item (λ c. c.least)) b.least) old.bounds.items)
   pub narrowed : x.narrowed.items ≡ filter_map (falls new.bounds.items) old.bounds.items
   pub widened : x.widened.items ≡ filter_map (falls old.bounds.items) new.bounds.items
   pub pinned : x.pinned.items ≡ filter (λ n. not (mem old.pins.items n)) new.pins.items

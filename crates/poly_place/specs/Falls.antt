@@ -1,14 +1,15 @@
 -- The most of one piece in two lists of bounds.
 use Rattle.std.specs.Prelude.{ℕ, ◌&&◌, List, None, Option, Some, nat_lt, if◌then◌else◌}
 use Rattle.std.specs.List.{list_any}
+use Rattle.poly_tiling.specs.declared.bound.Bound.{Bound}
 use Rattle.poly_tiling.specs.declared.item.Item.{Item}
 use Rattle.poly_tiling.specs.declared.item.Item.TheVariants.{Cell, Piece}
-use Rattle.poly_tiling.specs.Puzzle.{Bound, bound_in, same_item}
+use Rattle.poly_tiling.specs.Puzzle.{bound_in, same_item}
 
 -- the name, if the list has the piece with a lower most than this
 abbrev pub falls_at : List Bound → Item → ℕ → Option (List ℕ)
 falls_at to (Cell c) most = None
-falls_at to (Piece name) most = if (list_any (λ b. same_item b.0 (Piece name)) to && nat_lt (bound_in to (Piece name) (λ b. b.2)) most) then Some name else None
+falls_at to (Piece name) most = if (list_any (λ b. same_item b.item (Piece name)) to && nat_lt (bound_in to (Piece name) (λ b. b.most)) most) then Some name else None
 
 abbrev pub falls : List Bound → Bound → Option (List ℕ)
-falls to b = falls_at to b.0 b.2
+falls to b = falls_at to b.item b.most

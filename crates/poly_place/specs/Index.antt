@@ -6,11 +6,12 @@ use Rattle.std.specs.declared.cmp.Ordering.TheVariants.{Less}
 use Rattle.poly_design.specs.declared.change.Change.{Change}
 use Rattle.poly_design.specs.declared.change.Change.TheVariants.{Cell as CellChange, Piece as PieceChange}
 use Rattle.poly_design.specs.declared.placement.Placement.{Placement}
+use Rattle.poly_tiling.specs.declared.bound.Bound.{Bound}
 use Rattle.poly_tiling.specs.declared.item.Item.{Item}
 use Rattle.poly_tiling.specs.declared.item.Item.TheVariants.{Cell, Piece}
 use Rattle.poly_tiling.specs.Lists.{mem}
 use Rattle.poly_tiling.specs.Names.{WellNamed, item_cmp}
-use Rattle.poly_tiling.specs.Puzzle.{Bound, View, has_item, items_of, same_item}
+use Rattle.poly_tiling.specs.Puzzle.{View, has_item, items_of, same_item}
 
 -- an item and numbers
 abbrev pub Row : Type 0
@@ -37,7 +38,7 @@ pub record AreNumbersWith (v : View) (i : Item) (numbers : List ℕ) : Type 0 wh
 
 -- each item of the design has its row, in item order, and each row has the numbers of its item
 pub record IsIndex (v : View) (rows : List Row) : Type 0 where
-  pub items : map (λ r. r.0) rows ≡ map (λ b. b.0) v.bounds
+  pub items : map (λ r. r.0) rows ≡ map (λ b. b.item) v.bounds
   pub numbers : (i : Item) → AreNumbersWith v i (row_in rows i)
 
 -- what a table keeps: numbers in order, and their index
@@ -55,7 +56,7 @@ with_numbers has numbers rows = map (λ r. (r.0, r.1 ++ filter (λ n. has n r.0)
 
 -- a row for each bound's item, with the unmarked numbers of the item's old row
 abbrev pub rows_without : (ℕ → Bool) → List Row → List Bound → List Row
-rows_without marked old bounds = map (λ b. (b.0, filter (λ n. not (marked n)) (row_in old b.0))) bounds
+rows_without marked old bounds = map (λ b. (b.item, filter (λ n. not (marked n)) (row_in old b.item))) bounds
 
 -- the cell or the piece that changes
 abbrev pub item_of : Change → Item

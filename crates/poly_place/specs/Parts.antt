@@ -7,13 +7,13 @@ use Rattle.poly_design.specs.Listed.{IsListOf}
 use Rattle.poly_design.specs.PlacementOrder.{placement_cmp}
 use Rattle.poly_design.specs.Placements.{IsPlacement}
 use Rattle.poly_design.specs.declared.placement.Placement.{Placement}
-use Rattle.poly_tiling.specs.Puzzle.{Bound}
+use Rattle.poly_tiling.specs.declared.bound.Bound.{Bound}
 use Rattle.poly_tiling.specs.Shows.{item_bounds}
 use Rattle.poly_tiling.specs.Tilings.{IsPin}
 
 -- the least is at most the most, and the most at most 16
 abbrev pub are_small : List Bound → Bool
-are_small bounds = list_all (λ b. nat_le b.1 b.2 && nat_le b.2 16) bounds
+are_small bounds = list_all (λ b. nat_le b.least b.most && nat_le b.most 16) bounds
 
 -- the design's placements and pins, both in placement order, and its items with their bounds
 pub record ArePartsOf (d : Layout) (list pinned : List Placement) (items : List Bound) : Type 0 where

@@ -10,7 +10,7 @@ ghost use Rattle.poly_place.specs.Differences.{AreDifferences};
 use crate::sides::Sides;
 use poly_design::Name;
 use poly_grid::Refusal;
-use poly_tiling::{Item, find_bound};
+use poly_tiling::{Bound, Item, find_bound};
 use std::alloc::{AllocError, Global};
 
 /// What a change does: the differences between the design before and the design after. Numbers are in the order of their
@@ -103,51 +103,43 @@ fn mark(marks: &mut Vec<bool>, number: u32)
 }
 
 // The least of an item, 0 if the list doesn't have it.
-fn least_in(bounds: &[(Item, u8, u8)], item: &Item) -> u8
+fn least_in(bounds: &[Bound], item: &Item) -> u8
     requires { items_ascend bounds.now ≡ true }
-    ensures { result ≡ bound_in bounds.now item.now (λ b. b.1) }
+    ensures { result ≡ bound_in bounds.now item.now (λ b. b.least) }
 {
     match find_bound(bounds, item) {
-        Some(bound) => bound.1,
+        Some(bound) => bound.least,
         None => 0,
     }
 }
 
 // Whether the list has the item with a lower most.
-fn is_lower(bounds: &[(Item, u8, u8)], item: &Item, most: u8) -> bool
+fn is_lower(bounds: &[Bound], item: &Item, most: u8) -> bool
     requires { items_ascend bounds.now ≡ true }
-    ensures { result ≡ (list_any (λ b. same_item b.0 item.now) bounds.now && nat_lt (bound_in bounds.now item.now (λ b. b.2)) most) }
+    ensures { result ≡ (list_any (λ b. same_item b.item item.now) bounds.now && nat_lt (bound_in bounds.now item.now (λ b. b.most)) most) }
 {
     match find_bound(bounds, item) {
-        Some(bound) => bound.2 < most,
+        Some(bound) => bound.most < most,
         None => false,
     }
 }
 
 // The items whose least is higher in the second list.
-fn risen(
-    alloc: Global,
-    from: &[(Item, u8, u8)],
-    to: &[(Item, u8, u8)],
-) -> Result<Vec<Item>, AllocError>
+fn risen(alloc: Global, from: &[Bound], to: &[Bound]) -> Result<Vec<Item>, AllocError>
     requires { items_ascend from.now ≡ true }
-    ensures { IfOk result (λ list. list.items ≡ map (λ b. b.0) (filter (λ b. nat_lt (bound_in from.now b.0 (λ c. c.1)) b.1) to.now)) }
+    ensures { IfOk result (λ list. list.items ≡ map (λ b. b.item) (filter (λ b. nat_lt (bound_in from.now b.item (λ c. c.least)) b.least) to.now)) }
 {
     let mut list = Vec::new(alloc);
     for bound in to {
-        if least_in(from, &bound.0) < bound.1 {
-            list.push(bound.0)?;
+        if least_in(from, &bound.item) < bound.least {
+            list.push(bound.item)?;
         }
     }
     Ok(list)
 }
 
 // The pieces of both lists whose most is lower in the second.
-fn fallen(
-    alloc: Global,
-    from: &[(Item, u8, u8)],
-    to: &[(Item, u8, u8)],
-) -> Result<Vec<Name>, AllocError>
+fn fallen(alloc: Global, from: &[Bound], to: &[Bound]) -> Result<Vec<Name>, AllocError>
     requires { items_ascend to.now ≡ true }
     ensures { IfOk result (λ list. list.items ≡ filter_map (falls to.now) from.now) }
 {
@@ -161,14 +153,14 @@ fn fallen(
 }
 
 // The piece of the bound, if the list has it with a lower most.
-fn falls(to: &[(Item, u8, u8)], bound: &(Item, u8, u8)) -> Option<Name>
+fn falls(to: &[Bound], bound: &Bound) -> Option<Name>
     requires { items_ascend to.now ≡ true }
     ensures { result ≡ falls to.now bound.now }
 {
-    match bound.0 {
+    match bound.item {
         Item::Cell(_) => None,
         Item::Piece(name) => {
-            if is_lower(to, &Item::Piece(name), bound.2) {
+            if is_lower(to, &Item::Piece(name), bound.most) {
                 Some(name)
             } else {
                 None

@@ -21,7 +21,7 @@ use crate::sides::Sides;
 use crate::turn::Turn;
 use poly_design::{Change, Placement};
 use poly_grid::{Cell, Refusal};
-use poly_tiling::Item;
+use poly_tiling::{Bound, Item};
 use std::alloc::{AllocError, Global};
 use std::marker::Model;
 
@@ -168,7 +168,7 @@ fn numbers_in<'a>(rows: &'a [Row], item: &Item) -> &'a [u32]
 fn copied(
     alloc: Global,
     rows: &[Row],
-    bounds: &[(Item, u8, u8)],
+    bounds: &[Bound],
     marks: &[bool],
 ) -> Result<Vec<Row>, Refusal>
     requires { AreRows rows.now }
@@ -177,8 +177,8 @@ fn copied(
 {
     let mut list = Vec::with_capacity(alloc, bounds.len())?;
     for bound in bounds {
-        let numbers = unmarked(alloc, numbers_in(rows, &bound.0), marks)?;
-        list.push(Row::new(bound.0, numbers))?;
+        let numbers = unmarked(alloc, numbers_in(rows, &bound.item), marks)?;
+        list.push(Row::new(bound.item, numbers))?;
     }
     Ok(list)
 }

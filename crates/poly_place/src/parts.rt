@@ -9,7 +9,7 @@ ghost use Rattle.poly_place.specs.Pins.{pin_list};
 
 use poly_design::{Design, Name, Placement, Spec};
 use poly_grid::Refusal;
-use poly_tiling::{Item, item_list};
+use poly_tiling::{Bound, item_list};
 use std::alloc::Global;
 
 /// A design's placements and pins, both in placement order, and its items with their bounds, in item order.
@@ -17,7 +17,7 @@ use std::alloc::Global;
 pub(crate) struct Parts {
     pub(crate) places: Vec<Placement>,
     pub(crate) pins: Vec<Placement>,
-    pub(crate) bounds: Vec<(Item, u8, u8)>,
+    pub(crate) bounds: Vec<Bound>,
 }
 
 impl Parts {

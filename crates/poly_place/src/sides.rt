@@ -10,14 +10,14 @@ ghost use Rattle.poly_place.specs.Spent.{IsSpent};
 use crate::interner::Interner;
 use crate::parts::Parts;
 use poly_grid::Refusal;
-use poly_tiling::Item;
+use poly_tiling::Bound;
 
 /// A design's placements and pins by their numbers, both in placement order, and its items with their bounds, in item
 /// order.
 #[derive(Drop)]
 pub(crate) struct Sides {
     pub(crate) live: Vec<u32>,
-    pub(crate) bounds: Vec<(Item, u8, u8)>,
+    pub(crate) bounds: Vec<Bound>,
     pub(crate) pins: Vec<u32>,
 }
 

@@ -72,15 +72,15 @@ pub later_change : (old new : View) (A : List Atom) → WellNamed old → WellNa
 later_change old new A wn wm names = record {
   atoms = λ a i. in_append_left a A (guards old new) i;
   placed = λ p i. elim (cases_Bool (mem old.live p)) [ inl y ↦ inl (mem_in old.live p y) | inr n ↦ inr (in_append_right (Lacks p) A (guards old new) (guard_lacks old new p i n)) ];
-  enough = λ i. elim (cases_Bool (list_any (λ b. same_item b.0 i) old.bounds)) [
-    | inl y ↦ let x = any_in (λ b. same_item b.0 i) old.bounds y in
-        subst (λ k. (least old k ≤ least new k) ⊎ In (AtLeast k (least old k)) (A ++ guards old new)) (same_item_is x.0.0 i x.2)
-        (elim (cases_Bool (ltb (least new x.0.0) (least old x.0.0))) [ inl l ↦ inr (in_append_right _ A (guards old new) (guard_least old new x.0 x.1 l)) | inr l ↦ inl (ltb-false _ _ l) ])
-    | inr n ↦ inl (omega (arith, bound_none old.bounds i (λ b. b.1) n))
+  enough = λ i. elim (cases_Bool (list_any (λ b. same_item b.item i) old.bounds)) [
+    | inl y ↦ let x = any_in (λ b. same_item b.item i) old.bounds y in
+        subst (λ k. (least old k ≤ least new k) ⊎ In (AtLeast k (least old k)) (A ++ guards old new)) (same_item_is x.0.item i x.2)
+        (elim (cases_Bool (ltb (least new x.0.item) (least old x.0.item))) [ inl l ↦ inr (in_append_right _ A (guards old new) (guard_least old new x.0 x.1 l)) | inr l ↦ inl (ltb-false _ _ l) ])
+    | inr n ↦ inl (omega (arith, bound_none old.bounds i (λ b. b.least) n))
   ];
-  few = λ p i k h. let x = any_in (λ b. same_item b.0 i) old.bounds (listed_item old wn p k i h) in
-      subst (λ k. (most new k ≤ most old k) ⊎ In (AtMost k (most old k)) (A ++ guards old new)) (same_item_is x.0.0 i x.2)
-      (elim (cases_Bool (ltb (most old x.0.0) (most new x.0.0))) [ inl l ↦ inr (in_append_right _ A (guards old new) (guard_most old new x.0 x.1 l)) | inr l ↦ inl (ltb-false _ _ l) ]);
+  few = λ p i k h. let x = any_in (λ b. same_item b.item i) old.bounds (listed_item old wn p k i h) in
+      subst (λ k. (most new k ≤ most old k) ⊎ In (AtMost k (most old k)) (A ++ guards old new)) (same_item_is x.0.item i x.2)
+      (elim (cases_Bool (ltb (most old x.0.item) (most new x.0.item))) [ inl l ↦ inr (in_append_right _ A (guards old new) (guard_most old new x.0 x.1 l)) | inr l ↦ inl (ltb-false _ _ l) ]);
   pinned = λ p i. elim (cases_Bool (mem new.pins p)) [ inl y ↦ inl (mem_in new.pins p y) | inr n ↦ inr (in_append_right (Has p) A (guards old new) (guard_has old new p i n)) ];
   carried = λ p i h. ap (λ xs. list_any (λ j. same_item j i) (items_of (slice_get xs p))) names.1 ∙ slice_get_more (λ o. list_any (λ j. same_item j i) (items_of o)) old.placements names.0 p refl h;
   same_items = items_same old new wn names;

@@ -125,7 +125,7 @@ fn same_options(tiled: &Tiled, query: &Query, answer: &Answer) -> bool {
     }
     for at in 0..items.len() {
         let (item, number) = answer.options[at];
-        if item != items[at].0 || number != options(tiled, query, &item) {
+        if item != items[at].item || number != options(tiled, query, &item) {
             return false;
         }
     }
@@ -171,7 +171,7 @@ fn agreeing(alloc: Global, puzzle: &[u8], lines: &[&[u8]]) -> Result<Option<u32>
     let mut queries = 0u32;
     for placement in &tiled.places {
         for bound in tiled.view.items() {
-            let item = bound.0;
+            let item = bound.item;
             let with = query(alloc, Some(placement), None, Some(&item))?;
             let without = query(alloc, None, Some(placement), Some(&item))?;
             if !agrees(alloc, &tiled, &with)? || !agrees(alloc, &tiled, &without)? {

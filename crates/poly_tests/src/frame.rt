@@ -29,7 +29,7 @@ fn counts(alloc: Global, view: &View, frame: &mut Frame<'_>) -> Result<Vec<usize
 {
     let mut counts = Vec::new(alloc);
     for bound in view.items() {
-        counts.push(frame.options(bound.0).len())?;
+        counts.push(frame.options(bound.item).len())?;
     }
     Ok(counts)
 }
@@ -94,7 +94,7 @@ fn expect_starved(rt: &impl Abort, view: &View, frame: &mut Frame<'_>, placement
     requires { length frame.old.atoms < frame.old.given + 4096 }
     ensures { frame.new ≡ frame.old }
 {
-    let cell = view.items().get(3).expect(rt, "four cells").0;
+    let cell = view.items().get(3).expect(rt, "four cells").item;
     assert!(rt; frame.starves(placement, cell) == want);
 }
 

@@ -53,7 +53,7 @@ fn have_the_same_by_item(led: &Table, anew: &Table) -> Result<bool, Refusal> {
     let a = led.view()?;
     let b = anew.view()?;
     for bound in a.items() {
-        if !name_the_same_set(&a, &b, led.numbers(&bound.0), anew.numbers(&bound.0)) {
+        if !name_the_same_set(&a, &b, led.numbers(&bound.item), anew.numbers(&bound.item)) {
             return Ok(false);
         }
     }

@@ -14,13 +14,14 @@ use Rattle.poly_design.specs.declared.mode.Mode.TheVariants.{Blocked}
 use Rattle.poly_design.specs.declared.spec.Spec.{Spec}
 use Rattle.poly_tiling.specs.declared.item.Item.{Item}
 use Rattle.poly_tiling.specs.declared.item.Item.TheVariants.{Cell, Piece}
-use Rattle.poly_tiling.specs.Puzzle.{Bound, bound_in}
+use Rattle.poly_tiling.specs.declared.bound.Bound.{Bound}
+use Rattle.poly_tiling.specs.Puzzle.{bound_in}
 use Rattle.poly_tiling.specs.Tilings.{bounds_of, bounds_of_mode, bounds_of_piece}
 use Rattle.poly_tiling.specs.Shows.{cell_bound, item_bounds, piece_bound}
 
 -- one of the two bounds
 abbrev pub read : (Bounds → ℕ) → Bound → ℕ
-read pick b = pick (record { least = b.1; most = b.2 })
+read pick b = pick (record { least = b.least; most = b.most })
 
 abbrev nothing : Bounds
 nothing = record { least = 0; most = 0 }

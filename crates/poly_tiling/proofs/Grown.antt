@@ -1,7 +1,7 @@
 -- Assigning new numbers doesn't change whether a list is a tiling.
 use Rattle.std.proofs.Common.{List, [], ap, append_assoc, arith, eqb, not, refl, slice_get, subst, sym, ℕ, ◌&&◌, ◌++◌, ◌∙◌, ◌≡◌}
 use Rattle.std.proofs.lemmas.List.{append-nil}
-use Rattle.poly_tiling.specs.Puzzle.{Bound}
+use Rattle.poly_tiling.specs.declared.bound.Bound.{Bound}
 use Rattle.poly_tiling.specs.declared.item.Item.{Item}
 use Rattle.poly_tiling.specs.Puzzle.{View, bound_in, clash, share_cell}
 use Rattle.poly_tiling.specs.Names.{Grown, Names, WellNamed}
@@ -22,8 +22,8 @@ up v w T wn g t = record {
   up = t.up;
   placed = λ p i. subst (λ xs. In p xs) (sym g.1) (t.placed p i);
   apart = λ p q i j. clash_same v w wn g.0 p q (t.placed p i) (t.placed q j) ∙ t.apart p q i j;
-  enough = λ i. omega (arith, grown_bound v w g i (λ b. b.1), old_count v w T wn g.0 t.placed i, t.enough i);
-  few = λ i. omega (arith, grown_bound v w g i (λ b. b.2), old_count v w T wn g.0 t.placed i, t.few i);
+  enough = λ i. omega (arith, grown_bound v w g i (λ b. b.least), old_count v w T wn g.0 t.placed i, t.enough i);
+  few = λ i. omega (arith, grown_bound v w g i (λ b. b.most), old_count v w T wn g.0 t.placed i, t.few i);
   pinned = λ p i. t.pinned p (subst (λ xs. In p xs) g.3 i);
 }
 
@@ -34,8 +34,8 @@ down v w T wn g t =
       up = t.up;
       placed = placed;
       apart = λ p q i j. sym (clash_same v w wn g.0 p q (placed p i) (placed q j)) ∙ t.apart p q i j;
-      enough = λ i. omega (arith, grown_bound v w g i (λ b. b.1), old_count v w T wn g.0 placed i, t.enough i);
-      few = λ i. omega (arith, grown_bound v w g i (λ b. b.2), old_count v w T wn g.0 placed i, t.few i);
+      enough = λ i. omega (arith, grown_bound v w g i (λ b. b.least), old_count v w T wn g.0 placed i, t.enough i);
+      few = λ i. omega (arith, grown_bound v w g i (λ b. b.most), old_count v w T wn g.0 placed i, t.few i);
       pinned = λ p i. t.pinned p (subst (λ xs. In p xs) (sym g.3) i);
     }
 

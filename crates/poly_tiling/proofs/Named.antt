@@ -30,11 +30,11 @@ pub old_count : (old new : View) (T : List ℕ) → WellNamed old → Names old 
 old_count old new T wn names placed i = tally_same_in (λ p. has_item new p i) (λ p. has_item old p i) T (λ p k. has_same old new wn names p (placed p k) i)
 
 -- the items of the design's placements are its own
-pub listed_item : (v : View) → WellNamed v → (p : ℕ) → In p v.live → (i : Item) → has_item v p i ≡ true → list_any (λ b. same_item b.0 i) v.bounds ≡ true
+pub listed_item : (v : View) → WellNamed v → (p : ℕ) → In p v.live → (i : Item) → has_item v p i ≡ true → list_any (λ b. same_item b.item i) v.bounds ≡ true
 listed_item v wn p k i h =
     let x = any_in (λ j. same_item j i) (items v p) h in
-    subst (λ j. list_any (λ b. same_item b.0 j) v.bounds ≡ true) (same_item_is x.0 i x.2)
-    (all_in (λ i. list_any (λ b. same_item b.0 i) v.bounds) (items v p) (all_in (λ p. list_all (λ i. list_any (λ b. same_item b.0 i) v.bounds) (items v p)) v.live wn.listed p k) x.0 x.1)
+    subst (λ j. list_any (λ b. same_item b.item j) v.bounds ≡ true) (same_item_is x.0 i x.2)
+    (all_in (λ i. list_any (λ b. same_item b.item i) v.bounds) (items v p) (all_in (λ p. list_all (λ i. list_any (λ b. same_item b.item i) v.bounds) (items v p)) v.live wn.listed p k) x.0 x.1)
 
 share_none : (o : Option Placement) → share_cell o None ≡ false
 share_none None = refl

@@ -25,7 +25,8 @@ use Rattle.poly_design.specs.declared.mode.Mode.TheVariants.{Blocked, Optional, 
 use Rattle.poly_design.specs.declared.placement.Placement.{Placement}
 use Rattle.poly_design.specs.declared.spec.Spec.{Spec}
 use Rattle.poly_tiling.specs.declared.item.Item.TheVariants.{Cell, Piece}
-use Rattle.poly_tiling.specs.Puzzle.{Bound, View, items, items_of, same_item}
+use Rattle.poly_tiling.specs.declared.bound.Bound.{Bound}
+use Rattle.poly_tiling.specs.Puzzle.{View, items, items_of, same_item}
 use Rattle.poly_tiling.specs.Names.{WellNamed, item_cmp, items_ascend}
 use Rattle.poly_tiling.specs.Shows.{AddsPins, HasNumber, IsNamed, IsPlain, PutsPin, Shows, StandFor, cell_bound, item_bounds, piece_bound, pin_of, pins_of}
 use Rattle.poly_tiling.proofs.Lists.{In, all_append, all_from, any_append, any_from, in_append_cases, in_append_left, in_append_right, in_map, map_in}
@@ -38,7 +39,7 @@ use Rattle.poly_tiling.proofs.Tilings.{same_item_self}
 
 -- the bounds are in their limits
 abbrev pub small : Bound → Bool
-small b = leb b.1 b.2 && leb b.2 16
+small b = leb b.least b.most && leb b.most 16
 
 -- the pieces up to those that are left have been added
 pub record AddsPieces (pieces left : List (List ℕ × Spec)) (old now : List Bound) : Type 0 where
@@ -245,19 +246,19 @@ pins_up (e ∷ es) up = pins_up_at (pin_of e) (pins_of es)
 pieces_ascend : (es : List (List ℕ × Spec)) → IsAscending name_cmp (keys_of es) → items_ascend (map piece_bound es) ≡ true
 pieces_ascend [] up = refl
 pieces_ascend (e ∷ es) up = and_from _ _
-    (all_from (λ c. is_lt (item_cmp (Piece e.0) c.0)) (map piece_bound es) (λ c i.
+    (all_from (λ c. is_lt (item_cmp (Piece e.0) c.item)) (map piece_bound es) (λ c i.
     let r = map_in piece_bound es c i in
-    ap (λ b. is_lt (item_cmp (Piece e.0) b.0)) (sym r.2) ∙ ap is_lt (pairs_head (λ a b. name_cmp a b ≡ Less) e.0 (keys_of es) up r.0.0 (in_map (λ e. e.0) es r.0 r.1))))
+    ap (λ b. is_lt (item_cmp (Piece e.0) b.item)) (sym r.2) ∙ ap is_lt (pairs_head (λ a b. name_cmp a b ≡ Less) e.0 (keys_of es) up r.0.0 (in_map (λ e. e.0) es r.0 r.1))))
     (pieces_ascend es (pairs_rest (λ a b. name_cmp a b ≡ Less) e.0 (keys_of es) up))
 
 pub items_go_up : (cells : List (Spot × Mode)) (pieces : List (List ℕ × Spec)) → IsAscending spot_cmp (keys_of cells) → IsAscending name_cmp (keys_of pieces) → items_ascend (map cell_bound cells ++ map piece_bound pieces) ≡ true
 items_go_up [] pieces up names = pieces_ascend pieces names
 items_go_up (e ∷ es) pieces up names = and_from _ _
-    (all_from (λ c. is_lt (item_cmp (Cell e.0) c.0)) (map cell_bound es ++ map piece_bound pieces) (λ c i. elim (in_append_cases c (map cell_bound es) (map piece_bound pieces) i) [
+    (all_from (λ c. is_lt (item_cmp (Cell e.0) c.item)) (map cell_bound es ++ map piece_bound pieces) (λ c i. elim (in_append_cases c (map cell_bound es) (map piece_bound pieces) i) [
       | inl j ↦
           let r = map_in cell_bound es c j in
-          ap (λ b. is_lt (item_cmp (Cell e.0) b.0)) (sym r.2) ∙ ap is_lt (pairs_head (λ a b. spot_cmp a b ≡ Less) e.0 (keys_of es) up r.0.0 (in_map (λ e. e.0) es r.0 r.1))
-      | inr j ↦ let r = map_in piece_bound pieces c j in ap (λ b. is_lt (item_cmp (Cell e.0) b.0)) (sym r.2)
+          ap (λ b. is_lt (item_cmp (Cell e.0) b.item)) (sym r.2) ∙ ap is_lt (pairs_head (λ a b. spot_cmp a b ≡ Less) e.0 (keys_of es) up r.0.0 (in_map (λ e. e.0) es r.0 r.1))
+      | inr j ↦ let r = map_in piece_bound pieces c j in ap (λ b. is_lt (item_cmp (Cell e.0) b.item)) (sym r.2)
     ]))
     (items_go_up es pieces (pairs_rest (λ a b. spot_cmp a b ≡ Less) e.0 (keys_of es) up) names)
 
@@ -266,27 +267,27 @@ unlisted_at : (e : Spot × Mode) (es : List (Spot × Mode)) (c : Spot) (rest : B
 unlisted_at e es c rest ih true h = cc
 unlisted_at e es c rest ih false h = ih h
 
-unlisted : (cells : List (Spot × Mode)) (c : Spot) → list_any (λ b. same_item b.0 (Cell c)) (map cell_bound cells) ≡ false → lookup (is_at (spot_cmp c)) cells ≡ None
+unlisted : (cells : List (Spot × Mode)) (c : Spot) → list_any (λ b. same_item b.item (Cell c)) (map cell_bound cells) ≡ false → lookup (is_at (spot_cmp c)) cells ≡ None
 unlisted [] c h = refl
-unlisted (e ∷ es) c h = unlisted_at e es c (list_any (λ b. same_item b.0 (Cell c)) (map cell_bound es)) (unlisted es c) (is_at (spot_cmp c) e.0)
-    (ap (λ t. t || list_any (λ b. same_item b.0 (Cell c)) (map cell_bound es)) (sym (cell_test c e.0)) ∙ h)
+unlisted (e ∷ es) c h = unlisted_at e es c (list_any (λ b. same_item b.item (Cell c)) (map cell_bound es)) (unlisted es c) (is_at (spot_cmp c) e.0)
+    (ap (λ t. t || list_any (λ b. same_item b.item (Cell c)) (map cell_bound es)) (sym (cell_test c e.0)) ∙ h)
 
-cell_listed : (d : Layout) (c : Spot) → mode_of d c ≢ Blocked → list_any (λ b. same_item b.0 (Cell c)) (item_bounds d) ≡ true
-cell_listed d c free = elim (cases_Bool (list_any (λ b. same_item b.0 (Cell c)) (map cell_bound d.cells))) [
-  | inl y ↦ any_append (λ b. same_item b.0 (Cell c)) (map cell_bound d.cells) (map piece_bound d.pieces) ∙ or_left _ _ y
+cell_listed : (d : Layout) (c : Spot) → mode_of d c ≢ Blocked → list_any (λ b. same_item b.item (Cell c)) (item_bounds d) ≡ true
+cell_listed d c free = elim (cases_Bool (list_any (λ b. same_item b.item (Cell c)) (map cell_bound d.cells))) [
+  | inl y ↦ any_append (λ b. same_item b.item (Cell c)) (map cell_bound d.cells) (map piece_bound d.pieces) ∙ or_left _ _ y
   | inr n ↦ absurd (free (ap (λ o. unwrap_or o Blocked) (unlisted d.cells c n)))
 ]
 
-piece_listed : (d : Layout) (name : List ℕ) (spec : Spec) → In (name, spec) d.pieces → list_any (λ b. same_item b.0 (Piece name)) (item_bounds d) ≡ true
+piece_listed : (d : Layout) (name : List ℕ) (spec : Spec) → In (name, spec) d.pieces → list_any (λ b. same_item b.item (Piece name)) (item_bounds d) ≡ true
 piece_listed d name spec i =
-    any_from (λ b. same_item b.0 (Piece name)) (item_bounds d) (piece_bound (name, spec)) (in_append_right (piece_bound (name, spec)) (map cell_bound d.cells) (map piece_bound d.pieces) (in_map piece_bound d.pieces (name, spec) i)) (same_item_self (Piece name))
+    any_from (λ b. same_item b.item (Piece name)) (item_bounds d) (piece_bound (name, spec)) (in_append_right (piece_bound (name, spec)) (map cell_bound d.cells) (map piece_bound d.pieces) (in_map piece_bound d.pieces (name, spec) i)) (same_item_self (Piece name))
 
-pub items_listed : (d : Layout) (p : Placement) → IsPlacement d p → list_all (λ i. list_any (λ b. same_item b.0 i) (item_bounds d)) (items_of (Some p)) ≡ true
+pub items_listed : (d : Layout) (p : Placement) → IsPlacement d p → list_all (λ i. list_any (λ b. same_item b.item i) (item_bounds d)) (items_of (Some p)) ≡ true
 items_listed d p h = and_from _ _
     (piece_listed d p.name h.spec (contains_in d.pieces (p.name, h.spec) h.has))
-    (all_from (λ i. list_any (λ b. same_item b.0 i) (item_bounds d)) (map (λ c. Cell c) p.cells) (λ i j.
+    (all_from (λ i. list_any (λ b. same_item b.item i) (item_bounds d)) (map (λ c. Cell c) p.cells) (λ i j.
     let r = map_in (λ c. Cell c) p.cells i j in
-    subst (λ k. list_any (λ b. same_item b.0 k) (item_bounds d) ≡ true) r.2 (cell_listed d r.0 (h.place.lies.free r.0 (in_contains p.cells r.0 r.1)))))
+    subst (λ k. list_any (λ b. same_item b.item k) (item_bounds d) ≡ true) r.2 (cell_listed d r.0 (h.place.lies.free r.0 (in_contains p.cells r.0 r.1)))))
 
 -- the parts of the plain view
 pub record PlainParts (d : Layout) (places placements : List Placement) (live pins : List ℕ) (bounds : List Bound) : Type 0 where
@@ -319,10 +320,10 @@ plain_well d v places h =
       live_up = stand_up v v.live places live h.listed.ascending;
       pins_up = stand_up v v.pins (pins_of d.pieces) h.pinned.stand (pins_up d.pieces h.design.pieces_ascend);
       items_up = ap items_ascend h.bounded ∙ items_go_up d.cells d.pieces h.design.cells_ascend h.design.pieces_ascend;
-      listed = all_from (λ p. list_all (λ i. list_any (λ b. same_item b.0 i) v.bounds) (items v p)) v.live (λ n i.
+      listed = all_from (λ p. list_all (λ i. list_any (λ b. same_item b.item i) v.bounds) (items v p)) v.live (λ n i.
           let r = stands_at v.placements v.live places live n i in
-          ap (λ o. list_all (λ i. list_any (λ b. same_item b.0 i) v.bounds) (items_of o)) r.2
-          ∙ ap (λ bs. list_all (λ i. list_any (λ b. same_item b.0 i) bs) (items_of (Some r.0))) h.bounded
+          ap (λ o. list_all (λ i. list_any (λ b. same_item b.item i) v.bounds) (items_of o)) r.2
+          ∙ ap (λ bs. list_all (λ i. list_any (λ b. same_item b.item i) bs) (items_of (Some r.0))) h.bounded
           ∙ items_listed d r.0 ((h.listed.exact r.0).0 (in_contains places r.0 r.1)));
       small = h.small;
     }

@@ -96,10 +96,10 @@ clash_conflict v wn p q x y a b c =
     (sym (ap (λ o. share_cell o (slice_get v.placements q)) a ∙ ap (λ o. share_cell (Some x) o) b) ∙ cs.1)
 
 pub shown_least : (v : View) (d : Layout) → Shows v d → (i : Item) → least v i ≡ (bounds_of d i).least
-shown_least v d s i = ap (λ bs. bound_in bs i (λ b. b.1)) s.bounds ∙ shown_bounds d (λ b. b.least) refl i
+shown_least v d s i = ap (λ bs. bound_in bs i (λ b. b.least)) s.bounds ∙ shown_bounds d (λ b. b.least) refl i
 
 pub shown_most : (v : View) (d : Layout) → Shows v d → (i : Item) → most v i ≡ (bounds_of d i).most
-shown_most v d s i = ap (λ bs. bound_in bs i (λ b. b.2)) s.bounds ∙ shown_bounds d (λ b. b.most) refl i
+shown_most v d s i = ap (λ bs. bound_in bs i (λ b. b.most)) s.bounds ∙ shown_bounds d (λ b. b.most) refl i
 
 pub named_of : (v : View) (ns : List ℕ) (n : ℕ) (x : Placement) → In n ns → slice_get v.placements n ≡ Some x → IsNamed v ns x
 named_of v ns n x i e = record { number = n; stands = in_contains ns n i; names = e }

@@ -6,7 +6,7 @@ use Rattle.std.specs.Cmp.Lexicographic.{bytes_decides, nat_list_eq_equiv}
 use Rattle.poly_grid.specs.Spot.{Spot}
 use Rattle.poly_shape.specs.Order.{spot_eq, spot_equiv}
 use Rattle.poly_tiling.specs.Lists.{ascending, mem}
-use Rattle.poly_tiling.specs.Puzzle.{Bound}
+use Rattle.poly_tiling.specs.declared.bound.Bound.{Bound}
 use Rattle.poly_tiling.specs.declared.item.Item.{Item}
 use Rattle.poly_tiling.specs.declared.item.Item.TheVariants.{Cell, Piece}
 use Rattle.poly_tiling.specs.Puzzle.{View, bound_in, clash, count, has_item, is_tiling, items, least, most, same_item}
@@ -29,9 +29,9 @@ pub same_item_self : (i : Item) → same_item i i ≡ true
 same_item_self (Cell c) = spot_equiv.refl c
 same_item_self (Piece n) = nat_list_eq_equiv.refl n
 
-pub bound_none : (bs : List Bound) (i : Item) (f : Bound → ℕ) → list_any (λ b. same_item b.0 i) bs ≡ false → bound_in bs i f ≡ 0
+pub bound_none : (bs : List Bound) (i : Item) (f : Bound → ℕ) → list_any (λ b. same_item b.item i) bs ≡ false → bound_in bs i f ≡ 0
 bound_none [] i f h = refl
-bound_none (b ∷ bs) i f h = let hs = or_parts (same_item b.0 i) (list_any (λ b. same_item b.0 i) bs) h in cond-false (same_item b.0 i) (f b) (bound_in bs i f) hs.0 ∙ bound_none bs i f hs.1
+bound_none (b ∷ bs) i f h = let hs = or_parts (same_item b.item i) (list_any (λ b. same_item b.item i) bs) h in cond-false (same_item b.item i) (f b) (bound_in bs i f) hs.0 ∙ bound_none bs i f hs.1
 
 pub record IsTiling (v : View) (T : List ℕ) : Type 0 where
   pub up : ascending T ≡ true
@@ -43,7 +43,7 @@ pub record IsTiling (v : View) (T : List ℕ) : Type 0 where
 
 pub parts : (v : View) (T : List ℕ) → is_tiling v T ≡ true → IsTiling v T
 parts v T h =
-    let low = λ (b : Bound). leb (least v b.0) (count v T b.0) in
+    let low = λ (b : Bound). leb (least v b.item) (count v T b.item) in
     let high = λ (p : ℕ). list_all (λ i. leb (count v T i) (most v i)) (items v p) in
     let far = λ (p : ℕ). not (list_any (λ q. clash v p q) T) in
     let here = λ (p : ℕ). mem v.live p in
@@ -57,9 +57,9 @@ parts v T h =
       placed = λ p i. mem_in v.live p (all_in here T h1.1 p i);
       apart = λ p q i j. false_from_ne_true (clash v p q) (λ c.
           both_ways (list_any (λ q. clash v p q) T) (not-true _ (all_in far T h2.1 p i)) (any_from (λ q. clash v p q) T q j c));
-      enough = λ i. elim (cases_Bool (list_any (λ b. same_item b.0 i) v.bounds)) [
-        | inl y ↦ let x = any_in (λ b. same_item b.0 i) v.bounds y in subst (λ k. least v k ≤ count v T k) (same_item_is x.0.0 i x.2) (leb-true _ _ (all_in low v.bounds h3.1 x.0 x.1))
-        | inr n ↦ omega (arith, bound_none v.bounds i (λ b. b.1) n)
+      enough = λ i. elim (cases_Bool (list_any (λ b. same_item b.item i) v.bounds)) [
+        | inl y ↦ let x = any_in (λ b. same_item b.item i) v.bounds y in subst (λ k. least v k ≤ count v T k) (same_item_is x.0.item i x.2) (leb-true _ _ (all_in low v.bounds h3.1 x.0 x.1))
+        | inr n ↦ omega (arith, bound_none v.bounds i (λ b. b.least) n)
       ];
       few = λ i. elim (cases_Bool (list_any (λ p. has_item v p i) T)) [
         | inl y ↦
@@ -79,6 +79,6 @@ whole v T t =
     (and_from _ _
     (and_from _ _ t.up (all_from (λ p. mem v.live p) T (λ p i. in_mem v.live p (t.placed p i))))
     (all_from (λ p. not (list_any (λ q. clash v p q) T)) T (λ p i. not_from_false _ (any_none (λ q. clash v p q) T (λ q j c. both_ways (clash v p q) (t.apart p q i j) c)))))
-    (all_from (λ b. leb (least v b.0) (count v T b.0)) v.bounds (λ b i. le-leb _ _ (t.enough b.0))))
+    (all_from (λ b. leb (least v b.item) (count v T b.item)) v.bounds (λ b i. le-leb _ _ (t.enough b.item))))
     (all_from (λ p. list_all (λ i. leb (count v T i) (most v i)) (items v p)) T (λ p j. all_from (λ i. leb (count v T i) (most v i)) (items v p) (λ i k. le-leb _ _ (t.few i)))))
     (all_from (λ p. mem T p) v.pins (λ p i. in_mem T p (t.pinned p i)))

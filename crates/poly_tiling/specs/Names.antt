@@ -8,6 +8,7 @@ use Rattle.poly_shape.specs.Order.{spot_cmp}
 use Rattle.poly_design.specs.Name.{name_cmp}
 pub use Rattle.poly_design.specs.PlacementOrder.{placement_cmp}
 use Rattle.poly_design.specs.declared.placement.Placement.{Placement}
+use Rattle.poly_tiling.specs.declared.bound.Bound.{Bound}
 use Rattle.poly_tiling.specs.declared.item.Item.{Item}
 use Rattle.poly_tiling.specs.declared.item.Item.TheVariants.{Cell, Piece}
 use Rattle.poly_tiling.specs.Puzzle.{View, items, same_item}
@@ -34,9 +35,9 @@ in_order v [] = true
 in_order v (p ∷ ps) = list_all (λ q. below v p q) ps && in_order v ps
 
 -- the items ascend
-abbrev pub items_ascend : List (Item × ℕ × ℕ) → Bool
+abbrev pub items_ascend : List Bound → Bool
 items_ascend [] = true
-items_ascend (b ∷ bs) = list_all (λ c. is_lt (item_cmp b.0 c.0)) bs && items_ascend bs
+items_ascend (b ∷ bs) = list_all (λ c. is_lt (item_cmp b.item c.item)) bs && items_ascend bs
 
 -- each number of a placement of the design or of a pin names a placement; placements differ; numbers and items are in
 -- their orders; the items of the design's placements are items of the design; bounds are at most 16
@@ -47,8 +48,8 @@ pub record WellNamed (v : View) : Type 0 where
   pub live_up : in_order v v.live ≡ true
   pub pins_up : in_order v v.pins ≡ true
   pub items_up : items_ascend v.bounds ≡ true
-  pub listed : list_all (λ p. list_all (λ i. list_any (λ b. same_item b.0 i) v.bounds) (items v p)) v.live ≡ true
-  pub small : list_all (λ b. nat_le b.1 b.2 && nat_le b.2 16) v.bounds ≡ true
+  pub listed : list_all (λ p. list_all (λ i. list_any (λ b. same_item b.item i) v.bounds) (items v p)) v.live ≡ true
+  pub small : list_all (λ b. nat_le b.least b.most && nat_le b.most 16) v.bounds ≡ true
 
 -- The later view names what the earlier one names, by the same numbers, and perhaps more.
 abbrev pub Names : View → View → Type 0

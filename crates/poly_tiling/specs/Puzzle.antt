@@ -6,13 +6,10 @@ use Rattle.std.specs.Cmp.Lexicographic.{pointwise}
 use Rattle.poly_grid.specs.Spot.{Spot}
 use Rattle.poly_shape.specs.Order.{spot_eq}
 use Rattle.poly_design.specs.declared.placement.Placement.{Placement}
+use Rattle.poly_tiling.specs.declared.bound.Bound.{Bound}
 use Rattle.poly_tiling.specs.declared.item.Item.{Item}
 use Rattle.poly_tiling.specs.declared.item.Item.TheVariants.{Cell, Piece}
 use Rattle.poly_tiling.specs.Lists.{ascending, mem, tally}
-
--- an item of the design, and in how many members of a tiling it is at least and at most
-abbrev pub Bound : Type 0
-Bound = Item × ℕ × ℕ
 
 -- A design as the numbers show it: the placement that each number names, the numbers of the
 -- design's placements in placement order, its items with their bounds in item order, its pins in name order.
@@ -57,14 +54,14 @@ count v T i = tally (λ p. has_item v p i) T
 
 abbrev pub bound_in : List Bound → Item → (Bound → ℕ) → ℕ
 bound_in [] i f = 0
-bound_in (b ∷ bs) i f = cond (same_item b.0 i) (f b) (bound_in bs i f)
+bound_in (b ∷ bs) i f = cond (same_item b.item i) (f b) (bound_in bs i f)
 
 -- the bounds of an item, 0 and 0 if the design doesn't have it
 abbrev pub least : View → Item → ℕ
-least v i = bound_in v.bounds i (λ b. b.1)
+least v i = bound_in v.bounds i (λ b. b.least)
 
 abbrev pub most : View → Item → ℕ
-most v i = bound_in v.bounds i (λ b. b.2)
+most v i = bound_in v.bounds i (λ b. b.most)
 
 -- part of the design's placements, no two in conflict, each item in at least its least and at most its most, with the pins
 abbrev pub is_tiling : View → List ℕ → Bool
@@ -72,7 +69,7 @@ is_tiling v T =
     ascending T
     && list_all (λ p. mem v.live p) T
     && list_all (λ p. not (list_any (λ q. clash v p q) T)) T
-    && list_all (λ b. nat_le (least v b.0) (count v T b.0)) v.bounds
+    && list_all (λ b. nat_le (least v b.item) (count v T b.item)) v.bounds
     && list_all (λ p. list_all (λ i. nat_le (count v T i) (most v i)) (items v p)) T
     && list_all (λ p. mem T p) v.pins
 

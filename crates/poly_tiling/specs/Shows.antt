@@ -10,8 +10,9 @@ use Rattle.poly_design.specs.Placements.{IsPlacement}
 use Rattle.poly_design.specs.declared.mode.Mode.{Mode}
 use Rattle.poly_design.specs.declared.placement.Placement.{Placement}
 use Rattle.poly_design.specs.declared.spec.Spec.{Spec}
+use Rattle.poly_tiling.specs.declared.bound.Bound.{Bound}
 use Rattle.poly_tiling.specs.declared.item.Item.TheVariants.{Cell, Piece}
-use Rattle.poly_tiling.specs.Puzzle.{Bound, View}
+use Rattle.poly_tiling.specs.Puzzle.{View}
 use Rattle.poly_tiling.specs.Tilings.{IsPin, bounds_of_mode}
 
 -- the placement that one of the numbers names
@@ -21,10 +22,10 @@ pub record IsNamed (v : View) (numbers : List ℕ) (p : Placement) : Type 0 wher
   pub names : slice_get v.placements number ≡ Some p
 
 abbrev pub cell_bound : Spot × Mode → Bound
-cell_bound e = (Cell e.0, (bounds_of_mode e.1).least, (bounds_of_mode e.1).most)
+cell_bound e = record { item = Cell e.0; least = (bounds_of_mode e.1).least; most = (bounds_of_mode e.1).most }
 
 abbrev pub piece_bound : List ℕ × Spec → Bound
-piece_bound e = (Piece e.0, e.1.copies.least, e.1.copies.most)
+piece_bound e = record { item = Piece e.0; least = e.1.copies.least; most = e.1.copies.most }
 
 -- the items of a design with their bounds: its cells in their order, then its pieces in theirs
 abbrev pub item_bounds : Layout → List Bound

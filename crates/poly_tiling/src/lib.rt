@@ -1,6 +1,7 @@
 //! What a tiling is: an exact cover with primary and secondary items and with multiplicities.
 #![tactic(auto)]
 
+mod bound;
 mod conflicts;
 mod item;
 mod laws;
@@ -13,6 +14,7 @@ mod rows;
 mod tiling;
 mod view;
 
+pub use bound::Bound;
 pub use conflicts::conflict;
 pub use item::Item;
 pub use laws::{

@@ -197,7 +197,7 @@ fn unmet_item(view: &View, chosen: &[u32], free: &[u32]) -> Option<Item>
     let mut best = None;
     let mut fewest = free.len() + 1;
     for b in view.items() {
-        let item = b.0;
+        let item = b.item;
         if view.count(chosen, &item) < view.bounds(item).0 as usize {
             let options = count_to(view, free, &item, fewest);
             if options < fewest {

@@ -6,6 +6,7 @@ ghost use Rattle.poly_shape.specs.Order.{spot_eq};
 ghost use Rattle.poly_tiling.specs.Shows.{AddsPins, HasNumber, IsPlain, PutsPin, Shows, cell_bound, item_bounds, piece_bound};
 ghost use Rattle.poly_tiling.specs.Tilings.{bounds_of_mode};
 
+use crate::bound::Bound;
 use crate::item::Item;
 use crate::view::View;
 use poly_design::{Design, Mode, Name, Placement, Spec};
@@ -46,9 +47,9 @@ fn first_numbers(alloc: Global, placements: &[Placement]) -> Result<Vec<u32>, Re
 }
 
 /// The items of a design in item order, each with its least and its most. The only refusal is `Memory`.
-pub fn item_list(alloc: Global, design: &Design) -> Result<Vec<(Item, u8, u8)>, Refusal>
+pub fn item_list(alloc: Global, design: &Design) -> Result<Vec<Bound>, Refusal>
     ensures ok { IfOk result (λ list. list.items ≡ item_bounds design.now) }
-    ensures small { IfOk result (λ list. list_all (λ b. nat_le b.1 b.2 && nat_le b.2 16) list.items ≡ true) }
+    ensures small { IfOk result (λ list. list_all (λ b. nat_le b.least b.most && nat_le b.most 16) list.items ≡ true) }
     ensures why { IfErr result (λ e. e ≡ Refusal.Memory) }
 {
     let mut list = Vec::new(alloc);
@@ -57,13 +58,14 @@ pub fn item_list(alloc: Global, design: &Design) -> Result<Vec<(Item, u8, u8)>, 
     Ok(list)
 }
 
-fn add_cells(list: &mut Vec<(Item, u8, u8)>, cells: &BTreeMap<Cell, Mode>) -> Result<(), Refusal>
+fn add_cells(list: &mut Vec<Bound>, cells: &BTreeMap<Cell, Mode>) -> Result<(), Refusal>
     ensures ok { OnOk result (list.new.items ≡ list.old.items ++ map cell_bound cells.now.entries) }
     ensures why { IfErr result (λ e. e ≡ Refusal.Memory) }
 {
     for (cell, mode) in cells {
         let (least, most) = mode_bounds(*mode);
-        list.push((Item::Cell(*cell), least, most))?;
+        let item = Item::Cell(*cell);
+        list.push(Bound { item, least, most })?;
     }
     Ok(())
 }
@@ -79,14 +81,18 @@ fn mode_bounds(mode: Mode) -> (u8, u8)
     }
 }
 
-fn add_pieces(list: &mut Vec<(Item, u8, u8)>, pieces: &BTreeMap<Name, Spec>) -> Result<(), Refusal>
+fn add_pieces(list: &mut Vec<Bound>, pieces: &BTreeMap<Name, Spec>) -> Result<(), Refusal>
     ensures ok { OnOk result (list.new.items ≡ list.old.items ++ map piece_bound pieces.now.entries) }
-    ensures small { OnOk result (list_all (λ b. nat_le b.1 b.2 && nat_le b.2 16) (map piece_bound pieces.now.entries) ≡ true) }
+    ensures small { OnOk result (list_all (λ b. nat_le b.least b.most && nat_le b.most 16) (map piece_bound pieces.now.entries) ≡ true) }
     ensures why { IfErr result (λ e. e ≡ Refusal.Memory) }
 {
     for (name, spec) in pieces {
         let copies = spec.copies;
-        list.push((Item::Piece(*name), copies.least(), copies.most()))?;
+        list.push(Bound {
+            item: Item::Piece(*name),
+            least: copies.least(),
+            most: copies.most(),
+        })?;
     }
     Ok(())
 }

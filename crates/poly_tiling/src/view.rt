@@ -2,10 +2,11 @@
 ghost use Rattle.std.specs.Prelude.{List, true, length, map, nat_le, ◌&&◌, not, slice_get, ℕ, ◌∷◌, ◌≡◌, ◌≤◌, Some};
 ghost use Rattle.std.specs.List.{list_all, list_any};
 ghost use Rattle.std.specs.Option.{is_some};
-ghost use Rattle.poly_tiling.specs.Puzzle.{Bound, bound_in, clash, count, found_or, has_item, is_piece, is_tiling, items, items_of, least, most, same_item};
+ghost use Rattle.poly_tiling.specs.Puzzle.{bound_in, clash, count, found_or, has_item, is_piece, is_tiling, items, items_of, least, most, same_item};
 ghost use Rattle.poly_tiling.specs.Names.{WellNamed, items_ascend};
 ghost use Rattle.poly_tiling.specs.declared.item.Item.TheVariants.{Cell as CellItem, Piece as PieceItem};
 
+use crate::bound::Bound;
 use crate::conflicts::meets;
 use crate::item::Item;
 use crate::numbers::{ascends, has_all};
@@ -19,7 +20,7 @@ use std::marker::Model;
 pub struct View {
     placements: Vec<Placement>,
     live: Vec<u32>,
-    bounds: Vec<(Item, u8, u8)>,
+    bounds: Vec<Bound>,
     pins: Vec<u32>,
 }
 
@@ -40,7 +41,7 @@ impl View {
     pub fn with(
         placements: Vec<Placement>,
         live: Vec<u32>,
-        bounds: Vec<(Item, u8, u8)>,
+        bounds: Vec<Bound>,
         pins: Vec<u32>,
     ) -> View
         requires { WellNamed (record { placements = placements.items; live = live.items; bounds = bounds.items; pins = pins.items }) }
@@ -63,7 +64,7 @@ impl View {
     }
 
     /// The items of the design in item order, each with its least and its most.
-    pub fn items(&self) -> &[(Item, u8, u8)]
+    pub fn items(&self) -> &[Bound]
         ensures value { result.now ≡ self.now.bounds }
         ensures well { WellNamed self.now }
     {
@@ -155,7 +156,7 @@ impl View {
         ensures most { result.1 ≡ most self.now item }
     {
         match find_bound(&self.bounds, &item) {
-            Some(b) => (b.1, b.2),
+            Some(b) => (b.least, b.most),
             None => (0, 0),
         }
     }
@@ -173,9 +174,9 @@ impl View {
     }
 
     fn least_met(&self, numbers: &[u32]) -> bool
-        ensures { result ≡ list_all (λ b. nat_le (least self.now b.0) (count self.now numbers.now b.0)) self.now.bounds }
+        ensures { result ≡ list_all (λ b. nat_le (least self.now b.item) (count self.now numbers.now b.item)) self.now.bounds }
     {
-        self.bounds.iter().all(|b| self.bounds(b.0).0 as usize <= self.count(numbers, &b.0))
+        self.bounds.iter().all(|b| self.bounds(b.item).0 as usize <= self.count(numbers, &b.item))
     }
 
     fn most_met(&self, numbers: &[u32]) -> bool
@@ -256,12 +257,12 @@ fn has_cell_item(cells: &[Cell], item: &Item) -> bool
 }
 
 /// The item with its least and its most, found by binary search; `None` if the list lacks it. Requires items that ascend.
-pub fn find_bound(bounds: &[(Item, u8, u8)], item: &Item) -> Option<(Item, u8, u8)>
+pub fn find_bound(bounds: &[Bound], item: &Item) -> Option<Bound>
     requires { items_ascend bounds.now ≡ true }
     ensures bounds { (f : Bound → ℕ) → bound_in bounds.now item.now f ≡ found_or f result }
-    ensures there { is_some result ≡ list_any (λ b. same_item b.0 item.now) bounds.now }
+    ensures there { is_some result ≡ list_any (λ b. same_item b.item item.now) bounds.now }
 {
-    match bounds.binary_search_by_key(item, |b| b.0) {
+    match bounds.binary_search_by_key(item, |b| b.item) {
         Ok(at) => Some(bounds[at]),
         Err(_) => None,
     }

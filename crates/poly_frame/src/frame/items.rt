@@ -9,7 +9,7 @@ ghost use Rattle.poly_tiling.specs.declared.item.Item.TheVariants.{Cell as CellI
 ghost use Rattle.poly_frame.specs.FrameItems.{Noted, item_at, times};
 
 use poly_grid::{Cell, Refusal};
-use poly_tiling::{Item, View};
+use poly_tiling::{Bound, Item, View};
 use std::alloc::Global;
 
 /// The index of a cell in a list with an entry for each cell that a board can have.
@@ -22,10 +22,10 @@ pub(crate) fn cell_place(cell: Cell) -> usize
 }
 
 // How many entries such a list needs for these items.
-fn cells_room(bounds: &[(Item, u8, u8)]) -> usize {
+fn cells_room(bounds: &[Bound]) -> usize {
     let mut size = 0usize;
     for bound in bounds {
-        if let Item::Cell(cell) = bound.0 {
+        if let Item::Cell(cell) = bound.item {
             size = size.max(cell_place(cell) + 1);
         }
     }
@@ -33,12 +33,12 @@ fn cells_room(bounds: &[(Item, u8, u8)]) -> usize {
 }
 
 /// Guesses the indices of cells among the items.
-pub(crate) fn guess_cells(alloc: Global, bounds: &[(Item, u8, u8)]) -> Result<Vec<usize>, Refusal>
+pub(crate) fn guess_cells(alloc: Global, bounds: &[Bound]) -> Result<Vec<usize>, Refusal>
     ensures { IfErr result (λ e. e ≡ Refusal.Memory) }
 {
     let mut guesses = vec![in alloc; 0usize; cells_room(bounds)]?;
     for b in 0..bounds.len() {
-        if let Item::Cell(cell) = bounds[b].0 {
+        if let Item::Cell(cell) = bounds[b].item {
             let k = cell_place(cell);
             if k < guesses.len() {
                 guesses[k] = b;
@@ -63,16 +63,16 @@ pub(crate) fn guess_item(cells: &[usize], item: &Item) -> usize {
 }
 
 /// The index of an item. An item without a guess is mostly a piece, and pieces come last.
-pub(crate) fn index_of(bounds: &[(Item, u8, u8)], guess: usize, item: Item) -> Option<usize>
+pub(crate) fn index_of(bounds: &[Bound], guess: usize, item: Item) -> Option<usize>
     ensures { MatchOption result ((b : ℕ) → b < length bounds.now → same_item (item_at bounds.now b) item ≡ false) (λ b. (b < length bounds.now) × (same_item (item_at bounds.now b) item ≡ true)) }
 {
-    if guess < bounds.len() && bounds[guess].0.is(&item) {
+    if guess < bounds.len() && bounds[guess].item.is(&item) {
         return Some(guess);
     }
     let mut b = bounds.len();
     while b > 0 {
         b -= 1;
-        if bounds[b].0.is(&item) {
+        if bounds[b].item.is(&item) {
             return Some(b);
         }
     }
@@ -89,17 +89,17 @@ fn is_cell(item: &Item, cell: Cell) -> bool
 }
 
 // The index of a cell, if the guess is right or a search finds it.
-fn cell_at(bounds: &[(Item, u8, u8)], guess: usize, cell: Cell) -> Option<usize>
+fn cell_at(bounds: &[Bound], guess: usize, cell: Cell) -> Option<usize>
     ensures { MatchOption result ((b : ℕ) → b < length bounds.now → same_item (item_at bounds.now b) (CellItem cell) ≡ false) (λ b. (b < length bounds.now) × (same_item (item_at bounds.now b) (CellItem cell) ≡ true)) }
 {
-    if guess < bounds.len() && is_cell(&bounds[guess].0, cell) {
+    if guess < bounds.len() && is_cell(&bounds[guess].item, cell) {
         return Some(guess);
     }
     index_of(bounds, guess, Item::Cell(cell))
 }
 
 // Notes the index of a cell, if it has one.
-fn note_cell(bounds: &[(Item, u8, u8)], guess: usize, cell: Cell, noted: &mut Vec<usize>)
+fn note_cell(bounds: &[Bound], guess: usize, cell: Cell, noted: &mut Vec<usize>)
     requires room { vec_len noted.old < vec_capacity noted.old }
     requires order { items_ascend bounds.now ≡ true }
     ensures capacity { vec_capacity noted.new ≡ vec_capacity noted.old }
@@ -112,7 +112,7 @@ fn note_cell(bounds: &[(Item, u8, u8)], guess: usize, cell: Cell, noted: &mut Ve
 }
 
 // Notes the index of an item, if it has one.
-fn note_item(bounds: &[(Item, u8, u8)], guess: usize, item: Item, noted: &mut Vec<usize>)
+fn note_item(bounds: &[Bound], guess: usize, item: Item, noted: &mut Vec<usize>)
     requires room { vec_len noted.old < vec_capacity noted.old }
     requires order { items_ascend bounds.now ≡ true }
     ensures capacity { vec_capacity noted.new ≡ vec_capacity noted.old }
@@ -124,7 +124,7 @@ fn note_item(bounds: &[(Item, u8, u8)], guess: usize, item: Item, noted: &mut Ve
     }
 }
 
-fn note_cells(bounds: &[(Item, u8, u8)], guesses: &[usize], cells: &[Cell], noted: &mut Vec<usize>)
+fn note_cells(bounds: &[Bound], guesses: &[usize], cells: &[Cell], noted: &mut Vec<usize>)
     requires room { vec_len noted.old + length cells.now ≤ vec_capacity noted.old }
     requires order { items_ascend bounds.now ≡ true }
     requires ascending { IsAscending spot_cmp cells.now }

@@ -335,7 +335,7 @@ fn listed_due(node: &Node<'_>, steps: &Steps) -> Option<Item>
     ensures { MatchOption result ((b : ℕ) → b < length node.now.view.now.bounds → nat_lt (count node.now.view.now (base node.now.view.now node.now.path.now) (item_of node.now.view.now b)) (asks node.now.view.now node.now.path.now (item_of node.now.view.now b)) ≡ false) (λ i. nat_lt (count node.now.view.now (base node.now.view.now node.now.path.now) i) (asks node.now.view.now node.now.path.now i) ≡ true) }
 {
     match next_listed(node, steps) {
-        Some(b) => Some(node.view.items()[b].0),
+        Some(b) => Some(node.view.items()[b].item),
         None => None,
     }
 }

@@ -15,7 +15,7 @@ use crate::bits;
 use crate::frame::matrix::Matrix;
 use poly_atom::Atom;
 use poly_grid::Refusal;
-use poly_tiling::{Item, View};
+use poly_tiling::{Bound, Item, View};
 use std::alloc::Global;
 
 fn is_shut_at(item: &Item, most: u8, have: u64) -> bool
@@ -77,13 +77,7 @@ pub(crate) fn first_row(alloc: Global, n: usize, width: usize) -> Result<Vec<u64
 }
 
 // Takes out the numbers that have an item that is shut.
-fn take_out_shut(
-    bounds: &[(Item, u8, u8)],
-    whole: &Matrix,
-    uppers: &[u8],
-    have: &[u64],
-    row: &mut Vec<u64>,
-)
+fn take_out_shut(bounds: &[Bound], whole: &Matrix, uppers: &[u8], have: &[u64], row: &mut Vec<u64>)
     requires uppers { length uppers.now ≡ length bounds.now }
     requires have { length have.now ≡ length bounds.now }
     requires rows { length whole.now.rows.items ≡ whole.now.width * length bounds.now }
@@ -92,7 +86,7 @@ fn take_out_shut(
     ensures bits { (j : ℕ) → j < 64 * whole.now.width → has_bit row.new.items j ≡ (has_bit row.old.items j && not (any_below (λ b. shut_at (item_at bounds.now b) (slice_index uppers.now b) (slice_index have.now b) && has_bit whole.now.rows.items (place whole.now.width b j)) (length bounds.now))) }
 {
     for b in 0..bounds.len() {
-        if is_shut_at(&bounds[b].0, uppers[b], have[b]) {
+        if is_shut_at(&bounds[b].item, uppers[b], have[b]) {
             bits::take_out_row(row, 0, &whole.rows, whole.width * b, whole.width);
         }
     }

@@ -14,7 +14,7 @@ use crate::frame::matrix::Matrix;
 use crate::frame::node::Node;
 use crate::plain;
 use poly_atom::Atom;
-use poly_tiling::{Item, View, has_number};
+use poly_tiling::{Bound, Item, View, has_number};
 
 /// Whether the number is a placement of the design that is not ruled out.
 pub(crate) fn is_right(view: &View, atoms: &[Atom], members: &[u32], number: u32) -> bool
@@ -40,13 +40,13 @@ fn is_piece(item: &Item) -> bool
 }
 
 // Whether no item has more members than it may, a cell at most one.
-fn all_fit(bounds: &[(Item, u8, u8)], uppers: &[u8], have: &[u64]) -> bool
+fn all_fit(bounds: &[Bound], uppers: &[u8], have: &[u64]) -> bool
     requires uppers { length uppers.now ≡ length bounds.now }
     requires have { length have.now ≡ length bounds.now }
     ensures { result ≡ true → AllFit bounds.now uppers.now have.now }
 {
     for b in 0..bounds.len() {
-        if !fits(&bounds[b].0, uppers[b], have[b]) {
+        if !fits(&bounds[b].item, uppers[b], have[b]) {
             return false;
         }
     }

@@ -11,7 +11,7 @@ use crate::frame::items::{guess_item, index_of, note_items, raise};
 use crate::frame::matrix::Matrix;
 use poly_atom::Atom;
 use poly_grid::Refusal;
-use poly_tiling::{Item, View};
+use poly_tiling::{Bound, Item, View};
 use std::alloc::Global;
 
 /// For each item, how many members close its other placements, and how many members the atoms ask for. From index
@@ -28,7 +28,7 @@ ghost use Rattle.poly_frame.specs.Matrices.{IsMatrix};
 ghost use Rattle.poly_frame.specs.FrameTable.{AskedShow, HasOpen, HaveShows, TableShows, UppersShow, limit_at};
 
 // Lowers the most of the item that an atom names.
-fn allow(bounds: &[(Item, u8, u8)], cells: &[usize], atom: &Atom, uppers: &mut Vec<u8>)
+fn allow(bounds: &[Bound], cells: &[usize], atom: &Atom, uppers: &mut Vec<u8>)
     requires order { items_ascend bounds.now ≡ true }
     requires len { length uppers.old.items ≡ length bounds.now }
     ensures len { length uppers.new.items ≡ length bounds.now }
@@ -42,7 +42,7 @@ fn allow(bounds: &[(Item, u8, u8)], cells: &[usize], atom: &Atom, uppers: &mut V
 }
 
 // Raises the least of the item that an atom names.
-fn need(bounds: &[(Item, u8, u8)], cells: &[usize], atom: &Atom, asked: &mut Vec<u8>)
+fn need(bounds: &[Bound], cells: &[usize], atom: &Atom, asked: &mut Vec<u8>)
     requires order { items_ascend bounds.now ≡ true }
     requires len { length asked.old.items ≡ length bounds.now }
     ensures len { length asked.new.items ≡ length bounds.now }
@@ -55,24 +55,24 @@ fn need(bounds: &[(Item, u8, u8)], cells: &[usize], atom: &Atom, asked: &mut Vec
     }
 }
 
-fn mosts_of(alloc: Global, bounds: &[(Item, u8, u8)]) -> Result<Vec<u8>, Refusal>
-    ensures value { IfOk result (λ u. u.items ≡ map (λ b. b.2) bounds.now) }
+fn mosts_of(alloc: Global, bounds: &[Bound]) -> Result<Vec<u8>, Refusal>
+    ensures value { IfOk result (λ u. u.items ≡ map (λ b. b.most) bounds.now) }
     ensures why { IfErr result (λ e. e ≡ Refusal.Memory) }
 {
     let mut mosts = Vec::with_capacity(alloc, bounds.len())?;
     for b in bounds {
-        mosts.push(b.2)?;
+        mosts.push(b.most)?;
     }
     Ok(mosts)
 }
 
-fn leasts_of(alloc: Global, bounds: &[(Item, u8, u8)]) -> Result<Vec<u8>, Refusal>
-    ensures value { IfOk result (λ u. u.items ≡ map (λ b. b.1) bounds.now) }
+fn leasts_of(alloc: Global, bounds: &[Bound]) -> Result<Vec<u8>, Refusal>
+    ensures value { IfOk result (λ u. u.items ≡ map (λ b. b.least) bounds.now) }
     ensures why { IfErr result (λ e. e ≡ Refusal.Memory) }
 {
     let mut leasts = Vec::with_capacity(alloc, bounds.len())?;
     for b in bounds {
-        leasts.push(b.1)?;
+        leasts.push(b.least)?;
     }
     Ok(leasts)
 }
@@ -146,7 +146,7 @@ fn limit(item: &Item, most: u8) -> u8
     }
 }
 
-fn limits_of(alloc: Global, bounds: &[(Item, u8, u8)], uppers: &[u8]) -> Result<Vec<u8>, Refusal>
+fn limits_of(alloc: Global, bounds: &[Bound], uppers: &[u8]) -> Result<Vec<u8>, Refusal>
     requires { length uppers.now ≡ length bounds.now }
     ensures len { IfOk result (λ l. length l.items ≡ length bounds.now) }
     ensures value { IfOk result (λ l. (b : ℕ) → b < length bounds.now → slice_index l.items b ≡ limit_at (item_at bounds.now b) (slice_index uppers.now b)) }
@@ -154,19 +154,19 @@ fn limits_of(alloc: Global, bounds: &[(Item, u8, u8)], uppers: &[u8]) -> Result<
 {
     let mut limits = Vec::new(alloc);
     for b in 0..bounds.len() {
-        limits.push(limit(&bounds[b].0, uppers[b]))?;
+        limits.push(limit(&bounds[b].item, uppers[b]))?;
     }
     Ok(limits)
 }
 
-fn is_listed(bounds: &[(Item, u8, u8)], item: &Item) -> bool
-    ensures { result ≡ list_any (λ b. same_item b.0 item.now) bounds.now }
+fn is_listed(bounds: &[Bound], item: &Item) -> bool
+    ensures { result ≡ list_any (λ b. same_item b.item item.now) bounds.now }
 {
-    bounds.iter().any(|b| b.0.is(item))
+    bounds.iter().any(|b| b.item.is(item))
 }
 
-fn asks_listed(bounds: &[(Item, u8, u8)], atom: &Atom) -> bool
-    ensures { result ≡ of_asked (λ i. list_any (λ b. same_item b.0 i) bounds.now) atom.now }
+fn asks_listed(bounds: &[Bound], atom: &Atom) -> bool
+    ensures { result ≡ of_asked (λ i. list_any (λ b. same_item b.item i) bounds.now) atom.now }
 {
     match atom {
         Atom::AtLeast(item, _) => is_listed(bounds, item),
@@ -175,8 +175,8 @@ fn asks_listed(bounds: &[(Item, u8, u8)], atom: &Atom) -> bool
 }
 
 // Whether the atoms ask only for items of the view.
-fn all_listed(bounds: &[(Item, u8, u8)], atoms: &[Atom]) -> bool
-    ensures { result ≡ list_all (of_asked (λ i. list_any (λ b. same_item b.0 i) bounds.now)) atoms.now }
+fn all_listed(bounds: &[Bound], atoms: &[Atom]) -> bool
+    ensures { result ≡ list_all (of_asked (λ i. list_any (λ b. same_item b.item i) bounds.now)) atoms.now }
 {
     atoms.iter().all(|a| asks_listed(bounds, a))
 }

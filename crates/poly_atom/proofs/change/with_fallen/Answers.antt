@@ -7,13 +7,13 @@ pub loop-bound-preserved : goal.loop-bound-preserved
 loop-bound-preserved c = record {
   inside = c.skip_items-at.ensures.inside;
   walked =
-      ap (λ out. out ++ walk bound_below same_bound fell (λ b. AtLeast b.0 b.1) (drop (c.loop-bound.bound-index + 1) c.args.old.now) (drop c.skip_items-at.result c.args.new.now)) c.in_ok-add_if.ensures
-      ∙ walk_step bound_below same_bound fell (λ b. AtLeast b.0 b.1) c.args.old.now c.loop-bound.bound-index c.bound-item.result (drop c.loop-bound.at c.args.new.now) (drop c.skip_items-at.result c.args.new.now)
-      c.loop-bound.atoms.items _ c.loop-bound-test.true c.bound-item.is c.skip_items-at.ensures.rest (ap (λ n. nat_lt n c.bound-item.result.1) c.bounds_at.ensures.least)
+      ap (λ out. out ++ walk bound_below same_bound fell (λ b. AtLeast b.item b.least) (drop (c.loop-bound.bound-index + 1) c.args.old.now) (drop c.skip_items-at.result c.args.new.now)) c.in_ok-add_if.ensures
+      ∙ walk_step bound_below same_bound fell (λ b. AtLeast b.item b.least) c.args.old.now c.loop-bound.bound-index c.bound-item.result (drop c.loop-bound.at c.args.new.now) (drop c.skip_items-at.result c.args.new.now)
+      c.loop-bound.atoms.items _ c.loop-bound-test.true c.bound-item.is c.skip_items-at.ensures.rest (ap (λ n. nat_lt n c.bound-item.result.least) c.bounds_at.ensures.least)
       ∙ c.loop-bound.invariant.walked;
 }
 
 pub returns : goal.returns
 returns c =
-    sym (walk_done bound_below same_bound fell (λ b. AtLeast b.0 b.1) c.args.old.now c.loop-bound.bound-index (drop c.loop-bound.at c.args.new.now) c.loop-bound.atoms.items c.loop-bound-test.false)
-    ∙ c.loop-bound.invariant.walked ∙ ap (λ w. c.args.atoms.items ++ w) (walk_fell (λ b. AtLeast b.0 b.1) c.args.old.now c.args.new.now c.requires.old_up c.requires.new_up)
+    sym (walk_done bound_below same_bound fell (λ b. AtLeast b.item b.least) c.args.old.now c.loop-bound.bound-index (drop c.loop-bound.at c.args.new.now) c.loop-bound.atoms.items c.loop-bound-test.false)
+    ∙ c.loop-bound.invariant.walked ∙ ap (λ w. c.args.atoms.items ++ w) (walk_fell (λ b. AtLeast b.item b.least) c.args.old.now c.args.new.now c.requires.old_up c.requires.new_up)

@@ -6,4 +6,4 @@ use Rattle.poly_frame.specs.Plain.{of_asked}
 use Rattle.poly_frame.proofs.plain.due_elsewhere.Given as goal
 
 abbrev pub invariant-loop-atom : goal.invariant-loop-atom
-invariant-loop-atom l = list_all (of_asked (λ i. list_any (λ b. same_item b.0 i) l.view.bounds || not (nat_lt (count l.view l.members i) (asks l.view l.atoms i)))) (take l.atom-index l.atoms) ≡ true
+invariant-loop-atom l = list_all (of_asked (λ i. list_any (λ b. same_item b.item i) l.view.bounds || not (nat_lt (count l.view l.members i) (asks l.view l.atoms i)))) (take l.atom-index l.atoms) ≡ true

@@ -15,8 +15,8 @@ loop-name-preserved c =
     let spec = c.in-Some.spec.now in
     let pushed : c.push.new.self.items ≡ now ++ piece_bound (name, spec) ∷ [] =
     c.in_ok-push.ensures.items
-    ∙ ap (λ n. now ++ (Piece name, n, c.most.result) ∷ []) c.least.ensures.value
-    ∙ ap (λ n. now ++ (Piece name, spec.copies.least, n) ∷ []) c.most.ensures.value in
+    ∙ ap (λ n. now ++ record { item = Piece name; least = n; most = c.most.result } ∷ []) c.least.ensures.value
+    ∙ ap (λ n. now ++ record { item = Piece name; least = spec.copies.least; most = n } ∷ []) c.most.ensures.value in
     pieces_more c.args.pieces.now.entries _ _ (name, spec) c.args.list.now.items now c.push.new.self.items c.loop-name.invariant c.in-Some.ensures.steps pushed
     (and_from _ _ (le-leb _ _ c.least.ensures.bounded.0) (le-leb _ _ c.least.ensures.bounded.1))
 

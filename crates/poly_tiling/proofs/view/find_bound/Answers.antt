@@ -17,25 +17,25 @@ derived (Piece m) (Piece n) = search rules
 pub returns-in-Ok-clause-bounds : goal.returns-in-Ok-clause-bounds
 returns-in-Ok-clause-bounds c =
     let i = c.args.item.now in
-    bound_found c.args.bounds.now i (λ b. ghosts.cmp b.0 i) (λ b. derived b.0 i) c.requires c.in-Ok.at c.in-Ok.ensures.bound
-    (c.in-Ok.ensures.position (λ b. b.0) (answers_always _ _ _ (λ f a r g h. search rules)))
+    bound_found c.args.bounds.now i (λ b. ghosts.cmp b.item i) (λ b. derived b.item i) c.requires c.in-Ok.at c.in-Ok.ensures.bound
+    (c.in-Ok.ensures.position (λ b. b.item) (answers_always _ _ _ (λ f a r g h. search rules)))
     c.index-bounds-at.result c.index-bounds-at.is
 
 pub returns-in-Err-clause-bounds : goal.returns-in-Err-clause-bounds
 returns-in-Err-clause-bounds c =
     let i = c.args.item.now in
-    bound_missing c.args.bounds.now i (λ b. ghosts.cmp b.0 i) (λ b. derived b.0 i) c.requires c.in-Err.field-0
-    (c.in-Err.ensures.position (λ b. b.0) (answers_always _ _ _ (λ f a r g h. search rules)))
+    bound_missing c.args.bounds.now i (λ b. ghosts.cmp b.item i) (λ b. derived b.item i) c.requires c.in-Err.field-0
+    (c.in-Err.ensures.position (λ b. b.item) (answers_always _ _ _ (λ f a r g h. search rules)))
 
 pub returns-in-Ok-clause-there : goal.returns-in-Ok-clause-there
 returns-in-Ok-clause-there c =
     let i = c.args.item.now in
-    sym (is_there c.args.bounds.now i (bound_found c.args.bounds.now i (λ b. ghosts.cmp b.0 i) (λ b. derived b.0 i) c.requires c.in-Ok.at c.in-Ok.ensures.bound
-    (c.in-Ok.ensures.position (λ b. b.0) (answers_always _ _ _ (λ f a r g h. search rules)))
+    sym (is_there c.args.bounds.now i (bound_found c.args.bounds.now i (λ b. ghosts.cmp b.item i) (λ b. derived b.item i) c.requires c.in-Ok.at c.in-Ok.ensures.bound
+    (c.in-Ok.ensures.position (λ b. b.item) (answers_always _ _ _ (λ f a r g h. search rules)))
     c.index-bounds-at.result c.index-bounds-at.is (λ b. 1)))
 
 pub returns-in-Err-clause-there : goal.returns-in-Err-clause-there
 returns-in-Err-clause-there c =
     let i = c.args.item.now in
-    sym (is_nowhere c.args.bounds.now i (bound_missing c.args.bounds.now i (λ b. ghosts.cmp b.0 i) (λ b. derived b.0 i) c.requires c.in-Err.field-0
-    (c.in-Err.ensures.position (λ b. b.0) (answers_always _ _ _ (λ f a r g h. search rules))) (λ b. 1)))
+    sym (is_nowhere c.args.bounds.now i (bound_missing c.args.bounds.now i (λ b. ghosts.cmp b.item i) (λ b. derived b.item i) c.requires c.in-Err.field-0
+    (c.in-Err.ensures.position (λ b. b.item) (answers_always _ _ _ (λ f a r g h. search rules))) (λ b. 1)))

@@ -1,6 +1,7 @@
 use Rattle.std.proofs.Common.{List, [], ap, append_assoc, map, subst, ◌++◌, ◌∙◌, ◌∷◌}
 use Rattle.poly_grid.specs.Spot.{Spot}
-use Rattle.poly_tiling.specs.Puzzle.{Bound, items_of}
+use Rattle.poly_tiling.specs.declared.bound.Bound.{Bound}
+use Rattle.poly_tiling.specs.Puzzle.{items_of}
 use Rattle.poly_tiling.specs.declared.item.Item.{Item}
 use Rattle.poly_tiling.specs.declared.item.Item.TheVariants.{Cell, Piece}
 use Rattle.poly_frame.specs.FrameItems.{Noted}

@@ -1,5 +1,6 @@
 use Rattle.std.proofs.Common.{List, false, length, subst, ℕ, ◌<◌, ◌∙◌, ◌≡◌}
-use Rattle.poly_tiling.specs.Puzzle.{Bound, same_item}
+use Rattle.poly_tiling.specs.declared.bound.Bound.{Bound}
+use Rattle.poly_tiling.specs.Puzzle.{same_item}
 use Rattle.poly_frame.specs.FrameItems.{item_at}
 use Rattle.poly_frame.proofs.FrameLooks.{none_has}
 use Rattle.poly_frame.proofs.frame.looks.list_options.Goals as goal

@@ -1,5 +1,5 @@
 use Rattle.std.proofs.Common.{List, ap, get_or, not, ℕ, ◌&&◌, ◌*◌, ◌<◌, ◌∙◌, ◌≡◌, arith, length}
-use Rattle.poly_tiling.specs.Puzzle.{Bound}
+use Rattle.poly_tiling.specs.declared.bound.Bound.{Bound}
 use Rattle.poly_frame.specs.Bits.{has_bit}
 use Rattle.poly_frame.specs.FrameItems.{item_at}
 use Rattle.poly_frame.specs.FrameTable.{shut_at}

@@ -1,7 +1,7 @@
 use Rattle.std.proofs.Common.{List, ap, not, subst, sym, true, ℕ, ◌&&◌, ◌∙◌, ◌≡◌}
 use Rattle.std.specs.List.{list_all, list_any}
 use Rattle.poly_tiling.specs.Lists.{mem}
-use Rattle.poly_tiling.specs.Puzzle.{Bound}
+use Rattle.poly_tiling.specs.declared.bound.Bound.{Bound}
 use Rattle.poly_atom.specs.Hopeless.{base, lacks}
 use Rattle.poly_frame.specs.FrameSound.{AllFit}
 use Rattle.poly_frame.specs.FrameTable.{HaveShows}

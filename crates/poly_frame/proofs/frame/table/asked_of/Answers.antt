@@ -1,5 +1,5 @@
 use Rattle.std.proofs.Common.{List, ap, arith, drop, get_or, length, map, subst, sym, ◌+◌, ◌-◌, ◌<◌, ◌∙◌, ◌≡◌, ℕ}
-use Rattle.poly_tiling.specs.Puzzle.{Bound}
+use Rattle.poly_tiling.specs.declared.bound.Bound.{Bound}
 use Rattle.poly_frame.specs.Plain.{needed}
 use Rattle.poly_frame.specs.FrameItems.{item_at}
 use Rattle.poly_frame.specs.FrameTable.{AskedShow}
@@ -8,10 +8,10 @@ use Rattle.poly_frame.proofs.frame.table.asked_of.Goals as goal
 
 pub loop-k-init : goal.loop-k-init
 loop-k-init c =
-    let e = c.in_ok-asked.ensures.value ∙ ap (λ bs. map (λ (b : Bound). b.1) bs) c.items-bounds.ensures.value in
+    let e = c.in_ok-asked.ensures.value ∙ ap (λ bs. map (λ (b : Bound). b.least) bs) c.items-bounds.ensures.value in
     record {
       low = omega arith;
-      len = ap length e ∙ map_len (λ b. b.1) c.args.view.now.bounds;
+      len = ap length e ∙ map_len (λ b. b.least) c.args.view.now.bounds;
       shown = asked_start c.args.view.now c.args.atoms.now c.in_ok-asked.asked.items c.items-bounds.ensures.well.items_up e;
     }
 

@@ -1,6 +1,7 @@
 use Rattle.std.proofs.Common.{List, ap, arith, get_or, subst, sym, true, length, ◌∙◌, ◌≡◌}
 use Rattle.std.specs.List.{list_all, list_any}
-use Rattle.poly_tiling.specs.Puzzle.{Bound, same_item}
+use Rattle.poly_tiling.specs.declared.bound.Bound.{Bound}
+use Rattle.poly_tiling.specs.Puzzle.{same_item}
 use Rattle.poly_atom.specs.Hopeless.{base}
 use Rattle.poly_frame.specs.Plain.{of_asked}
 use Rattle.poly_frame.specs.FrameItems.{item_at, item_of}
@@ -20,7 +21,7 @@ returns-clause-value c =
       limits_len = c.in_ok-limits.ensures.len ∙ ap length c.items-bounds.ensures.value;
       asked = c.in_ok-asked.ensures.value;
       asked_len = c.in_ok-asked.ensures.len;
-      listed = λ y. subst (λ (bs : List Bound). list_all (of_asked (λ i. list_any (λ b. same_item b.0 i) bs)) A ≡ true) c.items-bounds.ensures.value (sym c.all_listed-listed.ensures ∙ y);
+      listed = λ y. subst (λ (bs : List Bound). list_all (of_asked (λ i. list_any (λ b. same_item b.item i) bs)) A ≡ true) c.items-bounds.ensures.value (sym c.all_listed-listed.ensures ∙ y);
       quiet = λ b l h. ap (λ xs. get_or xs b 0) (sym c.deref-2.ensures.value) ∙ c.end_of-asked_end.ensures b l (omega (arith, h, ap length c.deref-2.ensures.value, c.in_ok-asked.ensures.len));
       small = λ i. omega (arith, count_le v (base v A) i, c.requires.few);
     }

@@ -1,5 +1,5 @@
 use Rattle.std.proofs.Common.{List, ap, arith, drop, get_or, length, map, subst, sym, ◌+◌, ◌-◌, ◌<◌, ◌∙◌, ◌≡◌, ℕ}
-use Rattle.poly_tiling.specs.Puzzle.{Bound}
+use Rattle.poly_tiling.specs.declared.bound.Bound.{Bound}
 use Rattle.poly_frame.specs.Plain.{allowed}
 use Rattle.poly_frame.specs.FrameItems.{item_at}
 use Rattle.poly_frame.specs.FrameTable.{UppersShow}
@@ -8,10 +8,10 @@ use Rattle.poly_frame.proofs.frame.table.uppers_of.Goals as goal
 
 pub loop-k-init : goal.loop-k-init
 loop-k-init c =
-    let e = c.in_ok-uppers.ensures.value ∙ ap (λ bs. map (λ (b : Bound). b.2) bs) c.items-bounds.ensures.value in
+    let e = c.in_ok-uppers.ensures.value ∙ ap (λ bs. map (λ (b : Bound). b.most) bs) c.items-bounds.ensures.value in
     record {
       low = omega arith;
-      len = ap length e ∙ map_len (λ b. b.2) c.args.view.now.bounds;
+      len = ap length e ∙ map_len (λ b. b.most) c.args.view.now.bounds;
       shown = uppers_start c.args.view.now c.args.atoms.now c.in_ok-uppers.uppers.items c.items-bounds.ensures.well.items_up e;
     }
 

@@ -1,6 +1,7 @@
 use Rattle.std.proofs.Common.{Bool, List, [], ap, arith, drop, false, length, subst, sym, ◌∙◌, ◌≡◌, ℕ}
 use Rattle.std.specs.Prelude.{slice_index_or}
-use Rattle.poly_tiling.specs.Puzzle.{Bound, View}
+use Rattle.poly_tiling.specs.declared.bound.Bound.{Bound}
+use Rattle.poly_tiling.specs.Puzzle.{View}
 use Rattle.poly_place.specs.Index.{AreRows, IsIndex, Row, has_of, rows_without, with_numbers}
 use Rattle.poly_place.specs.Sides.{by_sides}
 use Rattle.poly_place.proofs.Indexed.{whole_index}
