@@ -1,5 +1,5 @@
 -- A book lists no more tilings than its design has, and all of them if nothing is pending.
-use Rattle.std.proofs.Common.{Bool, List, None, Option, Some, [], ap, arith, cond, false, get_or, inl, inr, length, refl, subst, sym, true, ℕ, ◌&&◌, ◌+◌, ◌<◌, ◌∙◌, ◌∷◌, ◌≡◌, ◌≢◌, ◌≤◌, ◌⊎◌, ◌↔◌}
+use Rattle.std.proofs.Common.{Bool, List, None, Option, Some, [], ap, arith, cond, false, get_or, inl, inr, length, refl, subst, sym, true, ℕ, ◌+◌, ◌<◌, ◌∙◌, ◌∷◌, ◌≡◌, ◌≢◌, ◌≤◌, ◌⊎◌, ◌↔◌}
 use Rattle.std.proofs.lemmas.Bool.{cases_lt}
 use Rattle.std.proofs.lemmas.Cmp.{lists_total}
 use Rattle.std.specs.Cmp.Lexicographic.{slice_cmp}
@@ -12,7 +12,7 @@ use Rattle.poly_design.specs.Changes.{changed, inverse_of}
 use Rattle.poly_design.specs.Layout.{Layout}
 use Rattle.poly_design.specs.PlacementOrder.{placement_cmp, placement_total}
 use Rattle.poly_design.specs.declared.placement.Placement.{Placement}
-use Rattle.poly_tiling.specs.Listings.{HasOverTilings, IsListOfTilings, IsTilingInOrder}
+use Rattle.poly_tiling.specs.Listings.{HasOverTilings, IsTilingInOrder}
 use Rattle.poly_tiling.specs.Lists.{one}
 use Rattle.poly_tiling.specs.Names.{WellNamed}
 use Rattle.poly_tiling.specs.Puzzle.{View}
@@ -28,7 +28,7 @@ use Rattle.poly_book.specs.Events.{Event, Goes, LeadsBy, Redo, Report, Undo, cut
 use Rattle.poly_book.specs.Partition.{Partition}
 use Rattle.poly_book.specs.Refused.{IsNotApplied, IsNotMade, IsNotRedone, IsNotUndone, IsOver}
 use Rattle.poly_book.specs.Settled.{IsNotSettled}
-use Rattle.poly_book.specs.States.{State, Way}
+use Rattle.poly_book.specs.States.{State}
 use Rattle.poly_book.specs.Tasks.{Task, find_task}
 use Rattle.poly_book.specs.Whole.{Whole}
 use Rattle.poly_book.proofs.Cataloguing.{becomes_itself, listed_once}

@@ -15,6 +15,7 @@ use Rattle.poly_place.specs.Right.{IsRight}
 use Rattle.poly_undo.specs.declared.step.Step.{Step as Beside}
 use Rattle.poly_undo.specs.Steps.{Moves, Steps, next_of, newest as newest_undo}
 use Rattle.poly_undo.proofs.Turns.{next_of_ends, step_from_next}
+use Rattle.poly_book.specs.declared.register.Register.{Register}
 use Rattle.poly_book.specs.declared.shelf.Kept.{Kept}
 use Rattle.poly_book.specs.declared.step.Ending.{Ending}
 use Rattle.poly_book.specs.declared.step.Kind.{Kind}
@@ -30,6 +31,7 @@ use Rattle.poly_book.specs.States.{State, Way}
 use Rattle.poly_book.specs.Changing.{CanNote, IsTop, Noted, event_of, shelf_at, stood_by}
 use Rattle.poly_book.proofs.Alive.{becomes_lives}
 use Rattle.poly_book.proofs.Changes.{Did, all_numbered, changed_by_way, kept_way, moved_shown, new_tasks, newest_all, ways_newest, ways_push}
+use Rattle.poly_book.proofs.Noted.{did_noted}
 use Rattle.poly_book.proofs.Proved.{steps_keep_whole_lem}
 
 some_next : {X : Type 0} (xs : List X) (x : X) → next_of xs ≡ Some x → 0 < length xs
@@ -134,10 +136,10 @@ did_leads {d = d} {w = w} {t2 = t2} {x = x} k c has is =
     let r = subst (λ t. IsRight t (changed d x)) c.table_is c.right in
     record { before = has; design = is; well = r.well; shows = r.shows; names = c.names }
 
-pub did_keeps : {o d d2 : Layout} {v t w t2 : View} {ls ls2 : List (List ℕ)} {log log2 : List (List Atom)} {ps ps2 fresh : List Pending} {flags : List Bool} {n n2 : ℕ} {h h2 : Steps Change Kept} {ss ss2 : List Step} {es es2 : List Ending} {x : Change} {kept : Kept} (k : Kind) →
-    KeepsOf o d v t ls log ps n h ss es → Did o d d2 v w t2 ls ls2 log log2 ps ps2 fresh flags n n2 h h2 ss ss2 es es2 k x kept → HasBefore d x → IsDesign (changed d x) → IsTop k h x →
-    KeepsOf o d2 w t2 ls2 log2 ps2 n2 h2 ss2 es2
-did_keeps {o} {d} {d2} {v} {t} {w} {t2} {ls} {ls2} {log} {log2} {ps} {ps2} {fresh} {flags} {n} {n2} {h} {h2} {ss} {ss2} {es} {es2} {x} {kept} k p c has is top =
+pub did_keeps : {m : Register} {o d d2 : Layout} {v t w t2 : View} {ls ls2 : List (List ℕ)} {log log2 : List (List Atom)} {ps ps2 fresh : List Pending} {flags : List Bool} {n n2 : ℕ} {h h2 : Steps Change Kept} {ss ss2 : List Step} {es es2 : List Ending} {x : Change} {kept : Kept} (k : Kind) →
+    KeepsOf m o d v t ls log ps n h ss es → Did o d d2 v w t2 ls ls2 log log2 ps ps2 fresh flags n n2 h h2 ss ss2 es es2 k x kept → HasBefore d x → IsDesign (changed d x) → IsTop k h x →
+    KeepsOf m o d2 w t2 ls2 log2 ps2 n2 h2 ss2 es2
+did_keeps {m} {o} {d} {d2} {v} {t} {w} {t2} {ls} {ls2} {log} {log2} {ps} {ps2} {fresh} {flags} {n} {n2} {h} {h2} {ss} {ss2} {es} {es2} {x} {kept} k p c has is top =
     let s = shown o d v ls log ps n h ss es in
     let g = leads_top k s h x w refl refl top (did_leads k c has is) in
     let b = did_becomes k c p.tasks p.log_length top in
@@ -146,6 +148,8 @@ did_keeps {o} {d} {d2} {v} {t} {w} {t2} {ls} {ls2} {log} {log2} {ps} {ps2} {fres
       right = subst (λ z. IsRight t2 z) (sym c.design_is) c.right;
       grown = subst (λ z. Grown w z) (sym c.table_is) (grown_self w);
       tasks = new_tasks c p.tasks;
+      mapped = did_noted m.below m.maps c p.tasks p.below p.mapped;
+      below = (let low = p.below in omega (arith, low, c.next_is));
       alive = becomes_lives s (shown o d2 w ls2 log2 ps2 n2 h2 ss2 es2) (event_of k x w) b p.alive;
       log_length = ap length c.log_is ∙ length_push log (guards v w) ∙ ap (λ m. m + 1) p.log_length ∙ sym (ap length c.steps_are ∙ length_push ss _);
       few_steps = omega (arith, c.few_steps, ap length c.steps_are ∙ length_push ss _);
@@ -155,6 +159,6 @@ did_keeps {o} {d} {d2} {v} {t} {w} {t2} {ls} {ls2} {log} {log2} {ps} {ps2} {fres
     }
 
 -- the same fields, but for numbers that the table gave out
-pub still_keeps : {o d : Layout} {v t t2 : View} {ls : List (List ℕ)} {log : List (List Atom)} {ps : List Pending} {n : ℕ} {h : Steps Change Kept} {ss : List Step} {es : List Ending} →
-    KeepsOf o d v t ls log ps n h ss es → Grown t t2 → IsRight t2 d → KeepsOf o d v t2 ls log ps n h ss es
-still_keeps {v = v} {t = t} {t2 = t2} p g r = record { whole = p.whole; right = r; grown = grown_on v t t2 p.grown g; tasks = p.tasks; alive = p.alive; log_length = p.log_length; few_steps = p.few_steps; few_tasks = p.few_tasks; numbered = p.numbered; few_ways = p.few_ways }
+pub still_keeps : {m : Register} {o d : Layout} {v t t2 : View} {ls : List (List ℕ)} {log : List (List Atom)} {ps : List Pending} {n : ℕ} {h : Steps Change Kept} {ss : List Step} {es : List Ending} →
+    KeepsOf m o d v t ls log ps n h ss es → Grown t t2 → IsRight t2 d → KeepsOf m o d v t2 ls log ps n h ss es
+still_keeps {v = v} {t = t} {t2 = t2} p g r = record { whole = p.whole; right = r; grown = grown_on v t t2 p.grown g; tasks = p.tasks; alive = p.alive; mapped = p.mapped; below = p.below; log_length = p.log_length; few_steps = p.few_steps; few_tasks = p.few_tasks; numbered = p.numbered; few_ways = p.few_ways }

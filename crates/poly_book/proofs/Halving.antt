@@ -22,7 +22,7 @@ numbers_rise m n log (p ∷ ps) r (suc i) (suc j) d h l = numbers_rise (p.number
 from_not_below : (m k : ℕ) → nat_lt k m ≡ false → nat_le m k ≡ true
 from_not_below m k f = elim (leb_tells m k) [ inl p ↦ p.0 | inr p ↦ absurd (true≢false (sym (lt-ltb k m p.1) ∙ f)) ]
 
-not_from_below : (m k : ℕ) → nat_lt k m ≡ true → nat_le m k ≡ false
+pub not_from_below : (m k : ℕ) → nat_lt k m ≡ true → nat_le m k ≡ false
 not_from_below m k t = elim (leb_tells m k) [ inl p ↦ absurd (omega (arith, p.1, ltb-true k m t)) | inr p ↦ p.0 ]
 
 pub first_here : (m : ℕ) (ps : List Pending) (i : ℕ) (d : Pending) → AllWithin (λ (p : Pending). nat_lt p.number m ≡ true) ps 0 i → AllWithin (λ (p : Pending). nat_lt p.number m ≡ false) ps i (length ps) → i < length ps → number_from m ps ≡ Some (get_or ps i d).number

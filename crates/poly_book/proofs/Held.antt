@@ -36,7 +36,7 @@ since_push zero log g h = flat_push log g
 since_push (suc n) [] g h = absurd (omega (arith, h))
 since_push (suc n) (x ∷ log) g h = since_push n log g (omega (arith, h))
 
-own_push : (log : List (List Atom)) (g : List Atom) (o : Own) → IsOwn log o → own_of (log ++ g ∷ []) o ≡ own_of log o
+pub own_push : (log : List (List Atom)) (g : List Atom) (o : Own) → IsOwn log o → own_of (log ++ g ∷ []) o ≡ own_of log o
 own_push log g (Atoms v) h = refl
 own_push log g (OfStair s) h = stair_stays log g s h.edition_in
 

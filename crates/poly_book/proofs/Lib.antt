@@ -1,4 +1,5 @@
 pub mod Sharing
+pub mod Noted
 pub mod Numbered
 pub mod Moves
 pub mod Traces
@@ -14,7 +15,9 @@ pub mod Proved
 pub mod Held
 pub mod Changes
 pub mod Alive
-pub mod Fronts
+pub mod Mapping
+pub mod Touched
+pub mod Reached
 pub mod Applying
 pub mod Tops
 pub mod Places
@@ -23,6 +26,7 @@ pub mod Taking
 pub mod Running
 pub mod Settles
 pub mod Nexting
+pub mod Keyed
 pub mod Leading
 pub mod Cataloguing
 pub mod Amounts

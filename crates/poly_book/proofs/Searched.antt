@@ -1,5 +1,5 @@
 -- What a search found, for a task at a place.
-use Rattle.std.proofs.Common.{Bool, List, Some, ap, get_or, subst, sym, true, ℕ, ◌∙◌, ◌≡◌}
+use Rattle.std.proofs.Common.{Bool, List, Some, ap, get_or, subst, sym, ℕ, ◌∙◌, ◌≡◌}
 use Rattle.std.specs.List.{position_from}
 use Rattle.std.specs.Prelude.{IsTrue, ◌==◌, ◌↔◌}
 use Rattle.poly_tiling.specs.Puzzle.{View}
@@ -12,7 +12,7 @@ use Rattle.poly_book.specs.Findings.{HasAtoms, IsFound}
 use Rattle.poly_book.specs.Keeps.{state_of}
 use Rattle.poly_book.specs.Meaning.{task_of}
 use Rattle.poly_book.specs.Reports.{AreLeaves}
-use Rattle.poly_book.specs.Tasks.{Task, atoms_of, find_task}
+use Rattle.poly_book.specs.Tasks.{atoms_of, find_task}
 use Rattle.poly_book.proofs.Places.{at_find, first_at}
 
 some_inside : {X : Type 0} (x y : X) → Some x ≡ Some y → x ≡ y

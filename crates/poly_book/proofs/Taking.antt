@@ -2,7 +2,6 @@
 use Rattle.std.proofs.Common.{Bool, List, Some, [], ap, arith, cond, drop, get_or, length, subst, suc, sym, take, true, ℕ, ◌&&◌, ◌++◌, ◌+◌, ◌∙◌, ◌∷◌, ◌<◌, ◌≡◌, ◌≤◌}
 use Rattle.std.proofs.lemmas.Bool.{and_from}
 use Rattle.std.proofs.lemmas.List.{length-append, length_push}
-use Rattle.std.specs.Arc.{arc_value}
 use Rattle.std.specs.List.{position_from}
 use Rattle.std.specs.Prelude.{◌==◌}
 use Rattle.poly_design.specs.Layout.{Layout}
@@ -16,6 +15,7 @@ use Rattle.poly_report.specs.Holds.{holds}
 use Rattle.poly_report.specs.Leaves.{rests, tilings}
 use Rattle.poly_undo.specs.Steps.{Steps}
 use Rattle.poly_book.specs.declared.parts.Parts.{Parts}
+use Rattle.poly_book.specs.declared.register.Register.{Register}
 use Rattle.poly_book.specs.declared.shelf.Kept.{Kept}
 use Rattle.poly_book.specs.declared.step.Ending.{Ending}
 use Rattle.poly_book.specs.declared.step.Ending.TheVariants.{Cut}
@@ -23,6 +23,7 @@ use Rattle.poly_book.specs.declared.step.Step.{Step}
 use Rattle.poly_book.specs.declared.task.Pending.{Pending}
 use Rattle.poly_book.specs.Events.{Report, cut, handed_in, step}
 use Rattle.poly_book.specs.Keeps.{Keeps, KeepsOf}
+use Rattle.poly_book.specs.Mapped.{AreNotedBelow}
 use Rattle.poly_book.specs.Meaning.{AreTasks, shown, task_of, tasks_of}
 use Rattle.poly_book.specs.Opens.{Opens}
 use Rattle.poly_book.specs.Partition.{Becomes}
@@ -31,6 +32,7 @@ use Rattle.poly_book.specs.States.{State}
 use Rattle.poly_book.specs.Tasks.{Task, atoms_of, drop_task, find_task, hopeful, tasks_from}
 use Rattle.poly_book.proofs.Alive.{becomes_lives}
 use Rattle.poly_book.proofs.Held.{are_append, opened_length, tasks_append}
+use Rattle.poly_book.proofs.Noted.{below_append, below_fresh, below_left}
 use Rattle.poly_book.proofs.Numbered.{found_in}
 use Rattle.poly_book.proofs.Places.{At, at_left, at_drop, at_find, at_tasks, find_where, first_at, found_where}
 use Rattle.poly_book.proofs.Proved.{steps_keep_whole_lem}
@@ -64,7 +66,7 @@ pub record Took (v : View) (ls ls2 : List (List ℕ)) (log : List (List Atom)) (
   pub few_tasks : n2 ≤ 4294967296
   pub ended_are : es2 ≡ es ++ Cut k ∷ []
 
-module _ {o d : Layout} {v t : View} {ls ls2 : List (List ℕ)} {log : List (List Atom)} {ps ps2 fresh : List Pending} {n n2 : ℕ} {h : Steps Change Kept} {ss : List Step} {es es2 : List Ending} {k place : ℕ} {x : Pending} {tree : Plan} (keeps : KeepsOf o d v t ls log ps n h ss es) (c : Took v ls ls2 log ps ps2 fresh n n2 es es2 k place x tree) where
+module _ {m : Register} {o d : Layout} {v t : View} {ls ls2 : List (List ℕ)} {log : List (List Atom)} {ps ps2 fresh : List Pending} {n n2 : ℕ} {h : Steps Change Kept} {ss : List Step} {es es2 : List Ending} {k place : ℕ} {x : Pending} {tree : Plan} (keeps : KeepsOf m o d v t ls log ps n h ss es) (c : Took v ls ls2 log ps ps2 fresh n n2 es es2 k place x tree) where
   pub took_found : find_task k (tasks_of log ps) ≡ Some (task_of log x)
   took_found = at_find k log ps place x c.there ∙ ap (λ y. Some (task_of log y)) (sym c.is)
 
@@ -86,7 +88,7 @@ module _ {o d : Layout} {v t : View} {ls ls2 : List (List ℕ)} {log : List (Lis
       } in
       subst (λ z. Becomes z (shown o d v ls2 log ps2 n2 h ss es2)) (sym is) b
 
-  pub took_keeps : KeepsOf o d v t ls2 log ps2 n2 h ss es2
+  pub took_keeps : KeepsOf m o d v t ls2 log ps2 n2 h ss es2
   took_keeps =
       let left = take place ps ++ drop (suc place) ps in
       record {
@@ -95,6 +97,9 @@ module _ {o d : Layout} {v t : View} {ls ls2 : List (List ℕ)} {log : List (Lis
         grown = keeps.grown;
         tasks = subst (λ y. AreTasks log y) (sym c.tasks_are) (are_append log left fresh (at_tasks log k ps place c.there keeps.tasks) c.fresh_are.are);
         alive = becomes_lives (shown o d v ls log ps n h ss es) (shown o d v ls2 log ps2 n2 h ss es2) (Report k tree) took_becomes keeps.alive;
+        mapped = subst (λ y. AreNotedBelow m.below m.maps log y) (sym c.tasks_are) (below_append m.below m.maps log left fresh (below_left m.below m.maps log place ps keeps.mapped)
+            (below_fresh m.below n m.maps log fresh (hopeful v (rests v (atoms_of (task_of log x)) tree)) keeps.below c.fresh_are.tasks));
+        below = (let low = keeps.below in omega (arith, low, c.next_is));
         log_length = keeps.log_length;
         few_steps = keeps.few_steps;
         few_tasks = c.few_tasks;

@@ -1,5 +1,7 @@
 -- The changes that can be undone or redone, and how a book begins.
-use Rattle.std.proofs.Common.{Global, List, Some, Vec, [], ap, arith, inr, length, not, refl, subst, sym, take, true, ℕ, ◌&&◌, ◌-◌, ◌∙◌, ◌∷◌, ◌≡◌}
+use Rattle.std.proofs.Common.{Global, List, Some, Vec, [], ap, arith, inr, length, not, refl, subst, sym, take, true, ℕ, ◌&&◌, ◌-◌, ◌||◌, ◌∙◌, ◌∷◌, ◌≡◌}
+use Rattle.std.specs.List.{list_all}
+use Rattle.std.specs.Prelude.{nat_le}
 use Rattle.poly_grid.specs.declared.refusal.Refusal.{Refusal}
 use Rattle.poly_design.specs.Changes.{HasBefore, changed, inverse_of}
 use Rattle.poly_design.specs.Layout.{Layout}
@@ -14,6 +16,7 @@ use Rattle.poly_place.specs.Right.{IsRight}
 use Rattle.poly_undo.specs.declared.step.Step.{Step as Beside}
 use Rattle.poly_undo.specs.Steps.{Steps, next_of}
 use Rattle.poly_undo.proofs.Turns.{next_of_ends}
+use Rattle.poly_book.specs.declared.register.Register.{Register}
 use Rattle.poly_book.specs.declared.shelf.Kept.{Kept}
 use Rattle.poly_book.specs.declared.step.Ending.{Ending}
 use Rattle.poly_book.specs.declared.step.Done.{Done}
@@ -23,6 +26,7 @@ use Rattle.poly_book.specs.Steps.{IsDone, IsRedone, IsUndone}
 use Rattle.poly_book.specs.declared.task.Own.TheVariants.{Atoms}
 use Rattle.poly_book.specs.declared.task.Pending.{Pending}
 use Rattle.poly_book.specs.Keeps.{KeepsOf}
+use Rattle.poly_book.specs.Mapped.{under}
 use Rattle.poly_book.specs.Meaning.{shown, way_of, ways_of}
 use Rattle.poly_book.specs.Refused.{IsNotMade, IsNotRedone, IsNotUndone}
 use Rattle.poly_book.specs.States.{State, Way, opening}
@@ -47,21 +51,21 @@ first_stands f d us [] bs b l e = absurd (no_cons b bs e)
 first_stands f d [] (c ∷ cs) bs b l e = absurd l
 first_stands f d (u ∷ us) (c ∷ cs) bs b l e = let is : c ≡ b = heads_same c b cs bs e in subst (λ z. HasBefore d (f z.change) × IsDesign (changed d (f z.change))) is (l.0.before, l.0.design)
 
-pub can_undo : {o d : Layout} {v t : View} {ls : List (List ℕ)} {log : List (List Atom)} {ps : List Pending} {n : ℕ} {h : Steps Change Kept} {ss : List Step} {es : List Ending} → KeepsOf o d v t ls log ps n h ss es →
+pub can_undo : {m : Register} {o d : Layout} {v t : View} {ls : List (List ℕ)} {log : List (List Atom)} {ps : List Pending} {n : ℕ} {h : Steps Change Kept} {ss : List Step} {es : List Ending} → KeepsOf m o d v t ls log ps n h ss es →
     (top : Beside Change Kept) → next_of h.undo ≡ Some top → HasBefore d (inverse_of top.change) × IsDesign (changed d (inverse_of top.change))
 can_undo {d = d} {h = h} p top e =
     subst (λ x. HasBefore d (inverse_of x) × IsDesign (changed d (inverse_of x))) (changed_by_way top.change top.kept)
     (first_stands inverse_of d p.whole.trail.back (ways_of h.undo) (ways_of (take (length h.undo - 1) h.undo)) (way_of top) p.whole.consistent.back_follows (top_way h.undo top e))
 
-pub can_redo : {o d : Layout} {v t : View} {ls : List (List ℕ)} {log : List (List Atom)} {ps : List Pending} {n : ℕ} {h : Steps Change Kept} {ss : List Step} {es : List Ending} → KeepsOf o d v t ls log ps n h ss es →
+pub can_redo : {m : Register} {o d : Layout} {v t : View} {ls : List (List ℕ)} {log : List (List Atom)} {ps : List Pending} {n : ℕ} {h : Steps Change Kept} {ss : List Step} {es : List Ending} → KeepsOf m o d v t ls log ps n h ss es →
     (top : Beside Change Kept) → next_of h.redo ≡ Some top → HasBefore d top.change × IsDesign (changed d top.change)
 can_redo {d = d} {h = h} p top e =
     subst (λ x. HasBefore d x × IsDesign (changed d x)) (changed_by_way top.change top.kept)
     (first_stands (λ x. x) d p.whole.trail.forth (ways_of h.redo) (ways_of (take (length h.redo - 1) h.redo)) (way_of top) p.whole.consistent.forth_follows (top_way h.redo top e))
 
-pub begin_keeps : (d : Layout) (v t : View) (own : Vec Atom Global) → own.items ≡ [] → IsDesign d → IsRight t d → v ≡ t →
-    KeepsOf d d v t [] [] ((record { number = 1; own = Atoms own; made = 0 }) ∷ []) 2 (record { undo = []; redo = [] }) [] []
-begin_keeps d v t own none is r e =
+pub begin_keeps : (m : Register) → m.below ≡ 0 → (d : Layout) (v t : View) (own : Vec Atom Global) → own.items ≡ [] → IsDesign d → IsRight t d → v ≡ t →
+    KeepsOf m d d v t [] [] ((record { number = 1; own = Atoms own; made = 0 }) ∷ []) 2 (record { undo = []; redo = [] }) [] []
+begin_keeps m start d v t own none is r e =
     let rv = subst (λ z. IsRight z d) (sym e) r in
     let whole : Whole (opening d v) = openings_are_whole_lem d v is rv.well rv.shows in
     record {
@@ -70,6 +74,8 @@ begin_keeps d v t own none is r e =
       grown = subst (λ z. Grown v z) e (grown_self v);
       tasks = (record { own = tt; made = omega arith }, tt);
       alive = ap (λ A. not (hopeless v A) && true) none;
+      mapped = ap (λ A. (nat_le m.below 1 || list_all (λ a. under m.maps a 1) A) && true) none ∙ ap (λ b. (nat_le b 1 || true) && true) start;
+      below = omega (arith, start);
       log_length = refl;
       few_steps = omega arith;
       few_tasks = omega arith;

@@ -1,6 +1,5 @@
 -- What a book keeps of its fields.
 use Rattle.std.specs.Prelude.{List, length, ℕ, ◌+◌, ◌<◌, ◌≡◌, ◌≤◌}
-use Rattle.std.specs.Arc.{arc_value}
 use Rattle.poly_design.specs.Layout.{Layout}
 use Rattle.poly_design.specs.declared.change.Change.{Change}
 use Rattle.poly_tiling.specs.Names.{Grown}
@@ -9,25 +8,29 @@ use Rattle.poly_atom.specs.declared.atom.Atom.{Atom}
 use Rattle.poly_place.specs.Right.{IsRight}
 use Rattle.poly_undo.specs.Steps.{Steps}
 use Rattle.poly_book.specs.declared.parts.Parts.{Parts}
+use Rattle.poly_book.specs.declared.register.Register.{Register}
 use Rattle.poly_book.specs.declared.shelf.Kept.{Kept}
 use Rattle.poly_book.specs.declared.step.Step.{Step}
 use Rattle.poly_book.specs.declared.step.Ending.{Ending}
 use Rattle.poly_book.specs.declared.task.Pending.{Pending}
+use Rattle.poly_book.specs.Mapped.{AreNotedBelow}
 use Rattle.poly_book.specs.Meaning.{AreTasks, shown, tasks_of}
 use Rattle.poly_book.specs.States.{State}
 use Rattle.poly_book.specs.Tasks.{AreAlive}
 use Rattle.poly_book.specs.Whole.{Whole}
 
 -- What the fields show is whole; the table is right for the design and has at least the view's numbers; each task was
--- made by now, and none is hopeless by its own atoms; the log has the guards of each step; numbers and editions are within
--- their limits; each task number below the next one is of a task that is pending or has ended; the history has at most
+-- made by now, is noted in the maps if it is older than they are, and isn't hopeless by its own atoms; the log has the
+-- guards of each step; numbers and editions are within their limits; each task number below the next one is of a task that is pending or has ended; the history has at most
 -- 256 steps.
-pub record KeepsOf (o d : Layout) (v table : View) (ls : List (List ℕ)) (log : List (List Atom)) (ps : List Pending) (n : ℕ) (h : Steps Change Kept) (ss : List Step) (es : List Ending) : Type 0 where
+pub record KeepsOf (m : Register) (o d : Layout) (v table : View) (ls : List (List ℕ)) (log : List (List Atom)) (ps : List Pending) (n : ℕ) (h : Steps Change Kept) (ss : List Step) (es : List Ending) : Type 0 where
   pub whole : Whole (shown o d v ls log ps n h ss es)
   pub right : IsRight table d
   pub grown : Grown v table
   pub tasks : AreTasks log ps
   pub alive : AreAlive v (tasks_of log ps)
+  pub mapped : AreNotedBelow m.below m.maps log ps
+  pub below : m.below ≤ n
   pub log_length : length log ≡ length ss
   pub few_steps : length ss ≤ 100000
   pub few_tasks : n ≤ 4294967296
@@ -39,4 +42,4 @@ abbrev pub state_of : Parts → State
 state_of p = shown p.opened p.design p.scene p.listed p.log p.tasks.items p.next p.history p.steps.items p.endings.items
 
 abbrev pub Keeps : Parts → Type 0
-Keeps p = KeepsOf p.opened p.design p.scene p.table p.listed p.log p.tasks.items p.next p.history p.steps.items p.endings.items
+Keeps p = KeepsOf p.register p.opened p.design p.scene p.table p.listed p.log p.tasks.items p.next p.history p.steps.items p.endings.items

@@ -11,7 +11,9 @@ pub mod Whole
 pub mod Laws
 pub mod Scenes
 pub mod Meaning
+pub mod Mapped
 pub mod Touching
+pub mod Reaching
 pub mod Opens
 pub mod Changing
 pub mod Keeps

@@ -1,6 +1,6 @@
 -- Which pending tasks a change can make hopeless: those with an own atom that it touches.
 use Rattle.std.specs.List.{list_any}
-use Rattle.std.specs.Prelude.{Bool, List, [], false, slice_index_or, take, true, ◌∷◌, ◌≡◌}
+use Rattle.std.specs.Prelude.{Bool, List, [], true, ◌∷◌, ◌≡◌}
 use Rattle.poly_design.specs.Changes.{changed}
 use Rattle.poly_design.specs.declared.change.Change.{Change}
 use Rattle.poly_tiling.specs.Puzzle.{View}
@@ -11,7 +11,6 @@ use Rattle.poly_atom.specs.Hopeless.{hopeless}
 use Rattle.poly_atom.specs.Newly.{touched}
 use Rattle.poly_book.specs.declared.task.Pending.{Pending}
 use Rattle.poly_book.specs.declared.touch.Touch.{Touch}
-use Rattle.poly_book.specs.declared.touching.Front.{Front}
 use Rattle.poly_book.specs.Meaning.{own_of}
 
 -- the change leads from one view to the other and does this
@@ -25,7 +24,3 @@ touches t a = touched t.view.now t.delta.now t.item a
 abbrev pub AreTouched : Touch → List (List Atom) → List Pending → Type 0
 AreTouched t log [] = Unit {0}
 AreTouched t log (p ∷ ps) = (hopeless t.view.now (own_of log p.own) ≡ true → list_any (touches t) (own_of log p.own) ≡ true) × AreTouched t log ps
-
--- it touches none of the first guards of the edition
-abbrev pub IsFront : Touch → List (List Atom) → Front → Type 0
-IsFront t log f = list_any (touches t) (take f.count (slice_index_or log f.edition [])) ≡ false

@@ -15,6 +15,7 @@ ghost use Rattle.poly_catalogue.specs.Listed.{AreOfEither, AreOnce, AreSame};
 ghost use Rattle.poly_book.specs.Amounts.{IsNarrow};
 ghost use Rattle.poly_book.specs.Changing.{CanNote, IsTop, Noted, shelved_by};
 ghost use Rattle.poly_book.specs.Keeps.{Keeps, state_of};
+ghost use Rattle.poly_book.specs.Mapped.{AreNoted};
 ghost use Rattle.poly_book.specs.Refused.{IsNotMade};
 ghost use Rattle.poly_book.specs.Steps.{IsDone};
 
@@ -33,9 +34,39 @@ use poly_tiling::{Tiling, View};
 use poly_undo::History;
 use std::mem;
 
-/// Applies the change.
+/// Applies the change. First the tasks that are new since the last change are noted.
 pub(crate) fn apply_change(parts: &mut Parts, kind: Kind, change: Change) -> Result<Done, Refusal>
     requires keeps { Keeps parts.old }
+    requires before { HasBefore parts.old.design change }
+    requires design { IsDesign (changed parts.old.design change) }
+    requires top { IsTop kind parts.old.history change }
+    ensures keeps { Keeps parts.new }
+    ensures ok { IfOk result (λ done. IsDone kind change (state_of parts.old) (state_of parts.new) done) }
+    ensures narrow { OnOk result (kind ≡ Kind.Edit → IsNarrow parts.old.design parts.new.design) }
+    ensures err { OnErr result (state_of parts.new ≡ state_of parts.old) }
+    ensures why { IfErr result (λ e. IsNotMade kind change (state_of parts.old) e) }
+{
+    catch_up(parts)?;
+    make_change(parts, kind, change)
+}
+
+// Notes the tasks that are new since the last change.
+fn catch_up(parts: &mut Parts) -> Result<(), Refusal>
+    requires { Keeps parts.old }
+    ensures stays { parts.new ≡ record parts.old { register = parts.new.register } }
+    ensures keeps { Keeps parts.new }
+    ensures noted { OnOk result (AreNoted parts.new.register.maps parts.new.log parts.new.tasks.items) }
+    ensures why { IfErr result (λ e. e ≡ Refusal.Memory) }
+{
+    parts
+        .register
+        .catch_up(&parts.log, &parts.tasks, parts.next)
+}
+
+// Makes the change. All tasks are noted.
+fn make_change(parts: &mut Parts, kind: Kind, change: Change) -> Result<Done, Refusal>
+    requires keeps { Keeps parts.old }
+    requires noted { AreNoted parts.old.register.maps parts.old.log parts.old.tasks.items }
     requires before { HasBefore parts.old.design change }
     requires design { IsDesign (changed parts.old.design change) }
     requires top { IsTop kind parts.old.history change }

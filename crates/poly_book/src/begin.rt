@@ -6,6 +6,7 @@ ghost use Rattle.poly_book.specs.States.{opening};
 
 use crate::book::Book;
 use crate::parts::Parts;
+use crate::register::Register;
 use crate::scene::Scene;
 use crate::task::{Own, Pending};
 use poly_atom::GuardLog;
@@ -44,6 +45,7 @@ impl Book {
                 listed: Catalogue::new(alloc),
                 log: GuardLog::new(alloc),
                 tasks,
+                register: Register::new(alloc),
                 next: 2,
                 history,
                 steps: Vec::new(alloc),

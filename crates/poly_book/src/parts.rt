@@ -1,5 +1,6 @@
 //! What a book is made of.
 
+use crate::register::Register;
 use crate::scene::Scene;
 use crate::shelf::Kept;
 use crate::step::{Ending, Step};
@@ -29,6 +30,8 @@ pub(crate) struct Parts {
     pub log: GuardLog,
     /// The pending tasks, by rising numbers.
     pub tasks: Vec<Pending>,
+    /// Which of the tasks have an own atom about a placement or an item.
+    pub register: Register,
     /// The number that the next new task gets.
     pub next: u64,
     /// The changes that can be undone and redone.

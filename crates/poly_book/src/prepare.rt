@@ -1,7 +1,7 @@
 //! Prepares all that a change needs before anything is changed, so that every refusal comes first.
 ghost use Rattle.std.specs.Prelude.{◌≡◌, ◌↔◌, ◌≤◌, ◌<◌, ◌*◌, ◌+◌, ◌++◌, ◌⊎◌, ◌∷◌, [], IfErr, IfOk, OnOk, List, None, Some, cond, length, map, nat_le, not, option_copied, true};
 ghost use Rattle.std.specs.Arc.{arc_value};
-ghost use Rattle.std.specs.List.{filter, list_any};
+ghost use Rattle.std.specs.List.{filter};
 ghost use Rattle.poly_tiling.specs.Puzzle.{View as ViewOf, is_tiling};
 ghost use Rattle.poly_atom.specs.declared.atom.Atom.{Atom as AtomOf};
 ghost use Rattle.poly_atom.specs.Guards.{guards};
@@ -12,19 +12,21 @@ ghost use Rattle.poly_report.specs.Gather.{lists};
 ghost use Rattle.poly_book.specs.Changing.{IsGathered, IsNotGathered, shelf_at, shelf_by, shelved_by, stood_by};
 ghost use Rattle.poly_book.specs.Events.{hopeless_endings};
 ghost use Rattle.poly_book.specs.Keeps.{Keeps};
+ghost use Rattle.poly_book.specs.Mapped.{AreNoted};
 ghost use Rattle.poly_book.specs.Meaning.{AreTasks, IsOwn, own_of, stored_of, tasks_of};
 ghost use Rattle.poly_book.specs.Shelves.{openings, returned};
 ghost use Rattle.poly_book.specs.Tasks.{atoms_of, hopeful};
-ghost use Rattle.poly_book.specs.Touching.{AreTouched, IsFront, IsMadeBy, touches};
+ghost use Rattle.poly_book.specs.Reaching.{AreEndsReached};
+ghost use Rattle.poly_book.specs.Touching.{IsMadeBy};
 
 use crate::fresh::fresh_tasks;
 use crate::parts::Parts;
 use crate::quiet::copies;
+use crate::reach::reached;
 use crate::shelf::Kept;
 use crate::step::{Ending, Kind};
 use crate::task::{Own, Pending, all_atoms, is_hopeless};
 use crate::touch::Touch;
-use crate::touching::Front;
 use poly_atom::{Atom, BothGuards, GuardLog, both_guards};
 use poly_design::{Change, Design};
 use poly_grid::Refusal;
@@ -77,6 +79,7 @@ pub(crate) fn gather(
     plan: Plan,
 ) -> Result<Prepared, Refusal>
     requires keeps { Keeps parts.now }
+    requires noted { AreNoted parts.now.register.maps parts.now.log parts.now.tasks.items }
     requires made { IsMadeBy parts.now.scene (arc_value plan.view) plan.delta change.now }
     requires either { AreOfEither (arc_value plan.view) plan.delta parts.now.listed }
     ensures ok { IfOk result (λ r. IsGathered parts.now.scene parts.now.listed parts.now.log parts.now.tasks.items (stood_by kind parts.now.history) after plan parts.now.next r) }
@@ -134,55 +137,59 @@ fn going_on(
     change: &Change,
 ) -> Result<Vec<bool>, Refusal>
     requires keeps { Keeps parts.now }
+    requires noted { AreNoted parts.now.register.maps parts.now.log parts.now.tasks.items }
     requires made { IsMadeBy parts.now.scene view.now delta.now change.now }
     ensures ok { IfOk result (λ v. v.items ≡ map (λ p. not (hopeless view.now (own_of parts.now.log p.own))) parts.now.tasks.items) }
     ensures why { IfErr result (λ e. e ≡ Refusal.Memory) }
 {
     let touch = Touch::new(parts.alloc, view, delta, change)?;
-    let flags = surviving(parts.alloc, &touch, &parts.log, &parts.tasks)?;
+    let reach = reached(parts.alloc, &touch, &parts.register.maps, &parts.tasks)?;
+    let flags = surviving(parts.alloc, view, &parts.log, &parts.tasks, &reach)?;
     Ok(flags)
 }
 
-// Which tasks go on. Only those are asked that the change touches.
+// Which tasks go on. Only those are asked that are reached: their number is at most what their place or an earlier one
+// reaches.
 fn surviving(
     alloc: Global,
-    touch: &Touch,
+    view: &View,
     log: &GuardLog,
     tasks: &[Pending],
+    reach: &[u32],
 ) -> Result<Vec<bool>, Refusal>
     requires tasks { AreTasks log.now tasks.now }
-    requires touched { AreTouched touch.now log.now tasks.now }
-    ensures ok { IfOk result (λ v. v.items ≡ map (λ p. not (hopeless touch.now.view.now (own_of log.now p.own))) tasks.now) }
+    requires len { length reach.now ≡ length tasks.now }
+    requires reached { AreEndsReached view.now log.now tasks.now reach.now }
+    ensures ok { IfOk result (λ v. v.items ≡ map (λ p. not (hopeless view.now (own_of log.now p.own))) tasks.now) }
     ensures why { IfErr result (λ e. e ≡ Refusal.Memory) }
 {
     let mut flags = Vec::new(alloc);
-    let mut front = Front::new();
-    for task in tasks {
-        let ends = ends_by(alloc, touch, log, &task.own, &mut front)?;
+    let mut far = 0;
+    for (i, task) in tasks.iter().enumerate() {
+        far = reach[i].max(far);
+        let ends = ends_by(alloc, view, log, task, far)?;
         flags.push(!ends)?;
     }
     Ok(flags)
 }
 
-// Whether the own atoms are hopeless after the change, which they are only if it touches one of them.
+// Whether the own atoms are hopeless after the change, which they are only if it reaches the task.
 fn ends_by(
     alloc: Global,
-    touch: &Touch,
+    view: &View,
     log: &GuardLog,
-    own: &Own,
-    front: &mut Front,
+    task: &Pending,
+    far: u32,
 ) -> Result<bool, Refusal>
-    requires own { IsOwn log.now own.now }
-    requires front { IsFront touch.now log.now front.old }
-    requires touched { hopeless touch.now.view.now (own_of log.now own.now) ≡ true → list_any (touches touch.now) (own_of log.now own.now) ≡ true }
-    ensures front { IsFront touch.now log.now front.new }
-    ensures ok { IfOk result (λ yes. yes ≡ hopeless touch.now.view.now (own_of log.now own.now)) }
+    requires own { IsOwn log.now task.now.own }
+    requires reached { hopeless view.now (own_of log.now task.now.own) ≡ true → task.now.number ≤ far }
+    ensures ok { IfOk result (λ yes. yes ≡ hopeless view.now (own_of log.now task.now.own)) }
     ensures why { IfErr result (λ e. e ≡ Refusal.Memory) }
 {
-    if !touch.has_own(log, own, front) {
+    if task.number > far {
         return Ok(false);
     }
-    is_hopeless(alloc, touch.view, log, own)
+    is_hopeless(alloc, view, log, &task.own)
 }
 
 // The endings of the tasks that don't go on.

@@ -101,3 +101,31 @@ fn ends_the_stairs_of_placements_that_are_gone(rt: HostRuntime) {
     settle(&rt, &mut book);
     expect_numbers(&rt, &book, (2, 3, 0));
 }
+
+// The report on task 1 that leaves both sides of a Split on the placement to others.
+fn split(rt: &impl Abort, alloc: Global, placement: u32) -> Report {
+    let tree = Tree::Split {
+        placement,
+        taken: Box::new(alloc, Tree::Rest).expect(rt, "memory"),
+        left: Box::new(alloc, Tree::Rest).expect(rt, "memory"),
+    };
+    Report {
+        task: 1,
+        edition: 0,
+        tree,
+    }
+}
+
+#[test]
+fn edits_after_a_split_on_the_last_placement_number(rt: HostRuntime) {
+    let mut book = two_dominoes(&rt, rt.alloc());
+    let report = split(&rt, rt.alloc(), u32::MAX);
+    let applied = book.hand_in(report).expect(&rt, "a tree that holds");
+    assert!(rt; !applied.late);
+    expect_numbers(&rt, &book, (0, 0, 1));
+    let done = book.edit(forbid(&rt));
+    let _ = done.expect(&rt, "it is accepted");
+    expect_numbers(&rt, &book, (1, 0, 1));
+    settle(&rt, &mut book);
+    expect_numbers(&rt, &book, (1, 3, 0));
+}

@@ -1,7 +1,6 @@
 use Rattle.std.proofs.Common.{[], ap, arith, drop, get_or, length, nat_lt, refl, rules, subst, sym, take, true, ◌++◌, ◌+◌, ◌∙◌, ◌∷◌, ◌≡◌, ◌≤◌}
 use Rattle.std.proofs.lemmas.Bool.{and_from}
 use Rattle.std.proofs.lemmas.List.{length-reverse, length_push}
-use Rattle.std.specs.Arc.{arc_value}
 use Rattle.std.specs.List.{list_all}
 use Rattle.poly_tiling.specs.Puzzle.{is_tiling}
 use Rattle.poly_catalogue.specs.Listed.{AreOnce}

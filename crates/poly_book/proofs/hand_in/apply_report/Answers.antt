@@ -1,21 +1,18 @@
-use Rattle.std.proofs.Common.{None, Some, ap, arith, get_or, inl, inr, rules, subst, sym, refl, true, false, ◌∙◌, ◌≡◌}
+use Rattle.std.proofs.Common.{None, Some, get_or, inl, inr, rules, subst, sym, refl, false, ◌≡◌}
 use Rattle.std.proofs.lemmas.Result.{IfErr-weaker, IfOk-weaker}
-use Rattle.std.specs.Arc.{arc_value}
 use Rattle.std.specs.List.{position_from}
 use Rattle.std.specs.Prelude.{◌==◌}
-use Rattle.poly_report.specs.Gather.{IsCutUp, lists}
-use Rattle.poly_report.specs.Holds.{holds}
+use Rattle.poly_report.specs.Gather.{lists}
 use Rattle.poly_report.specs.Shapes.{plan_of}
 use Rattle.poly_report.specs.Sizes.{fits}
 use Rattle.poly_book.specs.declared.task.Pending.{Pending}
-use Rattle.poly_book.specs.Meaning.{IsTask, task_of}
+use Rattle.poly_book.specs.Meaning.{task_of}
 use Rattle.std.specs.Prelude.{IfErr, IfOk, OnErr}
 use Rattle.poly_book.specs.declared.parts.Parts.{Parts}
 use Rattle.poly_book.specs.Keeps.{Keeps, state_of}
 use Rattle.poly_book.specs.Refused.{IsNotApplied}
 use Rattle.poly_book.specs.Reports.{AreLeaves, IsApplied}
-use Rattle.poly_book.specs.Tasks.{atoms_of}
-use Rattle.poly_book.proofs.Held.{some_of, task_at}
+use Rattle.poly_book.proofs.Held.{some_of}
 use Rattle.poly_book.proofs.Places.{at_below, at_find, first_at, nowhere}
 use Rattle.poly_book.proofs.hand_in.apply_report.Goals as goal
 

@@ -1,23 +1,36 @@
-use Rattle.std.proofs.Common.{map, not, subst, sym, ◌∙◌}
+use Rattle.std.proofs.Common.{ap, length, map, not, subst, sym, ◌∙◌}
+use Rattle.std.specs.List.Sorted.{IsNonDecreasingBy}
 use Rattle.poly_atom.specs.Hopeless.{hopeless}
+use Rattle.poly_book.specs.declared.task.Pending.{Pending}
+use Rattle.poly_book.specs.Mapped.{under}
 use Rattle.poly_book.specs.Meaning.{own_of}
-use Rattle.poly_book.specs.Touching.{AreTouched}
-use Rattle.poly_book.proofs.Fronts.{all_touched}
+use Rattle.poly_book.specs.Reaching.{AreEndsReached, IsReached}
+use Rattle.poly_book.proofs.Halving.{numbers_rise}
+use Rattle.poly_book.proofs.Reached.{ends_reached}
+use Rattle.poly_book.proofs.Touched.{all_touched}
 use Rattle.poly_book.proofs.prepare.going_on.Goals as goal
 
 pub new-requires : goal.new-requires
 new-requires c = c.requires.made.0.delta.gone.given_out
 
-pub surviving-requires-clause-touched : goal.surviving-requires-clause-touched
-surviving-requires-clause-touched c =
+pub reached-requires : goal.reached-requires
+reached-requires c =
     let a = c.args.parts.now in
+    record { rise = subst (λ ps. IsNonDecreasingBy (λ (p : Pending). p.number) ps) (sym c.deref.ensures.value) (numbers_rise 0 a.next a.log a.tasks.items c.requires.keeps.whole.rising) }
+
+pub surviving-requires-clause-len : goal.surviving-requires-clause-len
+surviving-requires-clause-len c = ap length c.deref-3.ensures.value ∙ c.in_ok-reach.ensures.len ∙ ap length (c.deref.ensures.value ∙ sym c.deref-2.ensures.value)
+
+pub surviving-requires-clause-reached : goal.surviving-requires-clause-reached
+surviving-requires-clause-reached c =
+    let a = c.args.parts.now in
+    let w = c.args.view.now in
     let t = c.in_ok-touch.touch in
     let e = c.in_ok-touch.ensures in
-    subst (λ ps. AreTouched t a.log ps) (sym c.deref.ensures.value) (all_touched t a.scene c.args.view.now c.args.delta.now c.args.change.now a.log a.tasks.items c.requires.made e.view e.delta e.item c.requires.keeps.alive)
+    let r = c.in_ok-reach.reach.items in
+    let touched = all_touched t a.scene w c.args.delta.now c.args.change.now a.log a.tasks.items c.requires.made e.view e.delta e.item c.requires.keeps.alive in
+    let all = ends_reached t w a.register.maps a.log a.tasks.items r e.view c.requires.noted touched (λ x h. subst (λ ps. IsReached r ps (λ n. under a.register.maps x n)) c.deref.ensures.value (c.in_ok-reach.ensures.ok x h)) in
+    subst (λ ps. AreEndsReached w a.log ps c.deref-3.result.now) (sym c.deref-2.ensures.value) (subst (λ y. AreEndsReached w a.log a.tasks.items y) (sym c.deref-3.ensures.value) all)
 
 pub returns-clause-ok : goal.returns-clause-ok
-returns-clause-ok c =
-    let a = c.args.parts.now in
-    let view = c.in_ok-touch.ensures.view in
-    let tasks = c.deref.ensures.value in
-    c.in_ok-flags.ensures.ok ∙ (λ i. map (λ p. not (hopeless (view i) (own_of a.log p.own))) (tasks i))
+returns-clause-ok c = c.in_ok-flags.ensures.ok ∙ ap (λ ps. map (λ p. not (hopeless c.args.view.now (own_of c.args.parts.now.log p.own))) ps) c.deref-2.ensures.value

@@ -1,4 +1,4 @@
-use Rattle.std.proofs.Common.{ap, arith, inr, length, subst, sym, ℕ, ◌+◌, ◌-◌, ◌∙◌, ◌≡◌, ◌≤◌}
+use Rattle.std.proofs.Common.{ap, arith, inr, length, subst, sym, ℕ, ◌+◌, ◌-◌, ◌∙◌, ◌≤◌}
 use Rattle.std.proofs.lemmas.Bool.{leb-true}
 use Rattle.poly_report.specs.Gather.{lists}
 use Rattle.poly_report.specs.Trees.{Plan}

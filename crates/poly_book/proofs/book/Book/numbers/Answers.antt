@@ -1,7 +1,5 @@
-use Rattle.std.proofs.Common.{[], arith, length, map, refl, rules, subst, sym, ◌∙◌, ◌≡◌, ◌≤◌}
-use Rattle.poly_book.specs.Amounts.{AreAllTilingsOf, AreTilingsOf}
+use Rattle.std.proofs.Common.{arith, length, rules, ◌≡◌, ◌≤◌}
 use Rattle.poly_book.specs.Keeps.{state_of}
-use Rattle.poly_book.specs.States.{State}
 use Rattle.poly_book.proofs.Amounts.{listed_all, listed_few}
 use Rattle.poly_book.proofs.Nexting.{none_pending}
 use Rattle.poly_book.proofs.book.Book.numbers.Goals as goal

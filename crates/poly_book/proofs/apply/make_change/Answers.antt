@@ -33,7 +33,7 @@ use Rattle.poly_book.proofs.Applying.{can_note, did_becomes, did_keeps, did_lead
 use Rattle.poly_book.proofs.Cataloguing.{Enters, change_enters, listed_either}
 use Rattle.poly_book.proofs.Changes.{Did, reverse_push}
 use Rattle.poly_book.proofs.Refusing.{full_not_made, gather_not_made, memory_not_made}
-use Rattle.poly_book.proofs.apply.apply_change.Goals as goal
+use Rattle.poly_book.proofs.apply.make_change.Goals as goal
 
 -- the plan's view is one of the design after
 leads_by : (p : Parts) (x : Change) (r : Plan) → Keeps p → HasBefore p.design x → IsDesign (changed p.design x) → IsPlanFor p.table p.design (changed p.design x) (arc_value r.view) r.delta → Leads (state_of p) x (arc_value r.view)
@@ -210,7 +210,7 @@ did c =
 pub returns-clause-keeps : goal.returns-clause-keeps
 returns-clause-keeps c =
     let k = did_keeps c.args.kind c.requires.keeps (did c) c.requires.before c.requires.design c.requires.top in
-    subst (λ z. KeepsOf c.args.parts.now.opened c.in_ok-ready.ready.after z c.make.new.self c.enter.new.listed c.enter.new.log c.replace_tasks.new.tasks.items (c.args.parts.now.next + c.len-more.result) c.note.new.history c.push_reserved.new.self.items c.push_endings.new.out.items) (sym (c.new.ensures ∙ c.in_ok-ready.ensures.ok.view_is)) k
+    subst (λ z. KeepsOf c.args.parts.now.register c.args.parts.now.opened c.in_ok-ready.ready.after z c.make.new.self c.enter.new.listed c.enter.new.log c.replace_tasks.new.tasks.items (c.args.parts.now.next + c.len-more.result) c.note.new.history c.push_reserved.new.self.items c.push_endings.new.out.items) (sym (c.new.ensures ∙ c.in_ok-ready.ensures.ok.view_is)) k
 
 pub returns-clause-narrow : goal.returns-clause-narrow
 returns-clause-narrow c = λ edit.

@@ -1,0 +1,81 @@
+-- Under which atoms the maps have which tasks.
+use Rattle.std.specs.BTreeMap.{is_at}
+use Rattle.std.specs.List.{list_all, list_any}
+use Rattle.std.specs.Map.{lookup}
+use Rattle.std.specs.Option.{unwrap_or}
+use Rattle.std.specs.Ordering.{nat_cmp}
+use Rattle.std.specs.Prelude.{Bool, List, [], length, nat_le, slice_index_or, take, true, ℕ, ◌&&◌, ◌*◌, ◌+◌, ◌-◌, ◌==◌, ◌||◌, ◌≡◌}
+use Rattle.poly_tiling.specs.declared.item.Item.{Item}
+use Rattle.poly_tiling.specs.declared.item.Item.TheVariants.{Cell, Piece}
+use Rattle.poly_atom.specs.declared.atom.Atom.{Atom}
+use Rattle.poly_atom.specs.declared.atom.Atom.TheVariants.{AtLeast, AtMost, Has, Lacks}
+use Rattle.poly_book.specs.declared.maps.Maps.{Maps}
+use Rattle.poly_book.specs.declared.maps.Prefix.{Prefix}
+use Rattle.poly_book.specs.declared.rows.Span.{Span}
+use Rattle.poly_book.specs.declared.task.Pending.{Pending}
+use Rattle.poly_book.specs.Meaning.{own_of}
+
+abbrev pub key_of_name : List ℕ → ℕ
+key_of_name n = 4096 + slice_index_or n (length n - 1) 0
+
+-- a number for each item
+abbrev pub key_of : Item → ℕ
+key_of (Cell c) = c.y * 64 + c.x
+key_of (Piece n) = key_of_name n
+
+abbrev pub in_span : Span → ℕ → Bool
+in_span s n = nat_le s.from n && nat_le n s.to
+
+-- the rows by their keys, as the entries of a map
+abbrev pub Rows : Type 0
+Rows = List (ℕ × List Span)
+
+-- the row that `get` finds for the key; none is as an empty one
+abbrev pub row_at : Rows → ℕ → List Span
+row_at rows k = unwrap_or (lookup (is_at (nat_cmp k)) rows) []
+
+-- the row of the key has the number
+abbrev pub spanned : Rows → ℕ → ℕ → Bool
+spanned rows k n = list_any (λ s. in_span s n) (row_at rows k)
+
+abbrev pub AreWider : Rows → Rows → Type 0
+AreWider old new = (k n : ℕ) → spanned old k n ≡ true → spanned new k n ≡ true
+
+-- the task of the number is noted under the atom
+abbrev pub under : Maps → Atom → ℕ → Bool
+under m (Has p) n = spanned m.has.entries p n
+under m (Lacks p) n = spanned m.lacks.entries p n
+under m (AtLeast i k) n = spanned m.at_least.entries (key_of i) n
+under m (AtMost i k) n = spanned m.at_most.entries (key_of i) n
+
+-- what is noted in the first maps is noted in the second
+abbrev pub IsWider : Maps → Maps → Type 0
+IsWider old new = (a : Atom) (n : ℕ) → under old a n ≡ true → under new a n ≡ true
+
+-- each task is noted under each of its own atoms
+abbrev pub AreNoted : Maps → List (List Atom) → List Pending → Type 0
+AreNoted m log ps = list_all (λ p. list_all (λ a. under m a p.number) (own_of log p.own)) ps ≡ true
+
+-- each task with a lower number is
+abbrev pub AreNotedBelow : ℕ → Maps → List (List Atom) → List Pending → Type 0
+AreNotedBelow b m log ps = list_all (λ p. nat_le b p.number || list_all (λ a. under m a p.number) (own_of log p.own)) ps ≡ true
+
+-- each of the edition's first guards is noted for all tasks of the span
+abbrev pub IsPrefix : Maps → List (List Atom) → Prefix → Type 0
+IsPrefix m log f = (n : ℕ) → in_span f.span n ≡ true → list_all (λ a. under m a n) (take f.count (slice_index_or log f.edition [])) ≡ true
+
+-- a pending task has the number
+abbrev pub is_pending : List Pending → ℕ → Bool
+is_pending ps n = list_any (λ p. p.number == n) ps
+
+-- a pending task's number is in the span
+abbrev pub has_pending : List Pending → Span → Bool
+has_pending ps s = list_any (λ p. in_span s p.number) ps
+
+-- what the rows have of the pending tasks stays
+abbrev pub AreKept : List Pending → Rows → Rows → Type 0
+AreKept ps old new = (k n : ℕ) → is_pending ps n ≡ true → spanned old k n ≡ true → spanned new k n ≡ true
+
+-- what is noted for the pending tasks stays noted
+abbrev pub KeepsPending : List Pending → Maps → Maps → Type 0
+KeepsPending ps old new = (a : Atom) (n : ℕ) → is_pending ps n ≡ true → under old a n ≡ true → under new a n ≡ true

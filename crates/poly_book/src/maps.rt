@@ -1,0 +1,212 @@
+//! Maps from placements and items to the pending tasks that have an own atom about them. With them a change finds the
+//! tasks that it may make hopeless without a look at the others.
+//!
+//! Tasks that have ended may still be noted, and a task may be noted where it has no atom. Both cost time and change
+//! nothing: each task that is found is asked.
+ghost use Rattle.std.specs.Prelude.{◌≡◌, ◌≤◌, ◌⊎◌, IfErr, OnOk, length, true, ℕ};
+ghost use Rattle.std.specs.List.{list_all};
+ghost use Rattle.std.specs.List.Sorted.{IsNonDecreasingBy};
+ghost use Rattle.poly_atom.specs.Logs.{IsStairOf, stair_of};
+ghost use Rattle.poly_book.specs.Mapped.{AreNoted, IsPrefix, IsWider, KeepsPending, in_span, key_of, key_of_name, under};
+ghost use Rattle.poly_book.specs.Meaning.{AreTasks, IsOwn, own_of};
+
+use crate::rows::{Row, Span, note_span, tidy_rows};
+use crate::task::{Own, Pending};
+use poly_atom::{Atom, GuardLog, Stair};
+use poly_grid::Refusal;
+use poly_tiling::Item;
+use std::alloc::Global;
+use std::collections::BTreeMap;
+
+/// The spans of tasks that have an atom of each kind: by placement, or by the key of the item.
+#[derive(Drop)]
+pub(crate) struct Maps {
+    pub alloc: Global,
+    pub has: BTreeMap<u32, Row>,
+    pub lacks: BTreeMap<u32, Row>,
+    pub at_least: BTreeMap<u32, Row>,
+    pub at_most: BTreeMap<u32, Row>,
+}
+
+/// The first guards of an edition, each of them noted for all tasks of a span.
+#[derive(Clone, Copy, Debug)]
+pub(crate) struct Prefix {
+    edition: u64,
+    count: usize,
+    span: Span,
+}
+
+impl Maps {
+    /// Maps without tasks.
+    pub(crate) fn new(alloc: Global) -> Maps {
+        Maps {
+            alloc,
+            has: BTreeMap::new(alloc),
+            lacks: BTreeMap::new(alloc),
+            at_least: BTreeMap::new(alloc),
+            at_most: BTreeMap::new(alloc),
+        }
+    }
+
+    /// Notes each task under its own atoms. Stairs of one edition share what is noted for its guards. Fails only when out of
+    /// memory. What is noted stays noted.
+    pub(crate) fn note_all(&mut self, log: &GuardLog, tasks: &[Pending]) -> Result<(), Refusal>
+        requires { AreTasks log.now tasks.now }
+        ensures wider { IsWider self.old self.new }
+        ensures ok { OnOk result (AreNoted self.new log.now tasks.now) }
+        ensures why { IfErr result (λ e. e ≡ Refusal.Memory) }
+    {
+        let last = last_number(tasks);
+        let mut prefix = Prefix {
+            edition: 0,
+            count: 0,
+            span: Span { from: 0, to: 0 },
+        };
+        for task in tasks {
+            self.note_task(log, &task.own, task.number, last, &mut prefix)?;
+        }
+        Ok(())
+    }
+
+    /// Drops the spans without a pending task, so that those of ended tasks don't pile up. What is noted for a pending task
+    /// stays noted. Takes no memory.
+    pub(crate) fn tidy(&mut self, pending: &[Pending])
+        requires { IsNonDecreasingBy (λ p. p.number) pending.now }
+        ensures { KeepsPending pending.now self.old self.new }
+    {
+        tidy_rows(&mut self.has, pending);
+        tidy_rows(&mut self.lacks, pending);
+        tidy_rows(&mut self.at_least, pending);
+        tidy_rows(&mut self.at_most, pending);
+    }
+
+    fn note_task(
+        &mut self,
+        log: &GuardLog,
+        own: &Own,
+        number: u32,
+        last: u32,
+        prefix: &mut Prefix,
+    ) -> Result<(), Refusal>
+        requires own { IsOwn log.now own.now }
+        requires prefix { IsPrefix self.old log.now prefix.old }
+        ensures prefix { OnOk result (IsPrefix self.new log.now prefix.new) }
+        ensures wider { IsWider self.old self.new }
+        ensures ok { OnOk result (list_all (λ a. under self.new a number) (own_of log.now own.now) ≡ true) }
+        ensures why { IfErr result (λ e. e ≡ Refusal.Memory) }
+    {
+        match own {
+            Own::Atoms(atoms) => self.note_list(
+                atoms,
+                Span {
+                    from: number,
+                    to: number,
+                },
+            ),
+            Own::Stair(stair) => self.note_stair(log, stair, number, last, prefix),
+        }
+    }
+
+    // Notes the stair: those of its guards that are not noted yet for all tasks up to the last one, its last atom for it
+    // alone.
+    fn note_stair(
+        &mut self,
+        log: &GuardLog,
+        stair: &Stair,
+        number: u32,
+        last: u32,
+        prefix: &mut Prefix,
+    ) -> Result<(), Refusal>
+        requires own { IsStairOf log.now stair.now }
+        requires prefix { IsPrefix self.old log.now prefix.old }
+        ensures prefix { OnOk result (IsPrefix self.new log.now prefix.new) }
+        ensures wider { IsWider self.old self.new }
+        ensures ok { OnOk result (list_all (λ a. under self.new a number) (stair_of log.now stair.now) ≡ true) }
+        ensures why { IfErr result (λ e. e ≡ Refusal.Memory) }
+    {
+        let span = Span {
+            from: number,
+            to: last.max(number),
+        };
+        let guards = log.guards_of(stair.edition);
+        let known = known_count(prefix, stair, &span);
+        self.note_list(&guards[known..stair.index], span)?;
+        self.note(
+            &guards[stair.index].negated(),
+            Span {
+                from: number,
+                to: number,
+            },
+        )?;
+        *prefix = Prefix {
+            edition: stair.edition,
+            count: stair.index,
+            span,
+        };
+        Ok(())
+    }
+
+    // Notes the span under each atom.
+    fn note_list(&mut self, atoms: &[Atom], span: Span) -> Result<(), Refusal>
+        ensures wider { IsWider self.old self.new }
+        ensures ok { OnOk result ((n : ℕ) → in_span span n ≡ true → list_all (λ a. under self.new a n) atoms.now ≡ true) }
+        ensures why { IfErr result (λ e. e ≡ Refusal.Memory) }
+    {
+        for atom in atoms {
+            self.note(atom, span)?;
+        }
+        Ok(())
+    }
+
+    // Notes the span under the atom.
+    fn note(&mut self, atom: &Atom, span: Span) -> Result<(), Refusal>
+        ensures wider { IsWider self.old self.new }
+        ensures ok { OnOk result ((n : ℕ) → in_span span n ≡ true → under self.new atom.now n ≡ true) }
+        ensures why { IfErr result (λ e. e ≡ Refusal.Memory) }
+    {
+        match atom {
+            Atom::Has(p) => note_span(self.alloc, &mut self.has, *p, span),
+            Atom::Lacks(p) => note_span(self.alloc, &mut self.lacks, *p, span),
+            Atom::AtLeast(item, _) => note_span(self.alloc, &mut self.at_least, key_of(item), span),
+            Atom::AtMost(item, _) => note_span(self.alloc, &mut self.at_most, key_of(item), span),
+        }
+    }
+}
+
+// How many of the stair's guards are noted for the whole span.
+fn known_count(prefix: &Prefix, stair: &Stair, span: &Span) -> usize
+    ensures low { result ≤ stair.now.index }
+    ensures known { (result ≡ 0) ⊎ ((result ≤ prefix.now.count) × (prefix.now.edition ≡ stair.now.edition) × (prefix.now.span.from ≤ span.now.from) × (span.now.to ≤ prefix.now.span.to)) }
+{
+    let known = prefix.span;
+    if prefix.edition == stair.edition && known.from <= span.from && span.to <= known.to {
+        return prefix.count.min(stair.index);
+    }
+    0
+}
+
+// The number of the last task; 0 if there is none.
+fn last_number(tasks: &[Pending]) -> u32 {
+    match tasks.last() {
+        None => 0,
+        Some(task) => task.number,
+    }
+}
+
+/// The key of the item. Pieces whose names end alike share one, so a task may be found for the other piece.
+pub(crate) fn key_of(item: &Item) -> u32
+    ensures { result ≡ key_of item.now }
+{
+    match item {
+        Item::Cell(cell) => u32::from(cell.y()) * 64 + u32::from(cell.x()),
+        Item::Piece(name) => key_of_name(name.as_bytes()),
+    }
+}
+
+// The key of the piece of the name.
+fn key_of_name(name: &[u8]) -> u32
+    requires { 1 ≤ length name.now }
+    ensures { result ≡ key_of_name name.now }
+{
+    4096 + u32::from(name[name.len() - 1])
+}
