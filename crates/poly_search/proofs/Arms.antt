@@ -1,5 +1,5 @@
 -- The steps of a sweep over a walk: an arm, the next of the options, and the end.
-use Rattle.std.proofs.Common.{◌≡◌, ℕ, ◌+◌, ◌-◌, ◌<◌, ◌≤◌, ◌&&◌, not, true, List, [], ◌∷◌, ◌++◌, sym, ap, subst, ◌∙◌, arith, length, length-append, map, take, drop, get_or}
+use Rattle.std.proofs.Common.{◌≡◌, ℕ, ◌+◌, ◌-◌, ◌<◌, ◌≤◌, ◌&&◌, not, true, List, [], ◌∷◌, ◌++◌, refl, sym, ap, subst, ◌∙◌, arith, length, length-append, map, take, drop, get_or}
 use Rattle.std.specs.List.{list_all}
 use Rattle.std.proofs.lemmas.List.{get_or-drop, length-drop, take_all, take-append-le}
 use Rattle.std.proofs.lemmas.Grind.{get_or_default_zero}
@@ -54,14 +54,22 @@ passed_more w wl wn xs ys from at p low lt same e path step =
     step ∙ ap (λ x. with_step x (Lacks p)) path ∙ ap (λ n. with_step (passed w (take j ps)) (Lacks n)) (option_is xs ys from at p low lt same e)
     ∙ ap (λ B. record w { atoms = B }) (sym (behind_more w.atoms ps j here)) ∙ ap (λ n. passed w (take n ps)) next
 
+-- the tilings with one more option were swept
+pub option_partly : (w wl : Walk) (xs ys : List ℕ) (from at p : ℕ) (found found1 : List (List ℕ)) (rests rests1 : List (List Atom)) → from ≤ at → at < length xs → ys ≡ xs → p ≡ get_or ys at p → wl ≡ passed w (take (at - from) (drop from xs)) →
+    Partly wl.scene wl.atoms (wl.atoms ++ Lacks p ∷ []) found found1 rests rests1 →
+    Partly w.scene (behind w.atoms (take (at - from) (drop from xs))) (behind w.atoms (take (at + 1 - from) (drop from xs))) found found1 rests rests1
+option_partly w wl xs ys from at p found found1 rests rests1 low lt same e path part =
+    let before = passed w (take (at - from) (drop from xs)) in
+    let here = subst (λ (x : Walk). Partly x.scene x.atoms (x.atoms ++ Lacks p ∷ []) found found1 rests rests1) path part in
+    subst (λ (x : Walk). Partly w.scene before.atoms x.atoms found found1 rests rests1) (passed_more w before (with_step before (Lacks p)) xs ys from at p low lt same e refl refl) here
+
 -- after the last option
-pub options_end : (w wl : Walk) (i : Item) (xs : List ℕ) (from at : ℕ) (found found1 : List (List ℕ)) (rests rests1 : List (List Atom)) → length xs ≤ at → distinct w.scene.live ≡ true → is_due w i ≡ true → Options w i (drop from xs) →
-    wl ≡ passed w (take (at - from) (drop from xs)) → Partly w.scene w.atoms wl.atoms found found1 rests rests1 → Swept w.scene w.atoms found found1 rests rests1 × IsLighter w.scene w.atoms rests rests1
-options_end w wl i xs from at found found1 rests rests1 over d due opts path part =
+pub options_end : (w : Walk) (i : Item) (xs : List ℕ) (from at : ℕ) (found found1 : List (List ℕ)) (rests rests1 : List (List Atom)) → length xs ≤ at → distinct w.scene.live ≡ true → is_due w i ≡ true → Options w i (drop from xs) →
+    Partly w.scene w.atoms (behind w.atoms (take (at - from) (drop from xs))) found found1 rests rests1 → Swept w.scene w.atoms found found1 rests rests1 × IsLighter w.scene w.atoms rests rests1
+options_end w i xs from at found found1 rests rests1 over d due opts part =
     let ps = drop from xs in
     let few : length ps ≤ at - from = omega (arith, length-drop from xs) in
-    let place : wl.atoms ≡ behind w.atoms ps = ap (λ (x : Walk). x.atoms) path ∙ ap (behind w.atoms) (take_all (at - from) ps few) in
-    let here = subst (λ B. Partly w.scene w.atoms B found found1 rests rests1) place part in
+    let here = subst (λ qs. Partly w.scene w.atoms (behind w.atoms qs) found found1 rests rests1) (take_all (at - from) ps few) part in
     let none = item_swept w.scene w.atoms i ps found1 rests1 d due opts.1 in (
       partly_swept w.scene w.atoms (behind w.atoms ps) found found1 found1 rests rests1 rests1 here none.0,
       partly_lighter w.scene w.atoms (behind w.atoms ps) found found1 rests rests1 rests1 here none.1,

@@ -130,6 +130,10 @@ past_next w wl wn ps j h e n =
     let p = get_or ps j 0 in
     n ∙ ap (λ x. with_step x (Lacks p)) e ∙ ap (λ xs. record w { atoms = xs }) (append_assoc w.atoms (map (λ q. Lacks q) (take j ps)) (Lacks p ∷ []) ∙ ap (λ xs. w.atoms ++ xs) (sym (map-append (λ q. Lacks q) (take j ps) (p ∷ [])) ∙ ap (λ xs. map (λ q. Lacks q) xs) (sym (take_more ps j 0 h))))
 
+-- undoing the steps past the atoms
+pub past_back : (w wl : Walk) (ps : List ℕ) → wl ≡ past w ps → back_to wl (length w.atoms) ≡ w
+past_back w wl ps e = ap (λ x. back_to x (length w.atoms)) e ∙ ap (λ xs. record w { atoms = xs }) (take_at w.atoms (map (λ q. Lacks q) ps) (length w.atoms) refl)
+
 pub names_next : (arms next : List Arm) (a : Arm) (ps : List ℕ) (j : ℕ) → j < length ps → next ≡ arms ++ a ∷ [] → a.placement ≡ get_or ps j 0 → heads (arms_list arms) ≡ take j ps → heads (arms_list next) ≡ take (j + 1) ps
 names_next arms next a ps j h e p n = ap (λ xs. heads (arms_list xs)) e ∙ ap heads (list_snoc arms a) ∙ heads_snoc (arms_list arms) a.placement (plan_of a.tree) ∙ ap (λ xs. xs ++ a.placement ∷ []) n ∙ ap (λ x. take j ps ++ x ∷ []) p ∙ sym (take_more ps j 0 h)
 
@@ -169,6 +173,12 @@ branch_of w d i arms ps t h dis dps m due hs g et =
     let e : (d - 1) + 1 ≡ d = omega arith in
     let fit = subst (λ xs. arms_fit w.scene w.atoms i xs ≡ true) (sym hs) (options_fit w.scene w.atoms i ps dis dps m due) in
     subst (λ x. Grown w.scene w.atoms d x) (sym et) (subst (λ k. Grown w.scene w.atoms k (Branches i (arms_list arms))) e (branch_grown w.scene w.atoms (d - 1) i (arms_list arms) fit g))
+
+-- a Branch without arms, on an item that is due and has no options
+pub dead_end_grown : (w : Walk) (d : ℕ) (i : Item) (ps : List ℕ) (t : Plan) → 2 ≤ d → distinct w.scene.live ≡ true → ((p : ℕ) → mem ps p ≡ (mem w.scene.live p && is_option w i p)) → is_due w i ≡ true → length ps ≡ 0 →
+    t ≡ Branches i NoArms → Grown w.scene w.atoms d t
+dead_end_grown w d i [] t h dis m due none et = branch_of w d i [] [] t h dis refl m due refl (no_arms_grown w.scene w.atoms (d - 1)) et
+dead_end_grown w d i (p ∷ ps) t h dis m due none et = absurd (omega (arith, none))
 
 pub total_some : (t : Plan) → 1 ≤ total t
 total_some Rests = omega arith

@@ -6,7 +6,7 @@
 //! one Rest has all the others; and a small subtree that has a Rest becomes that Rest.
 ghost use Rattle.std.specs.Prelude.{◌≡◌, ◌&&◌, ◌^◌, ◌++◌, [], ◌∷◌, ℕ, true, false, ◌+◌, ◌-◌, ◌≤◌, ◌<◌, IfOk, IfErr, OnOk, length, if◌then◌else◌};
 ghost use Rattle.poly_tiling.specs.Lists.{distinct, mem};
-ghost use Rattle.poly_report.specs.Trees.{Rests};
+ghost use Rattle.poly_report.specs.Trees.{Branches, NoArms, Rests};
 ghost use Rattle.poly_report.specs.Shapes.{plan_of, arms_list};
 ghost use Rattle.poly_report.specs.Gather.{lists};
 ghost use Rattle.poly_report.specs.Leaves.{arms_rests, arms_tilings, rests, tilings};
@@ -36,7 +36,8 @@ pub struct Growth {
     pub spare: Vec<Vec<u32>>,
 }
 
-// The options of the item, in a list that is spare if there is one. The frame stays as it was.
+// The options of the item, in a list that is spare if there is one. An item without options takes no list. The frame stays
+// as it was.
 fn list_options(
     alloc: Global,
     frame: &mut Frame<'_>,
@@ -48,10 +49,32 @@ fn list_options(
     ensures members { IfOk result (λ options. (p : ℕ) → mem options.items p ≡ (mem frame.old.scene.live p && is_option frame.old item p)) }
     ensures why { IfErr result (λ e. e ≡ Refusal.Memory) }
 {
+    let found = frame.options(item);
+    if found.is_empty() {
+        return Ok(Vec::new(alloc));
+    }
     let mut options = spare.pop().unwrap_or(Vec::new(alloc));
     options.clear();
-    options.extend_from_slice(frame.options(item))?;
+    options.extend_from_slice(found)?;
     Ok(options)
+}
+
+// A Branch without arms, for an item that is due and has no options. Most nodes that a search visits are such dead ends, so
+// this takes no memory and walks no list.
+fn dead_end(alloc: Global, growth: &mut Growth, item: Item) -> Tree
+    requires nodes { 1 ≤ growth.old.nodes }
+    requires inner { 1 ≤ growth.old.inner }
+    ensures tree { plan_of result ≡ Branches item NoArms }
+    ensures nodes { growth.new.nodes + 1 ≡ growth.old.nodes }
+    ensures inner { growth.new.inner + 1 ≡ growth.old.inner }
+    ensures leaves { growth.new.leaves ≡ growth.old.leaves }
+{
+    growth.nodes -= 1;
+    growth.inner -= 1;
+    Tree::Branch {
+        item,
+        arms: Vec::new(alloc),
+    }
 }
 
 fn rest(alloc: Global, frame: &Frame<'_>, growth: &mut Growth) -> Result<Tree, Refusal>
@@ -112,8 +135,11 @@ pub fn grow(
     }
     if let Some(item) = frame.next_due() {
         let options = list_options(alloc, frame, item, &mut growth.spare)?;
+        if options.is_empty() {
+            return Ok(dead_end(alloc, growth, item));
+        }
         if options.len() < (growth.nodes - kept) as usize {
-            if !root && growth.inner < 2 && !options.is_empty() {
+            if !root && growth.inner < 2 {
                 return rest(alloc, frame, growth);
             }
             let tree = branch(alloc, frame, growth, kept, depth, &item, &options)?;
@@ -173,7 +199,8 @@ struct Arms {
     held: u32,
 }
 
-// Walks the options one after another. May stop before the last if the budget ends and a chain can be made.
+// Walks the options one after another. May stop before the last if the budget ends and a chain can be made. The last option
+// is not left, since nothing is walked after it.
 #[cycle(grow)]
 fn walk_arms(
     alloc: Global,
@@ -229,7 +256,9 @@ fn walk_arms(
         frame.pick(placement);
         let tree = child(alloc, frame, growth, kept + after, deeper)?;
         frame.back_to(mark);
-        frame.leave(placement);
+        if after > 0 {
+            frame.leave(placement);
+        }
         arms.push(Arm { placement, tree })?;
     }
     frame.back_to(start);

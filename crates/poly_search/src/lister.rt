@@ -9,7 +9,7 @@ ghost use Rattle.poly_tiling.specs.Lists.{distinct, mem};
 ghost use Rattle.poly_report.specs.Trees.{Finds};
 ghost use Rattle.poly_report.specs.Leaves.{tilings};
 ghost use Rattle.poly_report.specs.Gather.{lists};
-ghost use Rattle.poly_frame.specs.Walk.{is_due, is_open, is_option, with_step};
+ghost use Rattle.poly_frame.specs.Walk.{is_due, is_open, is_option};
 ghost use Rattle.poly_search.specs.Sweeps.{IsLighter, Partly, Swept};
 
 use poly_atom::Atom;
@@ -84,7 +84,8 @@ pub fn sweep(
     }
 }
 
-// Sweeps the options of an item that is due, one after another. Each tiling has one of them.
+// Sweeps the options of an item that is due, one after another. Each tiling has one of them, so nothing remains to be swept
+// without the last.
 #[cycle(sweep)]
 fn sweep_item(
     alloc: Global,
@@ -148,6 +149,9 @@ fn sweep_options(
             frame.back_to(mark);
             return Ok(false);
         }
+        if at + 1 < list.options.len() {
+            frame.leave(placement);
+        }
     }
     frame.back_to(mark);
     Ok(true)
@@ -181,14 +185,15 @@ fn sweep_open(
             frame.back_to(mark);
             return Ok(false);
         }
+        frame.leave(placement);
     }
     push_found(alloc, frame, list)?;
     frame.back_to(mark);
     Ok(true)
 }
 
-// Sweeps the tilings that have the open placement, and then leaves it. If that ended early, those without it are kept
-// too.
+// Sweeps the tilings that have the open placement. If that ended early, those without it are kept too. The frame stays as
+// it was.
 #[cycle(sweep)]
 fn sweep_arm(
     alloc: Global,
@@ -204,9 +209,9 @@ fn sweep_arm(
     requires once { distinct frame.old.scene.live ≡ true }
     requires place { mem frame.old.scene.live placement ≡ true }
     requires open { is_open frame.old placement ≡ true }
-    ensures step { OnOk result (frame.new ≡ with_step frame.old (Lacks placement)) }
-    ensures room { IfOk result (λ whole. whole ≡ true → length frame.new.atoms < end) }
-    ensures more { IfOk result (λ whole. whole ≡ true → Partly frame.old.scene frame.old.atoms frame.new.atoms list.old.found.items list.new.found.items (lists list.old.rests.items) (lists list.new.rests.items)) }
+    ensures same { OnOk result (frame.new ≡ frame.old) }
+    ensures room { IfOk result (λ whole. whole ≡ true → length frame.old.atoms + 1 < end) }
+    ensures more { IfOk result (λ whole. whole ≡ true → Partly frame.old.scene frame.old.atoms (frame.old.atoms ++ Lacks placement ∷ []) list.old.found.items list.new.found.items (lists list.old.rests.items) (lists list.new.rests.items)) }
     ensures swept { IfOk result (λ whole. whole ≡ false → Swept frame.old.scene frame.old.atoms list.old.found.items list.new.found.items (lists list.old.rests.items) (lists list.new.rests.items)) }
     ensures lighter { IfOk result (λ whole. whole ≡ false → IsLighter frame.old.scene frame.old.atoms (lists list.old.rests.items) (lists list.new.rests.items)) }
     ensures whole { IfOk result (λ whole. whole ≡ true → lists list.new.rests.items ≡ lists list.old.rests.items) }
@@ -217,9 +222,10 @@ fn sweep_arm(
     frame.pick(placement);
     let whole = sweep_below(alloc, frame, list, end, depth)?;
     frame.back();
-    frame.leave(placement);
     if !whole {
+        frame.leave(placement);
         push_rest(alloc, frame, list)?;
+        frame.back();
     }
     Ok(whole)
 }

@@ -1,4 +1,4 @@
-use Rattle.std.proofs.Common.{◌≡◌, ◌+◌, ◌-◌, ◌<◌, ◌≤◌, get_or, take, length, ◌++◌, [], ◌∷◌, arith, refl, sym, ap, subst, length-append, ◌∙◌}
+use Rattle.std.proofs.Common.{◌≡◌, ◌+◌, ◌-◌, ◌<◌, ◌≤◌, get_or, take, length, ◌++◌, [], ◌∷◌, arith, refl, rules, true, sym, ap, subst, length-append, ◌∙◌}
 use Rattle.poly_atom.specs.declared.atom.Atom.TheVariants.{Has, Lacks}
 use Rattle.poly_report.specs.declared.tree.Arm.{Arm}
 use Rattle.poly_report.specs.declared.leaf.Leaves.{Leaves}
@@ -7,16 +7,25 @@ use Rattle.poly_report.proofs.Rows.{plan_of-Branch}
 use Rattle.poly_report.specs.Shapes.{arms_list, plan_of}
 use Rattle.poly_report.specs.Gather.{lists}
 use Rattle.poly_report.specs.Leaves.{rests, tilings}
-use Rattle.std.proofs.lemmas.Bool.{true≢false}
+use Rattle.std.proofs.lemmas.Bool.{eqb-true, true≢false}
 use Rattle.poly_report.specs.Sizes.{Grown, inner, total}
-use Rattle.poly_frame.specs.Walk.{Walk}
+use Rattle.poly_frame.specs.Walk.{Walk, is_due}
 use Rattle.poly_search.specs.declared.growth.Growth.{Growth}
 use Rattle.poly_search.proofs.Gathered.{arm_path, branch_rests, branch_tilings, linked_rests, linked_tilings, named_once, rests_cut, rests_next, split_rests, split_tilings, tilings_next}
-use Rattle.poly_search.proofs.Nodes.{back_is, branch_of, option_at, take_whole, split_of, past_next, names_next, total_next, inner_next, grown_next, total_some}
+use Rattle.poly_search.proofs.Nodes.{back_is, branch_of, option_at, take_whole, split_of, past_next, past_back, dead_end_grown, names_next, total_next, inner_next, grown_next, total_some}
 use Rattle.poly_search.proofs.Links.{chain_grown, chain_inner, chain_no_rest, chain_total, grown_deeper, linked_next}
 use Rattle.poly_search.proofs.Paths.{branch_opened, linked_opened, opened_next, split_opened}
 use Rattle.poly_search.proofs.growth.+grow.Goals as goal
-use Rattle.poly_search.proofs.growth.+grow.Goals.{walk_arms-then-chained+then-j-gt0+then-growth-gt1, walk_arms-then-chained+then-j-gt0+else-growth-gt1+else-options-j-gt1, walk_arms-else-chained, walk_arms-then-chained-2, walk_arms-else-chained-2}
+use Rattle.poly_search.proofs.growth.+grow.Goals.{walk_arms-then-chained+then-j-gt0+then-growth-gt1, walk_arms-then-chained+then-j-gt0+else-growth-gt1+else-options-j-gt1, walk_arms-else-chained, walk_arms-then-chained-2, walk_arms-else-chained-2, walk_arms-then-after-gt0, walk_arms-else-after-gt0}
+
+pub grow-returns-then-is_empty-clause-grown : goal.grow-returns-then-is_empty-clause-grown
+grow-returns-then-is_empty-clause-grown t c =
+    let w = c.args.frame.now in
+    let xs = c.in_ok-options.options.items in
+    let low : 2 ≤ c.args.depth = search rules in
+    let due : is_due w c.in-Some-next_due.item ≡ true = search rules in
+    let none : length xs ≡ 0 = omega (arith, eqb-true c.in_ok-options.options.len 0 (sym c.is_empty.ensures ∙ c.if-is_empty.true), c.in_ok-options.options.ok) in
+    dead_end_grown w c.args.depth c.in-Some-next_due.item xs _ low c.requires.once c.in_ok-options.ensures.members due none c.dead_end.ensures.tree
 
 pub split-returns-clause-grown : goal.split-returns-clause-grown
 split-returns-clause-grown t c =
@@ -76,20 +85,29 @@ walk_arms-loop-j-preserved t c =
       | walk_arms-else-chained-2 k ↦ omega (arith, k.deeper-is)
     ] in
     let back = back_is c.loop-j.frame c.pick.new.self c.child.new.frame c.back_to-in-loop-j.new.self (Has p) c.mark-mark.result c.mark-mark.ensures c.pick.ensures c.in_ok-tree.ensures.same c.back_to-in-loop-j.ensures in
+    let here = i.path lt in
+    let still = back ∙ here in
     let more : c.push.new.self.items ≡ c.loop-j.arms.items ++ a ∷ [] = c.in_ok-push.ensures.items in
     let tn = total_next c.loop-j.arms.items c.push.new.self.items a more in
     let un = inner_next c.loop-j.arms.items c.push.new.self.items a more in
     let g = c.in_ok-tree.ensures in
     let some = total_some (plan_of a.tree) in
     let o = option_at w c.args.item.now ps j lt r.members in
-    let under = arm_path w c.loop-j.frame c.pick.new.self (take j ps) (heads (arms_list c.loop-j.arms.items)) p i.path c.pick.ensures i.names in
+    let under = arm_path w c.loop-j.frame c.pick.new.self (take j ps) (heads (arms_list c.loop-j.arms.items)) p here c.pick.ensures i.names in
     let same : c.if-chained.growth.leaves ≡ c.loop-j.growth.leaves = elim c.if-chained.branch [
       | walk_arms-then-chained+then-j-gt0+then-growth-gt1 k ↦ ap (λ (b : Growth). b.leaves) k.growth-is
       | walk_arms-then-chained+then-j-gt0+else-growth-gt1+else-options-j-gt1 k ↦ ap (λ (b : Growth). b.leaves) k.growth-is
       | walk_arms-else-chained k ↦ ap (λ (b : Growth). b.leaves) k.growth-is
     ] in
     record {
-      path = past_next w c.back_to-in-loop-j.new.self c.leave.new.self ps j lt (back ∙ i.path) c.leave.ensures;
+      path = λ h. elim c.if-after-gt0.branch [
+        | walk_arms-then-after-gt0 k ↦ k.frame-is ∙ past_next w c.back_to-in-loop-j.new.self k.leave.new.self ps j lt still k.leave.ensures
+        | walk_arms-else-after-gt0 k ↦ absurd (omega (arith, k.if-after-gt0.false))
+      ];
+      front = elim c.if-after-gt0.branch [
+        | walk_arms-then-after-gt0 k ↦ past_back w c.if-after-gt0.frame (take (j + 1) ps) (k.frame-is ∙ past_next w c.back_to-in-loop-j.new.self k.leave.new.self ps j lt still k.leave.ensures)
+        | walk_arms-else-after-gt0 k ↦ past_back w c.if-after-gt0.frame (take j ps) (k.frame-is ∙ still)
+      ];
       many = omega (arith, ap length more, length-append c.loop-j.arms.items (a ∷ []), i.many);
       names = names_next c.loop-j.arms.items c.push.new.self.items a ps j lt more refl i.names;
       nodes = omega (arith, tn, g.nodes, i.nodes, spent.0);
@@ -98,14 +116,14 @@ walk_arms-loop-j-preserved t c =
       rests = rests_next w c.pick.new.self c.loop-j.arms.items c.push.new.self.items a p o.0 o.1 under more refl _ (lists c.loop-j.growth.leaves.rests.items) _ i.rests (g.rests ∙ ap (λ (l : Leaves). lists l.rests.items ++ rests c.pick.new.self.scene c.pick.new.self.atoms (plan_of a.tree)) same);
       counted = omega (arith, tn, some, i.counted);
       room = omega (arith, g.kept, i.room);
-      grown = grown_next w c.loop-j.frame c.pick.new.self _ c.args.item.now c.loop-j.arms.items c.push.new.self.items a ps j lt r.once r.members i.path c.pick.ensures i.names more refl i.grown (grown_deeper _ _ _ _ _ shallow g.grown);
+      grown = grown_next w c.loop-j.frame c.pick.new.self _ c.args.item.now c.loop-j.arms.items c.push.new.self.items a ps j lt r.once r.members here c.pick.ensures i.names more refl i.grown (grown_deeper _ _ _ _ _ shallow g.grown);
       opened = opened_next w c.pick.new.self c.args.item.now c.loop-j.arms.items c.push.new.self.items a ps j lt r.each_once r.members under i.names more refl i.opened g.opened;
       linked = λ h.
           let at : c.if-chained-2.deeper ≡ c.args.depth - 1 - j = elim c.if-chained-2.branch [
             | walk_arms-then-chained-2 k ↦ k.deeper-is
             | walk_arms-else-chained-2 k ↦ absurd (true≢false (sym h ∙ k.if-chained-2.false))
           ] in
-          linked_next w c.loop-j.frame c.pick.new.self c.args.depth c.args.item.now c.loop-j.arms.items c.push.new.self.items a ps j lt r.once r.members i.path c.pick.ensures i.names i.many more refl
+          linked_next w c.loop-j.frame c.pick.new.self c.args.depth c.args.item.now c.loop-j.arms.items c.push.new.self.items a ps j lt r.once r.members here c.pick.ensures i.names i.many more refl
           (omega (arith, i.short h)) (i.linked h) (subst (λ d. Grown c.pick.new.self.scene c.pick.new.self.atoms d (plan_of a.tree)) at g.grown);
       short = i.short;
       held = omega (arith, spent.2, i.held);

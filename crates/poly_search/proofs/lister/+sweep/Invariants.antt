@@ -1,5 +1,6 @@
 use Rattle.std.proofs.Common.{◌≡◌, ◌+◌, ◌*◌, ◌-◌, ◌≤◌, ◌<◌, take, drop, length}
 use Rattle.poly_report.specs.Gather.{lists}
+use Rattle.poly_frame.specs.Walk.{back_to}
 use Rattle.poly_search.specs.Sweeps.{Partly}
 use Rattle.poly_search.proofs.Swept.{behind}
 use Rattle.poly_search.proofs.lister.+sweep.Given as goal
@@ -22,15 +23,16 @@ decreases-sweep_arm l = 6 * l.depth + 2
 abbrev pub decreases-sweep_below : goal.decreases-sweep_below
 decreases-sweep_below l = 6 * l.depth + 1
 
--- the options before `at` were swept and left
+-- the options before `at` were swept, and they were left if there is one more
 abbrev pub invariant-sweep_options-loop-at : goal.invariant-sweep_options-loop-at
 invariant-sweep_options-loop-at l = record {
   low : l.from ≤ l.at;
-  path : l.frame ≡ record l.fn.frame { atoms = behind l.fn.frame.atoms (take (l.at - l.from) (drop l.from l.fn.list.options.items)) };
-  room : length l.frame.atoms < l.end;
+  path : l.at < length l.fn.list.options.items → l.frame ≡ record l.fn.frame { atoms = behind l.fn.frame.atoms (take (l.at - l.from) (drop l.from l.fn.list.options.items)) };
+  front : back_to l.frame (length l.fn.frame.atoms) ≡ l.fn.frame;
+  room : l.at < length l.fn.list.options.items → length l.frame.atoms < l.end;
   options : l.list.options.items ≡ l.fn.list.options.items;
   left : lists l.list.rests.items ≡ lists l.fn.list.rests.items;
-  swept : Partly l.fn.frame.scene l.fn.frame.atoms l.frame.atoms l.fn.list.found.items l.list.found.items (lists l.fn.list.rests.items) (lists l.list.rests.items);
+  swept : Partly l.fn.frame.scene l.fn.frame.atoms (behind l.fn.frame.atoms (take (l.at - l.from) (drop l.from l.fn.list.options.items))) l.fn.list.found.items l.list.found.items (lists l.fn.list.rests.items) (lists l.list.rests.items);
 }
 
 -- some placements were swept and left
