@@ -167,15 +167,3 @@ pub(crate) fn raise(have: &mut Vec<u64>, places: &[usize])
         have[*b] += 1;
     }
 }
-
-/// Lowers the count at each place by one.
-pub(crate) fn lower(have: &mut Vec<u64>, places: &[usize])
-    requires low { list_all (λ b. nat_lt b (length have.old.items)) places.now ≡ true }
-    requires enough { (b : ℕ) → b < length have.old.items → times places.now b ≤ slice_index have.old.items b }
-    ensures len { length have.new.items ≡ length have.old.items }
-    ensures less { (b : ℕ) → b < length have.old.items → slice_index have.new.items b + times places.now b ≡ slice_index have.old.items b }
-{
-    for b in places {
-        have[*b] -= 1;
-    }
-}

@@ -1,28 +1,60 @@
 //! Notes of which items are due, a bit for each. A note is tested when it is read, so a wrong one only costs time.
-ghost use Rattle.std.specs.Prelude.{IfErr, ◌≡◌};
+ghost use Rattle.std.specs.Prelude.{IfErr, length, nat_lt, slice_index, true, ℕ, ◌+◌, ◌<◌, ◌^◌, ◌≡◌, ◌≤◌};
+ghost use Rattle.std.specs.List.{list_all};
+ghost use Rattle.poly_frame.specs.FrameItems.{times};
 
 use poly_grid::Refusal;
 use std::alloc::Global;
 
-// Notes whether the base has too few of the item at `b`.
-fn note_item(due: &mut Vec<u64>, asked: &[u8], have: &[u64], b: usize) {
+// Notes whether the base, which has `have` members with the item at `b`, has too few.
+fn note_item(due: &mut Vec<u64>, asked: &[u8], have: u64, b: usize) {
     let k = b / 64;
-    if k >= due.len() || b >= asked.len() || b >= have.len() {
+    if k >= due.len() || b >= asked.len() {
         return;
     }
     let bit = 1u64 << (b % 64);
     let word = due[k];
-    if have[b] < u64::from(asked[b]) {
+    if have < u64::from(asked[b]) {
         due[k] = word | bit;
     } else {
         due[k] = word & !bit;
     }
 }
 
-/// Notes for the items at some places whether they are due now.
-pub(crate) fn note_due(due: &mut Vec<u64>, asked: &[u8], have: &[u64], places: &[usize]) {
+/// Raises the count at each place by one, and notes whether its item is still due. One loop does both, because each step
+/// of a search runs it.
+pub(crate) fn raise_and_note(
+    have: &mut Vec<u64>,
+    due: &mut Vec<u64>,
+    asked: &[u8],
+    places: &[usize],
+)
+    requires low { list_all (λ b. nat_lt b (length have.old.items)) places.now ≡ true }
+    requires small { (b : ℕ) → b < length have.old.items → slice_index have.old.items b + length places.now < 2 ^ 64 }
+    ensures len { length have.new.items ≡ length have.old.items }
+    ensures more { (b : ℕ) → b < length have.old.items → slice_index have.new.items b ≡ slice_index have.old.items b + times places.now b }
+{
     for b in places {
-        note_item(due, asked, have, *b);
+        have[*b] += 1;
+        note_item(due, asked, have[*b], *b);
+    }
+}
+
+/// Lowers the count at each place by one, and notes whether its item is due again.
+pub(crate) fn lower_and_note(
+    have: &mut Vec<u64>,
+    due: &mut Vec<u64>,
+    asked: &[u8],
+    places: &[usize],
+)
+    requires low { list_all (λ b. nat_lt b (length have.old.items)) places.now ≡ true }
+    requires enough { (b : ℕ) → b < length have.old.items → times places.now b ≤ slice_index have.old.items b }
+    ensures len { length have.new.items ≡ length have.old.items }
+    ensures less { (b : ℕ) → b < length have.old.items → slice_index have.new.items b + times places.now b ≡ slice_index have.old.items b }
+{
+    for b in places {
+        have[*b] -= 1;
+        note_item(due, asked, have[*b], *b);
     }
 }
 
@@ -31,8 +63,8 @@ pub(crate) fn notes_of(alloc: Global, asked: &[u8], have: &[u64]) -> Result<Vec<
     ensures { IfErr result (λ e. e ≡ Refusal.Memory) }
 {
     let mut due = vec![in alloc; 0u64; asked.len() / 64 + 1]?;
-    for b in 0..asked.len() {
-        note_item(&mut due, asked, have, b);
+    for b in 0..asked.len().min(have.len()) {
+        note_item(&mut due, asked, have[b], b);
     }
     Ok(due)
 }

@@ -9,10 +9,10 @@ ghost use Rattle.poly_frame.specs.FrameItems.{Noted};
 ghost use Rattle.poly_tiling.specs.Puzzle.{items};
 
 use crate::bits;
-use crate::frame::items::{lower, note_items, raise};
+use crate::frame::items::note_items;
 use crate::frame::matrix::Matrix;
 use crate::frame::node::Node;
-use crate::frame::notes::{note_due, notes_of};
+use crate::frame::notes::{lower_and_note, notes_of, raise_and_note};
 use crate::frame::table::Table;
 use poly_atom::Atom;
 use poly_grid::Refusal;
@@ -108,7 +108,12 @@ pub(crate) fn pick(node: &Node<'_>, members: &[u32], steps: &mut Steps, number: 
     }
     let place = node.matrix.place_of(number);
     note_number(node.view, node.matrix, place, number, &mut steps.raised);
-    raise(&mut steps.have, &steps.raised[mark..]);
+    raise_and_note(
+        &mut steps.have,
+        &mut steps.due,
+        &node.table.asked,
+        &steps.raised[mark..],
+    );
     close(
         node.matrix,
         node.table,
@@ -116,12 +121,6 @@ pub(crate) fn pick(node: &Node<'_>, members: &[u32], steps: &mut Steps, number: 
         &steps.raised[mark..],
         &mut steps.live,
         at,
-    );
-    note_due(
-        &mut steps.due,
-        &node.table.asked,
-        &steps.have,
-        &steps.raised[mark..],
     );
     if let Some(j) = place {
         bits::take_out(&mut steps.live, at, j);
@@ -155,11 +154,10 @@ pub(crate) fn back(node: &Node<'_>, steps: &mut Steps)
 {
     let n = node.path.len() - 1 - node.given;
     let mark = steps.marks[n];
-    lower(&mut steps.have, &steps.raised[mark..]);
-    note_due(
+    lower_and_note(
+        &mut steps.have,
         &mut steps.due,
         &node.table.asked,
-        &steps.have,
         &steps.raised[mark..],
     );
     steps.raised.truncate(mark);

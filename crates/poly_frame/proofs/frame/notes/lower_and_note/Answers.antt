@@ -3,7 +3,7 @@ use Rattle.std.proofs.Math.ListN.{set}
 use Rattle.std.proofs.lemmas.List.{get_or_read, length-set}
 use Rattle.poly_frame.specs.FrameItems.{times}
 use Rattle.poly_frame.proofs.FrameItems.{at_low, lower_fits, lower_step}
-use Rattle.poly_frame.proofs.frame.items.lower.Goals as goal
+use Rattle.poly_frame.proofs.frame.notes.lower_and_note.Goals as goal
 
 pub overflow_sub-index_mut : goal.overflow_sub-index_mut
 overflow_sub-index_mut c =

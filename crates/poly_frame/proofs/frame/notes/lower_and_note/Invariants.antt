@@ -1,6 +1,6 @@
 use Rattle.std.proofs.Common.{get_or, length, take, ℕ, ◌+◌, ◌<◌, ◌≡◌}
 use Rattle.poly_frame.specs.FrameItems.{times}
-use Rattle.poly_frame.proofs.frame.items.lower.Given as goal
+use Rattle.poly_frame.proofs.frame.notes.lower_and_note.Given as goal
 
 abbrev pub invariant-loop-b : goal.invariant-loop-b
 invariant-loop-b l = record {
