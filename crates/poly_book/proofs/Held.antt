@@ -30,7 +30,7 @@ flat_none zero (g ∷ gs) h = absurd (omega (arith, h))
 flat_none (suc n) [] h = refl
 flat_none (suc n) (g ∷ gs) h = flat_none n gs (omega (arith, h))
 
--- one more change lays its guards behind
+-- after one more change, its guards follow the atoms of each task
 since_push : (n : ℕ) (log : List (List Atom)) (g : List Atom) → n ≤ length log → flat (drop n (log ++ g ∷ [])) ≡ flat (drop n log) ++ g
 since_push zero log g h = flat_push log g
 since_push (suc n) [] g h = absurd (omega (arith, h))

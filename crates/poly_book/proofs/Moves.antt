@@ -161,7 +161,7 @@ pub inverse_twice : (x : Change) → inverse_of (inverse_of x) ≡ x
 inverse_twice (change.Cell c m n) = refl
 inverse_twice (change.Piece c m n) = refl
 
--- a change that is made puts a way on the others, that leads back over it
+-- a change puts one more way on top, which leads back over it
 follows_push : (f : Change → Change) (s : State) (x y : Change) (w : View) (us : List Led) (bs : List Way) → IsDesign s.design → Shows s.view s.design → HasBefore s.design x → f y ≡ inverse_of x →
     Follows f s.design us bs → Follows f (changed s.design x) (led_back s w ∷ us) (way_back s y w ∷ bs)
 follows_push f s x y w us bs is shows has e k =

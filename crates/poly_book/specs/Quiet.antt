@@ -31,8 +31,8 @@ abbrev pub IsQuiet : Option Stored → Type 0
 IsQuiet None = ⊥
 IsQuiet (Some h) = h.frozen ≡ []
 
--- All the lists are hopeless_along, and what each shelf on the way has frozen is hopeless_along by the ways below; that of step m has
--- frozen nothing.
+-- Each list is hopeless along the ways down to that of step m. So is each list that a shelf on the way has frozen, along
+-- the ways below it. The shelf of step m has frozen nothing.
 abbrev pub HopelessAlong : ℕ → List Led → List (List Atom) → Type 0
 HopelessAlong m [] As = Unit {0}
 HopelessAlong m (b ∷ ways) As =
@@ -40,7 +40,7 @@ HopelessAlong m (b ∷ ways) As =
     × (b.made ≡ m → IsQuiet b.shelf)
     × (stands m ways ≡ true → HopelessAlong m ways (frozen_in b.shelf))
 
--- each way undoes an earlier step than the one before
+-- each way is that of an earlier step than the way above it, and the first is that of a step before n
 abbrev pub Falling : ℕ → List Led → Type 0
 Falling n [] = Unit {0}
 Falling n (b ∷ ways) = (b.made < n) × Falling b.made ways
@@ -48,7 +48,8 @@ Falling n (b ∷ ways) = (b.made < n) × Falling b.made ways
 abbrev pub owns : List Task → List (List Atom)
 owns ts = map (λ t. t.own) ts
 
--- What holds of every state of a run: all that is pending since a quiet step is hopeless_along by the way over it.
+-- What holds of every state of a run: as long as the way of a quiet step is there, the own atoms of each pending task are
+-- hopeless along the ways down to it.
 pub record StaysQuiet (s : State) (t : Trail) : Type 0 where
   pub back_falls : Falling (length s.steps + 1) t.back
   pub forth_falls : Falling (length s.steps + 1) t.forth

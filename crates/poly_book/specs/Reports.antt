@@ -28,8 +28,8 @@ pub record IsApplied (k made : ℕ) (tree : Plan) (s t : State) (a : Applied) : 
   pub opened : t.next ≡ a.first + a.opened
   pub late : a.late ≡ nat_lt made (length s.steps)
 
--- The tilings and the lists are the leaves of a tree that fits and holds for the pending task of the number, which stands
--- at the place.
+-- The tilings and the lists are the leaves of a tree. It fits, and it holds for the pending task with the number k, whose
+-- index among the pending tasks is `place`.
 pub record AreLeaves (p : Parts) (k place : ℕ) (tree : Plan) (found : List (List ℕ)) (left : List (List Atom)) : Type 0 where
   pub task : Task
   pub first : position_from (λ q. q.number == k) 0 p.tasks.items ≡ Some place

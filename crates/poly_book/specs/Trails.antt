@@ -59,7 +59,8 @@ pub record Links (d : Layout) (x : Change) (u : Led) (b : Way) : Type 0 where
   pub made : u.made ≡ b.made
   pub shelf : u.shelf ≡ b.shelf
 
--- view after view shows what the ways' changes, made by f of them, lead to
+-- Each view shows the design after one more way. The change that is made is f of the way's: itself for a redo, its inverse
+-- for an undo.
 abbrev pub Follows : (Change → Change) → Layout → List Led → List Way → Type 0
 Follows f d [] [] = Unit {0}
 Follows f d [] (b ∷ bs) = ⊥
