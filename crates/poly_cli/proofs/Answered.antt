@@ -118,15 +118,19 @@ module _ {S : Type 0} (Says : S → Option (List ℕ) → List ℕ → S → Typ
         at_most_one [] = omega arith
         at_most_one (x ∷ xs) = omega arith
 
-    pub last_served : (held_last : Option (List ℕ)) → Appends held held_last out → Served most (Ok tt) held_last
+    last_served : (held_last : Option (List ℕ)) → Appends held held_last out → Served most (Ok tt) held_last
     last_served held_last wrote = (a.taken ++ n.taken, taken_more event.End n n.finds.3, (n.finds.2, short_all event.End n, last_few, (a.out ++ out, appends_more held_first held held_last a.out out a.wrote wrote, last_run)))
 
-    pub last_unserved : (held_last : Option (List ℕ)) (e : Fault) → Writes (Err e) held held_last out → Served most (Err e) held_last
+    last_unserved : (held_last : Option (List ℕ)) (e : Fault) → Writes (Err e) held held_last out → Served most (Err e) held_last
     last_unserved held_last e w =
         let lines = lines_of old.limit (ahead old ++ (a.taken ++ n.taken)) in
         let all : lines ++ [] ≡ take most lines = append-nil lines ∙ sym (take_all most lines last_few) in
         subst (λ f. Served most (Err f) held_last) (sym w.0)
         (a.taken ++ n.taken, taken_more event.End n n.finds.3, (a.out ++ w.1, w.2, lines, [], appends_more held_first held held_last a.out w.1 a.wrote w.3, rw (append_assoc a.out w.1 w.2, w.4) last_run, inr (n.finds.2, short_all event.End n, all)))
+
+    pub last_line : (held_last : Option (List ℕ)) (r : Result (Unit {0}) Fault) → Writes r held held_last out → Served most r held_last
+    last_line held_last (Ok tt) w = last_served held_last w
+    last_line held_last (Err e) w = last_unserved held_last e w
 
   -- a whole line whose answer wasn't written whole
   pub line_unserved : (n : NextLine event.Line now new left last) (most : ℕ) → count < most → new.limit ≡ now.limit → (said : Option (List ℕ)) → ((bytes : List ℕ) → new.line.items ≡ kept new.limit bytes → said ≡ ended new.limit bytes)

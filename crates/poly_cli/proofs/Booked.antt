@@ -25,6 +25,8 @@ use Rattle.poly_book.specs.States.{State as Book, Way}
 use Rattle.poly_book.specs.Steps.{IsDone, IsEdited, IsRedone, IsUndone}
 use Rattle.poly_book.proofs.Changes.{newest_all}
 use Rattle.poly_book.proofs.Moves.{inverse_twice}
+use Rattle.poly_tiling.specs.declared.lister.TheConstants.{MAX_TILINGS}
+use Rattle.poly_undo.specs.declared.history.TheConstants.{MAX_STEPS}
 use Rattle.poly_cli.specs.Books.{changes_of, session_of}
 use Rattle.poly_cli.specs.States.{EditRefused, Edits, IsUnanswered, RedoRefused, Redoes, State, UndoRefused, Undoes}
 
@@ -44,10 +46,10 @@ newest_take (suc n) [] = refl
 newest_take (suc n) (way ∷ ways) = ap (λ z. way.change ∷ z) (newest_take n ways)
 
 -- the changes of the newest ways are the newest changes
-changes_newest : (ways : List Way) → changes_of (newest 256 ways) ≡ newest_last (changes_of ways)
+changes_newest : (ways : List Way) → changes_of (newest MAX_STEPS ways) ≡ newest_last (changes_of ways)
 changes_newest ways =
     let all = map (λ w. w.change) ways in
-    ap reverse (newest_take 256 ways ∙ ap (take 256) (sym (reverse-reverse all)) ∙ sym (newest_reversed (reverse all))) ∙ reverse-reverse (newest_last (reverse all))
+    ap reverse (newest_take MAX_STEPS ways ∙ ap (take MAX_STEPS) (sym (reverse-reverse all)) ∙ sym (newest_reversed (reverse all))) ∙ reverse-reverse (newest_last (reverse all))
 
 -- ---- there are at most 256 changes that can be undone or redone
 
@@ -61,16 +63,16 @@ newest_less zero xs = omega arith
 newest_less (suc n) [] = omega arith
 newest_less (suc n) (x ∷ xs) = omega (arith, newest_less n xs)
 
-few_traced : (t : Trace) (k : Kind) (x : Change) → IsNext t k x → length t.back + length t.forth ≤ 256 → length (traced t k x).back + length (traced t k x).forth ≤ 256
-few_traced t kind.Edit x n few = omega (arith, newest_short 256 (x ∷ t.back))
+few_traced : (t : Trace) (k : Kind) (x : Change) → IsNext t k x → length t.back + length t.forth ≤ MAX_STEPS → length (traced t k x).back + length (traced t k x).forth ≤ MAX_STEPS
+few_traced t kind.Edit x n few = omega (arith, newest_short MAX_STEPS (x ∷ t.back))
 few_traced t kind.Undo x n few = omega (arith, few, length-drop 1 t.back, ap length n.1)
-few_traced t kind.Redo x n few = omega (arith, few, newest_less 256 (x ∷ t.back), length-drop 1 t.forth, ap length n.1)
+few_traced t kind.Redo x n few = omega (arith, few, newest_less MAX_STEPS (x ∷ t.back), length-drop 1 t.forth, ap length n.1)
 
-few_replayed : (o : Layout) (ss : List Step) → AllStand o ss → length (replayed o ss).back + length (replayed o ss).forth ≤ 256
+few_replayed : (o : Layout) (ss : List Step) → AllStand o ss → length (replayed o ss).back + length (replayed o ss).forth ≤ MAX_STEPS
 few_replayed o [] h = omega arith
 few_replayed o (s ∷ ss) h = few_traced (replayed o ss) s.kind s.change h.1 (few_replayed o ss h.2)
 
-few_ways : (s : Book) → Replay s → length s.back + length s.forth ≤ 256
+few_ways : (s : Book) → Replay s → length s.back + length s.forth ≤ MAX_STEPS
 few_ways s r =
     omega (arith, few_replayed s.opened s.steps r.stand, ap (λ t. length t.back) r.is, ap (λ t. length t.forth) r.is, length-map s.back (λ b. b.change), length-map s.forth (λ b. b.change))
 
@@ -111,13 +113,13 @@ module _ (s t : Book) (flag : Bool) where
       let v = i.made.view in
       let same : t ≡ record (redone s v (i.way ∷ i.rest)) { listed = t.listed } = i.made.becomes.same ∙ ap (λ ways. record (redone s v ways) { listed = t.listed }) i.top in
       let new = way_back s i.way.change v in
-      let few : length (new ∷ s.back) ≤ 256 = omega (arith, few_ways s r, ap length i.top) in
+      let few : length (new ∷ s.back) ≤ MAX_STEPS = omega (arith, few_ways s r, ap length i.top) in
       record {
         change = i.way.change;
         left = changes_of i.rest;
         taken = ap changes_of i.top ∙ changes_push i.way i.rest;
         is = same_state (ap (λ z. z.design) same) (ap (λ z. length z.steps) same ∙ omega arith)
-            (ap (λ z. changes_of z.back) same ∙ ap changes_of (newest_all 256 (new ∷ s.back) few) ∙ changes_push new s.back) (ap (λ z. changes_of z.forth) same) refl;
+            (ap (λ z. changes_of z.back) same ∙ ap changes_of (newest_all MAX_STEPS (new ∷ s.back) few) ∙ changes_push new s.back) (ap (λ z. changes_of z.forth) same) refl;
       }
 
   pub next_edition : (k : Kind) (x : Change) (done : Done) → IsDone k x s t done → done.place ≡ length s.steps + 1
@@ -158,7 +160,7 @@ module _ (s : Book) (flag : Bool) (e : Refusal) where
       go (inr (inr memory)) = inr memory
 
 -- if settling a book fails, a question about its design may fail with the same refusal
-pub unsettled : (turns : ℕ) (s t : Book) (e : Refusal) → IsNotSettled turns s t e → (e ≡ CatalogueFull → HasOverTilings 1000000 s.design) → IsUnanswered s.design e
+pub unsettled : (turns : ℕ) (s t : Book) (e : Refusal) → IsNotSettled turns s t e → (e ≡ CatalogueFull → HasOverTilings MAX_TILINGS s.design) → IsUnanswered s.design e
 unsettled turns s t e (inl unfinished) full = inl unfinished.0
 unsettled turns s t e (inr (n, less, cuts, inl memory)) full = inr (inr (inl memory))
 unsettled turns s t e (inr (n, less, cuts, inr (k, tree, small, holds, inl spent))) full = inr (inl spent.0)

@@ -25,6 +25,7 @@ use Rattle.poly_tiling.proofs.Contained.{contains_in, in_contains}
 use Rattle.poly_tiling.proofs.Lists.{In, any_from, in_map, in_filter}
 use Rattle.poly_tiling.proofs.Tilings.{same_item_self}
 use Rattle.poly_text.specs.Replies.{covered}
+use Rattle.poly_design.specs.declared.design.TheConstants.{MAX_CELLS}
 
 -- how often the cells of the board are covered
 abbrev coverings : List Placement → List Spot → ℕ
@@ -77,7 +78,7 @@ module _ (d : Layout) (design : IsDesign d) where
   most_once Optional = omega arith
   most_once Blocked = omega arith
 
-  pub covered_few : (T : List Placement) → IsTiling d T → covered T ≤ 256
+  pub covered_few : (T : List Placement) → IsTiling d T → covered T ≤ MAX_CELLS
   covered_few T tiling =
       let board = keys_of d.cells in
       let within = covered_within board T (λ p here. all_on_board p (tiling.inside p (in_contains T p here))) in

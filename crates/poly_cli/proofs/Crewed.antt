@@ -10,7 +10,7 @@ use Rattle.poly_book.specs.declared.step.Step.{Step}
 use Rattle.poly_desk.specs.Floors.{Counts}
 use Rattle.poly_desk.specs.Receipts.{IsBadReceipt}
 use Rattle.poly_desk.specs.Seen.{is_unsettled}
-use Rattle.poly_desk.specs.Settling.{IsNotSettled, IsUneven}
+use Rattle.poly_desk.specs.Settling.{HasMismatch, IsNotSettled}
 use Rattle.poly_desk.specs.declared.receipt.Receipt.{Receipt}
 
 -- lists with the same numbers have one sum
@@ -22,14 +22,14 @@ pub steps_stay : (o : Layout) (ss : List Step) (k : ℕ) (b : Book) (changes cut
 steps_stay o ss k b changes cuts c none = sym (ap (λ n. drop n b.steps) none) ∙ c.begins
 
 -- a desk that can't be settled up answers `Unsettled`
-pub tells_unsettled : (o : Layout) (ss : List Step) (k changes cuts : ℕ) (rs : List Receipt) (e : Refusal) → IsNotSettled o ss k changes cuts rs e → is_unsettled e ≡ true
-tells_unsettled o ss k changes cuts rs e n = go n.uneven
+pub not_settled_is_unsettled : (o : Layout) (ss : List Step) (k changes cuts : ℕ) (rs : List Receipt) (e : Refusal) → IsNotSettled o ss k changes cuts rs e → is_unsettled e ≡ true
+not_settled_is_unsettled o ss k changes cuts rs e n = go n.mismatch
   where
     bad : (b : Book) → IsBadReceipt b rs e → is_unsettled e ≡ true
     bad b (before, r, after, is, inl why) = ap is_unsettled why.0
     bad b (before, r, after, is, inr why) = ap is_unsettled why.0
 
-    go : IsUneven n.book n.changes n.cuts changes cuts rs e → is_unsettled e ≡ true
+    go : HasMismatch n.book n.changes n.cuts changes cuts rs e → is_unsettled e ≡ true
     go (inl why) = ap is_unsettled why.0
     go (inr (same, inl why)) = ap is_unsettled why.0
     go (inr (same, inr (both, receipt))) = bad n.book receipt

@@ -7,6 +7,8 @@ use Rattle.std.specs.Io.KnownBytes.{Appends, Consumes}
 use Rattle.poly_grid.specs.declared.grid.Grid.{Grid}
 use Rattle.poly_grid.specs.declared.refusal.Refusal.{Refusal}
 use Rattle.poly_grid.specs.declared.refusal.Refusal.TheVariants.{Memory}
+use Rattle.poly_cli.specs.declared.lines.TheConstants.{INPUT_LIMIT, LINE_LIMIT}
+use Rattle.poly_cli.specs.declared.sessions.TheConstants.{LINE_COUNT}
 use Rattle.poly_cli.specs.declared.lines.Lines.{Lines}
 use Rattle.poly_cli.specs.declared.lines.Event.TheVariants as event
 use Rattle.poly_cli.specs.declared.writing.Fault.{Fault}
@@ -162,11 +164,11 @@ abbrev limits_of : ℕ → ℕ → ℕ → Limits
 limits_of line bytes lines = record { line = line; bytes = bytes; lines = lines }
 
 -- the limits of a session that has read nothing yet
-pub limits_are : (l : Lines) → l.limit ≡ 65536 → l.left ≡ 1073741824 → ahead l ≡ [] → limits_from 1000000 l ≡ session_limits
+pub limits_are : (l : Lines) → l.limit ≡ LINE_LIMIT → l.left ≡ INPUT_LIMIT → ahead l ≡ [] → limits_from LINE_COUNT l ≡ session_limits
 unfolding session_limits
 limits_are l line left fresh =
-    let bytes : room l ≡ 1073741824 = omega (arith, ap length fresh, left) in
-    ap (λ (n : ℕ). limits_of n (room l) 1000000) line ∙ ap (λ (n : ℕ). limits_of 65536 n 1000000) bytes
+    let bytes : room l ≡ INPUT_LIMIT = omega (arith, ap length fresh, left) in
+    ap (λ (n : ℕ). limits_of n (room l) LINE_COUNT) line ∙ ap (λ (n : ℕ). limits_of LINE_LIMIT n LINE_COUNT) bytes
 
 module _ (Failures : Refusal → Type 0) (m : Limits) (left held held_last : Option (List ℕ)) where
   -- memory ran out before anything was read

@@ -9,7 +9,7 @@ use Rattle.poly_design.specs.declared.placement.Placement.{Placement}
 use Rattle.poly_text.specs.declared.command.Command.{Command}
 use Rattle.poly_text.specs.declared.command.Command.TheVariants as command
 use Rattle.poly_text.specs.Words.{words_of}
-use Rattle.poly_cli.specs.Questions.{BrowseSays, ClassesSay, CountSays, ListSays, Tells}
+use Rattle.poly_cli.specs.Questions.{AnswersQuestion, BrowseSays, ClassesSay, CountSays, ListSays}
 use Rattle.poly_cli.specs.Slow.{Answers, IsRefusal, Replies, Slow, Steps, WordsSay}
 use Rattle.poly_cli.specs.States.{EditRefused, Edits, RedoRefused, Redoes, State, UndoRefused, Undoes}
 
@@ -27,7 +27,7 @@ after_step : (Leads : State → Type 0) (Refused : Refusal → Type 0) (s : Stat
 after_step Leads Refused s out t leads (inl h) = leads h.0
 after_step Leads Refused s out t leads (inr h) = same_state s t h.2.0
 
-after_question : (Says : Layout → List (List Placement) → List ℕ → Type 0) (s : State) (out : List ℕ) (t : State) → Tells Says s out t → Same s t
+after_question : (Says : Layout → List (List Placement) → List ℕ → Type 0) (s : State) (out : List ℕ) (t : State) → AnswersQuestion Says s out t → Same s t
 after_question Says s out t (inl h) = ap (λ (z : State). z.design.grid) h.0
 after_question Says s out t (inr (e, why, inl same, text)) = same_state s t same
 after_question Says s out t (inr (e, why, inr settled, text)) = ap (λ (z : State). z.design.grid) settled

@@ -13,8 +13,8 @@ use Rattle.poly_text.specs.Commands.{AskedBy, Asks, CommandSays}
 use Rattle.poly_text.specs.Gives.{◌>>=◌}
 use Rattle.poly_text.specs.Replies.{ok_text, refusal_text, step_text}
 use Rattle.poly_cli.specs.Slow.{Answers, Fails, IsRefusal, Replies, Steps, WordsSay, is_status}
-use Rattle.poly_cli.specs.Questions.{Tells}
-use Rattle.poly_cli.specs.Standing.{IsStanding}
+use Rattle.poly_cli.specs.Questions.{AnswersQuestion}
+use Rattle.poly_cli.specs.Current.{IsCurrent}
 use Rattle.poly_cli.specs.States.{IsUnanswered, State, answered}
 use Rattle.poly_text.specs.Words.{words_of}
 
@@ -27,19 +27,19 @@ same_refusal (Ok c) e h = absurd cc
 same_refusal (Err f) e h = cc
 
 -- the outcome of a command: its answer, a refusal because memory ran out, or a failure
-abbrev pub Comes : (Refusal → Type 0) → Command → State → List ℕ → State → Type 0
-Comes Failures c s out t = Answers c s out t ⊎ IsRefusal Memory s out t ⊎ ((is_status c ≡ false) × Fails Failures s out t)
+abbrev pub IsOutcome : (Refusal → Type 0) → Command → State → List ℕ → State → Type 0
+IsOutcome Failures c s out t = Answers c s out t ⊎ IsRefusal Memory s out t ⊎ ((is_status c ≡ false) × Fails Failures s out t)
 
-module _ (Failures : Refusal → Type 0) (s : State) (g : Grid) (standing : g ≡ s.design.grid) where
+module _ (Failures : Refusal → Type 0) (s : State) (g : Grid) (same_grid : g ≡ s.design.grid) where
   -- a command was asked, and answered
-  pub command_says : (line : List ℕ) (c : Command) (out : List ℕ) (t : State) → Asks g line (Ok (Some c)) → Comes Failures c s out t → WordsSay Failures (words_of line) s out t
+  pub command_says : (line : List ℕ) (c : Command) (out : List ℕ) (t : State) → Asks g line (Ok (Some c)) → IsOutcome Failures c s out t → WordsSay Failures (words_of line) s out t
   command_says line c out t a h = go (words_of line) a h
     where
       replied : (words : List (List ℕ)) → (a : AskedBy g words (Ok (Some c))) → Replies Failures (Ok c) s out t → WordsSay Failures words s out t
       replied [] a h = absurd cc
-      replied (word ∷ words) a h = inl (a.0, subst (λ d. CommandSays d (word ∷ words) a.0) standing a.1, subst (λ r. Replies Failures r s out t) (sym (same_command a.0 c a.2)) h)
+      replied (word ∷ words) a h = inl (a.0, subst (λ d. CommandSays d (word ∷ words) a.0) same_grid a.1, subst (λ r. Replies Failures r s out t) (sym (same_command a.0 c a.2)) h)
 
-      go : (words : List (List ℕ)) → AskedBy g words (Ok (Some c)) → Comes Failures c s out t → WordsSay Failures words s out t
+      go : (words : List (List ℕ)) → AskedBy g words (Ok (Some c)) → IsOutcome Failures c s out t → WordsSay Failures words s out t
       go [] a h = absurd cc
       go (word ∷ words) a (inl h) = replied (word ∷ words) a (inl h)
       go (word ∷ words) a (inr (inl m)) = inr m
@@ -52,7 +52,7 @@ module _ (Failures : Refusal → Type 0) (s : State) (g : Grid) (standing : g �
       go : (words : List (List ℕ)) → (words ≡ [] → ◌≡◌ {A = Result (Option Command) Refusal} (Err e) (Ok None)) → (e ≡ Memory) ⊎ AskedBy g words (Err e) → WordsSay Failures words s (refusal_text e) s
       go [] blank a = let none = blank refl in absurd cc
       go (word ∷ words) blank (inl m) = inr (refl, ap refusal_text m)
-      go (word ∷ words) blank (inr a) = inl (a.0, subst (λ d. CommandSays d (word ∷ words) a.0) standing a.1, subst (λ r. Replies Failures r s (refusal_text e) s) (sym (same_refusal a.0 e a.2)) (refl, refl))
+      go (word ∷ words) blank (inr a) = inl (a.0, subst (λ d. CommandSays d (word ∷ words) a.0) same_grid a.1, subst (λ r. Replies Failures r s (refusal_text e) s) (sym (same_refusal a.0 e a.2)) (refl, refl))
 
 -- what an engine answers to a step
 pub step_says : (Failures : Refusal → Type 0) (Leads : State → Type 0) (Refused : Refusal → Type 0) (s t : State) (r : Result ℕ Refusal) → OnOk r (Leads t) → IfOk r (λ n. n ≡ s.edition + 1) → OnErr r (t ≡ s)
@@ -63,50 +63,50 @@ step_says Failures Leads Refused s t (Err e) leads next same (inl (inr m)) = inr
 step_says Failures Leads Refused s t (Err e) leads next same (inr failed) = inr (inr (refl, (e, failed, (same, refl))))
 
 -- what an engine answers to a question
-pub question_says : (Failures : Refusal → Type 0) (Says : Layout → List (List Placement) → List ℕ → Type 0) (s t : State) (out : List ℕ) → Tells Says s out t ⊎ Fails Failures s out t
-    → Tells Says s out t ⊎ IsRefusal Memory s out t ⊎ ((false ≡ false) × Fails Failures s out t)
-question_says Failures Says s t out (inl told) = inl told
+pub question_says : (Failures : Refusal → Type 0) (Says : Layout → List (List Placement) → List ℕ → Type 0) (s t : State) (out : List ℕ) → AnswersQuestion Says s out t ⊎ Fails Failures s out t
+    → AnswersQuestion Says s out t ⊎ IsRefusal Memory s out t ⊎ ((false ≡ false) × Fails Failures s out t)
+question_says Failures Says s t out (inl answer) = inl answer
 question_says Failures Says s t out (inr failed) = inr (inr (refl, failed))
 
 -- a question that was answered by the design's tilings
-pub told : (Failures : Refusal → Type 0) (Says : Layout → List (List Placement) → List ℕ → Type 0) (s t : State) (all : List (List Placement)) (out : List ℕ) → t ≡ answered s → IsListOfTilings s.design all → Says s.design all out
-    → Tells Says s out t ⊎ Fails Failures s out t
-told Failures Says s t all out is list says = inl (inl (is, (all, list, says)))
+pub question_answered : (Failures : Refusal → Type 0) (Says : Layout → List (List Placement) → List ℕ → Type 0) (s t : State) (all : List (List Placement)) (out : List ℕ) → t ≡ answered s → IsListOfTilings s.design all → Says s.design all out
+    → AnswersQuestion Says s out t ⊎ Fails Failures s out t
+question_answered Failures Says s t all out is list says = inl (inl (is, (all, list, says)))
 
 -- a question that was answered by the design's tilings, unless memory ran out after the engine gave them
-pub told_in_memory : (Failures : Refusal → Type 0) (Says : Layout → List (List Placement) → List ℕ → Type 0) (s t : State) (d : Layout) (all : List (List Placement)) (out : List ℕ) → t ≡ answered s → d ≡ s.design → IsListOfTilings d all →
-    Says d all out ⊎ (out ≡ refusal_text Memory) → Tells Says s out t ⊎ Fails Failures s out t
-told_in_memory Failures Says s t d all out is same list (inl says) = told Failures Says s t all out is (subst (λ e. IsListOfTilings e all) same list) (subst (λ e. Says e all out) same says)
-told_in_memory Failures Says s t d all out is same list (inr none) = inl (inr (Memory, inr (inr (inl refl)), inr is, none))
+pub answered_or_memory : (Failures : Refusal → Type 0) (Says : Layout → List (List Placement) → List ℕ → Type 0) (s t : State) (d : Layout) (all : List (List Placement)) (out : List ℕ) → t ≡ answered s → d ≡ s.design → IsListOfTilings d all →
+    Says d all out ⊎ (out ≡ refusal_text Memory) → AnswersQuestion Says s out t ⊎ Fails Failures s out t
+answered_or_memory Failures Says s t d all out is same list (inl says) = question_answered Failures Says s t all out is (subst (λ e. IsListOfTilings e all) same list) (subst (λ e. Says e all out) same says)
+answered_or_memory Failures Says s t d all out is same list (inr none) = inl (inr (Memory, inr (inr (inl refl)), inr is, none))
 
 -- a state in which a question was answered stays the same if one is answered again
 pub answered_again : (s : State) → s.settled ≡ true → s ≡ answered s
 answered_again s e = λ i. record { design = s.design; edition = s.edition; undo = s.undo; redo = s.redo; settled = e i }
 
 -- a question that the engine didn't answer
-pub untold : (Failures : Refusal → Type 0) (Says : Layout → List (List Placement) → List ℕ → Type 0) (s t : State) (e : Refusal) → t ≡ s → IsUnanswered s.design e ⊎ Failures e
-    → Tells Says s (refusal_text e) t ⊎ Fails Failures s (refusal_text e) t
-untold Failures Says s t e same (inl why) = inl (inr (e, why, inl same, refl))
-untold Failures Says s t e same (inr failed) = inr (e, failed, (same, refl))
+pub question_refused : (Failures : Refusal → Type 0) (Says : Layout → List (List Placement) → List ℕ → Type 0) (s t : State) (e : Refusal) → t ≡ s → IsUnanswered s.design e ⊎ Failures e
+    → AnswersQuestion Says s (refusal_text e) t ⊎ Fails Failures s (refusal_text e) t
+question_refused Failures Says s t e same (inl why) = inl (inr (e, why, inl same, refl))
+question_refused Failures Says s t e same (inr failed) = inr (e, failed, (same, refl))
 
 -- a question that the engine answered before memory ran out
-pub untold_late : (Failures : Refusal → Type 0) (Says : Layout → List (List Placement) → List ℕ → Type 0) (s t : State) (e : Refusal) → t ≡ answered s → e ≡ Memory → Tells Says s (refusal_text e) t ⊎ Fails Failures s (refusal_text e) t
-untold_late Failures Says s t e is memory = inl (inr (e, inr (inr (inl memory)), inr is, refl))
+pub refused_after_search : (Failures : Refusal → Type 0) (Says : Layout → List (List Placement) → List ℕ → Type 0) (s t : State) (e : Refusal) → t ≡ answered s → e ≡ Memory → AnswersQuestion Says s (refusal_text e) t ⊎ Fails Failures s (refusal_text e) t
+refused_after_search Failures Says s t e is memory = inl (inr (e, inr (inr (inl memory)), inr is, refl))
 
 -- ---- what a session keeps
 
 -- nothing is kept
-pub stands_none : (o : Option AllTilings) (s : State) → o ≡ None → IsStanding o s
-stands_none o s none = subst (λ z. IsStanding z s) (sym none) tt
+pub current_none : (o : Option AllTilings) (s : State) → o ≡ None → IsCurrent o s
+current_none o s none = subst (λ z. IsCurrent z s) (sym none) tt
 
 -- the tilings of a question that was answered
-pub stands_new : (q : AllTilings) (s t : State) → t ≡ answered s → q.design ≡ s.design → IsStanding (Some q) t
-stands_new q s t is same = subst (IsStanding (Some q)) (sym is) (same, refl)
+pub current_new : (q : AllTilings) (s t : State) → t ≡ answered s → q.design ≡ s.design → IsCurrent (Some q) t
+current_new q s t is same = subst (IsCurrent (Some q)) (sym is) (same, refl)
 
 -- an answer leaves the design as it is, so the kept tilings are still all tilings of it
-pub stands_answered : (o : Option AllTilings) (s t : State) → t ≡ answered s → IsStanding o s → IsStanding o t
-stands_answered None s t is h = tt
-stands_answered (Some q) s t is h = stands_new q s t is h.0
+pub current_answered : (o : Option AllTilings) (s t : State) → t ≡ answered s → IsCurrent o s → IsCurrent o t
+current_answered None s t is h = tt
+current_answered (Some q) s t is h = current_new q s t is h.0
 
-pub stands_same : (o : Option AllTilings) (s t : State) → t ≡ s → IsStanding o s → IsStanding o t
-stands_same o s t is h = subst (IsStanding o) (sym is) h
+pub current_same : (o : Option AllTilings) (s t : State) → t ≡ s → IsCurrent o s → IsCurrent o t
+current_same o s t is h = subst (IsCurrent o) (sym is) h

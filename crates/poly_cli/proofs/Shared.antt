@@ -25,6 +25,7 @@ use Rattle.poly_browse.specs.Browsing.{Asked, IsAnswer, IsForced, matches, match
 use Rattle.poly_browse.specs.Laws.{AnswersGoBySets, AreSameSets}
 use Rattle.poly_text.specs.Replies.{covered}
 use Rattle.poly_book.specs.AllTilings.{AllTilings, HasAll}
+use Rattle.poly_design.specs.declared.design.TheConstants.{MAX_CELLS}
 use Rattle.poly_cli.proofs.Covered.{covered_few}
 use Rattle.poly_cli.proofs.Printable.{tiles}
 
@@ -89,13 +90,13 @@ apart_from (p ∷ ps) up = (
 )
 
 -- the forced placements fit a reply line
-pub forced_short : (d : Layout) (all : List (List Placement)) (q : Asked) (forced : List Placement) → IsDesign d → IsListOfTilings d all → IsListOf placement_cmp (IsForced (matching q all)) forced → covered forced ≤ 256
+pub forced_short : (d : Layout) (all : List (List Placement)) (q : Asked) (forced : List Placement) → IsDesign d → IsListOfTilings d all → IsListOf placement_cmp (IsForced (matching q all)) forced → covered forced ≤ MAX_CELLS
 forced_short d all q [] design list is = omega arith
 forced_short d all q (p ∷ ps) design list is =
     let some = ((is.exact p).0 (in_contains (p ∷ ps) p (inl refl))).0 in
     go (matching q all) refl some
   where
-    go : (tilings : List (List Placement)) → matching q all ≡ tilings → 0 < length (matching q all) → covered (p ∷ ps) ≤ 256
+    go : (tilings : List (List Placement)) → matching q all ≡ tilings → 0 < length (matching q all) → covered (p ∷ ps) ≤ MAX_CELLS
     go [] e some = absurd (omega (arith, some, ap length e))
     go (T ∷ tilings) e some =
         let here : In T (matching q all) = subst (In T) (sym e) (inl refl) in
@@ -121,7 +122,7 @@ module _ (v : View) where
 
 -- a browse by numbers, read as an answer about tilings whose placements are in order; the forced placements fit a reply line
 pub answer_is : AnswersGoBySets → ListingsShow → (q : AllTilings) (l : HasAll q) (asked : Asked) (count : ℕ) (forced : List Placement) (options : List (Item × ℕ))
-    → IsAnswer q.design (map (names q.view) q.tilings) asked count forced options → IsAnswer q.design (map (placed q.view) q.tilings) asked count forced options × (covered forced ≤ 256)
+    → IsAnswer q.design (map (names q.view) q.tilings) asked count forced options → IsAnswer q.design (map (placed q.view) q.tilings) asked count forced options × (covered forced ≤ MAX_CELLS)
 answer_is law listings q l asked count forced options answer =
     let all = map (placed q.view) q.tilings in
     let moved = law q.design (map (names q.view) q.tilings) all asked count forced options (same_sets q.view q.tilings (tiles q l)) answer in

@@ -8,4 +8,4 @@ pub mod Slow
 pub mod Listings
 pub mod Sessions
 pub mod Teams
-pub mod Standing
+pub mod Current

@@ -39,11 +39,11 @@ abbrev pub BrowseSays : Question → Layout → List (List Placement) → List �
 BrowseSays q d all out = (count : ℕ) × (forced : List Placement) × (options : List (Item × ℕ)) × IsAnswer d all (asked_of q) count forced options × (out ≡ answer_text forced options count)
 
 -- A question about all tilings of the design is answered or refused. Even if it is refused, the search may have finished before that.
-abbrev pub Tells : (Layout → List (List Placement) → List ℕ → Type 0) → State → List ℕ → State → Type 0
-Tells Says s out t =
+abbrev pub AnswersQuestion : (Layout → List (List Placement) → List ℕ → Type 0) → State → List ℕ → State → Type 0
+AnswersQuestion Says s out t =
     ((t ≡ answered s) × ((all : List (List Placement)) × IsListOfTilings s.design all × Says s.design all out))
     ⊎ ((e : Refusal) × IsUnanswered s.design e × ((t ≡ s) ⊎ (t ≡ answered s)) × (out ≡ refusal_text e))
 
 -- the output is a `status` line with right numbers, and nothing changes
-abbrev pub TellsNumbers : State → List ℕ → State → Type 0
-TellsNumbers s out t = (t ≡ s) × ((n : Numbers) × AreNumbers s n × (out ≡ status_text n.edition n.listed n.pending))
+abbrev pub AnswersStatus : State → List ℕ → State → Type 0
+AnswersStatus s out t = (t ≡ s) × ((n : Numbers) × AreNumbers s n × (out ≡ status_text n.edition n.listed n.pending))

@@ -5,6 +5,8 @@ use Rattle.poly_grid.specs.declared.grid.Grid.{Grid}
 use Rattle.poly_grid.specs.declared.refusal.Refusal.{Refusal}
 use Rattle.poly_grid.specs.declared.refusal.Refusal.TheVariants.{LineTooLong, Memory}
 use Rattle.poly_design.specs.Layout.{Layout}
+use Rattle.poly_cli.specs.declared.lines.TheConstants.{INPUT_LIMIT, LINE_LIMIT}
+use Rattle.poly_cli.specs.declared.sessions.TheConstants.{LINE_COUNT}
 use Rattle.poly_cli.specs.declared.writing.Fault.{Fault}
 use Rattle.poly_cli.specs.declared.writing.Fault.TheVariants.{Read, Write}
 use Rattle.poly_cli.specs.declared.sessions.End.{End}
@@ -70,4 +72,4 @@ SessionSays Failures m bytes (Err Write) left old new =
 
 -- the limits of every session
 unfoldable pub session_limits : Limits
-session_limits = record { line = 65536; bytes = 1073741824; lines = 1000000 }
+session_limits = record { line = LINE_LIMIT; bytes = INPUT_LIMIT; lines = LINE_COUNT }

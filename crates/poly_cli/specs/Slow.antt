@@ -9,7 +9,7 @@ use Rattle.poly_text.specs.Commands.{CommandSays}
 use Rattle.poly_text.specs.Replies.{ok_text, refusal_text}
 use Rattle.poly_text.specs.Words.{words_of}
 use Rattle.poly_cli.specs.States.{EditRefused, Edits, RedoRefused, Redoes, State, UndoRefused, Undoes}
-use Rattle.poly_cli.specs.Questions.{BrowseSays, ClassesSay, CountSays, ListSays, Tells, TellsNumbers}
+use Rattle.poly_cli.specs.Questions.{AnswersQuestion, AnswersStatus, BrowseSays, ClassesSay, CountSays, ListSays}
 
 -- the line is refused, and nothing changes
 abbrev pub IsRefusal : Refusal → State → List ℕ → State → Type 0
@@ -24,11 +24,11 @@ abbrev pub Answers : Command → State → List ℕ → State → Type 0
 Answers (command.Edit edit) s out t = Steps (Edits s edit) (EditRefused s edit) s out t
 Answers command.Undo s out t = Steps (Undoes s) (UndoRefused s) s out t
 Answers command.Redo s out t = Steps (Redoes s) (RedoRefused s) s out t
-Answers command.Status s out t = TellsNumbers s out t
-Answers command.Count s out t = Tells CountSays s out t
-Answers command.ListAll s out t = Tells ListSays s out t
-Answers (command.Browse question) s out t = Tells (BrowseSays question) s out t
-Answers command.Classes s out t = Tells ClassesSay s out t
+Answers command.Status s out t = AnswersStatus s out t
+Answers command.Count s out t = AnswersQuestion CountSays s out t
+Answers command.ListAll s out t = AnswersQuestion ListSays s out t
+Answers (command.Browse question) s out t = AnswersQuestion (BrowseSays question) s out t
+Answers command.Classes s out t = AnswersQuestion ClassesSay s out t
 
 -- the command asks only for numbers, which every engine has
 abbrev pub is_status : Command → Bool

@@ -11,6 +11,7 @@ use Rattle.poly_tiling.specs.Listings.{HasOverTilings}
 use Rattle.poly_undo.specs.Steps.{newest}
 use Rattle.poly_book.specs.Amounts.{AreAllTilingsOf, AreTilingsOf, IsNarrow, IsWide}
 use Rattle.poly_book.specs.declared.book.Numbers.{Numbers}
+use Rattle.poly_tiling.specs.declared.lister.TheConstants.{MAX_TILINGS}
 
 -- The design, how often it was changed, and the changes that can be undone and redone: each list ends with the one whose turn is next.
 -- Settled says that a question about all tilings was answered since the last change.
@@ -60,7 +61,7 @@ EditRefused s edit e = IsRefused s.design edit e ⊎ ((change : Change) × IsAcc
 
 -- why an undo or redo that leads to the design is refused: a counter is used up, or the design has too many tilings
 abbrev pub StepRefused : Layout → Refusal → Type 0
-StepRefused d e = (e ≡ Spent) ⊎ ((e ≡ CatalogueFull) × HasOverTilings 1000000 d)
+StepRefused d e = (e ≡ Spent) ⊎ ((e ≡ CatalogueFull) × HasOverTilings MAX_TILINGS d)
 
 -- why an undo is refused: there is no undo step, or the design that it leads to is refused
 abbrev pub UndoRefused : State → Refusal → Type 0
@@ -73,7 +74,7 @@ RedoRefused s e = ((e ≡ NothingToRedo) × (s.redo ≡ [])) ⊎ ((change : Chan
 -- Why a question about all tilings of the design isn't answered: the turns or a counter are used up, memory ran out, or there are too
 -- many tilings.
 abbrev pub IsUnanswered : Layout → Refusal → Type 0
-IsUnanswered d e = (e ≡ Unfinished) ⊎ (e ≡ Spent) ⊎ (e ≡ Memory) ⊎ ((e ≡ CatalogueFull) × HasOverTilings 1000000 d)
+IsUnanswered d e = (e ≡ Unfinished) ⊎ (e ≡ Spent) ⊎ (e ≡ Memory) ⊎ ((e ≡ CatalogueFull) × HasOverTilings MAX_TILINGS d)
 
 -- The edition, how many tilings are listed and how many tasks are pending. No more tilings are listed than the design has; if nothing
 -- is pending, as in a settled state, all of them are listed.

@@ -6,4 +6,4 @@ use Rattle.poly_cli.specs.States.{State}
 -- the state of its book, or the last one if the book is lost
 abbrev pub state_of : Kept → State
 state_of (Whole solo) = solo
-state_of (Lost remains) = remains.was.value
+state_of (Lost lost) = lost.was.value

@@ -4,22 +4,23 @@
 //! from one such question to the next. Before a change it drops them, so their memory is free while the engine works.
 ghost use Rattle.std.specs.Prelude.{false, ◌≡◌, ◌⊎◌, ◌≤◌, ℕ, List, None, IfErr, IfOk, option_map, vec_capacity};
 ghost use Rattle.poly_text.specs.Replies.{refusal_text, step_text};
-ghost use Rattle.poly_cli.specs.Questions.{TellsNumbers};
+ghost use Rattle.poly_cli.specs.Current.{IsCurrent};
+ghost use Rattle.poly_cli.specs.Questions.{AnswersStatus};
 ghost use Rattle.poly_cli.specs.Runs.{Writes};
 ghost use Rattle.poly_cli.specs.Slow.{Answers, Fails, IsRefusal, Slow, is_status};
-ghost use Rattle.poly_cli.specs.Standing.{IsStanding};
+ghost use Rattle.poly_cli.specs.declared.answering.TheConstants.{MOST_PLACED};
 
 use crate::engine::Engine;
 use crate::writing::{Fault, write_whole};
 use poly_book::Quiet;
-use poly_design::Placement;
+use poly_design::{MAX_CELLS, Placement};
 use poly_grid::{Grid, Refusal};
 use poly_text::{Command, ReplyLine, asked, refusal_line};
 use std::alloc::Global;
 use std::io::Write;
 
-// The most placements of a tiling: each covers a cell, and there are at most 256.
-const MOST_PLACED: usize = 256;
+// The most placements of a tiling: each covers at least one cell of the design.
+const MOST_PLACED: usize = MAX_CELLS;
 
 /// Answers lines with an engine. It allocates its reply lines once, so no reply can run out of memory halfway.
 #[derive(Drop)]
@@ -29,7 +30,7 @@ pub struct Answerer {
     pub(crate) placements: Vec<Placement>,
     // All tilings of the design, if a question asked for them since the last change.
     pub(crate) kept: Option<Quiet>,
-    ghost room: { 256 ≤ vec_capacity placements },
+    ghost room: { MOST_PLACED ≤ vec_capacity placements },
 }
 
 impl Answerer {
@@ -58,10 +59,10 @@ impl Answerer {
         writer: &mut W,
     ) -> Result<(), Fault>
         requires ready { E.ready engine.old }
-        requires kept { IsStanding self.old.kept (E.state engine.old) }
+        requires kept { IsCurrent self.old.kept (E.state engine.old) }
         requires grid { grid ≡ (E.state engine.old).design.grid }
         ensures ready { E.ready engine.new }
-        ensures kept { IsStanding self.new.kept (E.state engine.new) }
+        ensures kept { IsCurrent self.new.kept (E.state engine.new) }
         ensures says { (out : List ℕ) × Slow E.failures (E.state engine.old) (option_map (λ l. l.now) line.entry) out (E.state engine.new) × Writes result (W.contents writer.old) (W.contents writer.new) out }
     {
         let Some(text) = line else {
@@ -81,9 +82,9 @@ impl Answerer {
         writer: &mut W,
     ) -> Result<(), Fault>
         requires ready { E.ready engine.old }
-        requires kept { IsStanding self.old.kept (E.state engine.old) }
+        requires kept { IsCurrent self.old.kept (E.state engine.old) }
         ensures ready { E.ready engine.new }
-        ensures kept { IsStanding self.new.kept (E.state engine.new) }
+        ensures kept { IsCurrent self.new.kept (E.state engine.new) }
         ensures says { (out : List ℕ) × (Answers command (E.state engine.old) out (E.state engine.new) ⊎ IsRefusal Refusal.Memory (E.state engine.old) out (E.state engine.new)
             ⊎ ((is_status command ≡ false) × Fails E.failures (E.state engine.old) out (E.state engine.new)))
             × Writes result (W.contents writer.old) (W.contents writer.new) out }
@@ -128,7 +129,7 @@ impl Answerer {
 
     fn status<E: Engine, W: Write>(&mut self, engine: &E, writer: &mut W) -> Result<(), Fault>
         requires ready { E.ready engine.now }
-        ensures says { (out : List ℕ) × TellsNumbers (E.state engine.now) out (E.state engine.now) × Writes result (W.contents writer.old) (W.contents writer.new) out }
+        ensures says { (out : List ℕ) × AnswersStatus (E.state engine.now) out (E.state engine.now) × Writes result (W.contents writer.old) (W.contents writer.new) out }
         ensures kept { self.new.kept ≡ self.old.kept }
     {
         let numbers = engine.numbers();

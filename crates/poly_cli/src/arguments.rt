@@ -3,6 +3,7 @@
 ghost use Rattle.std.specs.Prelude.{◌≤◌, IfOk, IfSome};
 
 use clap::{Arg, ArgAction, Command, Error, value_parser};
+use poly_crew::{MOST_TURNS, MOST_WORKERS};
 use std::alloc::Global;
 
 const ABOUT: &str =
@@ -47,12 +48,6 @@ const WORKERS: &str = "workers";
 /// How many turns a search may take if the arguments don't say.
 pub const DEFAULT_TURNS: u64 = 1_000_000;
 
-/// The most turns that the arguments may give a search.
-pub const MOST_TURNS: u64 = 1_000_000_000;
-
-/// The most workers that the arguments may ask for.
-pub const MOST_WORKERS: u8 = 16;
-
 /// What the arguments say.
 #[derive(Debug, Clone, Copy, PartialEq, Eq)]
 pub struct Options {
@@ -68,8 +63,8 @@ pub struct Options {
 /// The error holds the text of the help, of the version or of a mistake, or says that memory ran out. `Error::print` writes help and
 /// version to standard output and the rest to standard error; `Error::exit_code` is 0 for help and version and 2 for the rest.
 pub fn read_arguments(alloc: Global, words: &[&str]) -> Result<Options, Error>
-    ensures turns { IfOk result (λ o. (1 ≤ o.turns) × (o.turns ≤ 1000000000)) }
-    ensures workers { IfOk result (λ o. IfSome o.workers (λ n. (1 ≤ n) × (n ≤ 16))) }
+    ensures turns { IfOk result (λ o. (1 ≤ o.turns) × (o.turns ≤ MOST_TURNS)) }
+    ensures workers { IfOk result (λ o. IfSome o.workers (λ n. (1 ≤ n) × (n ≤ MOST_WORKERS))) }
 {
     let matches = command(alloc)?.try_get_matches_from(words)?;
     let turns = matches.get_one::<u64>(TURNS).unwrap_or(DEFAULT_TURNS);
@@ -77,7 +72,7 @@ pub fn read_arguments(alloc: Global, words: &[&str]) -> Result<Options, Error>
     Ok(Options {
         turns: turns.clamp(1, MOST_TURNS),
         workers: match matches.get_one::<u8>(WORKERS) {
-            Some(workers) => Some(workers.clamp(1, MOST_WORKERS)),
+            Some(workers) => Some(workers.clamp(1, MOST_WORKERS as u8)),
             None => None,
         },
     })

@@ -14,16 +14,16 @@ pub(crate) enum Kept {
     /// A book that can be settled alone at any time.
     Whole(Solo),
     /// The book is at a desk, or it is lost there.
-    Lost(Remains),
+    Lost(LostBook),
 }
 
 /// What is left of a book that a desk has: its last numbers, and the refusal that each question is answered with. Contracts also
 /// see its last state.
 #[derive(Drop)]
-pub(crate) struct Remains {
+pub(crate) struct LostBook {
     pub(crate) was: Snapshot<Solo>,
     pub(crate) numbers: Numbers,
     pub(crate) why: Refusal,
-    ghost told: { AreNumbers was.value numbers },
+    ghost numbers_are: { AreNumbers was.value numbers },
     ghost failed: { is_unsettled why ≡ true },
 }

@@ -31,4 +31,5 @@ pub use lines::{INPUT_LIMIT, LINE_LIMIT};
 pub use sessions::LINE_COUNT;
 
 // The arguments of the program.
-pub use arguments::{DEFAULT_TURNS, MOST_TURNS, MOST_WORKERS, Options, read_arguments};
+pub use arguments::{DEFAULT_TURNS, Options, read_arguments};
+pub use poly_crew::{MOST_TURNS, MOST_WORKERS};

@@ -1,6 +1,7 @@
 //! Prints tilings and answers, line by line, in memory that was taken before.
 ghost use Rattle.std.specs.Prelude.{◌≡◌, ◌≤◌, map};
 ghost use Rattle.std.specs.List.{All, flat_map};
+ghost use Rattle.poly_design.specs.declared.design.TheConstants.{MAX_CELLS};
 ghost use Rattle.poly_tiling.specs.Shows.{names};
 ghost use Rattle.poly_tiling.specs.TilingOrder.{placed};
 ghost use Rattle.poly_text.specs.Replies.{covered, item_text, tiling_text};
@@ -27,10 +28,7 @@ impl Answerer {
     {
         for i in 0..tilings.len() {
             self.make_line(view, &tilings[i]);
-            match write_bytes(writer, self.reply.as_bytes()) {
-                Ok(()) => {}
-                Err(fault) => return Err(fault),
-            }
+            write_bytes(writer, self.reply.as_bytes())?;
         }
         self.reply.tilings(tilings.len() as u64);
         write_whole(writer, self.reply.as_bytes())
@@ -48,7 +46,7 @@ impl Answerer {
 
     // Collects the placements that the numbers name.
     fn collect(&mut self, view: &View, numbers: &[u32])
-        requires { covered (names view.now numbers.now) ≤ 256 }
+        requires { covered (names view.now numbers.now) ≤ MAX_CELLS }
         ensures { self.new.placements.items ≡ names view.now numbers.now }
     {
         self.placements.clear();
@@ -67,18 +65,12 @@ impl Answerer {
         answer: &Answer,
         writer: &mut W,
     ) -> Result<(), Fault>
-        requires { covered answer.now.forced.items ≤ 256 }
+        requires { covered answer.now.forced.items ≤ MAX_CELLS }
         ensures { Writes result (W.contents writer.old) (W.contents writer.new) (answer_text answer.now.forced.items answer.now.options.items answer.now.count) }
     {
         self.reply.forced(&answer.forced);
-        match write_bytes(writer, self.reply.as_bytes()) {
-            Ok(()) => {}
-            Err(fault) => return Err(fault),
-        }
-        match self.print_options(&answer.options, writer) {
-            Ok(()) => {}
-            Err(fault) => return Err(fault),
-        }
+        write_bytes(writer, self.reply.as_bytes())?;
+        self.print_options(&answer.options, writer)?;
         self.reply.matches(answer.count);
         write_whole(writer, self.reply.as_bytes())
     }
@@ -93,10 +85,7 @@ impl Answerer {
         for i in 0..options.len() {
             let (item, count) = options[i];
             self.reply.item(&item, count);
-            match write_bytes(writer, self.reply.as_bytes()) {
-                Ok(()) => {}
-                Err(fault) => return Err(fault),
-            }
+            write_bytes(writer, self.reply.as_bytes())?;
         }
         Ok(())
     }

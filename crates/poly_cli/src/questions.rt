@@ -1,14 +1,15 @@
 //! Answers to questions about all tilings of the design. Nothing is written before the engine has settled and all memory is taken.
 ghost use Rattle.std.specs.Prelude.{◌≡◌, ◌⊎◌, ◌≤◌, ℕ, List, None, IfErr, IfOk, OnErr, OnOk, map};
+ghost use Rattle.poly_design.specs.declared.design.TheConstants.{MAX_CELLS};
 ghost use Rattle.poly_tiling.specs.Listings.{IsListOfTilings};
 ghost use Rattle.poly_tiling.specs.TilingOrder.{placed};
 ghost use Rattle.poly_browse.specs.Browsing.{IsAnswer};
 ghost use Rattle.poly_grid.specs.declared.refusal.Refusal.TheVariants.{Memory};
 ghost use Rattle.poly_text.specs.Replies.{covered, refusal_text};
-ghost use Rattle.poly_cli.specs.Questions.{BrowseSays, ClassesSay, CountSays, ListSays, Tells, asked_of, list_text};
+ghost use Rattle.poly_cli.specs.Current.{IsCurrent};
+ghost use Rattle.poly_cli.specs.Questions.{AnswersQuestion, BrowseSays, ClassesSay, CountSays, ListSays, asked_of, list_text};
 ghost use Rattle.poly_cli.specs.Runs.{Writes};
 ghost use Rattle.poly_cli.specs.Slow.{Fails};
-ghost use Rattle.poly_cli.specs.Standing.{IsStanding};
 ghost use Rattle.poly_cli.specs.States.{IsUnanswered, answered};
 
 use crate::answering::{Answerer, refuse};
@@ -31,10 +32,10 @@ impl Answerer {
         writer: &mut W,
     ) -> Result<(), Fault>
         requires ready { E.ready engine.old }
-        requires kept { IsStanding self.old.kept (E.state engine.old) }
+        requires kept { IsCurrent self.old.kept (E.state engine.old) }
         ensures ready { E.ready engine.new }
-        ensures kept { IsStanding self.new.kept (E.state engine.new) }
-        ensures says { (out : List ℕ) × (Tells CountSays (E.state engine.old) out (E.state engine.new) ⊎ Fails E.failures (E.state engine.old) out (E.state engine.new)) × Writes result (W.contents writer.old) (W.contents writer.new) out }
+        ensures kept { IsCurrent self.new.kept (E.state engine.new) }
+        ensures says { (out : List ℕ) × (AnswersQuestion CountSays (E.state engine.old) out (E.state engine.new) ⊎ Fails E.failures (E.state engine.old) out (E.state engine.new)) × Writes result (W.contents writer.old) (W.contents writer.new) out }
     {
         match engine.count() {
             Ok(count) => {
@@ -52,10 +53,10 @@ impl Answerer {
         writer: &mut W,
     ) -> Result<(), Fault>
         requires ready { E.ready engine.old }
-        requires kept { IsStanding self.old.kept (E.state engine.old) }
+        requires kept { IsCurrent self.old.kept (E.state engine.old) }
         ensures ready { E.ready engine.new }
-        ensures kept { IsStanding self.new.kept (E.state engine.new) }
-        ensures says { (out : List ℕ) × (Tells ListSays (E.state engine.old) out (E.state engine.new) ⊎ Fails E.failures (E.state engine.old) out (E.state engine.new)) × Writes result (W.contents writer.old) (W.contents writer.new) out }
+        ensures kept { IsCurrent self.new.kept (E.state engine.new) }
+        ensures says { (out : List ℕ) × (AnswersQuestion ListSays (E.state engine.old) out (E.state engine.new) ⊎ Fails E.failures (E.state engine.old) out (E.state engine.new)) × Writes result (W.contents writer.old) (W.contents writer.new) out }
     {
         match self.all_tilings(engine) {
             Ok(quiet) => {
@@ -75,10 +76,10 @@ impl Answerer {
         writer: &mut W,
     ) -> Result<(), Fault>
         requires ready { E.ready engine.old }
-        requires kept { IsStanding self.old.kept (E.state engine.old) }
+        requires kept { IsCurrent self.old.kept (E.state engine.old) }
         ensures ready { E.ready engine.new }
-        ensures kept { IsStanding self.new.kept (E.state engine.new) }
-        ensures says { (out : List ℕ) × (Tells (BrowseSays question) (E.state engine.old) out (E.state engine.new) ⊎ Fails E.failures (E.state engine.old) out (E.state engine.new)) × Writes result (W.contents writer.old) (W.contents writer.new) out }
+        ensures kept { IsCurrent self.new.kept (E.state engine.new) }
+        ensures says { (out : List ℕ) × (AnswersQuestion (BrowseSays question) (E.state engine.old) out (E.state engine.new) ⊎ Fails E.failures (E.state engine.old) out (E.state engine.new)) × Writes result (W.contents writer.old) (W.contents writer.new) out }
     {
         match self.all_tilings(engine) {
             Ok(quiet) => {
@@ -97,10 +98,10 @@ impl Answerer {
         writer: &mut W,
     ) -> Result<(), Fault>
         requires ready { E.ready engine.old }
-        requires kept { IsStanding self.old.kept (E.state engine.old) }
+        requires kept { IsCurrent self.old.kept (E.state engine.old) }
         ensures ready { E.ready engine.new }
-        ensures kept { IsStanding self.new.kept (E.state engine.new) }
-        ensures says { (out : List ℕ) × (Tells ClassesSay (E.state engine.old) out (E.state engine.new) ⊎ Fails E.failures (E.state engine.old) out (E.state engine.new)) × Writes result (W.contents writer.old) (W.contents writer.new) out }
+        ensures kept { IsCurrent self.new.kept (E.state engine.new) }
+        ensures says { (out : List ℕ) × (AnswersQuestion ClassesSay (E.state engine.old) out (E.state engine.new) ⊎ Fails E.failures (E.state engine.old) out (E.state engine.new)) × Writes result (W.contents writer.old) (W.contents writer.new) out }
     {
         match self.all_tilings(engine) {
             Ok(quiet) => {
@@ -115,7 +116,7 @@ impl Answerer {
     // Returns the tilings that are kept, or else asks the engine for them. Fails as `Engine::settle` does.
     fn all_tilings<E: Engine>(&mut self, engine: &mut E) -> Result<Quiet, Refusal>
         requires ready { E.ready engine.old }
-        requires kept { IsStanding self.old.kept (E.state engine.old) }
+        requires kept { IsCurrent self.old.kept (E.state engine.old) }
         ensures ready { E.ready engine.new }
         ensures none { self.new.kept ≡ None }
         ensures ok { OnOk result (E.state engine.new ≡ answered (E.state engine.old)) }
@@ -125,10 +126,7 @@ impl Answerer {
     {
         match self.kept.take() {
             Some(quiet) => Ok(quiet),
-            None => match engine.settle() {
-                Ok(quiet) => Ok(quiet),
-                Err(refusal) => Err(refusal),
-            },
+            None => engine.settle(),
         }
     }
 
@@ -177,7 +175,7 @@ impl Answerer {
 // What the tilings that match the question have in common.
 fn answer_of(alloc: Global, quiet: &Quiet, question: Question) -> Result<Answer, Refusal>
     ensures ok { IfOk result (λ a. IsAnswer quiet.now.design (map (placed quiet.now.view) quiet.now.tilings) (asked_of question) a.count a.forced.items a.options.items) }
-    ensures short { IfOk result (λ a. covered a.forced.items ≤ 256) }
+    ensures short { IfOk result (λ a. covered a.forced.items ≤ MAX_CELLS) }
     ensures why { IfErr result (λ e. e ≡ Refusal.Memory) }
 {
     // The contracts of these calls guarantee that an answer doesn't depend on the order of placements, and that no tiling
@@ -190,8 +188,5 @@ fn answer_of(alloc: Global, quiet: &Quiet, question: Question) -> Result<Answer,
         lacks: question.lacks,
         covers: question.covers,
     };
-    match browse(alloc, quiet.design(), quiet.tilings(), quiet.view(), &query) {
-        Ok(answer) => Ok(answer),
-        Err(refusal) => Err(refusal),
-    }
+    browse(alloc, quiet.design(), quiet.tilings(), quiet.view(), &query)
 }

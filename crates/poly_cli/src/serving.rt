@@ -2,9 +2,9 @@
 ghost use Rattle.std.specs.Prelude.{◌≡◌, ◌++◌, ℕ, List};
 ghost use Rattle.std.specs.Io.KnownBytes.{Consumes};
 ghost use Rattle.poly_cli.specs.Buffered.{ahead, IsReady};
+ghost use Rattle.poly_cli.specs.Current.{IsCurrent};
 ghost use Rattle.poly_cli.specs.Runs.{Serves, limits_from};
 ghost use Rattle.poly_cli.specs.Slow.{Slow};
-ghost use Rattle.poly_cli.specs.Standing.{IsStanding};
 
 use crate::answering::Answerer;
 use crate::engine::Engine;
@@ -26,7 +26,7 @@ pub fn serve<R: Read, W: Write, E: Engine>(
 ) -> Result<(), Fault>
     requires buffer { IsReady lines.old }
     requires ready { E.ready engine.old }
-    requires kept { IsStanding answerer.old.kept (E.state engine.old) }
+    requires kept { IsCurrent answerer.old.kept (E.state engine.old) }
     requires grid { grid ≡ (E.state engine.old).design.grid }
     ensures ready { E.ready engine.new }
     ensures run { (taken : List ℕ) × Consumes (R.remaining reader.old) (R.remaining reader.new) taken
@@ -35,18 +35,12 @@ pub fn serve<R: Read, W: Write, E: Engine>(
 {
     for answered in 0..most {
         match lines.next_line(reader) {
-            Event::Line => match answerer.respond(grid, engine, lines.ended(), writer) {
-                Ok(()) => {}
-                Err(fault) => return Err(fault),
-            },
+            Event::Line => answerer.respond(grid, engine, lines.ended(), writer)?,
             Event::End => {
                 if lines.is_empty() {
                     return Ok(());
                 }
-                return match answerer.respond(grid, engine, lines.unended(), writer) {
-                    Ok(()) => Ok(()),
-                    Err(fault) => Err(fault),
-                };
+                return answerer.respond(grid, engine, lines.unended(), writer);
             }
             Event::Fault => return Err(Fault::Read),
         }

@@ -46,7 +46,7 @@ pub fn session<R: Read, W: Write, E: Engine>(
 {
     match buffers(alloc) {
         Ok((mut lines, mut answerer)) => {
-            match run(
+            run(
                 alloc,
                 LINE_COUNT,
                 &mut lines,
@@ -54,22 +54,19 @@ pub fn session<R: Read, W: Write, E: Engine>(
                 writer,
                 engine,
                 &mut answerer,
-            ) {
-                Ok(end) => Ok(end),
-                Err(fault) => Err(fault),
-            }
+            )
         }
-        Err(_) => match write_whole(writer, refusal_line(Refusal::Memory).as_bytes()) {
-            Ok(()) => Ok(End::Refused),
-            Err(fault) => Err(fault),
-        },
+        Err(_) => {
+            write_whole(writer, refusal_line(Refusal::Memory).as_bytes())?;
+            Ok(End::Refused)
+        }
     }
 }
 
 // All memory for reading and writing. Fails only with `Memory`.
 fn buffers(alloc: Global) -> Result<(Lines, Answerer), Refusal>
     ensures ready { IfOk result (λ b. IsReady b.0) }
-    ensures limits { IfOk result (λ b. (b.0.limit ≡ 65536) × (b.0.left ≡ 1073741824)) }
+    ensures limits { IfOk result (λ b. (b.0.limit ≡ LINE_LIMIT) × (b.0.left ≡ INPUT_LIMIT)) }
     ensures fresh { IfOk result (λ b. ahead b.0 ≡ []) }
     ensures none { IfOk result (λ b. b.1.kept ≡ None) }
 {
@@ -101,24 +98,18 @@ fn run<R: Read, W: Write, E: Engine>(
     match lines.next_line(reader) {
         Event::Line => {
             let opened = open(alloc, lines.ended(), engine);
-            match answer_opening(opened, writer) {
-                Ok(()) => {}
-                Err(fault) => return Err(fault),
-            }
+            answer_opening(opened, writer)?;
             match opened {
-                Ok(grid) => match serve(most - 1, grid, lines, reader, writer, engine, answerer) {
-                    Ok(()) => Ok(End::Done),
-                    Err(fault) => Err(fault),
-                },
+                Ok(grid) => {
+                    serve(most - 1, grid, lines, reader, writer, engine, answerer)?;
+                    Ok(End::Done)
+                }
                 Err(_) => Ok(End::Refused),
             }
         }
         Event::End => {
             let opened = open(alloc, lines.unended(), engine);
-            match answer_opening(opened, writer) {
-                Ok(()) => {}
-                Err(fault) => return Err(fault),
-            }
+            answer_opening(opened, writer)?;
             match opened {
                 Ok(_) => Ok(End::Done),
                 Err(_) => Ok(End::Refused),
@@ -137,16 +128,10 @@ fn open<E: Engine>(alloc: Global, line: Option<&[u8]>, engine: &mut E) -> Result
     let Some(text) = line else {
         return Err(Refusal::LineTooLong);
     };
-    match puzzle_of(alloc, text) {
-        Ok(design) => {
-            let grid = design.grid();
-            match engine.begin(design) {
-                Ok(()) => Ok(grid),
-                Err(refusal) => Err(refusal),
-            }
-        }
-        Err(refusal) => Err(refusal),
-    }
+    let design = puzzle_of(alloc, text)?;
+    let grid = design.grid();
+    engine.begin(design)?;
+    Ok(grid)
 }
 
 fn answer_opening<W: Write>(opened: Result<Grid, Refusal>, writer: &mut W) -> Result<(), Fault>

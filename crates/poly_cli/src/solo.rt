@@ -93,19 +93,13 @@ impl Engine for Solo {
     }
 
     fn edit(&mut self, edit: Edit) -> Result<u64, Refusal> {
-        let done = match self.book.edit(edit) {
-            Ok(done) => done,
-            Err(refusal) => return Err(refusal),
-        };
+        let done = self.book.edit(edit)?;
         self.settled = false;
         Ok(done.place)
     }
 
     fn undo(&mut self) -> Result<u64, Refusal> {
-        let done = match self.book.undo() {
-            Ok(done) => done,
-            Err(refusal) => return Err(refusal),
-        };
+        let done = self.book.undo()?;
         self.settled = false;
         Ok(done.place)
     }
@@ -157,8 +151,6 @@ fn settle_book(book: &mut Book, turns: u64) -> Result<(), Refusal>
     book.whole();
     let settled = book.settle(turns, NODES);
     book.whole();
-    match settled {
-        Ok(_) => Ok(()),
-        Err(refusal) => Err(refusal),
-    }
+    settled?;
+    Ok(())
 }

@@ -5,12 +5,13 @@
 ghost use Rattle.std.specs.Prelude.{◌≡◌, ◌≤◌, ◌⊎◌, [], IfErr, IfOk, true};
 ghost use Rattle.std.specs.Thread.{IsSync};
 ghost use Rattle.poly_design.specs.Layout.{Layout};
+ghost use Rattle.poly_crew.specs.declared.crewing.TheConstants.{MOST_TURNS, MOST_WORKERS};
 ghost use Rattle.poly_desk.specs.Seen.{is_unsettled};
 ghost use Rattle.poly_cli.specs.States.{IsUnanswered, opened};
 ghost use Rattle.poly_cli.specs.Teams.{state_of};
 
 use crate::engine::Engine;
-use crate::kept::{Kept, Remains};
+use crate::kept::{Kept, LostBook};
 use crate::solo::Solo;
 use crate::teamwork::{Crewing, work_on};
 use poly_book::{Numbers, Quiet};
@@ -36,8 +37,8 @@ impl<'a, R: Threads + Wait + Sync> Team<'a, R> {
     /// take at most `turns` tasks whenever the engine settles; `turns` is at most 1,000,000,000. Fails only with `Memory`.
     pub fn new(rt: &'a R, alloc: Global, workers: usize, turns: u64) -> Result<Team<'a, R>, Refusal>
         requires some { 1 ≤ workers }
-        requires few { workers ≤ 16 }
-        requires few_turns { turns ≤ 1000000000 }
+        requires few { workers ≤ MOST_WORKERS }
+        requires few_turns { turns ≤ MOST_TURNS }
         ensures ok { IfOk result (λ t. state_of t.kept ≡ opened (record { grid = Grid.Square; cells = []; pieces = [] })) }
         ensures why { IfErr result (λ e. e ≡ Refusal.Memory) }
     {
@@ -67,50 +68,44 @@ impl<'a, R: Threads + Wait + Sync> Engine for Team<'a, R> {
     fn edit(&mut self, edit: Edit) -> Result<u64, Refusal> {
         match &mut self.kept {
             Kept::Whole(solo) => solo.edit(edit),
-            Kept::Lost(remains) => Err(remains.why),
+            Kept::Lost(lost) => Err(lost.why),
         }
     }
 
     fn undo(&mut self) -> Result<u64, Refusal> {
         match &mut self.kept {
             Kept::Whole(solo) => solo.undo(),
-            Kept::Lost(remains) => Err(remains.why),
+            Kept::Lost(lost) => Err(lost.why),
         }
     }
 
     fn redo(&mut self) -> Result<u64, Refusal> {
         match &mut self.kept {
             Kept::Whole(solo) => solo.redo(),
-            Kept::Lost(remains) => Err(remains.why),
+            Kept::Lost(lost) => Err(lost.why),
         }
     }
 
     fn settle(&mut self) -> Result<Quiet, Refusal> {
-        match crew_on(self.rt, self.alloc, &self.crewing, &mut self.kept) {
-            Ok(()) => {}
-            Err(refusal) => return Err(refusal),
-        }
+        crew_on(self.rt, self.alloc, &self.crewing, &mut self.kept)?;
         match &mut self.kept {
             Kept::Whole(solo) => solo.settle(),
-            Kept::Lost(remains) => Err(remains.why),
+            Kept::Lost(lost) => Err(lost.why),
         }
     }
 
     fn count(&mut self) -> Result<u64, Refusal> {
-        match crew_on(self.rt, self.alloc, &self.crewing, &mut self.kept) {
-            Ok(()) => {}
-            Err(refusal) => return Err(refusal),
-        }
+        crew_on(self.rt, self.alloc, &self.crewing, &mut self.kept)?;
         match &mut self.kept {
             Kept::Whole(solo) => solo.count(),
-            Kept::Lost(remains) => Err(remains.why),
+            Kept::Lost(lost) => Err(lost.why),
         }
     }
 
     fn numbers(&self) -> Numbers {
         match &self.kept {
             Kept::Whole(solo) => solo.numbers(),
-            Kept::Lost(remains) => remains.numbers,
+            Kept::Lost(lost) => lost.numbers,
         }
     }
 }
@@ -126,17 +121,17 @@ fn crew_on<R: Threads + Wait + Sync>(
     ensures same { state_of kept.new ≡ state_of kept.old }
     ensures why { IfErr result (λ e. (d : Layout) → IsUnanswered d e ⊎ (is_unsettled e ≡ true)) }
 {
-    let remains = match &*kept {
+    let lost = match &*kept {
         Kept::Whole(solo) => {
             if !solo.is_pending() {
                 return Ok(());
             }
-            remains_of(solo)
+            lost_book_of(solo)
         }
         Kept::Lost(_) => return Ok(()),
     };
     // Until the book comes back, it counts as lost.
-    let Kept::Whole(solo) = mem::replace(kept, Kept::Lost(remains)) else {
+    let Kept::Whole(solo) = mem::replace(kept, Kept::Lost(lost)) else {
         unreachable!()
     };
     let was = Snapshot::of(&solo);
@@ -153,17 +148,17 @@ fn crew_on<R: Threads + Wait + Sync>(
             }
         }
         Err(why) => {
-            *kept = Kept::Lost(Remains { was, numbers, why });
+            *kept = Kept::Lost(LostBook { was, numbers, why });
             Err(why)
         }
     }
 }
 
 // What is left of the book while a desk has it.
-fn remains_of(solo: &Solo) -> Remains
+fn lost_book_of(solo: &Solo) -> LostBook
     ensures { result.was.value ≡ solo.now }
 {
-    Remains {
+    LostBook {
         was: Snapshot::of(solo),
         numbers: solo.numbers(),
         why: Refusal::Unsettled { seen: 0, found: 0 },

@@ -1,5 +1,6 @@
 //! A crew's work on one book: the desk is set up, the crew works at it, and the book is taken back.
 ghost use Rattle.std.specs.Prelude.{◌≡◌, ◌≤◌, ◌+◌, [], IfErr, IfOk, OnOk, false, length, sum_by, true, vec_capacity};
+ghost use Rattle.poly_crew.specs.declared.crewing.TheConstants.{MOST_TURNS, MOST_WORKERS};
 ghost use Rattle.poly_desk.specs.Changes.{cut_count};
 ghost use Rattle.poly_desk.specs.Seen.{is_unsettled};
 ghost use Rattle.poly_cli.specs.Books.{session_of};
@@ -7,7 +8,7 @@ ghost use Rattle.poly_cli.specs.Books.{session_of};
 use crate::solo::NODES;
 use poly_book::Book;
 use poly_crew::{OpenGate, crew};
-use poly_desk::{Desk, Opening, Pass, Receipt};
+use poly_desk::{Desk, Opening, PARTS, Pass, Receipt};
 use poly_grid::Refusal;
 use std::alloc::Global;
 use std::marker::Brand;
@@ -28,8 +29,8 @@ pub(crate) struct Crewing {
     pub(crate) workers: usize,
     pub(crate) turns: u64,
     ghost some: { 1 ≤ workers },
-    ghost few: { workers ≤ 16 },
-    ghost few_turns: { turns ≤ 1000000000 },
+    ghost few: { workers ≤ MOST_WORKERS },
+    ghost few_turns: { turns ≤ MOST_TURNS },
 }
 
 /// Runs a crew on the book. The design, the undo steps and the redo steps don't change. If there is no memory for the desk or for
@@ -45,16 +46,11 @@ pub(crate) fn work_on<R: Threads + Wait + Sync>(
 {
     // Before and after the work, the contract of this call guarantees that the steps lead to the changes that can be undone and redone.
     book.whole();
-    let changes = Blank::new(10001);
-    let cuts = Blank::new(10001);
-    let worked = work_at_desk::<Brand, Brand, Brand, R>(rt, alloc, crewing, changes, cuts, book);
-    match worked {
-        Ok(worked) => {
-            worked.book.whole();
-            Ok(worked)
-        }
-        Err(why) => Err(why),
-    }
+    let changes = Blank::new(PARTS);
+    let cuts = Blank::new(PARTS);
+    let worked = work_at_desk::<Brand, Brand, Brand, R>(rt, alloc, crewing, changes, cuts, book)?;
+    worked.book.whole();
+    Ok(worked)
 }
 
 // Runs the crew at a desk that keeps its totals in these ledgers. Fails as `work_on` does.
@@ -71,8 +67,8 @@ fn work_at_desk<
     cuts: Blank,
     book: Book,
 ) -> Result<Worked, Refusal>
-    requires changes { (changes.name ≡ C.name) × (changes.parts ≡ C.parts) × (changes.parts ≡ 10001) }
-    requires cuts { (cuts.name ≡ K.name) × (cuts.parts ≡ K.parts) × (cuts.parts ≡ 10001) }
+    requires changes { (changes.name ≡ C.name) × (changes.parts ≡ C.parts) × (changes.parts ≡ PARTS) }
+    requires cuts { (cuts.name ≡ K.name) × (cuts.parts ≡ K.parts) × (cuts.parts ≡ PARTS) }
     requires design { book.opened ≡ O.design }
     requires view { book.view ≡ O.view }
     requires steps { book.steps ≡ O.steps }

@@ -32,10 +32,7 @@ pub fn write_bytes<W: Write>(writer: &mut W, bytes: &[u8]) -> Result<(), Fault>
 pub fn write_whole<W: Write>(writer: &mut W, bytes: &[u8]) -> Result<(), Fault>
     ensures { Writes result (W.contents writer.old) (W.contents writer.new) bytes.now }
 {
-    match write_bytes(writer, bytes) {
-        Ok(()) => {}
-        Err(fault) => return Err(fault),
-    }
+    write_bytes(writer, bytes)?;
     match writer.flush() {
         Ok(()) => Ok(()),
         Err(_) => Err(Fault::Write),

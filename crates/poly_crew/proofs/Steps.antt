@@ -5,37 +5,37 @@ use lib.ListN.{get_elem?}
 use Rattle.std.proofs.lemmas.List.{append_assoc}
 use Rattle.crossbeam_deque.specs.Tasks.{Pushes, Takes, Forks, Merges, Learns, Finds}
 use Rattle.crossbeam_deque.proofs.Lists.{at_set, at_snoc}
-use Rattle.poly_crew.specs.declared.rule.Hand.{Hand}
+use Rattle.poly_crew.specs.declared.rule.HandleView.{HandleView}
 use Rattle.poly_crew.specs.Hints.{weigh, IsNext, SameHints, Splits}
-use Rattle.poly_crew.specs.Rule.{hand, Fits, IsKept}
+use Rattle.poly_crew.specs.Rule.{handle_of, Fits, IsKept}
 use Rattle.poly_crew.proofs.Sums.{weigh-append, weigh-ones, total-set, total-push, total_has, total_lone}
 
-same_view : {owner out by : ℕ} {log : List ℕ} (v w : Hand) → v ≡ w → Fits owner log out by v → Fits owner log out by w
+same_view : {owner out by : ℕ} {log : List ℕ} (v w : HandleView) → v ≡ w → Fits owner log out by v → Fits owner log out by w
 same_view {owner} {out} {by} {log} v w e = subst (λ u. Fits owner log out by u) e
 
 -- a view was changed at one port
-fits_set : (owner : ℕ) (log : List ℕ) (out : ℕ) (views : List Hand) (port : ℕ) (w : Hand) → Fits owner log out port w
-    → ((by : ℕ) (u : Hand) → by ≢ port → get_elem? views by ≡ some u → Fits owner log out by u)
-    → (by : ℕ) (u : Hand) → get_elem? (set views port w) by ≡ some u → Fits owner log out by u
+fits_set : (owner : ℕ) (log : List ℕ) (out : ℕ) (views : List HandleView) (port : ℕ) (w : HandleView) → Fits owner log out port w
+    → ((by : ℕ) (u : HandleView) → by ≢ port → get_elem? views by ≡ some u → Fits owner log out by u)
+    → (by : ℕ) (u : HandleView) → get_elem? (set views port w) by ≡ some u → Fits owner log out by u
 fits_set owner log out views port w mine others by u at = ⊎_elim
     (λ (t : (by ≡ port) × (w ≡ u)). same_view w u t.1 (subst (λ n. Fits owner log out n w) (sym t.0) mine))
     (λ (t : (by ≢ port) × (get_elem? views by ≡ some u)). others by u t.0 t.1)
     (at_set views port by w u at)
 
 -- a view that isn't the owner's fits whatever was pushed since
-fits_other : {owner : ℕ} {log : List ℕ} {out by : ℕ} (log' : List ℕ) (out' : ℕ) (u : Hand) → by ≢ owner → Fits owner log out by u → Fits owner log' out' by u
+fits_other : {owner : ℕ} {log : List ℕ} {out by : ℕ} (log' : List ℕ) (out' : ℕ) (u : HandleView) → by ≢ owner → Fits owner log out by u → Fits owner log' out' by u
 fits_other log' out' u apart fits = record { whole = λ p. absurd (apart (fits.whole p).0); spent = fits.spent }
 
-pub begins : IsKept [] (hand true 0 0 [] [] ∷ [])
+pub begins : IsKept [] (handle_of true 0 0 [] [] ∷ [])
 begins = record { owner = 0; log = []; gone = []; out = 0; split = refl; taken = λ h. refl; thieves = refl; fits = go }
   where
-    go : (by : ℕ) (v : Hand) → get_elem? (hand true 0 0 [] [] ∷ []) by ≡ some v → Fits 0 [] 0 by v
-    go zero v at = same_view (hand true 0 0 [] []) v (some-injective _ _ at) (record { whole = λ _. (refl, refl, refl); spent = λ p. absurd (true≢false p) })
+    go : (by : ℕ) (v : HandleView) → get_elem? (handle_of true 0 0 [] [] ∷ []) by ≡ some v → Fits 0 [] 0 by v
+    go zero v at = same_view (handle_of true 0 0 [] []) v (some-injective _ _ at) (record { whole = λ _. (refl, refl, refl); spent = λ p. absurd (true≢false p) })
     go (suc by) v at = absurd (some-ne-none v (sym at))
 
-pub pushes : (port : ℕ) (v : Hand) (xs : List ℕ) → v.is_owner ≡ true → Pushes IsKept port v xs (λ w. w ≡ hand v.is_owner v.out v.thief (v.pushed ++ xs) v.taken)
+pub pushes : (port : ℕ) (v : HandleView) (xs : List ℕ) → v.is_owner ≡ true → Pushes IsKept port v xs (λ w. w ≡ handle_of v.is_owner v.out v.thief (v.pushed ++ xs) v.taken)
 pushes port v xs is_owner items views kept at =
-    let w : Hand = hand v.is_owner v.out v.thief (v.pushed ++ xs) v.taken in
+    let w : HandleView = handle_of v.is_owner v.out v.thief (v.pushed ++ xs) v.taken in
     let mine = (kept.fits port v at).whole is_owner in
     let log : List ℕ = kept.log ++ xs in (
       w,
@@ -55,10 +55,10 @@ pushes port v xs is_owner items views kept at =
     )
 
 -- hints leave at the front
-takes_front : (port : ℕ) (v : Hand) (xs items : List ℕ) (views : List Hand) → (v.is_owner ≡ false → v.thief ≢ 0) → (kept : IsKept (xs ++ items) views) → get_elem? views port ≡ some v
-    → IsKept items (set views port (hand v.is_owner v.out v.thief v.pushed (v.taken ++ xs)))
+takes_front : (port : ℕ) (v : HandleView) (xs items : List ℕ) (views : List HandleView) → (v.is_owner ≡ false → v.thief ≢ 0) → (kept : IsKept (xs ++ items) views) → get_elem? views port ≡ some v
+    → IsKept items (set views port (handle_of v.is_owner v.out v.thief v.pushed (v.taken ++ xs)))
 takes_front port v xs items views live kept at =
-    let w : Hand = hand v.is_owner v.out v.thief v.pushed (v.taken ++ xs) in
+    let w : HandleView = handle_of v.is_owner v.out v.thief v.pushed (v.taken ++ xs) in
     let mine = kept.fits port v at in
     record {
       owner = kept.owner;
@@ -73,21 +73,21 @@ takes_front port v xs items views live kept at =
           (λ by u apart there. kept.fits by u there);
     }
 
-pub steals : (port : ℕ) (v : Hand) (most : ℕ) → (v.is_owner ≡ false → v.thief ≢ 0) → Takes IsKept port v most (λ xs w. w ≡ hand v.is_owner v.out v.thief v.pushed (v.taken ++ xs))
-steals port v most live xs items views some_left few kept at = (hand v.is_owner v.out v.thief v.pushed (v.taken ++ xs), takes_front port v xs items views live kept at, refl)
+pub steals : (port : ℕ) (v : HandleView) (most : ℕ) → (v.is_owner ≡ false → v.thief ≢ 0) → Takes IsKept port v most (λ xs w. w ≡ handle_of v.is_owner v.out v.thief v.pushed (v.taken ++ xs))
+steals port v most live xs items views some_left few kept at = (handle_of v.is_owner v.out v.thief v.pushed (v.taken ++ xs), takes_front port v xs items views live kept at, refl)
 
 -- at least as many hints left as one view took
-behind : (port : ℕ) (v : Hand) (items : List ℕ) (views : List Hand) (kept : IsKept items views) → get_elem? views port ≡ some v → length v.taken ≤ length kept.gone
+behind : (port : ℕ) (v : HandleView) (items : List ℕ) (views : List HandleView) (kept : IsKept items views) → get_elem? views port ≡ some v → length v.taken ≤ length kept.gone
 behind port v items views kept at =
     let has = total_has (λ u. weigh (λ _. 1) u.taken) views port v at in
     let all = kept.taken (λ _. 1) in
     omega (arith, weigh-ones v.taken, weigh-ones kept.gone)
 
 -- with no thief out, the hints that left are those that the lane itself took
-alone : (port : ℕ) (v : Hand) (items : List ℕ) (views : List Hand) → v.is_owner ≡ true → (kept : IsKept items views) → get_elem? views port ≡ some v → v.out ≡ 0 → SameHints kept.gone v.taken
+alone : (port : ℕ) (v : HandleView) (items : List ℕ) (views : List HandleView) → v.is_owner ≡ true → (kept : IsKept items views) → get_elem? views port ≡ some v → v.out ≡ 0 → SameHints kept.gone v.taken
 alone port v items views is_owner kept at none h =
     let mine = (kept.fits port v at).whole is_owner in
-    let other : (by : ℕ) (u : Hand) → by ≢ port → get_elem? views by ≡ some u → weigh h u.taken ≡ 0 = λ by u apart there.
+    let other : (by : ℕ) (u : HandleView) → by ≢ port → get_elem? views by ≡ some u → weigh h u.taken ≡ 0 = λ by u apart there.
     let fits = kept.fits by u there in
     let thieves = total_has (λ w. w.thief) views by u there in
     let out = kept.thieves in
@@ -100,44 +100,44 @@ alone port v items views is_owner kept at none h =
     not_owner true isnt = absurd (isnt refl)
     not_owner false isnt = refl
 
-pub pops : (port : ℕ) (v : Hand) (most : ℕ) → v.is_owner ≡ true
-    → Takes IsKept port v most (λ xs w. (w ≡ hand v.is_owner v.out v.thief v.pushed (v.taken ++ xs)) × IsNext v.pushed v.taken v.out xs)
+pub pops : (port : ℕ) (v : HandleView) (most : ℕ) → v.is_owner ≡ true
+    → Takes IsKept port v most (λ xs w. (w ≡ handle_of v.is_owner v.out v.thief v.pushed (v.taken ++ xs)) × IsNext v.pushed v.taken v.out xs)
 pops port v most is_owner xs items views some_left few kept at =
     let mine = (kept.fits port v at).whole is_owner in (
-      hand v.is_owner v.out v.thief v.pushed (v.taken ++ xs),
+      handle_of v.is_owner v.out v.thief v.pushed (v.taken ++ xs),
       takes_front port v xs items views (λ isnt. absurd (true≢false (sym is_owner ∙ isnt))) kept at,
       (
         refl,
         record {
           before = kept.gone;
           after = items;
-          stand = mine.1 ∙ kept.split;
+          split = mine.1 ∙ kept.split;
           behind = behind port v (xs ++ items) views kept at;
           alone = alone port v (xs ++ items) views is_owner kept at;
         },
       ),
     )
 
-pub finds_none : (port : ℕ) (v : Hand) → v.is_owner ≡ true → Finds IsKept port v (v.out ≡ 0 → SameHints v.pushed v.taken)
+pub finds_none : (port : ℕ) (v : HandleView) → v.is_owner ≡ true → Finds IsKept port v (v.out ≡ 0 → SameHints v.pushed v.taken)
 finds_none port v is_owner views kept at none =
     let mine = (kept.fits port v at).whole is_owner in
     subst (λ l. SameHints l v.taken) (sym (mine.1 ∙ kept.split ∙ append-nil kept.gone)) (alone port v [] views is_owner kept at none)
 
-pub counts : (port : ℕ) (v : Hand) → v.is_owner ≡ true → Learns IsKept port v (λ items. Splits v.pushed v.taken v.out items)
+pub counts : (port : ℕ) (v : HandleView) → v.is_owner ≡ true → Learns IsKept port v (λ items. Splits v.pushed v.taken v.out items)
 counts port v is_owner items views kept at =
     record {
       gone = kept.gone;
-      stand = ((kept.fits port v at).whole is_owner).1 ∙ kept.split;
+      split = ((kept.fits port v at).whole is_owner).1 ∙ kept.split;
       behind = behind port v items views kept at;
       alone = alone port v items views is_owner kept at;
     }
 
-pub leaves : (port : ℕ) (v : Hand) → v.is_owner ≡ true → Forks IsKept port v (hand v.is_owner (v.out + 1) v.thief v.pushed v.taken) (hand false 0 1 [] [])
-leaves port v is_owner items views kept at =
-    let left : Hand = hand v.is_owner (v.out + 1) v.thief v.pushed v.taken in
-    let right : Hand = hand false 0 1 [] [] in
+pub splits_off : (port : ℕ) (v : HandleView) → v.is_owner ≡ true → Forks IsKept port v (handle_of v.is_owner (v.out + 1) v.thief v.pushed v.taken) (handle_of false 0 1 [] [])
+splits_off port v is_owner items views kept at =
+    let left : HandleView = handle_of v.is_owner (v.out + 1) v.thief v.pushed v.taken in
+    let right : HandleView = handle_of false 0 1 [] [] in
     let mine = (kept.fits port v at).whole is_owner in
-    let old : (by : ℕ) (u : Hand) → get_elem? (set views port left) by ≡ some u → Fits kept.owner kept.log (kept.out + 1) by u = fits_set kept.owner kept.log (kept.out + 1) views port left
+    let old : (by : ℕ) (u : HandleView) → get_elem? (set views port left) by ≡ some u → Fits kept.owner kept.log (kept.out + 1) by u = fits_set kept.owner kept.log (kept.out + 1) views port left
     (record { whole = λ _. (mine.0, mine.1, ap (λ n. n + 1) mine.2); spent = λ isnt. absurd (true≢false (sym is_owner ∙ isnt)) })
     (λ by u apart there. fits_other kept.log (kept.out + 1) u (λ is. apart (is ∙ sym mine.0)) (kept.fits by u there)) in
     record {
@@ -160,14 +160,14 @@ leaves port v is_owner items views kept at =
           (at_snoc (set views port left) right u by there);
     }
 
-pub returns : (port : ℕ) (v : Hand) (other : ℕ) (w : Hand) → v.is_owner ≡ true → w.is_owner ≡ false → w.thief ≡ 1
-    → Merges IsKept port v other w (hand v.is_owner (v.out - 1) v.thief v.pushed (v.taken ++ w.taken)) (hand false 0 0 [] [])
-returns port v other w is_owner no_owner is_thief items views kept at apart there =
-    let both : Hand = hand v.is_owner (v.out - 1) v.thief v.pushed (v.taken ++ w.taken) in
-    let spent : Hand = hand false 0 0 [] [] in
+pub joins_back : (port : ℕ) (v : HandleView) (other : ℕ) (w : HandleView) → v.is_owner ≡ true → w.is_owner ≡ false → w.thief ≡ 1
+    → Merges IsKept port v other w (handle_of v.is_owner (v.out - 1) v.thief v.pushed (v.taken ++ w.taken)) (handle_of false 0 0 [] [])
+joins_back port v other w is_owner no_owner is_thief items views kept at apart there =
+    let both : HandleView = handle_of v.is_owner (v.out - 1) v.thief v.pushed (v.taken ++ w.taken) in
+    let spent : HandleView = handle_of false 0 0 [] [] in
     let mine = (kept.fits port v at).whole is_owner in
     let out : ℕ = kept.out - 1 in
-    let one : (by : ℕ) (u : Hand) → get_elem? (set views port both) by ≡ some u → Fits kept.owner kept.log out by u = fits_set kept.owner kept.log out views port both
+    let one : (by : ℕ) (u : HandleView) → get_elem? (set views port both) by ≡ some u → Fits kept.owner kept.log out by u = fits_set kept.owner kept.log out views port both
     (record { whole = λ _. (mine.0, mine.1, ap (λ n. n - 1) mine.2); spent = λ isnt. absurd (true≢false (sym is_owner ∙ isnt)) })
     (λ by u far there. fits_other kept.log out u (λ is. far (is ∙ sym mine.0)) (kept.fits by u there)) in
     record {

@@ -2,7 +2,7 @@
 use Rattle.std.proofs.Common.{◌≡◌, ◌≢◌, ◌≤◌, ℕ, zero, suc, ◌+◌, ◌++◌, List, [], ◌∷◌, length, refl, sym, ap, set, arith}
 use mathlib.Core.Option.{some, some-ne-none, some-injective}
 use lib.ListN.{get_elem?}
-use Rattle.poly_crew.specs.declared.rule.Hand.{Hand}
+use Rattle.poly_crew.specs.declared.rule.HandleView.{HandleView}
 use Rattle.poly_crew.specs.Hints.{weigh}
 use Rattle.poly_crew.specs.Rule.{total}
 
@@ -14,27 +14,27 @@ pub weigh-ones : (xs : List ℕ) → weigh (λ _. 1) xs ≡ length xs
 weigh-ones [] = refl
 weigh-ones (x ∷ xs) = let e = weigh-ones xs in omega arith
 
-pub total-set : (f : Hand → ℕ) (views : List Hand) (port : ℕ) (v w : Hand) → get_elem? views port ≡ some v → total f (set views port w) + f v ≡ total f views + f w
+pub total-set : (f : HandleView → ℕ) (views : List HandleView) (port : ℕ) (v w : HandleView) → get_elem? views port ≡ some v → total f (set views port w) + f v ≡ total f views + f w
 total-set f [] port v w at = absurd (some-ne-none v (sym at))
 total-set f (u ∷ us) zero v w at = let e : f u ≡ f v = ap f (some-injective u v at) in omega arith
 total-set f (u ∷ us) (suc port) v w at = let e = total-set f us port v w at in omega arith
 
-pub total-push : (f : Hand → ℕ) (views : List Hand) (v : Hand) → total f (views ++ v ∷ []) ≡ total f views + f v
+pub total-push : (f : HandleView → ℕ) (views : List HandleView) (v : HandleView) → total f (views ++ v ∷ []) ≡ total f views + f v
 total-push f [] v = omega arith
 total-push f (u ∷ us) v = let e = total-push f us v in omega arith
 
-pub total_has : (f : Hand → ℕ) (views : List Hand) (port : ℕ) (v : Hand) → get_elem? views port ≡ some v → f v ≤ total f views
+pub total_has : (f : HandleView → ℕ) (views : List HandleView) (port : ℕ) (v : HandleView) → get_elem? views port ≡ some v → f v ≤ total f views
 total_has f [] port v at = absurd (some-ne-none v (sym at))
 total_has f (u ∷ us) zero v at = let e : f u ≡ f v = ap f (some-injective u v at) in omega arith
 total_has f (u ∷ us) (suc port) v at = let e = total_has f us port v at in omega arith
 
-total_none : (f : Hand → ℕ) (views : List Hand) → ((by : ℕ) (u : Hand) → get_elem? views by ≡ some u → f u ≡ 0) → total f views ≡ 0
+total_none : (f : HandleView → ℕ) (views : List HandleView) → ((by : ℕ) (u : HandleView) → get_elem? views by ≡ some u → f u ≡ 0) → total f views ≡ 0
 total_none f [] none = refl
 total_none f (u ∷ us) none = let here = none 0 u refl in let e = total_none f us (λ by w at. none (suc by) w at) in omega arith
 
 -- if all other views have nothing, the total is what the one has
-pub total_lone : (f : Hand → ℕ) (views : List Hand) (port : ℕ) (v : Hand) → get_elem? views port ≡ some v
-    → ((by : ℕ) (u : Hand) → by ≢ port → get_elem? views by ≡ some u → f u ≡ 0) → total f views ≡ f v
+pub total_lone : (f : HandleView → ℕ) (views : List HandleView) (port : ℕ) (v : HandleView) → get_elem? views port ≡ some v
+    → ((by : ℕ) (u : HandleView) → by ≢ port → get_elem? views by ≡ some u → f u ≡ 0) → total f views ≡ f v
 total_lone f [] port v at others = absurd (some-ne-none v (sym at))
 total_lone f (u ∷ us) zero v at others =
     let e : f u ≡ f v = ap f (some-injective u v at) in

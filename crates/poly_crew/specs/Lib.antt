@@ -2,5 +2,5 @@ pub mod Counts
 pub mod Ends
 pub mod Hints
 pub mod Rule
-pub mod Sight
+pub mod Views
 pub mod Worked

@@ -3,6 +3,7 @@ ghost use Rattle.std.specs.Prelude.{◌≡◌, ◌≤◌, ◌<◌, ◌*◌, ℕ,
 ghost use Rattle.std.specs.List.{AllZip};
 ghost use Rattle.poly_crew.specs.Counts.{added};
 ghost use Rattle.poly_crew.specs.Worked.{IsWorked};
+ghost use Rattle.poly_report.specs.declared.size.TheConstants.{NODES};
 
 use crate::gate::Gate;
 use crate::outcome::Crew;
@@ -14,6 +15,12 @@ use std::alloc::Global;
 use std::sync::Wait;
 use std::thread;
 use std::thread::Threads;
+
+/// The most workers of a crew.
+pub const MOST_WORKERS: usize = 16;
+
+/// The most turns that each worker of a crew may take.
+pub const MOST_TURNS: u64 = 1_000_000_000;
 
 /// Runs a worker for each pass, each in a thread of its own. A worker takes tasks of the bench, searches them and hands the
 /// results in, until no task is left to take, it has taken `turns` tasks, or a call is refused.
@@ -32,10 +39,10 @@ pub fn crew<R: Threads + Wait + Sync, B: Bench + Sync, G: Gate + Sync>(
 where
     B::Pass: Send,
     requires some_passes { 1 ≤ length passes.items }
-    requires few_passes { length passes.items ≤ 16 }
-    requires few_turns { turns ≤ 1000000000 }
+    requires few_passes { length passes.items ≤ MOST_WORKERS }
+    requires few_turns { turns ≤ MOST_TURNS }
     requires some_nodes { 1 ≤ nodes }
-    requires few_nodes { nodes ≤ 4096 }
+    requires few_nodes { nodes ≤ NODES }
     ensures changes { map B.changes result.passes.items ≡ map B.changes passes.items }
     ensures cuts { map B.cuts result.passes.items ≡ added (map B.cuts passes.items) (map (λ rs. vec_len rs) result.receipts.items) }
     ensures applied { result.applied ≡ sum_by (λ rs. vec_len rs) result.receipts.items }
@@ -87,7 +94,7 @@ fn run_all<R: Threads + Wait + Sync, B: Bench + Sync, G: Gate + Sync>(
 where
     B::Pass: Send,
     requires some { 1 ≤ length workers.old.items }
-    requires few { length workers.old.items ≤ 16 }
+    requires few { length workers.old.items ≤ MOST_WORKERS }
     ensures { AllZip (IsWorked B.changes B.cuts work.now.turns) workers.old.items workers.new.items }
 {
     run_each(rt, work, workers.as_mut_slice());
@@ -101,7 +108,7 @@ fn run_each<R: Threads + Wait + Sync, B: Bench + Sync, G: Gate + Sync>(
 where
     B::Pass: Send,
     requires some { 1 ≤ length workers.old }
-    requires few { length workers.old ≤ 16 }
+    requires few { length workers.old ≤ MOST_WORKERS }
     ensures count { length workers.new ≡ length workers.old }
     ensures each { (k : ℕ) (d : _) → k < length workers.old → IsWorked B.changes B.cuts work.now.turns (slice_index_or workers.old k d) (slice_index_or workers.new k d) }
 {

@@ -2,10 +2,10 @@
 
 ghost use Rattle.std.specs.Prelude.{◌≡◌, ◌+◌, ◌-◌, ◌++◌, [], ◌∷◌, IfErr, IfOk, MatchOption, MatchResult, length};
 ghost use Rattle.poly_crew.specs.Hints.{IsNext, SameHints, Splits};
-ghost use Rattle.poly_crew.specs.Sight.{lane_of, stolen_of};
+ghost use Rattle.poly_crew.specs.Views.{lane_of, stolen_of};
 ghost use Rattle.poly_grid.specs.declared.refusal.Refusal.TheVariants.{Memory};
 
-use crate::rule::{Counting, Fair, Hand, Leaving, Popping, Pushing, Returning};
+use crate::rule::{Counting, HandleView, Joining, LaneRule, Popping, Pushing, Splitting};
 use crate::thief::Thief;
 use crossbeam_deque::Worker;
 use poly_grid::Refusal;
@@ -16,7 +16,7 @@ use std::marker::Model;
 const FIRST_SLOTS: usize = 64;
 
 /// The deque of a lane, under its rule.
-pub(crate) type Deque = Worker<u32, Global, Hand, Fair>;
+pub(crate) type Deque = Worker<u32, Global, HandleView, LaneRule>;
 
 /// A worker's own hints. Contracts see which lane it is, how many thieves it has out, the hints that were pushed, and the
 /// hints that were taken by the lane itself and by the thieves that it took back.
@@ -28,9 +28,9 @@ pub struct Lane {
 impl Model for Lane {
     ghost use Rattle.crossbeam_deque.specs.Handles.{worker_deque, worker_view};
     ghost use Rattle.poly_crew.specs.Ends.{IsOwner};
-    ghost use Rattle.poly_crew.specs.Sight.{LaneSight, lane_of};
+    ghost use Rattle.poly_crew.specs.Views.{LaneView, lane_of};
 
-    ghost Value = { LaneSight };
+    ghost Value = { LaneView };
 
     ghost view = { λ l. lane_of (worker_deque l.worker) (worker_view l.worker).out (worker_view l.worker).pushed (worker_view l.worker).taken };
 
@@ -83,7 +83,7 @@ impl Lane {
     {
         match self.worker.stealer() {
             Ok(stealer) => {
-                let pass = self.worker.another::<Leaving>();
+                let pass = self.worker.another::<Splitting>();
                 Ok(Thief { stealer, pass })
             }
             Err(_) => Err(Refusal::Memory),
@@ -96,7 +96,7 @@ impl Lane {
         ensures { self.new ≡ lane_of self.old.deque (self.old.thieves - 1) self.old.pushed (self.old.taken ++ thief.stolen) }
     {
         let Thief { stealer: _, pass } = thief;
-        self.worker.absorb::<Returning>(pass);
+        self.worker.absorb::<Joining>(pass);
     }
 
     /// Returns how many hints the lane holds at one moment. They are the last of those that were pushed. While no thief is

@@ -1,6 +1,7 @@
 //! A crew: workers in threads that take tasks of a desk, search them and hand the results in.
 //!
-//! - [`crew`]: runs a worker for each pass. [`Crew`]: the passes, the receipts and how the workers ended.
+//! - [`crew`]: runs a worker for each pass, [`MOST_WORKERS`] at most, for [`MOST_TURNS`] turns at most. [`Crew`]: the
+//!   passes, the receipts and how the workers ended.
 //! - [`Gate`]: is told before and after each search; [`OpenGate`] lets each worker pass.
 //! - [`Lane`]: a worker's own hints, where it pushes them and pops the oldest one.
 //! - [`Thief`]: another worker's end of a lane, which steals the oldest hint from any thread.
@@ -24,7 +25,7 @@ mod thief;
 mod turns;
 mod worker;
 
-pub use crewing::crew;
+pub use crewing::{MOST_TURNS, MOST_WORKERS, crew};
 pub use gate::{Gate, OpenGate};
 pub use lane::Lane;
 pub use outcome::Crew;

@@ -1,5 +1,6 @@
 //! The room that a crew needs: what is allocated before its workers begin, and how passes go in and come back.
 ghost use Rattle.std.specs.Prelude.{◌≡◌, ◌≤◌, [], All, IfErr, IfOk, length, map, sum_by, vec_capacity, vec_len};
+ghost use Rattle.poly_crew.specs.declared.crewing.TheConstants.{MOST_TURNS, MOST_WORKERS};
 ghost use Rattle.poly_grid.specs.declared.refusal.Refusal.TheVariants.{Memory};
 
 use crate::hints::{Hints, hints_of};
@@ -63,8 +64,8 @@ pub(crate) fn seat_all<P: Drop>(
 
 /// The number of reports that were applied.
 pub(crate) fn applied_by<P: Drop>(workers: &[Worker<P>]) -> u64
-    requires few { length workers.now ≤ 16 }
-    requires small { All (λ w. vec_len w.receipts ≤ 1000000000) workers.now }
+    requires few { length workers.now ≤ MOST_WORKERS }
+    requires small { All (λ w. vec_len w.receipts ≤ MOST_TURNS) workers.now }
     ensures { result ≡ sum_by (λ w. vec_len w.receipts) workers.now }
 {
     let mut applied = 0;

@@ -6,13 +6,13 @@
 
 ghost use Rattle.std.specs.Prelude.{◌≡◌, ◌+◌, ◌-◌, ◌++◌, [], true, false};
 ghost use Rattle.poly_crew.specs.Hints.{IsNext, SameHints, Splits};
-ghost use Rattle.poly_crew.specs.Rule.{IsKept, hand};
+ghost use Rattle.poly_crew.specs.Rule.{IsKept, handle_of};
 
 use crossbeam_deque::protocol::{Join, Lesson, Outcome, Protocol, Split};
 use std::collections::LinkedList;
 
 /// What a lane or a thief has done. The program never makes a value of it.
-pub struct Hand {
+pub struct HandleView {
     /// Whether it is the lane's own.
     pub is_owner: bool,
     /// How many thieves the lane has out.
@@ -26,28 +26,28 @@ pub struct Hand {
 }
 
 /// The rule of a lane.
-pub struct Fair;
+pub struct LaneRule;
 
-impl Protocol<u32, Hand> for Fair {
+impl Protocol<u32, HandleView> for LaneRule {
     ghost holds = { λ items views. IsKept items views };
 
-    ghost first = { hand true 0 0 [] [] };
+    ghost first = { handle_of true 0 0 [] [] };
 
-    ghost guest = { hand false 0 0 [] [] };
+    ghost guest = { handle_of false 0 0 [] [] };
 }
 
 /// A push: one more hint was pushed.
 pub struct Pushing;
 
-impl Outcome<u32, Hand> for Pushing {
-    ghost then = { λ v xs w. w ≡ hand v.is_owner v.out v.thief (v.pushed ++ xs) v.taken };
+impl Outcome<u32, HandleView> for Pushing {
+    ghost then = { λ v xs w. w ≡ handle_of v.is_owner v.out v.thief (v.pushed ++ xs) v.taken };
 }
 
 /// A pop: the lane has taken one more hint, the oldest one.
 pub struct Popping;
 
-impl Outcome<u32, Hand> for Popping {
-    ghost then = { λ v xs w. (w ≡ hand v.is_owner v.out v.thief v.pushed (v.taken ++ xs)) × IsNext v.pushed v.taken v.out xs };
+impl Outcome<u32, HandleView> for Popping {
+    ghost then = { λ v xs w. (w ≡ handle_of v.is_owner v.out v.thief v.pushed (v.taken ++ xs)) × IsNext v.pushed v.taken v.out xs };
 
     ghost empty = { λ v. v.out ≡ 0 → SameHints v.pushed v.taken };
 }
@@ -55,31 +55,31 @@ impl Outcome<u32, Hand> for Popping {
 /// A steal: the thief has taken one more hint.
 pub struct Stealing;
 
-impl Outcome<u32, Hand> for Stealing {
-    ghost then = { λ v xs w. w ≡ hand v.is_owner v.out v.thief v.pushed (v.taken ++ xs) };
+impl Outcome<u32, HandleView> for Stealing {
+    ghost then = { λ v xs w. w ≡ handle_of v.is_owner v.out v.thief v.pushed (v.taken ++ xs) };
 }
 
 /// A split: one more thief, which has taken nothing yet.
-pub struct Leaving;
+pub struct Splitting;
 
-impl Split<Hand> for Leaving {
-    ghost left = { λ v. hand v.is_owner (v.out + 1) v.thief v.pushed v.taken };
+impl Split<HandleView> for Splitting {
+    ghost left = { λ v. handle_of v.is_owner (v.out + 1) v.thief v.pushed v.taken };
 
-    ghost right = { λ _. hand false 0 1 [] [] };
+    ghost right = { λ _. handle_of false 0 1 [] [] };
 }
 
 /// A join: the lane has what the thief took.
-pub struct Returning;
+pub struct Joining;
 
-impl Join<Hand> for Returning {
-    ghost both = { λ v w. hand v.is_owner (v.out - 1) v.thief v.pushed (v.taken ++ w.taken) };
+impl Join<HandleView> for Joining {
+    ghost both = { λ v w. handle_of v.is_owner (v.out - 1) v.thief v.pushed (v.taken ++ w.taken) };
 
-    ghost spent = { hand false 0 0 [] [] };
+    ghost spent = { handle_of false 0 0 [] [] };
 }
 
 /// A look at the length: the hints that are left.
 pub struct Counting;
 
-impl Lesson<u32, Hand> for Counting {
+impl Lesson<u32, HandleView> for Counting {
     ghost fact = { λ v items. Splits v.pushed v.taken v.out items };
 }

@@ -2,6 +2,7 @@
 ghost use Rattle.std.specs.Prelude.{◌≡◌, ◌≤◌, IfOk, IfSome};
 ghost use Rattle.std.specs.Arc.{arc_value};
 ghost use Rattle.poly_frame.specs.Matrices.{IsWhole};
+ghost use Rattle.poly_report.specs.declared.size.TheConstants.{NODES};
 
 use poly_book::{Found, Job};
 use poly_desk::Bench;
@@ -38,7 +39,7 @@ impl Scene {
     // Searches the job in the scene. Fails only when out of memory.
     fn explore(&self, alloc: Global, job: Job, nodes: u32) -> Result<Found, Refusal>
         requires some { 1 ≤ nodes }
-        requires few { nodes ≤ 4096 }
+        requires few { nodes ≤ NODES }
         ensures edition { IfOk result (λ f. f.report.edition ≡ job.edition) }
         ensures view { IfOk result (λ f. arc_value f.view ≡ arc_value self.now.view) }
     {
@@ -57,12 +58,12 @@ pub(crate) fn explore_job<B: Bench>(
     job: Job,
     nodes: u32,
 ) -> Result<Found, Refusal>
-    requires kept { IfSome kept.old (λ s. B.told s.edition (arc_value s.view)) }
-    requires told { B.told job.edition (arc_value job.view) }
+    requires kept { IfSome kept.old (λ s. B.is_view_at s.edition (arc_value s.view)) }
+    requires job { B.is_view_at job.edition (arc_value job.view) }
     requires some { 1 ≤ nodes }
-    requires few { nodes ≤ 4096 }
-    ensures kept { IfSome kept.new (λ s. B.told s.edition (arc_value s.view)) }
-    ensures told { IfOk result (λ f. B.told f.report.edition (arc_value f.view)) }
+    requires few { nodes ≤ NODES }
+    ensures kept { IfSome kept.new (λ s. B.is_view_at s.edition (arc_value s.view)) }
+    ensures searched { IfOk result (λ f. B.is_view_at f.report.edition (arc_value f.view)) }
 {
     let scene = scene_of::<B>(alloc, kept.take(), &job)?;
     let found = scene.explore(alloc, job, nodes);
@@ -72,10 +73,10 @@ pub(crate) fn explore_job<B: Bench>(
 
 // The kept scene if it has the job's edition, or else a new one.
 fn scene_of<B: Bench>(alloc: Global, kept: Option<Scene>, job: &Job) -> Result<Scene, Refusal>
-    requires kept { IfSome kept (λ s. B.told s.edition (arc_value s.view)) }
-    requires told { B.told job.now.edition (arc_value job.now.view) }
+    requires kept { IfSome kept (λ s. B.is_view_at s.edition (arc_value s.view)) }
+    requires job { B.is_view_at job.now.edition (arc_value job.now.view) }
     ensures edition { IfOk result (λ s. s.edition ≡ job.now.edition) }
-    ensures told { IfOk result (λ s. B.told s.edition (arc_value s.view)) }
+    ensures view { IfOk result (λ s. B.is_view_at s.edition (arc_value s.view)) }
 {
     if let Some(scene) = kept {
         if scene.edition == job.edition {

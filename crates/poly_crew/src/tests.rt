@@ -4,7 +4,7 @@ ghost use Rattle.std.specs.Prelude.{◌≡◌, ◌≤◌, length};
 mod desk;
 
 use crate::scene::{Scene, explore_job};
-use crate::{Gate, OpenGate, crew};
+use crate::{Gate, MOST_WORKERS, OpenGate, crew};
 use poly_book::{Applied, Book, Found, Job, Which};
 use poly_design::{Design, Edit, Mode, Name, Need};
 use poly_desk::{Bench, Receipt};
@@ -37,7 +37,7 @@ impl Bench for Shared {
 
     ghost cuts = { λ card. card.cuts };
 
-    ghost told = { λ edition view. Unit {0} };
+    ghost is_view_at = { λ edition view. Unit {0} };
 
     fn take<R: Wait>(
         &self,
@@ -226,7 +226,7 @@ fn the_gate_test(rt: HostRuntime) {
 // Lets a crew of this many workers find all tilings.
 fn find_all<R: Threads + Wait + Sync + Abort>(rt: &R, alloc: Global, workers: usize)
     requires some { 1 ≤ workers }
-    requires few { workers ≤ 16 }
+    requires few { workers ≤ MOST_WORKERS }
 {
     let shared = make_shared(rt, alloc, None);
     let passes = cards(rt, alloc, workers);
@@ -242,7 +242,7 @@ fn crews_of_every_size(rt: HostRuntime) {
     find_all(&rt, rt.alloc(), 1);
     find_all(&rt, rt.alloc(), 2);
     find_all(&rt, rt.alloc(), 4);
-    find_all(&rt, rt.alloc(), 16);
+    find_all(&rt, rt.alloc(), MOST_WORKERS);
 }
 
 #[test]

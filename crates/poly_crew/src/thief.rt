@@ -1,9 +1,9 @@
 //! The end of a lane that belongs to another worker.
 
 ghost use Rattle.std.specs.Prelude.{◌≡◌, ◌++◌, [], ◌∷◌, MatchOption};
-ghost use Rattle.poly_crew.specs.Sight.{stolen_of};
+ghost use Rattle.poly_crew.specs.Views.{stolen_of};
 
-use crate::rule::{Fair, Hand, Stealing};
+use crate::rule::{HandleView, LaneRule, Stealing};
 use crossbeam_deque::{Pass, Steal, Stealer};
 use std::alloc::Global;
 use std::marker::Model;
@@ -11,16 +11,16 @@ use std::marker::Model;
 /// Steals the hints of another worker's lane. Contracts see which lane it is and the hints that were stolen.
 #[derive(Drop)]
 pub struct Thief {
-    pub(crate) stealer: Stealer<u32, Global, Hand, Fair>,
-    pub(crate) pass: Pass<u32, Hand>,
+    pub(crate) stealer: Stealer<u32, Global, HandleView, LaneRule>,
+    pub(crate) pass: Pass<u32, HandleView>,
 }
 
 impl Model for Thief {
     ghost use Rattle.crossbeam_deque.specs.Handles.{view as known_to, stealer_deque};
     ghost use Rattle.poly_crew.specs.Ends.{IsThief};
-    ghost use Rattle.poly_crew.specs.Sight.{ThiefSight, stolen_of};
+    ghost use Rattle.poly_crew.specs.Views.{ThiefView, stolen_of};
 
-    ghost Value = { ThiefSight };
+    ghost Value = { ThiefView };
 
     ghost view = { λ t. stolen_of (stealer_deque t.stealer) (known_to t.pass).taken };
 

@@ -2,6 +2,7 @@
 ghost use Rattle.std.specs.Prelude.{◌≤◌, IfSome};
 ghost use Rattle.std.specs.Arc.{arc_value};
 ghost use Rattle.poly_crew.specs.Worked.{IsWorked};
+ghost use Rattle.poly_report.specs.declared.size.TheConstants.{NODES};
 
 use crate::gate::Gate;
 use crate::scene::{Scene, explore_job};
@@ -21,7 +22,7 @@ pub(crate) struct Work<'a, B, G> {
     pub(crate) turns: u64,
     pub(crate) nodes: u32,
     ghost some: { 1 ≤ nodes },
-    ghost few: { nodes ≤ 4096 },
+    ghost few: { nodes ≤ NODES },
 }
 
 /// Lets the worker take its turns, and records in it how it ended: `Ok` if no task was left to take, `Unfinished` if it
@@ -60,8 +61,8 @@ fn take_turn<R: Wait, B: Bench, G: Gate>(
     scene: &mut Option<Scene>,
     worker: &mut Worker<B::Pass>,
 ) -> Result<bool, Refusal>
-    requires scene { IfSome scene.old (λ s. B.told s.edition (arc_value s.view)) }
-    ensures scene { IfSome scene.new (λ s. B.told s.edition (arc_value s.view)) }
+    requires scene { IfSome scene.old (λ s. B.is_view_at s.edition (arc_value s.view)) }
+    ensures scene { IfSome scene.new (λ s. B.is_view_at s.edition (arc_value s.view)) }
     ensures worked { IsWorked B.changes B.cuts 1 worker.old worker.new }
 {
     let which = worker.hints.next();
@@ -82,7 +83,7 @@ fn hand_in<R: Wait, B: Bench>(
     worker: &mut Worker<B::Pass>,
     found: Found,
 ) -> Result<(), Refusal>
-    requires told { B.told found.report.edition (arc_value found.view) }
+    requires searched { B.is_view_at found.report.edition (arc_value found.view) }
     ensures { IsWorked B.changes B.cuts 1 worker.old worker.new }
 {
     worker.receipts.reserve(1)?;

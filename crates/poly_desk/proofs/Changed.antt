@@ -16,7 +16,6 @@ use Rattle.poly_book.specs.declared.step.Kind.TheVariants as kind
 use Rattle.poly_book.specs.Events.{cut, hopeless_endings, handed_in, moved, redone, undone}
 use Rattle.poly_book.specs.Partition.{Becomes}
 use Rattle.poly_book.specs.Reports.{IsApplied}
-use Rattle.poly_book.specs.Shelves.{newest, way_back}
 use Rattle.poly_book.specs.States.{State, Stored, Way}
 use Rattle.poly_book.specs.Steps.{IsEdited, IsRedone, IsUndone}
 use Rattle.poly_book.specs.Tasks.{Task}
@@ -44,9 +43,9 @@ no_cuts : (w : View) (n : ℕ) (ts : List Task) → cut_count (hopeless_endings 
 no_cuts w n [] = refl
 no_cuts w n (t ∷ ts) = no_cut_one n t (hopeless w t.own) (filter (λ u. hopeless w u.own) ts) ∙ no_cuts w n ts
 
-few_doomed : (w : View) (n : ℕ) (ts : List Task) → length (hopeless_endings w n ts) ≤ length ts
-few_doomed w n [] = omega arith
-few_doomed w n (t ∷ ts) = omega (arith, few_one n t (hopeless w t.own) (filter (λ u. hopeless w u.own) ts), few_doomed w n ts)
+few_hopeless : (w : View) (n : ℕ) (ts : List Task) → length (hopeless_endings w n ts) ≤ length ts
+few_hopeless w n [] = omega arith
+few_hopeless w n (t ∷ ts) = omega (arith, few_one n t (hopeless w t.own) (filter (λ u. hopeless w u.own) ts), few_hopeless w n ts)
 
 moved_one : (s t : State) (k : Kind) (x : Change) (w : View) (h : Option Stored) (shelved : Bool) (back forth : List Way) (d : Done) →
     Becomes (moved s k x w h shelved back forth) t → d.place ≡ length t.steps → t.steps ≡ d.step ∷ s.steps → OneChange s t d
@@ -60,11 +59,11 @@ moved_one s t k x w h shelved back forth d b place last =
       place = place;
       cuts = omega (arith, ap cut_count ends, cuts_append s.endings more, no_cuts w (length s.steps + 1) s.pending);
       more = omega (arith, long);
-      few = omega (arith, long, few_doomed w (length s.steps + 1) s.pending);
+      few = omega (arith, long, few_hopeless w (length s.steps + 1) s.pending);
     }
 
 pub edited_one : (e : Edit) (s t : State) (d : Done) → IsEdited e s t d → OneChange s t d
-edited_one e s t d p = let m = p.made in moved_one s t kind.Edit p.change m.view None true (newest 256 (way_back s p.change m.view ∷ s.back)) [] d m.becomes m.place m.last
+edited_one e s t d p = let m = p.made in moved_one s t kind.Edit p.change m.view None true _ [] d m.becomes m.place m.last
 
 pub undone_one : (s t : State) (d : Done) → IsUndone s t d → OneChange s t d
 undone_one s t d p =

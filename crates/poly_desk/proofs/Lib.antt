@@ -1,5 +1,5 @@
 pub mod Changed
 pub mod Kept
 pub mod Others
+pub mod Passes
 pub mod Ticking
-pub mod Told

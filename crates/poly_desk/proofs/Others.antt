@@ -1,8 +1,7 @@
 -- A book's own refusals aren't `Unsettled`.
-use Rattle.std.proofs.Common.{List, [], ap, false, inl, inr, refl, ℕ, ◌∙◌, ◌∷◌, ◌≡◌, ◌⊎◌}
+use Rattle.std.proofs.Common.{List, [], ap, false, inl, inr, refl, ℕ, ◌∙◌, ◌∷◌, ◌≡◌}
 use Rattle.poly_grid.specs.declared.refusal.Refusal.{Refusal}
 use Rattle.poly_design.specs.Edits.{IsFirst, causes}
-use Rattle.poly_design.specs.Edits as design
 use Rattle.poly_design.specs.Layout.{Layout}
 use Rattle.poly_design.specs.declared.change.Change.{Change}
 use Rattle.poly_design.specs.declared.edit.Edit.{Edit}

@@ -9,7 +9,7 @@ use Rattle.std.specs.Global.{Global}
 use Rattle.poly_grid.specs.declared.refusal.Refusal.{Refusal}
 use Rattle.poly_grid.specs.declared.refusal.Refusal.TheVariants.{Unsettled}
 use Rattle.poly_book.specs.States.{State}
-use Rattle.poly_desk.specs.Receipts.{IsBadReceipt, Stands, all_of, entries, is_taken, place_of, same_place}
+use Rattle.poly_desk.specs.Receipts.{IsBadReceipt, IsRightReceipt, all_of, entries, is_taken, place_of, same_place}
 use Rattle.poly_desk.specs.Ticks.{Taken, flag_of}
 use Rattle.poly_desk.specs.declared.marks.Marks.{Marks}
 use Rattle.poly_desk.specs.declared.receipt.Receipt.{Receipt}
@@ -22,24 +22,24 @@ taken_push : (rs : List Receipt) (r q : Receipt) → is_taken (rs ++ r ∷ []) q
 taken_push rs r q = list_any-append (λ x. same_place x q) rs (r ∷ []) ∙ ap (λ b. is_taken rs q || b) (or_false (same_place r q))
 
 -- a right receipt whose flag is down is ticked off: its flag is raised, and no other changes
-pub taken_more : (b : State) (m n : Marks) (rs : List Receipt) (r : Receipt) → Taken b m rs → Stands b r → flag_of m r ≡ false →
+pub taken_more : (b : State) (m n : Marks) (rs : List Receipt) (r : Receipt) → Taken b m rs → IsRightReceipt b r → flag_of m r ≡ false →
     ((q : Receipt) → flag_of n q ≡ (flag_of m q || same_place r q)) → Taken b n (rs ++ r ∷ [])
 taken_more b m n rs r t s first up = record {
-  receipts = record { stand = All-push (Stands b) rs r t.receipts.stand s; apart = λ k d l. apart k d l (cases_lt k (length rs)) };
+  receipts = record { right = All-push (IsRightReceipt b) rs r t.receipts.right s; distinct = λ k d l. distinct k d l (cases_lt k (length rs)) };
   ticked = λ q. up q ∙ ap (λ x. x || same_place r q) (t.ticked q) ∙ sym (taken_push rs r q);
 }
   where
-    apart : (k : ℕ) (d : Receipt) → k < length (rs ++ r ∷ []) → (k < length rs) ⊎ (length rs ≤ k) → is_taken (take k (rs ++ r ∷ [])) (slice_index_or (rs ++ r ∷ []) k d) ≡ false
-    apart k d l (inl h) =
+    distinct : (k : ℕ) (d : Receipt) → k < length (rs ++ r ∷ []) → (k < length rs) ⊎ (length rs ≤ k) → is_taken (take k (rs ++ r ∷ [])) (slice_index_or (rs ++ r ∷ []) k d) ≡ false
+    distinct k d l (inl h) =
         ap (λ z. is_taken z (slice_index_or (rs ++ r ∷ []) k d)) (take-append-le k rs (r ∷ []) (omega (arith, h))) ∙ ap (λ x. is_taken (take k rs) x) (get_or_append_left rs (r ∷ []) d k h)
-        ∙ t.receipts.apart k d h
-    apart k d l (inr h) =
+        ∙ t.receipts.distinct k d h
+    distinct k d l (inr h) =
         let same : length rs ≡ k = omega (arith, l, h, length_push rs r) in
         ap (λ z. is_taken z (slice_index_or (rs ++ r ∷ []) k d)) (take_at rs (r ∷ []) k same) ∙ ap (λ x. is_taken rs x) (get_or_at rs r [] d k same) ∙ sym (t.ticked r) ∙ first
 
 -- a receipt that isn't right, or whose flag is up already, makes the whole list bad
 pub bad_here : (b : State) (m : Marks) (before after : List Receipt) (r : Receipt) (e : Refusal) → Taken b m before →
-    ((e ≡ Unsettled (place_of r) (entries b r)) × (¬ Stands b r)) ⊎ ((e ≡ Unsettled (place_of r) 2) × Stands b r × (flag_of m r ≡ true)) → IsBadReceipt b (before ++ r ∷ after) e
+    ((e ≡ Unsettled (place_of r) (entries b r)) × (¬ IsRightReceipt b r)) ⊎ ((e ≡ Unsettled (place_of r) 2) × IsRightReceipt b r × (flag_of m r ≡ true)) → IsBadReceipt b (before ++ r ∷ after) e
 bad_here b m before after r e t (inl h) = (before, r, after, refl, inl h)
 bad_here b m before after r e t (inr h) = (before, r, after, refl, inr (h.0, h.1, sym (t.ticked r) ∙ h.2))
 

@@ -7,7 +7,7 @@ use Rattle.poly_desk.specs.Noted.{Held, held, numbers_of}
 
 -- The floor's edition wasn't below the pass's; the pass has noted the floor's numbers after the call, and this many more
 -- changes and cuts are its own.
-pub record Met (s t : State) (p q : Held) (changes cuts : ℕ) : Type 0 where
+pub record HasNoted (s t : State) (p q : Held) (changes cuts : ℕ) : Type 0 where
   pub seen : p.noted.edition ≤ length s.steps
   pub pass : q ≡ held (numbers_of t) (p.changes + changes) (p.cuts + cuts) p.posts
 
@@ -19,4 +19,4 @@ pub record IsBehind (s : State) (p q : Held) (e : Refusal) : Type 0 where
 
 -- the call was refused because the floor's edition is below the pass's, or else for this cause
 abbrev pub IsRefused : State → Held → Held → Refusal → Type 0 → Type 0
-IsRefused s p q e cause = IsBehind s p q e ⊎ (Met s s p q 0 0 × cause)
+IsRefused s p q e cause = IsBehind s p q e ⊎ (HasNoted s s p q 0 0 × cause)

@@ -4,7 +4,6 @@ use Rattle.std.specs.List.{All, flat_map, list_any}
 use Rattle.std.specs.Prelude.{Bool, List, Some, Vec, false, length, reverse, slice_get, slice_index_or, take, true, ℕ, ◌++◌, ◌+◌, ◌<◌, ◌==◌, ◌∷◌, ◌≡◌, ◌⊎◌}
 use Rattle.poly_grid.specs.declared.refusal.Refusal.{Refusal}
 use Rattle.poly_grid.specs.declared.refusal.Refusal.TheVariants.{Unsettled}
-use Rattle.poly_book.specs.declared.step.Ending.{Ending}
 use Rattle.poly_book.specs.declared.step.Ending.TheVariants as ending
 use Rattle.poly_book.specs.States.{State}
 use Rattle.poly_desk.specs.declared.receipt.Receipt.{Receipt}
@@ -15,9 +14,9 @@ abbrev pub IsAt : {X : Type 0} → List X → ℕ → X → Type 0
 IsAt xs place x = (i : ℕ) × (place ≡ i + 1) × (slice_get xs i ≡ Some x)
 
 -- the book has what the receipt says at its place: among the steps, the oldest first, or among the endings
-abbrev pub Stands : State → Receipt → Type 0
-Stands b (Changed place step) = IsAt (reverse b.steps) place step
-Stands b (Cut place task) = IsAt b.endings place (ending.Cut task)
+abbrev pub IsRightReceipt : State → Receipt → Type 0
+IsRightReceipt b (Changed place step) = IsAt (reverse b.steps) place step
+IsRightReceipt b (Cut place task) = IsAt b.endings place (ending.Cut task)
 
 abbrev pub place_of : Receipt → ℕ
 place_of (Changed place step) = place
@@ -40,19 +39,19 @@ abbrev pub is_taken : List Receipt → Receipt → Bool
 is_taken rs r = list_any (λ q. same_place q r) rs
 
 -- none of them has the kind and the place of one before it
-abbrev pub AreApart : List Receipt → Type 0
-AreApart rs = (k : ℕ) (d : Receipt) → k < length rs → is_taken (take k rs) (slice_index_or rs k d) ≡ false
+abbrev pub HaveDistinctPlaces : List Receipt → Type 0
+HaveDistinctPlaces rs = (k : ℕ) (d : Receipt) → k < length rs → is_taken (take k rs) (slice_index_or rs k d) ≡ false
 
 -- each receipt is right, and no two of one kind have the same place
 pub record AreReceipts (b : State) (rs : List Receipt) : Type 0 where
-  pub stand : All (Stands b) rs
-  pub apart : AreApart rs
+  pub right : All (IsRightReceipt b) rs
+  pub distinct : HaveDistinctPlaces rs
 
 -- one of the receipts isn't right, or it is the second of its kind for its place
 abbrev pub IsBadReceipt : State → List Receipt → Refusal → Type 0
 IsBadReceipt b rs e = (before : List Receipt) × (r : Receipt) × (after : List Receipt) × (rs ≡ before ++ r ∷ after) ×
-    (((e ≡ Unsettled (place_of r) (entries b r)) × (¬ Stands b r))
-    ⊎ ((e ≡ Unsettled (place_of r) 2) × Stands b r × (is_taken before r ≡ true)))
+    (((e ≡ Unsettled (place_of r) (entries b r)) × (¬ IsRightReceipt b r))
+    ⊎ ((e ≡ Unsettled (place_of r) 2) × IsRightReceipt b r × (is_taken before r ≡ true)))
 
 -- the receipts of all lists, in their order
 abbrev pub all_of : List (Vec Receipt Global) → List Receipt

@@ -40,8 +40,8 @@ is_unsettled (Unsettled seen found) = true
 is_unsettled _ = false
 
 -- the call was refused because the edition is below the pass's, or else without making a change or a cut
-abbrev pub IsTurnedDown : Held → Held → Refusal → Type 0
-IsTurnedDown p q e = IsUnsettled p q e ⊎ (Later p q 0 0 × (is_unsettled e ≡ false))
+abbrev pub IsRefusedAtDesk : Held → Held → Refusal → Type 0
+IsRefusedAtDesk p q e = IsUnsettled p q e ⊎ (Later p q 0 0 × (is_unsettled e ≡ false))
 
 -- the place of the change is above the edition that the pass had noted, and not above the one that it has noted since
 abbrev pub IsMade : Kind → Held → Held → Receipt → Type 0

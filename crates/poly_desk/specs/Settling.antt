@@ -1,5 +1,4 @@
 -- Why a desk isn't settled up.
-use Rattle.std.specs.List.{flat_map}
 use Rattle.std.specs.Prelude.{List, min, ℕ, ◌≡◌, ◌⊎◌}
 use Rattle.poly_grid.specs.declared.refusal.Refusal.{Refusal}
 use Rattle.poly_grid.specs.declared.refusal.Refusal.TheVariants.{Unsettled}
@@ -11,18 +10,18 @@ use Rattle.poly_desk.specs.Receipts.{IsBadReceipt}
 use Rattle.poly_desk.specs.declared.receipt.Receipt.{Receipt}
 
 -- a sum that saturates at 2^64 - 1
-abbrev pub named : ℕ → ℕ
-named sum = min sum 18446744073709551615
+abbrev pub saturated : ℕ → ℕ
+saturated sum = min sum 18446744073709551615
 
 -- the sum of the shares isn't the total
-abbrev pub IsMismatch : ℕ → ℕ → Refusal → Type 0
-IsMismatch sum total e = (e ≡ Unsettled (named sum) total) × (¬ (sum ≡ total))
+abbrev pub IsWrongSum : ℕ → ℕ → Refusal → Type 0
+IsWrongSum sum total e = (e ≡ Unsettled (saturated sum) total) × (¬ (sum ≡ total))
 
 -- the shares of changes don't add up to the total; or they do, and those of cuts don't; or both do, and a receipt is bad
-abbrev pub IsUneven : State → ℕ → ℕ → ℕ → ℕ → List Receipt → Refusal → Type 0
-IsUneven b changes cuts changes_given cuts_given rs e =
-    IsMismatch changes_given changes e
-    ⊎ ((changes_given ≡ changes) × (IsMismatch cuts_given cuts e ⊎ ((cuts_given ≡ cuts) × IsBadReceipt b rs e)))
+abbrev pub HasMismatch : State → ℕ → ℕ → ℕ → ℕ → List Receipt → Refusal → Type 0
+HasMismatch b changes cuts changes_given cuts_given rs e =
+    IsWrongSum changes_given changes e
+    ⊎ ((changes_given ≡ changes) × (IsWrongSum cuts_given cuts e ⊎ ((cuts_given ≡ cuts) × IsBadReceipt b rs e)))
 
 -- `e` is such a cause for a book that began with this opening, if the passes' shares add up to `changes_given` and `cuts_given`
 pub record IsNotSettled (o : Layout) (ss : List Step) (k changes_given cuts_given : ℕ) (rs : List Receipt) (e : Refusal) : Type 0 where
@@ -30,4 +29,4 @@ pub record IsNotSettled (o : Layout) (ss : List Step) (k changes_given cuts_give
   pub changes : ℕ
   pub cuts : ℕ
   pub counts : Counts o ss k book changes cuts
-  pub uneven : IsUneven book changes cuts changes_given cuts_given rs e
+  pub mismatch : HasMismatch book changes cuts changes_given cuts_given rs e

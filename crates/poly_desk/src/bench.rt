@@ -25,8 +25,8 @@ pub trait Bench {
     /// How many cuts a pass has made.
     ghost cuts: { Self.Pass → ℕ };
 
-    /// What the bench promises of the edition and the view of each job, and requires of the edition and the view of a search.
-    ghost told: { ℕ → ViewOf → Type 0 };
+    /// Whether the design may have this view at this edition. The bench promises that of each job and requires it of a search.
+    ghost is_view_at: { ℕ → ViewOf → Type 0 };
 
     /// Any pending task, or the one of a given number. `None` only if no task is pending, or that one isn't.
     fn take<R: Wait>(
@@ -37,7 +37,7 @@ pub trait Bench {
     ) -> Result<Option<Job>, Refusal>
         ensures changes { changes pass.new ≡ changes pass.old }
         ensures cuts { cuts pass.new ≡ cuts pass.old }
-        ensures told { IfOk result (λ o. IfSome o (λ j. told j.edition (arc_value j.view))) };
+        ensures view { IfOk result (λ o. IfSome o (λ j. is_view_at j.edition (arc_value j.view))) };
 
     /// Hands the report in. Its receipt counts as a cut of the pass.
     fn hand_in<R: Wait>(
@@ -58,7 +58,7 @@ pub trait Bench {
         pass: &mut Self::Pass,
         found: Found,
     ) -> Result<(Applied, Receipt), Refusal>
-        requires told { told found.report.edition (arc_value found.view) }
+        requires searched { is_view_at found.report.edition (arc_value found.view) }
         ensures changes { changes pass.new ≡ changes pass.old }
         ensures cut { OnOk result (cuts pass.new ≡ cuts pass.old + 1) }
         ensures no_cut { OnErr result (cuts pass.new ≡ cuts pass.old) }
@@ -72,7 +72,7 @@ impl<C: Ledger, K: Ledger, O: Opening> Bench for Desk<C, K, O> {
 
     ghost cuts = { λ p. p.cuts };
 
-    ghost told = { λ edition view. IsViewAt O.steps O.view edition view };
+    ghost is_view_at = { λ edition view. IsViewAt O.steps O.view edition view };
 
     fn take<R: Wait>(
         &self,

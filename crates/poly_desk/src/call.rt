@@ -27,7 +27,7 @@ pub(crate) fn numbers_of_book(book: &Book) -> Posted
 }
 
 /// Notes the book's numbers in the pass, unless the book's edition is below the one that the pass has noted.
-pub(crate) fn meet<C: Ledger, K: Ledger, O: Opening>(
+pub(crate) fn note_numbers<C: Ledger, K: Ledger, O: Opening>(
     book: &Book,
     pass: &mut Pass<C, K, O>,
 ) -> Result<(), Refusal>

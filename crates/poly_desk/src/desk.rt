@@ -10,7 +10,8 @@ ghost use Rattle.poly_book.specs.declared.step.Kind.TheVariants as kind;
 ghost use Rattle.poly_desk.specs.Changes.{cut_count};
 ghost use Rattle.poly_desk.specs.Floors.{IsViewAt};
 ghost use Rattle.poly_desk.specs.Noted.{held, numbers_of};
-ghost use Rattle.poly_desk.specs.Seen.{IsAskedFor, IsLaterOf, IsMade, IsTurnedDown, IsUnsettled, Later};
+ghost use Rattle.poly_desk.specs.Seen.{IsAskedFor, IsLaterOf, IsMade, IsRefusedAtDesk, IsUnsettled, Later};
+ghost use Rattle.poly_desk.specs.declared.ledgers.TheConstants.{PARTS};
 
 use crate::floor::{Floor, NotBegun};
 use crate::opening::Opening;
@@ -55,8 +56,8 @@ impl<C: Ledger, K: Ledger, O: Opening> Desk<C, K, O> {
         cuts: Blank,
         book: Book,
     ) -> Result<(Desk<C, K, O>, Pass<C, K, O>), NotBegun>
-        requires changes { (changes.name ≡ C.name) × (changes.parts ≡ C.parts) × (changes.parts ≡ 10001) }
-        requires cuts { (cuts.name ≡ K.name) × (cuts.parts ≡ K.parts) × (cuts.parts ≡ 10001) }
+        requires changes { (changes.name ≡ C.name) × (changes.parts ≡ C.parts) × (changes.parts ≡ PARTS) }
+        requires cuts { (cuts.name ≡ K.name) × (cuts.parts ≡ K.parts) × (cuts.parts ≡ PARTS) }
         requires design { book.opened ≡ O.design }
         requires view { book.view ≡ O.view }
         requires steps { book.steps ≡ O.steps }
@@ -77,7 +78,7 @@ impl<C: Ledger, K: Ledger, O: Opening> Desk<C, K, O> {
     }
 
     /// The floor's `pass`: a further pass, which has noted the same numbers as the given one has after the call.
-    #[tactic(auto, using(crate::proofs::Told::met_later, crate::proofs::Told::pass_down))]
+    #[tactic(auto, using(crate::proofs::Passes::noted_later, crate::proofs::Passes::pass_refused))]
     pub fn pass<R: Wait>(
         &self,
         rt: &R,
@@ -86,7 +87,7 @@ impl<C: Ledger, K: Ledger, O: Opening> Desk<C, K, O> {
     ) -> Result<Pass<C, K, O>, Refusal>
         ensures later { OnOk result (Later pass.old pass.new 0 0) }
         ensures ok { IfOk result (λ p. p ≡ held pass.new.noted 0 0 pass.new.posts) }
-        ensures why { IfErr result (λ e. IsTurnedDown pass.old pass.new e) }
+        ensures why { IfErr result (λ e. IsRefusedAtDesk pass.old pass.new e) }
     {
         let mut floor = self.floor.lock(rt);
         match floor.pass(alloc, pass) {
@@ -96,7 +97,7 @@ impl<C: Ledger, K: Ledger, O: Opening> Desk<C, K, O> {
     }
 
     /// The floor's `edit`.
-    #[tactic(auto, using(crate::proofs::Told::edited_later, crate::proofs::Told::edited_made, crate::proofs::Told::edited_asked, crate::proofs::Told::edit_down))]
+    #[tactic(auto, using(crate::proofs::Passes::edited_later, crate::proofs::Passes::edited_made, crate::proofs::Passes::edited_asked, crate::proofs::Passes::edit_refused))]
     pub fn edit<R: Wait>(
         &self,
         rt: &R,
@@ -106,7 +107,7 @@ impl<C: Ledger, K: Ledger, O: Opening> Desk<C, K, O> {
         ensures later { OnOk result (Later pass.old pass.new 1 0) }
         ensures made { IfOk result (λ r. IsMade kind.Edit pass.old pass.new r) }
         ensures asked { IfOk result (λ r. IsAskedFor edit r) }
-        ensures why { IfErr result (λ e. IsTurnedDown pass.old pass.new e) }
+        ensures why { IfErr result (λ e. IsRefusedAtDesk pass.old pass.new e) }
     {
         let mut floor = self.floor.lock(rt);
         match floor.edit(pass, edit) {
@@ -116,11 +117,11 @@ impl<C: Ledger, K: Ledger, O: Opening> Desk<C, K, O> {
     }
 
     /// The floor's `undo`.
-    #[tactic(auto, using(crate::proofs::Told::undone_later, crate::proofs::Told::undone_made, crate::proofs::Told::undo_down))]
+    #[tactic(auto, using(crate::proofs::Passes::undone_later, crate::proofs::Passes::undone_made, crate::proofs::Passes::undo_refused))]
     pub fn undo<R: Wait>(&self, rt: &R, pass: &mut Pass<C, K, O>) -> Result<Receipt, Refusal>
         ensures later { OnOk result (Later pass.old pass.new 1 0) }
         ensures made { IfOk result (λ r. IsMade kind.Undo pass.old pass.new r) }
-        ensures why { IfErr result (λ e. IsTurnedDown pass.old pass.new e) }
+        ensures why { IfErr result (λ e. IsRefusedAtDesk pass.old pass.new e) }
     {
         let mut floor = self.floor.lock(rt);
         match floor.undo(pass) {
@@ -130,11 +131,11 @@ impl<C: Ledger, K: Ledger, O: Opening> Desk<C, K, O> {
     }
 
     /// The floor's `redo`.
-    #[tactic(auto, using(crate::proofs::Told::redone_later, crate::proofs::Told::redone_made, crate::proofs::Told::redo_down))]
+    #[tactic(auto, using(crate::proofs::Passes::redone_later, crate::proofs::Passes::redone_made, crate::proofs::Passes::redo_refused))]
     pub fn redo<R: Wait>(&self, rt: &R, pass: &mut Pass<C, K, O>) -> Result<Receipt, Refusal>
         ensures later { OnOk result (Later pass.old pass.new 1 0) }
         ensures made { IfOk result (λ r. IsMade kind.Redo pass.old pass.new r) }
-        ensures why { IfErr result (λ e. IsTurnedDown pass.old pass.new e) }
+        ensures why { IfErr result (λ e. IsRefusedAtDesk pass.old pass.new e) }
     {
         let mut floor = self.floor.lock(rt);
         match floor.redo(pass) {
@@ -144,7 +145,7 @@ impl<C: Ledger, K: Ledger, O: Opening> Desk<C, K, O> {
     }
 
     /// The floor's `hand_in`.
-    #[tactic(auto, using(crate::proofs::Told::applied_later, crate::proofs::Told::report_down))]
+    #[tactic(auto, using(crate::proofs::Passes::applied_later, crate::proofs::Passes::report_refused))]
     pub fn hand_in<R: Wait>(
         &self,
         rt: &R,
@@ -153,7 +154,7 @@ impl<C: Ledger, K: Ledger, O: Opening> Desk<C, K, O> {
     ) -> Result<(Applied, Receipt), Refusal>
         ensures later { OnOk result (Later pass.old pass.new 0 1) }
         ensures receipt { IfOk result (λ r. r.1 ≡ Receipt.Cut r.0.place report.task) }
-        ensures why { IfErr result (λ e. IsTurnedDown pass.old pass.new e) }
+        ensures why { IfErr result (λ e. IsRefusedAtDesk pass.old pass.new e) }
     {
         let mut floor = waiting::lock(rt, &self.floor, SELDOM);
         match floor.hand_in(pass, report) {
@@ -163,17 +164,17 @@ impl<C: Ledger, K: Ledger, O: Opening> Desk<C, K, O> {
     }
 
     /// The floor's `hand_in_found`.
-    #[tactic(auto, using(crate::proofs::Told::applied_later, crate::proofs::Told::report_down))]
+    #[tactic(auto, using(crate::proofs::Passes::applied_later, crate::proofs::Passes::report_refused))]
     pub fn hand_in_found<R: Wait>(
         &self,
         rt: &R,
         pass: &mut Pass<C, K, O>,
         found: Found,
     ) -> Result<(Applied, Receipt), Refusal>
-        requires told { IsViewAt O.steps O.view found.report.edition (arc_value found.view) }
+        requires searched { IsViewAt O.steps O.view found.report.edition (arc_value found.view) }
         ensures later { OnOk result (Later pass.old pass.new 0 1) }
         ensures receipt { IfOk result (λ r. r.1 ≡ Receipt.Cut r.0.place found.report.task) }
-        ensures why { IfErr result (λ e. IsTurnedDown pass.old pass.new e) }
+        ensures why { IfErr result (λ e. IsRefusedAtDesk pass.old pass.new e) }
     {
         let mut floor = waiting::lock(rt, &self.floor, SELDOM);
         match floor.hand_in_found(pass, found) {
@@ -183,7 +184,7 @@ impl<C: Ledger, K: Ledger, O: Opening> Desk<C, K, O> {
     }
 
     /// The floor's `next`. Refused only with `Unsettled`. Never allocates.
-    #[tactic(auto, using(crate::proofs::Told::met_later, crate::proofs::Told::behind_unsettled))]
+    #[tactic(auto, using(crate::proofs::Passes::noted_later, crate::proofs::Passes::behind_unsettled))]
     pub fn next<R: Wait>(
         &self,
         rt: &R,
@@ -203,7 +204,7 @@ impl<C: Ledger, K: Ledger, O: Opening> Desk<C, K, O> {
 
     /// The floor's `take`. The job's edition isn't below the one that the pass had noted. A job of the opening edition has
     /// the opening view.
-    #[tactic(auto, using(crate::proofs::Told::met_later, crate::proofs::Told::taken_later, crate::proofs::Told::memory_down))]
+    #[tactic(auto, using(crate::proofs::Passes::noted_later, crate::proofs::Passes::taken_later, crate::proofs::Passes::memory_refused))]
     pub fn take<R: Wait>(
         &self,
         rt: &R,
@@ -213,7 +214,7 @@ impl<C: Ledger, K: Ledger, O: Opening> Desk<C, K, O> {
         ensures later { OnOk result (Later pass.old pass.new 0 0) }
         ensures edition { IfOk result (λ o. IfSome o (λ j. pass.old.noted.edition ≤ j.edition)) }
         ensures view { IfOk result (λ o. IfSome o (λ j. IsViewAt O.steps O.view j.edition (arc_value j.view))) }
-        ensures why { IfErr result (λ e. IsTurnedDown pass.old pass.new e) }
+        ensures why { IfErr result (λ e. IsRefusedAtDesk pass.old pass.new e) }
     {
         let floor = waiting::lock(rt, &self.floor, OFTEN);
         match floor.take(pass, which) {
@@ -223,7 +224,7 @@ impl<C: Ledger, K: Ledger, O: Opening> Desk<C, K, O> {
     }
 
     /// The floor's `browse`: what the tilings that are listed at that moment and meet the query have in common.
-    #[tactic(auto, using(crate::proofs::Told::met_later, crate::proofs::Told::memory_down))]
+    #[tactic(auto, using(crate::proofs::Passes::noted_later, crate::proofs::Passes::memory_refused))]
     pub fn browse<R: Wait>(
         &self,
         rt: &R,
@@ -232,7 +233,7 @@ impl<C: Ledger, K: Ledger, O: Opening> Desk<C, K, O> {
         query: &Query,
     ) -> Result<Answer, Refusal>
         ensures later { OnOk result (Later pass.old pass.new 0 0) }
-        ensures why { IfErr result (λ e. IsTurnedDown pass.old pass.new e) }
+        ensures why { IfErr result (λ e. IsRefusedAtDesk pass.old pass.new e) }
     {
         let floor = self.floor.lock(rt);
         match floor.browse(alloc, pass, query) {
@@ -242,11 +243,11 @@ impl<C: Ledger, K: Ledger, O: Opening> Desk<C, K, O> {
     }
 
     /// The floor's `quiet`. Its edition isn't below the one that the pass had noted.
-    #[tactic(auto, using(crate::proofs::Told::met_later, crate::proofs::Told::quiet_later, crate::proofs::Told::quiet_down))]
+    #[tactic(auto, using(crate::proofs::Passes::noted_later, crate::proofs::Passes::quiet_later, crate::proofs::Passes::quiet_refused))]
     pub fn quiet<R: Wait>(&self, rt: &R, pass: &mut Pass<C, K, O>) -> Result<Quiet, Refusal>
         ensures later { OnOk result (Later pass.old pass.new 0 0) }
         ensures edition { IfOk result (λ q. pass.old.noted.edition ≤ q.edition) }
-        ensures why { IfErr result (λ e. IsTurnedDown pass.old pass.new e) }
+        ensures why { IfErr result (λ e. IsRefusedAtDesk pass.old pass.new e) }
     {
         let floor = self.floor.lock(rt);
         match floor.quiet(pass) {

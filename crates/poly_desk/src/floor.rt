@@ -5,12 +5,13 @@ ghost use Rattle.poly_report.specs.Shapes.{plan_of};
 ghost use Rattle.poly_book.specs.Refused.{IsNotApplied, IsNotEdited, IsNotRedone, IsNotUndone};
 ghost use Rattle.poly_book.specs.Reports.{IsApplied};
 ghost use Rattle.poly_book.specs.Steps.{IsEdited, IsRedone, IsUndone};
-ghost use Rattle.poly_desk.specs.Calls.{IsRefused, Met};
+ghost use Rattle.poly_desk.specs.Calls.{HasNoted, IsRefused};
 ghost use Rattle.poly_desk.specs.Changes.{IsChanged, cut_count};
 ghost use Rattle.poly_desk.specs.Floors.{on_floor};
 ghost use Rattle.poly_desk.specs.Noted.{held, numbers_of};
+ghost use Rattle.poly_desk.specs.declared.ledgers.TheConstants.{PARTS};
 
-use crate::call::{make_room, meet, note_change, note_cut, numbers_of_book};
+use crate::call::{make_room, note_change, note_cut, note_numbers, numbers_of_book};
 use crate::ledgers::{MOST_PASSES, Spare, Totals, open};
 use crate::marks::Marks;
 use crate::opening::Opening;
@@ -41,12 +42,13 @@ pub struct Floor<C: Ledger, K: Ledger, O: Opening> {
 impl<C: Ledger, K: Ledger, O: Opening> Model for Floor<C, K, O> {
     ghost use Rattle.std.specs.Prelude.{◌≡◌, ◌≤◌, length, vec_len};
     ghost use Rattle.poly_desk.specs.Floors.{Counts, IsViewAt, OnFloor, Shows, on_floor};
+    ghost use Rattle.poly_desk.specs.declared.ledgers.TheConstants.{MOST_PASSES};
 
     ghost Value = { OnFloor };
 
     ghost view = { λ f. on_floor f.book f.spare.passes };
 
-    ghost invariant = { λ f. Counts O.design O.steps O.cuts f.book f.totals.changes f.totals.cuts × Shows f.book f.poster.posts (vec_len f.marks.steps) (vec_len f.marks.endings) × (f.spare.passes ≤ 10000) × (f.opened ≡ length O.steps) × IsViewAt O.steps O.view (length f.book.steps) f.book.view };
+    ghost invariant = { λ f. Counts O.design O.steps O.cuts f.book f.totals.changes f.totals.cuts × Shows f.book f.poster.posts (vec_len f.marks.steps) (vec_len f.marks.endings) × (f.spare.passes ≤ MOST_PASSES) × (f.opened ≡ length O.steps) × IsViewAt O.steps O.view (length f.book.steps) f.book.view };
 }
 
 /// A book for which no floor or desk could be begun.
@@ -67,8 +69,8 @@ impl<C: Ledger, K: Ledger, O: Opening> Floor<C, K, O> {
         cuts: Blank,
         book: Book,
     ) -> Result<(Floor<C, K, O>, Pass<C, K, O>), NotBegun>
-        requires changes { (changes.name ≡ C.name) × (changes.parts ≡ C.parts) × (changes.parts ≡ 10001) }
-        requires cuts { (cuts.name ≡ K.name) × (cuts.parts ≡ K.parts) × (cuts.parts ≡ 10001) }
+        requires changes { (changes.name ≡ C.name) × (changes.parts ≡ C.parts) × (changes.parts ≡ PARTS) }
+        requires cuts { (cuts.name ≡ K.name) × (cuts.parts ≡ K.parts) × (cuts.parts ≡ PARTS) }
         requires design { book.opened ≡ O.design }
         requires view { book.view ≡ O.view }
         requires steps { book.steps ≡ O.steps }
@@ -119,13 +121,13 @@ impl<C: Ledger, K: Ledger, O: Opening> Floor<C, K, O> {
         alloc: Global,
         pass: &mut Pass<C, K, O>,
     ) -> Result<Pass<C, K, O>, Refusal>
-        ensures met { OnOk result (Met self.old.book self.new.book pass.old pass.new 0 0) }
+        ensures noted { OnOk result (HasNoted self.old.book self.new.book pass.old pass.new 0 0) }
         ensures floor { OnOk result (self.new ≡ on_floor self.old.book (self.old.passes + 1)) }
         ensures ok { IfOk result (λ p. p ≡ held pass.new.noted 0 0 pass.new.posts) }
         ensures stays { OnErr result (self.new ≡ self.old) }
-        ensures why { IfErr result (λ e. IsRefused self.old.book pass.old pass.new e (((e ≡ Refusal.Spent) × (self.old.passes ≡ 10000)) ⊎ (e ≡ Refusal.Memory))) }
+        ensures why { IfErr result (λ e. IsRefused self.old.book pass.old pass.new e (((e ≡ Refusal.Spent) × (self.old.passes ≡ MOST_PASSES)) ⊎ (e ≡ Refusal.Memory))) }
     {
-        meet(&self.book, pass)?;
+        note_numbers(&self.book, pass)?;
         if self.spare.passes >= MOST_PASSES {
             return Err(Refusal::Spent);
         }
@@ -141,52 +143,46 @@ impl<C: Ledger, K: Ledger, O: Opening> Floor<C, K, O> {
 
     /// The book's `edit`. Fails with `Unsettled` as every call does, otherwise as the book's `edit` does.
     pub fn edit(&mut self, pass: &mut Pass<C, K, O>, edit: Edit) -> Result<Receipt, Refusal>
-        ensures met { OnOk result (Met self.old.book self.new.book pass.old pass.new 1 0) }
+        ensures noted { OnOk result (HasNoted self.old.book self.new.book pass.old pass.new 1 0) }
         ensures ok { IfOk result (λ r. IsChanged (λ done. IsEdited edit self.old.book self.new.book done) r) }
         ensures passes { self.new.passes ≡ self.old.passes }
         ensures stays { OnErr result (self.new ≡ self.old) }
         ensures why { IfErr result (λ e. IsRefused self.old.book pass.old pass.new e (IsNotEdited edit self.old.book e)) }
     {
-        meet(&self.book, pass)?;
+        note_numbers(&self.book, pass)?;
         make_room(&self.book, &mut self.marks)?;
-        match self.book.edit(edit) {
-            Ok(done) => Ok(note_change(&self.book, &mut self.poster, &mut self.totals, pass, done)),
-            Err(refusal) => Err(refusal),
-        }
+        let done = self.book.edit(edit)?;
+        Ok(note_change(&self.book, &mut self.poster, &mut self.totals, pass, done))
     }
 
     /// The book's `undo`. Fails with `Unsettled` as every call does, otherwise as the book's `undo` does. `Memory` may come
     /// before any other refusal of the book.
     pub fn undo(&mut self, pass: &mut Pass<C, K, O>) -> Result<Receipt, Refusal>
-        ensures met { OnOk result (Met self.old.book self.new.book pass.old pass.new 1 0) }
+        ensures noted { OnOk result (HasNoted self.old.book self.new.book pass.old pass.new 1 0) }
         ensures ok { IfOk result (λ r. IsChanged (λ done. IsUndone self.old.book self.new.book done) r) }
         ensures passes { self.new.passes ≡ self.old.passes }
         ensures stays { OnErr result (self.new ≡ self.old) }
         ensures why { IfErr result (λ e. IsRefused self.old.book pass.old pass.new e (IsNotUndone self.old.book e ⊎ (e ≡ Refusal.Memory))) }
     {
-        meet(&self.book, pass)?;
+        note_numbers(&self.book, pass)?;
         make_room(&self.book, &mut self.marks)?;
-        match self.book.undo() {
-            Ok(done) => Ok(note_change(&self.book, &mut self.poster, &mut self.totals, pass, done)),
-            Err(refusal) => Err(refusal),
-        }
+        let done = self.book.undo()?;
+        Ok(note_change(&self.book, &mut self.poster, &mut self.totals, pass, done))
     }
 
     /// The book's `redo`. Fails with `Unsettled` as every call does, otherwise as the book's `redo` does. `Memory` may come
     /// before any other refusal of the book.
     pub fn redo(&mut self, pass: &mut Pass<C, K, O>) -> Result<Receipt, Refusal>
-        ensures met { OnOk result (Met self.old.book self.new.book pass.old pass.new 1 0) }
+        ensures noted { OnOk result (HasNoted self.old.book self.new.book pass.old pass.new 1 0) }
         ensures ok { IfOk result (λ r. IsChanged (λ done. IsRedone self.old.book self.new.book done) r) }
         ensures passes { self.new.passes ≡ self.old.passes }
         ensures stays { OnErr result (self.new ≡ self.old) }
         ensures why { IfErr result (λ e. IsRefused self.old.book pass.old pass.new e (IsNotRedone self.old.book e ⊎ (e ≡ Refusal.Memory))) }
     {
-        meet(&self.book, pass)?;
+        note_numbers(&self.book, pass)?;
         make_room(&self.book, &mut self.marks)?;
-        match self.book.redo() {
-            Ok(done) => Ok(note_change(&self.book, &mut self.poster, &mut self.totals, pass, done)),
-            Err(refusal) => Err(refusal),
-        }
+        let done = self.book.redo()?;
+        Ok(note_change(&self.book, &mut self.poster, &mut self.totals, pass, done))
     }
 
     /// The book's `hand_in`. Fails with `Unsettled` as every call does, otherwise as the book's `hand_in` does.
@@ -195,14 +191,14 @@ impl<C: Ledger, K: Ledger, O: Opening> Floor<C, K, O> {
         pass: &mut Pass<C, K, O>,
         report: Report,
     ) -> Result<(Applied, Receipt), Refusal>
-        ensures met { OnOk result (Met self.old.book self.new.book pass.old pass.new 0 1) }
+        ensures noted { OnOk result (HasNoted self.old.book self.new.book pass.old pass.new 0 1) }
         ensures ok { IfOk result (λ r. IsApplied report.task report.edition (plan_of report.tree) self.old.book self.new.book r.0) }
         ensures receipt { IfOk result (λ r. r.1 ≡ Receipt.Cut r.0.place report.task) }
         ensures passes { self.new.passes ≡ self.old.passes }
         ensures stays { OnErr result (self.new ≡ self.old) }
         ensures why { IfErr result (λ e. IsRefused self.old.book pass.old pass.new e (IsNotApplied report.task (plan_of report.tree) self.old.book e)) }
     {
-        meet(&self.book, pass)?;
+        note_numbers(&self.book, pass)?;
         make_room(&self.book, &mut self.marks)?;
         let task = report.task;
         let applied = self.book.hand_in(report)?;

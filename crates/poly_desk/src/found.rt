@@ -4,10 +4,10 @@ ghost use Rattle.std.specs.Arc.{arc_value};
 ghost use Rattle.poly_report.specs.Shapes.{plan_of};
 ghost use Rattle.poly_book.specs.Refused.{IsNotApplied};
 ghost use Rattle.poly_book.specs.Reports.{IsApplied};
-ghost use Rattle.poly_desk.specs.Calls.{IsRefused, Met};
+ghost use Rattle.poly_desk.specs.Calls.{HasNoted, IsRefused};
 ghost use Rattle.poly_desk.specs.Floors.{IsViewAt};
 
-use crate::call::{make_room, meet, note_cut};
+use crate::call::{make_room, note_cut, note_numbers};
 use crate::floor::Floor;
 use crate::opening::Opening;
 use crate::pass::Pass;
@@ -25,15 +25,15 @@ impl<C: Ledger, K: Ledger, O: Opening> Floor<C, K, O> {
         pass: &mut Pass<C, K, O>,
         found: Found,
     ) -> Result<(Applied, Receipt), Refusal>
-        requires told { IsViewAt O.steps O.view found.report.edition (arc_value found.view) }
-        ensures met { OnOk result (Met self.old.book self.new.book pass.old pass.new 0 1) }
+        requires searched { IsViewAt O.steps O.view found.report.edition (arc_value found.view) }
+        ensures noted { OnOk result (HasNoted self.old.book self.new.book pass.old pass.new 0 1) }
         ensures ok { IfOk result (λ r. IsApplied found.report.task found.report.edition (plan_of found.report.tree) self.old.book self.new.book r.0) }
         ensures receipt { IfOk result (λ r. r.1 ≡ Receipt.Cut r.0.place found.report.task) }
         ensures passes { self.new.passes ≡ self.old.passes }
         ensures stays { OnErr result (self.new ≡ self.old) }
         ensures why { IfErr result (λ e. IsRefused self.old.book pass.old pass.new e (IsNotApplied found.report.task (plan_of found.report.tree) self.old.book e)) }
     {
-        meet(&self.book, pass)?;
+        note_numbers(&self.book, pass)?;
         make_room(&self.book, &mut self.marks)?;
         let task = found.report.task;
         let applied = apply_found::<O>(&mut self.book, self.opened, found)?;
@@ -51,7 +51,7 @@ impl<C: Ledger, K: Ledger, O: Opening> Floor<C, K, O> {
 fn apply_found<O: Opening>(book: &mut Book, opened: u64, found: Found) -> Result<Applied, Refusal>
     requires opened { opened ≡ length O.steps }
     requires view { IsViewAt O.steps O.view (length book.old.steps) book.old.view }
-    requires told { IsViewAt O.steps O.view found.report.edition (arc_value found.view) }
+    requires searched { IsViewAt O.steps O.view found.report.edition (arc_value found.view) }
     ensures ok { IfOk result (λ a. IsApplied found.report.task found.report.edition (plan_of found.report.tree) book.old book.new a) }
     ensures err { OnErr result (book.new ≡ book.old) }
     ensures why { IfErr result (λ e. IsNotApplied found.report.task (plan_of found.report.tree) book.old e) }

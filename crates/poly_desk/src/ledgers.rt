@@ -1,11 +1,15 @@
 //! The totals of changes and cuts, and the shares of them that passes have. The ledgers keep each total equal to the sum
 //! of all shares.
 ghost use Rattle.std.specs.Prelude.{◌≡◌, ◌≤◌, ◌<◌, ◌+◌};
+ghost use Rattle.poly_desk.specs.declared.ledgers.TheConstants.{PARTS};
 
 use std::sync::ledger::{Blank, Book, Ledger, Share};
 
 /// The number of passes that a desk can have.
-pub(crate) const MOST_PASSES: u64 = 10_000;
+pub const MOST_PASSES: u64 = 10_000;
+
+/// The parts of each ledger of a desk: one for each pass, and one that no pass ever has.
+pub const PARTS: u64 = MOST_PASSES + 1;
 
 /// How many changes and cuts all passes have made.
 #[derive(Drop)]
@@ -40,16 +44,16 @@ pub(crate) struct Spare<C: Ledger, K: Ledger> {
     pub passes: u64,
     spare_changes: Share<C>,
     spare_cuts: Share<K>,
-    ghost changes_left: { spare_changes.parts + passes ≡ 10001 },
-    ghost cuts_left: { spare_cuts.parts + passes ≡ 10001 },
+    ghost changes_left: { spare_changes.parts + passes ≡ PARTS },
+    ghost cuts_left: { spare_cuts.parts + passes ≡ PARTS },
     ghost no_changes: { spare_changes.amount ≡ 0 },
     ghost no_cuts: { spare_cuts.amount ≡ 0 },
 }
 
 /// Opens both ledgers. Returns the totals, which are 0, and the parts of them that no pass has.
 pub(crate) fn open<C: Ledger, K: Ledger>(changes: Blank, cuts: Blank) -> (Totals<C, K>, Spare<C, K>)
-    requires changes { (changes.name ≡ C.name) × (changes.parts ≡ C.parts) × (changes.parts ≡ 10001) }
-    requires cuts { (cuts.name ≡ K.name) × (cuts.parts ≡ K.parts) × (cuts.parts ≡ 10001) }
+    requires changes { (changes.name ≡ C.name) × (changes.parts ≡ C.parts) × (changes.parts ≡ PARTS) }
+    requires cuts { (cuts.name ≡ K.name) × (cuts.parts ≡ K.parts) × (cuts.parts ≡ PARTS) }
     ensures changes { result.0.changes ≡ 0 }
     ensures cuts { result.0.cuts ≡ 0 }
     ensures passes { result.1.passes ≡ 0 }
@@ -73,7 +77,7 @@ pub(crate) fn open<C: Ledger, K: Ledger>(changes: Blank, cuts: Blank) -> (Totals
 impl<C: Ledger, K: Ledger> Spare<C, K> {
     /// The shares of a further pass, with no changes and no cuts yet.
     pub fn split_off(&mut self) -> Shares<C, K>
-        requires { self.old.passes < 10000 }
+        requires { self.old.passes < MOST_PASSES }
         ensures passes { self.new.passes ≡ self.old.passes + 1 }
         ensures changes { result.changes ≡ 0 }
         ensures cuts { result.cuts ≡ 0 }

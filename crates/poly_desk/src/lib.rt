@@ -9,6 +9,7 @@
 //! - [`Floor`]: what the lock protects. It does the whole work of a desk and never waits.
 //! - [`Bench`]: a desk as a worker sees it.
 //! - [`NotBegun`], [`NotSettled`]: hand back what a refused call was given.
+//! - [`MOST_PASSES`]: how many passes a desk can have. [`PARTS`]: how many parts its ledgers have.
 #![tactic(auto)]
 
 mod bench;
@@ -22,15 +23,16 @@ mod opening;
 mod pass;
 mod reading;
 mod receipt;
+mod right;
 mod settle;
 mod shares;
-mod stands;
 mod tick;
 mod waiting;
 
 pub use bench::Bench;
 pub use desk::{Desk, NotSettled};
 pub use floor::{Floor, NotBegun};
+pub use ledgers::{MOST_PASSES, PARTS};
 pub use opening::Opening;
 pub use pass::Pass;
 pub use receipt::Receipt;

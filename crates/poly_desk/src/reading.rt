@@ -7,10 +7,10 @@ ghost use Rattle.poly_book.specs.AllTilings.{IsQuietOf};
 ghost use Rattle.poly_book.specs.Jobs.{IsMissing, IsTaken};
 ghost use Rattle.poly_book.specs.Nexts.{IsLeastFrom, NoneFrom};
 ghost use Rattle.poly_browse.specs.Browsing.{IsAnswer};
-ghost use Rattle.poly_desk.specs.Calls.{IsBehind, IsRefused, Met};
+ghost use Rattle.poly_desk.specs.Calls.{HasNoted, IsBehind, IsRefused};
 ghost use Rattle.poly_desk.specs.Floors.{IsViewAt};
 
-use crate::call::meet;
+use crate::call::note_numbers;
 use crate::floor::Floor;
 use crate::opening::Opening;
 use crate::pass::Pass;
@@ -23,23 +23,23 @@ use std::sync::ledger::Ledger;
 impl<C: Ledger, K: Ledger, O: Opening> Floor<C, K, O> {
     /// The book's `next`. Refused only with `Unsettled`. Never allocates.
     pub fn next(&self, pass: &mut Pass<C, K, O>, from: u32) -> Result<Option<u32>, Refusal>
-        ensures met { OnOk result (Met self.now.book self.now.book pass.old pass.new 0 0) }
+        ensures noted { OnOk result (HasNoted self.now.book self.now.book pass.old pass.new 0 0) }
         ensures ok { IfOk result (λ o. MatchOption o (NoneFrom from self.now.book.pending) (λ n. IsLeastFrom from self.now.book.pending n)) }
         ensures why { IfErr result (λ e. IsBehind self.now.book pass.old pass.new e) }
     {
-        meet(&self.book, pass)?;
+        note_numbers(&self.book, pass)?;
         Ok(self.book.next(from))
     }
 
     /// The book's `take`. A job of the opening edition has the opening view. Fails with `Unsettled` as every call does,
     /// otherwise only with `Memory`.
     pub fn take(&self, pass: &mut Pass<C, K, O>, which: Which) -> Result<Option<Job>, Refusal>
-        ensures met { OnOk result (Met self.now.book self.now.book pass.old pass.new 0 0) }
+        ensures noted { OnOk result (HasNoted self.now.book self.now.book pass.old pass.new 0 0) }
         ensures ok { IfOk result (λ o. MatchOption o (IsMissing self.now.book which) (λ j. IsTaken self.now.book which j)) }
         ensures view { IfOk result (λ o. IfSome o (λ j. IsViewAt O.steps O.view j.edition (arc_value j.view))) }
         ensures why { IfErr result (λ e. IsRefused self.now.book pass.old pass.new e (e ≡ Refusal.Memory)) }
     {
-        meet(&self.book, pass)?;
+        note_numbers(&self.book, pass)?;
         self.book.take(which)
     }
 
@@ -51,11 +51,11 @@ impl<C: Ledger, K: Ledger, O: Opening> Floor<C, K, O> {
         pass: &mut Pass<C, K, O>,
         query: &Query,
     ) -> Result<Answer, Refusal>
-        ensures met { OnOk result (Met self.now.book self.now.book pass.old pass.new 0 0) }
+        ensures noted { OnOk result (HasNoted self.now.book self.now.book pass.old pass.new 0 0) }
         ensures ok { IfOk result (λ a. IsAnswer self.now.book.design (map (names self.now.book.view) self.now.book.listed) (record { has = query.now.has.items; lacks = query.now.lacks.items; covers = query.now.covers.items }) a.count a.forced.items a.options.items) }
         ensures why { IfErr result (λ e. IsRefused self.now.book pass.old pass.new e (e ≡ Refusal.Memory)) }
     {
-        meet(&self.book, pass)?;
+        note_numbers(&self.book, pass)?;
         browse(
             alloc,
             self.book.design(),
@@ -68,11 +68,11 @@ impl<C: Ledger, K: Ledger, O: Opening> Floor<C, K, O> {
     /// The book's `quiet`: all tilings of its design. Fails with `Unsettled` as every call does, then with `Busy` if tasks are
     /// pending, and otherwise only with `Memory`.
     pub fn quiet(&self, pass: &mut Pass<C, K, O>) -> Result<Quiet, Refusal>
-        ensures met { OnOk result (Met self.now.book self.now.book pass.old pass.new 0 0) }
+        ensures noted { OnOk result (HasNoted self.now.book self.now.book pass.old pass.new 0 0) }
         ensures ok { IfOk result (λ q. IsQuietOf self.now.book q) }
         ensures why { IfErr result (λ e. IsRefused self.now.book pass.old pass.new e (((e ≡ Refusal.Busy (length self.now.book.pending)) × (0 < length self.now.book.pending)) ⊎ ((e ≡ Refusal.Memory) × (self.now.book.pending ≡ [])))) }
     {
-        meet(&self.book, pass)?;
+        note_numbers(&self.book, pass)?;
         self.book.quiet()
     }
 }

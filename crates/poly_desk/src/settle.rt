@@ -34,7 +34,7 @@ impl<C: Ledger, K: Ledger, O: Opening> Desk<C, K, O> {
         receipts: Vec<Vec<Receipt>>,
     ) -> Result<Book, NotSettled<C, K, O>>
         ensures ok { IfOk result (λ b. Counts O.design O.steps O.cuts b (sum_by (λ p. p.changes) passes.items) (sum_by (λ p. p.cuts) passes.items)) }
-        ensures stand { IfOk result (λ b. AreReceipts b (all_of receipts.items)) }
+        ensures right { IfOk result (λ b. AreReceipts b (all_of receipts.items)) }
         ensures passes { IfErr result (λ n. n.passes.items ≡ passes.items) }
         ensures receipts { IfErr result (λ n. n.receipts.items ≡ receipts.items) }
         ensures why { IfErr result (λ n. IsNotSettled O.design O.steps O.cuts (sum_by (λ p. p.changes) passes.items) (sum_by (λ p. p.cuts) passes.items) (all_of receipts.items) n.why) }
@@ -64,7 +64,7 @@ impl<C: Ledger, K: Ledger, O: Opening> Floor<C, K, O> {
     ) -> Result<(), Refusal>
         ensures stays { self.new ≡ self.old }
         ensures ok { OnOk result (Counts O.design O.steps O.cuts self.new.book (sum_by (λ p. p.changes) passes.now) (sum_by (λ p. p.cuts) passes.now)) }
-        ensures stand { OnOk result (AreReceipts self.new.book (all_of receipts.now)) }
+        ensures right { OnOk result (AreReceipts self.new.book (all_of receipts.now)) }
         ensures why { IfErr result (λ e. IsNotSettled O.design O.steps O.cuts (sum_by (λ p. p.changes) passes.now) (sum_by (λ p. p.cuts) passes.now) (all_of receipts.now) e) }
     {
         check_shares(passes, self.totals.changes, self.totals.cuts)?;

@@ -1,7 +1,7 @@
 //! Whether the given passes made all changes and cuts of a desk.
 ghost use Rattle.std.specs.Prelude.{◌≡◌, ◌⊎◌, ◌≤◌, IfErr, OnOk, sum_by};
 ghost use Rattle.poly_grid.specs.declared.refusal.Refusal.TheVariants.{Unsettled};
-ghost use Rattle.poly_desk.specs.Settling.{IsMismatch, named};
+ghost use Rattle.poly_desk.specs.Settling.{IsWrongSum, saturated};
 
 use crate::opening::Opening;
 use crate::pass::Pass;
@@ -18,7 +18,7 @@ pub(crate) fn check_shares<C: Ledger, K: Ledger, O: Opening>(
     requires few { (changes ≤ 4294967297) × (cuts ≤ 4294967297) }
     ensures changes { OnOk result (sum_by (λ p. p.changes) passes.now ≡ changes) }
     ensures cuts { OnOk result (sum_by (λ p. p.cuts) passes.now ≡ cuts) }
-    ensures why { IfErr result (λ e. IsMismatch (sum_by (λ p. p.changes) passes.now) changes e ⊎ ((sum_by (λ p. p.changes) passes.now ≡ changes) × IsMismatch (sum_by (λ p. p.cuts) passes.now) cuts e)) }
+    ensures why { IfErr result (λ e. IsWrongSum (sum_by (λ p. p.changes) passes.now) changes e ⊎ ((sum_by (λ p. p.changes) passes.now ≡ changes) × IsWrongSum (sum_by (λ p. p.cuts) passes.now) cuts e)) }
 {
     compare(changes_of(passes), changes)?;
     compare(cuts_of(passes), cuts)
@@ -37,7 +37,7 @@ fn compare(seen: u64, found: u64) -> Result<(), Refusal>
 }
 
 fn changes_of<C: Ledger, K: Ledger, O: Opening>(passes: &[Pass<C, K, O>]) -> u64
-    ensures { result ≡ named (sum_by (λ p. p.changes) passes.now) }
+    ensures { result ≡ saturated (sum_by (λ p. p.changes) passes.now) }
 {
     let mut sum = 0u64;
     for pass in passes {
@@ -47,7 +47,7 @@ fn changes_of<C: Ledger, K: Ledger, O: Opening>(passes: &[Pass<C, K, O>]) -> u64
 }
 
 fn cuts_of<C: Ledger, K: Ledger, O: Opening>(passes: &[Pass<C, K, O>]) -> u64
-    ensures { result ≡ named (sum_by (λ p. p.cuts) passes.now) }
+    ensures { result ≡ saturated (sum_by (λ p. p.cuts) passes.now) }
 {
     let mut sum = 0u64;
     for pass in passes {

@@ -1,7 +1,7 @@
 //! Goes through receipts. Each must be right, and the flag of its place must be down; then that flag is raised.
 ghost use Rattle.std.specs.Prelude.{◌≡◌, ◌<◌, ◌≤◌, ◌++◌, ◌||◌, ◌==◌, ◌⊎◌, ℕ, Bool, List, All, IfErr, OnOk, false, length, true};
 ghost use Rattle.poly_grid.specs.declared.refusal.Refusal.TheVariants.{Unsettled};
-ghost use Rattle.poly_desk.specs.Receipts.{AreReceipts, IsBadReceipt, Stands, all_of, entries, place_of, same_place};
+ghost use Rattle.poly_desk.specs.Receipts.{AreReceipts, IsBadReceipt, IsRightReceipt, all_of, entries, place_of, same_place};
 ghost use Rattle.poly_desk.specs.Ticks.{HasFlags, Taken, flag_at, flag_of};
 ghost use Rattle.poly_desk.specs.declared.receipt.Receipt.{Receipt};
 
@@ -24,10 +24,7 @@ pub(crate) fn check_receipts(
     ensures why { IfErr result (λ e. IsBadReceipt book.now (all_of receipts.now) e) }
 {
     for list in receipts {
-        match tick_list(book, marks, list) {
-            Ok(()) => {}
-            Err(refusal) => return Err(refusal),
-        }
+        tick_list(book, marks, list)?;
     }
     Ok(())
 }
@@ -40,10 +37,7 @@ fn tick_list(book: &Book, marks: &mut Marks, receipts: &[Receipt]) -> Result<(),
     ensures why { IfErr result (λ e. (rs : List Receipt) (more : List Receipt) → Taken book.now marks.old rs → IsBadReceipt book.now ((rs ++ receipts.now) ++ more) e) }
 {
     for receipt in receipts {
-        match tick_off(book, marks, receipt) {
-            Ok(()) => {}
-            Err(refusal) => return Err(refusal),
-        }
+        tick_off(book, marks, receipt)?;
     }
     Ok(())
 }
@@ -52,13 +46,13 @@ fn tick_list(book: &Book, marks: &mut Marks, receipts: &[Receipt]) -> Result<(),
 fn tick_off(book: &Book, marks: &mut Marks, receipt: &Receipt) -> Result<(), Refusal>
     requires flags { HasFlags book.now marks.old }
     ensures flags { HasFlags book.now marks.new }
-    ensures stands { OnOk result (Stands book.now receipt.now) }
+    ensures right { OnOk result (IsRightReceipt book.now receipt.now) }
     ensures first { OnOk result (flag_of marks.old receipt.now ≡ false) }
     ensures ticked { OnOk result ((q : Receipt) → flag_of marks.new q ≡ (flag_of marks.old q || same_place receipt.now q)) }
-    ensures why { IfErr result (λ e. ((e ≡ Refusal.Unsettled (place_of receipt.now) (entries book.now receipt.now)) × (¬ Stands book.now receipt.now)) ⊎ ((e ≡ Refusal.Unsettled (place_of receipt.now) 2) × Stands book.now receipt.now × (flag_of marks.old receipt.now ≡ true))) }
+    ensures why { IfErr result (λ e. ((e ≡ Refusal.Unsettled (place_of receipt.now) (entries book.now receipt.now)) × (¬ IsRightReceipt book.now receipt.now)) ⊎ ((e ≡ Refusal.Unsettled (place_of receipt.now) 2) × IsRightReceipt book.now receipt.now × (flag_of marks.old receipt.now ≡ true))) }
 {
     let place = receipt.place();
-    if !receipt.stands(book) {
+    if !receipt.is_right(book) {
         return Err(Refusal::Unsettled {
             seen: place,
             found: receipt.entries(book),

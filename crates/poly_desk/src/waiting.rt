@@ -1,26 +1,26 @@
 //! Waiting for a lock. The calls of workers take less time than waking a thread that sleeps. So before it sleeps, a worker
-//! looks for a while whether the lock is free.
+//! tries for a while to lock without waiting.
 
 use std::hint::spin_loop;
 use std::sync::{Mutex, MutexGuard, Wait};
 use std::thread;
 
-/// How often a thread looks before it yields its processor, and how many pauses it makes after each look.
+/// How often a thread tries to lock before it yields its processor, and how many pauses it makes after each try.
 #[derive(Clone, Copy, Debug)]
-pub(crate) struct Looks {
+pub(crate) struct Tries {
     count: u32,
     pauses: u32,
 }
 
 /// For a short call. A worker takes its next task right after it has handed a report in, so it gets the lock before
 /// those that wait with a report.
-pub(crate) const OFTEN: Looks = Looks {
+pub(crate) const OFTEN: Tries = Tries {
     count: 512,
     pauses: 20,
 };
 
 /// For a long call.
-pub(crate) const SELDOM: Looks = Looks {
+pub(crate) const SELDOM: Tries = Tries {
     count: 64,
     pauses: 250,
 };
@@ -29,9 +29,9 @@ pub(crate) const SELDOM: Looks = Looks {
 const YIELDS: u32 = 32;
 
 /// Locks the mutex.
-pub(crate) fn lock<'a, T, R: Wait>(rt: &R, mutex: &'a Mutex<T>, looks: Looks) -> MutexGuard<'a, T> {
+pub(crate) fn lock<'a, T, R: Wait>(rt: &R, mutex: &'a Mutex<T>, tries: Tries) -> MutexGuard<'a, T> {
     for yielded in 0..YIELDS {
-        if let Some(guard) = look_for(mutex, looks) {
+        if let Some(guard) = try_lock_often(mutex, tries) {
             return guard;
         }
         thread::yield_now();
@@ -39,13 +39,13 @@ pub(crate) fn lock<'a, T, R: Wait>(rt: &R, mutex: &'a Mutex<T>, looks: Looks) ->
     mutex.lock(rt)
 }
 
-// Locks the mutex if one of the looks finds it free.
-fn look_for<T>(mutex: &Mutex<T>, looks: Looks) -> Option<MutexGuard<'_, T>> {
-    for look in 0..looks.count {
+// Locks the mutex if one of the tries finds it free.
+fn try_lock_often<T>(mutex: &Mutex<T>, tries: Tries) -> Option<MutexGuard<'_, T>> {
+    for attempt in 0..tries.count {
         if let Some(guard) = mutex.try_lock() {
             return Some(guard);
         }
-        pause(looks.pauses);
+        pause(tries.pauses);
     }
     None
 }

@@ -7,7 +7,7 @@ ghost use Rattle.poly_desk.specs.Changes.{cut_count};
 use crate::tests::{HoldingGate, expect_tilings, two_dominoes};
 use crate::{Crew, Gate, OpenGate, crew};
 use poly_book::Book;
-use poly_desk::{Desk, Opening};
+use poly_desk::{Desk, Opening, PARTS};
 use poly_grid::Refusal;
 use std::alloc::Global;
 use std::marker::Brand;
@@ -38,8 +38,8 @@ fn work_at_a_desk<
     book: Book,
     gate: &G,
 ) -> Result<Worked, Refusal>
-    requires changes { (changes.name ≡ C.name) × (changes.parts ≡ C.parts) × (changes.parts ≡ 10001) }
-    requires cuts { (cuts.name ≡ K.name) × (cuts.parts ≡ K.parts) × (cuts.parts ≡ 10001) }
+    requires changes { (changes.name ≡ C.name) × (changes.parts ≡ C.parts) × (changes.parts ≡ PARTS) }
+    requires cuts { (cuts.name ≡ K.name) × (cuts.parts ≡ K.parts) × (cuts.parts ≡ PARTS) }
     requires design { book.opened ≡ O.design }
     requires view { book.view ≡ O.view }
     requires steps { book.steps ≡ O.steps }
@@ -92,8 +92,8 @@ fn work_by_two<G: Gate + Sync, R: Threads + Wait + Sync>(
     book: Book,
     gate: &G,
 ) -> Result<Worked, Refusal> {
-    let changes = Blank::new(10001);
-    let cuts = Blank::new(10001);
+    let changes = Blank::new(PARTS);
+    let cuts = Blank::new(PARTS);
     work_at_a_desk::<Brand, Brand, Brand, G, R>(rt, alloc, changes, cuts, book, gate)
 }
 

@@ -18,10 +18,8 @@ pub(crate) fn cell(rt: &impl Abort, x: u64, y: u64) -> Cell {
 }
 
 fn make(design: &mut Design, edit: &Edit) -> Result<(), Refusal> {
-    match design.check(edit) {
-        Ok(change) => design.make(&change),
-        Err(refusal) => Err(refusal),
-    }
+    let change = design.check(edit)?;
+    design.make(&change)
 }
 
 fn try_dominoes(rt: &impl Abort, alloc: Global) -> Result<Design, Refusal> {

@@ -3,7 +3,7 @@ ghost use Rattle.std.specs.Prelude.{◌≡◌};
 ghost use Rattle.poly_desk.specs.Changes.{cut_count};
 
 use crate::tests::kit::{book_of_dominoes, fail};
-use crate::{Desk, Opening};
+use crate::{Desk, MOST_PASSES, Opening, PARTS};
 use poly_book::Book;
 use poly_grid::Refusal;
 use std::alloc::Global;
@@ -19,8 +19,8 @@ fn make_passes<C: Ledger, K: Ledger, O: Opening, R: Wait + Abort>(
     cuts: Blank,
     book: Book,
 )
-    requires changes { (changes.name ≡ C.name) × (changes.parts ≡ C.parts) × (changes.parts ≡ 10001) }
-    requires cuts { (cuts.name ≡ K.name) × (cuts.parts ≡ K.parts) × (cuts.parts ≡ 10001) }
+    requires changes { (changes.name ≡ C.name) × (changes.parts ≡ C.parts) × (changes.parts ≡ PARTS) }
+    requires cuts { (cuts.name ≡ K.name) × (cuts.parts ≡ K.parts) × (cuts.parts ≡ PARTS) }
     requires design { book.opened ≡ O.design }
     requires view { book.view ≡ O.view }
     requires steps { book.steps ≡ O.steps }
@@ -30,7 +30,7 @@ fn make_passes<C: Ledger, K: Ledger, O: Opening, R: Wait + Abort>(
         Ok(both) => both,
         Err(_) => fail(rt, "a desk"),
     };
-    for _ in 0..9_999 {
+    for _ in 1..MOST_PASSES {
         let _ = desk
             .pass(rt, alloc, &mut first)
             .expect(rt, "a further pass");
@@ -48,8 +48,8 @@ fn a_desk_has_ten_thousand_passes(rt: HostRuntime) {
     make_passes::<Brand, Brand, Brand, HostRuntime>(
         &rt,
         alloc,
-        Blank::new(10001),
-        Blank::new(10001),
+        Blank::new(PARTS),
+        Blank::new(PARTS),
         book,
     );
 }

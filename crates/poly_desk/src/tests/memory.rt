@@ -7,7 +7,7 @@ ghost use Rattle.poly_desk.specs.Changes.{cut_count};
 
 use crate::tests::kit::{book_of_dominoes, fail};
 use crate::tests::reports::{forbid_one, full_report, report_on};
-use crate::{Desk, Opening, Pass};
+use crate::{Desk, Opening, PARTS, Pass};
 use poly_book::{Book, Job, Numbers, Quiet, Which};
 use poly_browse::Query;
 use poly_design::Design;
@@ -98,10 +98,7 @@ fn ask<C: Ledger, K: Ledger, O: Opening, R: Wait + Abort>(
         Asked::Undo => desk.undo(rt, pass),
         Asked::Redo => desk.redo(rt, pass),
     };
-    match answer {
-        Ok(receipt) => Ok(receipt.place()),
-        Err(refusal) => Err(refusal),
-    }
+    Ok(answer?.place())
 }
 
 fn change<C: Ledger, K: Ledger, O: Opening, R: Wait + Abort>(
@@ -253,8 +250,8 @@ fn day<C: Ledger, K: Ledger, O: Opening, R: Wait + Abort>(
     cuts: Blank,
     book: Book,
 ) -> Option<Book>
-    requires changes { (changes.name ≡ C.name) × (changes.parts ≡ C.parts) × (changes.parts ≡ 10001) }
-    requires cuts { (cuts.name ≡ K.name) × (cuts.parts ≡ K.parts) × (cuts.parts ≡ 10001) }
+    requires changes { (changes.name ≡ C.name) × (changes.parts ≡ C.parts) × (changes.parts ≡ PARTS) }
+    requires cuts { (cuts.name ≡ K.name) × (cuts.parts ≡ K.parts) × (cuts.parts ≡ PARTS) }
     requires design { book.opened ≡ O.design }
     requires view { book.view ≡ O.view }
     requires steps { book.steps ≡ O.steps }
@@ -286,8 +283,8 @@ fn a_day_without_memory(rt: HostRuntime) {
     let left = day::<Brand, Brand, Brand, HostRuntime>(
         &rt,
         alloc,
-        Blank::new(10001),
-        Blank::new(10001),
+        Blank::new(PARTS),
+        Blank::new(PARTS),
         book,
     );
     match left {
@@ -295,8 +292,8 @@ fn a_day_without_memory(rt: HostRuntime) {
             let _ = day::<Brand, Brand, Brand, HostRuntime>(
                 &rt,
                 alloc,
-                Blank::new(10001),
-                Blank::new(10001),
+                Blank::new(PARTS),
+                Blank::new(PARTS),
                 book,
             );
         }

@@ -4,7 +4,7 @@ ghost use Rattle.poly_desk.specs.Changes.{cut_count};
 
 use crate::tests::kit::{book_of_dominoes, fail, pair, set_cell};
 use crate::tests::reports::{dominoes_without_one, forbid_one, full_report, single, take, work};
-use crate::{Desk, NotSettled, Opening, Pass, Receipt};
+use crate::{Desk, NotSettled, Opening, PARTS, Pass, Receipt};
 use poly_board::Posted;
 use poly_book::{Applied, Book, Quiet, Which};
 use poly_browse::Query;
@@ -163,8 +163,8 @@ fn day<C: Ledger, K: Ledger, O: Opening, R: Wait + Abort>(
     book: Book,
     strange: Strange,
 )
-    requires changes { (changes.name ≡ C.name) × (changes.parts ≡ C.parts) × (changes.parts ≡ 10001) }
-    requires cuts { (cuts.name ≡ K.name) × (cuts.parts ≡ K.parts) × (cuts.parts ≡ 10001) }
+    requires changes { (changes.name ≡ C.name) × (changes.parts ≡ C.parts) × (changes.parts ≡ PARTS) }
+    requires cuts { (cuts.name ≡ K.name) × (cuts.parts ≡ K.parts) × (cuts.parts ≡ PARTS) }
     requires design { book.opened ≡ O.design }
     requires view { book.view ≡ O.view }
     requires steps { book.steps ≡ O.steps }
@@ -210,8 +210,8 @@ fn fourth<C: Ledger, K: Ledger, O: Opening, R: Wait + Abort>(
     cuts: Blank,
     book: Book,
 ) -> Receipt
-    requires changes { (changes.name ≡ C.name) × (changes.parts ≡ C.parts) × (changes.parts ≡ 10001) }
-    requires cuts { (cuts.name ≡ K.name) × (cuts.parts ≡ K.parts) × (cuts.parts ≡ 10001) }
+    requires changes { (changes.name ≡ C.name) × (changes.parts ≡ C.parts) × (changes.parts ≡ PARTS) }
+    requires cuts { (cuts.name ≡ K.name) × (cuts.parts ≡ K.parts) × (cuts.parts ≡ PARTS) }
     requires design { book.opened ≡ O.design }
     requires view { book.view ≡ O.view }
     requires steps { book.steps ≡ O.steps }
@@ -243,8 +243,8 @@ fn a_day_at_the_desk(rt: HostRuntime) {
     let receipt = fourth::<Brand, Brand, Brand, HostRuntime>(
         &rt,
         alloc,
-        Blank::new(10001),
-        Blank::new(10001),
+        Blank::new(PARTS),
+        Blank::new(PARTS),
         other,
     );
     let quiet = quiet_with_a_cell_more(&rt, alloc);
@@ -252,8 +252,8 @@ fn a_day_at_the_desk(rt: HostRuntime) {
     day::<Brand, Brand, Brand, HostRuntime>(
         &rt,
         alloc,
-        Blank::new(10001),
-        Blank::new(10001),
+        Blank::new(PARTS),
+        Blank::new(PARTS),
         book,
         Strange { receipt, quiet },
     );

@@ -3,7 +3,7 @@ ghost use Rattle.std.specs.Prelude.{◌≡◌};
 ghost use Rattle.poly_desk.specs.Changes.{cut_count};
 
 use crate::tests::kit::{book_of_dominoes, cell, dominoes, fail, pair};
-use crate::{Desk, Opening, Pass, Receipt};
+use crate::{Desk, Opening, PARTS, Pass, Receipt};
 use poly_book::Book;
 use poly_design::{Edit, Mode};
 use poly_grid::Cell;
@@ -63,8 +63,8 @@ fn edit_together<
     O: Opening + Send + Sync,
     R: Threads + Wait + Sync + Abort,
 >(rt: &R, alloc: Global, changes: Blank, cuts: Blank, book: Book) -> Book
-    requires changes { (changes.name ≡ C.name) × (changes.parts ≡ C.parts) × (changes.parts ≡ 10001) }
-    requires cuts { (cuts.name ≡ K.name) × (cuts.parts ≡ K.parts) × (cuts.parts ≡ 10001) }
+    requires changes { (changes.name ≡ C.name) × (changes.parts ≡ C.parts) × (changes.parts ≡ PARTS) }
+    requires cuts { (cuts.name ≡ K.name) × (cuts.parts ≡ K.parts) × (cuts.parts ≡ PARTS) }
     requires design { book.opened ≡ O.design }
     requires view { book.view ≡ O.view }
     requires steps { book.steps ≡ O.steps }
@@ -109,8 +109,8 @@ fn two_threads_edit(rt: HostRuntime) {
     let after = edit_together::<Brand, Brand, Brand, HostRuntime>(
         &rt,
         alloc,
-        Blank::new(10001),
-        Blank::new(10001),
+        Blank::new(PARTS),
+        Blank::new(PARTS),
         book,
     );
     assert!(rt; after.numbers().edition == 100);

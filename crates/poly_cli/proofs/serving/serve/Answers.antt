@@ -1,11 +1,12 @@
 use Rattle.std.proofs.Common.{◌≡◌, ◌∙◌, Bor, List, ℕ, [], refl, sym, arith, true≢false, append-nil}
 use Rattle.std.specs.Prelude.{option_map}
+use Rattle.std.proofs.lemmas.Result.{err_from_is_err_and}
 use Rattle.poly_cli.specs.declared.lines.Event.TheVariants.{Line, End, Fault}
 use Rattle.poly_cli.specs.Slow.{Slow}
 use Rattle.poly_cli.proofs.Known.{consumes_none, appends_none}
 use Rattle.poly_cli.proofs.Going.{goes_first}
 use Rattle.poly_cli.proofs.Grids.{same_grid}
-use Rattle.poly_cli.proofs.Answered.{line_answered, fault_served, limit_served, end_served, last_served, last_unserved, line_unserved}
+use Rattle.poly_cli.proofs.Answered.{line_answered, fault_served, limit_served, end_served, last_line, line_unserved}
 use Rattle.poly_cli.proofs.serving.serve.Goals as goal
 
 pub loop-answered-init : goal.loop-answered-init
@@ -33,7 +34,7 @@ pub loop-answered-preserved : goal.loop-answered-preserved
 loop-answered-preserved g c =
     let i = c.loop-answered.invariant in
     let n = c.in-Line.ensures in
-    let r = c.in-Ok.ensures in
+    let r = c.in_ok-respond-in-Line.ensures in
     record {
       buffer = n.ready;
       ready = r.ready;
@@ -42,12 +43,13 @@ loop-answered-preserved g c =
       so_far = line_answered (Slow g.E.Engine.failures) _ _ _ _ _ _ _ _ _ _ _ i.so_far n.next n.limit _ c.ended.ensures _ r.says.0 _ r.says.1 r.says.2;
     }
 
-pub returns-in-Err-clause-run : goal.returns-in-Err-clause-run
-returns-in-Err-clause-run g c =
+pub returns-in_err-respond-in-Line-clause-run : goal.returns-in_err-respond-in-Line-clause-run
+returns-in_err-respond-in-Line-clause-run g c =
+    let p = err_from_is_err_and c.from_residual.result c.from_residual.ensures.1 in
     let i = c.loop-answered.invariant in
     let n = c.in-Line.ensures in
-    let r = c.in-Err.ensures in
-    line_unserved (Slow g.E.Engine.failures) _ _ _ _ _ _ _ _ _ _ _ i.so_far n.next _ c.loop-answered-test.true n.limit _ c.ended.ensures _ r.says.0 _ _ r.says.1 r.says.2
+    let r = c.in_err-respond-in-Line.ensures in
+    rw (p.1, p.2) (line_unserved (Slow g.E.Engine.failures) _ _ _ _ _ _ _ _ _ _ _ i.so_far n.next _ c.loop-answered-test.true n.limit _ c.ended.ensures _ r.says.0 _ _ r.says.1 r.says.2)
 
 pub returns-in-Fault-clause-run : goal.returns-in-Fault-clause-run
 returns-in-Fault-clause-run g c = fault_served (Slow g.E.Engine.failures) _ _ _ _ _ _ _ _ _ _ _ c.loop-answered.invariant.so_far c.in-Fault.ensures.next _ (omega arith)
@@ -55,17 +57,11 @@ returns-in-Fault-clause-run g c = fault_served (Slow g.E.Engine.failures) _ _ _ 
 pub returns-then-is_empty-clause-run : goal.returns-then-is_empty-clause-run
 returns-then-is_empty-clause-run g c = end_served (Slow g.E.Engine.failures) _ _ _ _ _ _ _ _ _ _ _ c.loop-answered.invariant.so_far c.in-End.ensures.next _ (c.if-is_empty.ensures.0 refl) (omega arith)
 
-pub returns-in-Ok-respond-clause-run : goal.returns-in-Ok-respond-clause-run
-returns-in-Ok-respond-clause-run g c =
+pub returns-in-End-clause-run : goal.returns-in-End-clause-run
+returns-in-End-clause-run g c =
     let n = c.in-End.ensures in
-    let r = c.in-Ok-respond.ensures in
-    last_served (Slow g.E.Engine.failures) _ _ _ _ _ _ _ _ _ _ _ c.loop-answered.invariant.so_far n.next _ c.loop-answered-test.true (λ e. true≢false (sym (c.if-is_empty.ensures.1 e))) n.limit _ c.unended.ensures _ r.says.0 r.says.1 _ r.says.2
-
-pub returns-in-Err-respond-clause-run : goal.returns-in-Err-respond-clause-run
-returns-in-Err-respond-clause-run g c =
-    let n = c.in-End.ensures in
-    let r = c.in-Err-respond.ensures in
-    last_unserved (Slow g.E.Engine.failures) _ _ _ _ _ _ _ _ _ _ _ c.loop-answered.invariant.so_far n.next _ c.loop-answered-test.true (λ e. true≢false (sym (c.if-is_empty.ensures.1 e))) n.limit _ c.unended.ensures _ r.says.0 r.says.1 _ _ r.says.2
+    let r = c.respond-in-End.ensures in
+    last_line (Slow g.E.Engine.failures) _ _ _ _ _ _ _ _ _ _ _ c.loop-answered.invariant.so_far n.next _ c.loop-answered-test.true (λ e. true≢false (sym (c.if-is_empty.ensures.1 e))) n.limit _ c.unended.ensures _ r.says.0 r.says.1 _ _ r.says.2
 
 pub returns-then-is_empty-2-clause-run : goal.returns-then-is_empty-2-clause-run
 returns-then-is_empty-2-clause-run g c = end_served (Slow g.E.Engine.failures) _ _ _ _ _ _ _ _ _ _ _ c.loop-answered.invariant.so_far c.in-End-next_line.ensures.next _ (c.if-is_empty-2.ensures.0 refl) (c.loop-answered.auto.answered-end)

@@ -1,6 +1,6 @@
 use Rattle.std.proofs.Common.{◌≡◌, ◌-◌, ◌∙◌, ap, arith, sym}
 use Rattle.poly_crew.specs.Hints.{weigh}
-use Rattle.poly_crew.specs.Sight.{LaneSight}
+use Rattle.poly_crew.specs.Views.{LaneView}
 use Rattle.poly_crew.proofs.laws.pushed_is_taken_and_left.Goals as goal
 
 pub returns : goal.returns
@@ -13,6 +13,6 @@ returns c =
       splits.gone,
       found.0,
       found.1,
-      sym (ap (λ (s : LaneSight). s.pushed) back) ∙ splits.stand,
-      λ h. splits.alone (ap (λ (s : LaneSight). s.thieves) back ∙ none) h ∙ ap (λ (s : LaneSight). weigh h s.taken) back,
+      sym (ap (λ (s : LaneView). s.pushed) back) ∙ splits.split,
+      λ h. splits.alone (ap (λ (s : LaneView). s.thieves) back ∙ none) h ∙ ap (λ (s : LaneView). weigh h s.taken) back,
     )

@@ -1,5 +1,5 @@
 use Rattle.std.proofs.lemmas.Result.{IfOk-weaker}
-use Rattle.poly_desk.proofs.Told.{taken_view}
+use Rattle.poly_desk.proofs.Passes.{taken_view}
 use Rattle.poly_desk.proofs.floor.Floor.take.Goals as goal
 
 pub returns-clause-view : goal.returns-clause-view

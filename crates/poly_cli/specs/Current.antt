@@ -4,5 +4,5 @@ use Rattle.poly_book.specs.AllTilings.{AllTilings}
 use Rattle.poly_cli.specs.States.{State}
 
 -- nothing is kept, or all tilings of the present design are, and the engine has settled
-abbrev pub IsStanding : Option AllTilings → State → Type 0
-IsStanding kept s = IfSome kept (λ q. (q.design ≡ s.design) × (s.settled ≡ true))
+abbrev pub IsCurrent : Option AllTilings → State → Type 0
+IsCurrent kept s = IfSome kept (λ q. (q.design ≡ s.design) × (s.settled ≡ true))

@@ -1,7 +1,7 @@
 //! Whether a receipt is right: the book has what it says at its place.
 ghost use Rattle.std.specs.Prelude.{◌≡◌, ◌↔◌, IsTrue};
 ghost use Rattle.poly_book.specs.declared.step.Ending.{Ending};
-ghost use Rattle.poly_desk.specs.Receipts.{IsAt, Stands, entries, place_of};
+ghost use Rattle.poly_desk.specs.Receipts.{IsAt, IsRightReceipt, entries, place_of};
 
 use crate::receipt::Receipt;
 use poly_book::{Book, Ending, Kind, Step};
@@ -29,8 +29,8 @@ impl Receipt {
     }
 
     /// Whether the book has, at the receipt's place, what the receipt says.
-    pub(crate) fn stands(&self, book: &Book) -> bool
-        ensures { IsTrue result ↔ Stands book.now self.now }
+    pub(crate) fn is_right(&self, book: &Book) -> bool
+        ensures { IsTrue result ↔ IsRightReceipt book.now self.now }
     {
         match self {
             Receipt::Changed { place, step } => is_step_at(book.steps(), *place, step),
