@@ -1,6 +1,6 @@
 //! The book: a design, its listed tilings and its pending tasks. Whatever happens to it, each tiling of the design is
 //! listed once or belongs to exactly one pending task.
-ghost use Rattle.std.specs.Prelude.{◌≡◌, ◌≤◌, ◌<◌, length, reverse};
+ghost use Rattle.std.specs.Prelude.{true, ◌≡◌, ◌≤◌, ◌<◌, length, reverse};
 ghost use Rattle.std.specs.Arc.{arc_value};
 ghost use Rattle.poly_book.specs.Amounts.{AreAllTilingsOf, AreTilingsOf};
 ghost use Rattle.poly_book.specs.Whole.{Whole};
@@ -47,7 +47,8 @@ impl Book {
     /// What holds of every book: the tilings are shared out between the list and the tasks, the steps lead to the design,
     /// and each kept shelf is right. Always true.
     pub fn whole(&self) -> bool
-        ensures { Whole self.now }
+        ensures whole { Whole self.now }
+        ensures yes { result ≡ true }
     {
         self.parts.next > 0
     }

@@ -5,8 +5,6 @@ use Rattle.poly_grid.specs.declared.grid.Grid.{Grid}
 use Rattle.poly_grid.specs.declared.refusal.Refusal.{Refusal}
 use Rattle.poly_grid.specs.declared.refusal.Refusal.TheVariants.{LineTooLong, Memory}
 use Rattle.poly_design.specs.Layout.{Layout}
-use Rattle.poly_cli.specs.declared.lines.TheConstants.{INPUT_LIMIT, LINE_LIMIT}
-use Rattle.poly_cli.specs.declared.sessions.TheConstants.{LINE_COUNT}
 use Rattle.poly_cli.specs.declared.writing.Fault.{Fault}
 use Rattle.poly_cli.specs.declared.writing.Fault.TheVariants.{Read, Write}
 use Rattle.poly_cli.specs.declared.sessions.End.{End}
@@ -70,6 +68,7 @@ SessionSays Failures m bytes (Err Read) left old new = (out : List ℕ) × Appen
 SessionSays Failures m bytes (Err Write) left old new =
     (out rest : List ℕ) × (lines more : List (Option (List ℕ))) × Appends old new out × (RunsOpened Failures lines (out ++ rest) ⊎ RunsRefused lines (out ++ rest)) × AreReadWhole m (session_lines m.line) bytes left (lines ++ more)
 
--- the limits of every session
+-- The limits of every session: 65,536 bytes in a line, 2^30 bytes and a million lines of input. They are numbers here, so the
+-- program's constants are proved to have these values.
 unfoldable pub session_limits : Limits
-session_limits = record { line = LINE_LIMIT; bytes = INPUT_LIMIT; lines = LINE_COUNT }
+session_limits = record { line = 65536; bytes = 1073741824; lines = 1000000 }

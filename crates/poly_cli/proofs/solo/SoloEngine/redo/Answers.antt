@@ -14,4 +14,4 @@ returns-in-Err-clause-why c =
 pub returns-clause-ok : goal.returns-clause-ok
 returns-clause-ok c =
     let b = c.self.inside in
-    subst (λ s. Redoes s (session_of c.redo.new.self false)) c.self.view_is (redone_is b.book c.redo.new.self b.settled c.in-Ok.done c.whole.ensures.replay c.in-Ok.ensures.ok)
+    subst (λ s. Redoes s (session_of c.redo.new.self false)) c.self.view_is (redone_is b.book c.redo.new.self b.settled c.in-Ok.done c.whole.ensures.whole.replay c.in-Ok.ensures.ok)
