@@ -51,8 +51,7 @@ pub(crate) fn busy_rows(
     }
     let mut all = Vec::with_capacity(alloc, count)?;
     let mut at = 0usize;
-    for row in 0..count {
-        let _ = row;
+    for _row in 0..count {
         if rows.len() - at < width {
             return Ok(all);
         }

@@ -263,8 +263,7 @@ fn scarcest_in(
 {
     let mut best = best;
     let mut left = word;
-    for turn in 0..64u32 {
-        let _ = turn;
+    for _turn in 0..64u32 {
         if left == 0 || best.spare == 0 {
             return best;
         }

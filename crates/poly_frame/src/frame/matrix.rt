@@ -289,8 +289,7 @@ fn empty_rows(alloc: Global, width: usize, count: usize) -> Result<Vec<u64>, Ref
 {
     let row = vec![in alloc; 0u64; width]?;
     let mut rows = Vec::with_capacity(alloc, width.saturating_mul(count))?;
-    for b in 0..count {
-        let _ = b;
+    for _item in 0..count {
         rows.extend_from_slice(&row)?;
     }
     Ok(rows)

@@ -1,5 +1,5 @@
 use Rattle.std.proofs.Common.{replicate, ◌*◌, ◌≡◌}
 use Rattle.poly_frame.proofs.frame.matrix.empty_rows.Given as goal
 
-abbrev pub invariant-loop-b : goal.invariant-loop-b
-invariant-loop-b l = l.rows.items ≡ replicate (l.width * l.b) 0
+abbrev pub invariant-loop-item : goal.invariant-loop-item
+invariant-loop-item l = l.rows.items ≡ replicate (l.width * l._item) 0
