@@ -10,7 +10,7 @@ tests='
 poly_tests memory::changes_without_memory
 poly_tests memory::reports_without_memory
 poly_tests memory::runs_without_memory
-poly_desk tests::memory::a_day_without_memory
+poly_tests desk_memory::a_day_without_memory
 poly_tests exchange::a_tiling_lost_and_back
 poly_crew tests::desk::a_crew_without_memory
 '

@@ -9,8 +9,6 @@ mod laws;
 mod log;
 mod order;
 mod stair;
-#[cfg(test)]
-mod tests;
 
 pub use atom::Atom;
 pub use both::{BothGuards, both_guards, guard_counts};

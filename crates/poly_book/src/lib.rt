@@ -43,6 +43,3 @@ pub use shelf::Kept;
 pub use step::{Applied, Done, Ending, Kind, Step};
 pub use take::{Job, Which};
 pub use task::{Own, Pending};
-
-#[cfg(test)]
-mod tests;

@@ -20,6 +20,3 @@ mod symmetry;
 pub use browsing::browse;
 pub use orbits::{classes, classes_of};
 pub use query::{Answer, Query};
-
-#[cfg(test)]
-mod tests;

@@ -20,6 +20,3 @@ mod rows;
 
 pub use catalogue::Catalogue;
 pub use laws::plans_lead;
-
-#[cfg(test)]
-mod tests;

@@ -36,6 +36,3 @@ pub use ledgers::{MOST_PASSES, PARTS};
 pub use opening::Opening;
 pub use pass::Pass;
 pub use receipt::Receipt;
-
-#[cfg(test)]
-mod tests;

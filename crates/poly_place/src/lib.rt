@@ -15,6 +15,3 @@ pub use delta::Delta;
 pub use interner::Interner;
 pub use plan::Plan;
 pub use table::Table;
-
-#[cfg(test)]
-mod tests;

@@ -217,35 +217,3 @@ pub fn cut_up_over(
     }
     Ok(Some(all))
 }
-
-#[cfg(test)]
-mod tests {
-    use super::*;
-    use std::process::Abort;
-
-    // A design without cells and pieces.
-    fn empty(alloc: Global) -> View {
-        View::with(
-            Vec::new(alloc),
-            Vec::new(alloc),
-            Vec::new(alloc),
-            Vec::new(alloc),
-        )
-    }
-
-    // Asserts how many tilings and rests there are.
-    fn expect_sizes(rt: &impl Abort, leaves: &Leaves, want: (usize, usize)) {
-        assert!(rt; (leaves.tilings.len(), leaves.rests.len()) == want);
-    }
-
-    #[test]
-    fn the_empty_design_has_one_tiling(rt: HostRuntime) {
-        let view = empty(rt.alloc());
-        assert!(rt; holds(rt.alloc(), &view, &[], &Tree::Found).expect(&rt, "memory"));
-        let found = cut_up(rt.alloc(), &view, &[], &Tree::Found).expect(&rt, "memory");
-        expect_sizes(&rt, &found.expect(&rt, "it holds"), (1, 0));
-        let lacks = [Atom::Lacks(0)];
-        let left = leaves(rt.alloc(), &view, &lacks, &Tree::Rest).expect(&rt, "memory");
-        expect_sizes(&rt, &left, (0, 1));
-    }
-}

@@ -101,21 +101,3 @@ pub fn explore(alloc: Global, view: &View, atoms: &[Atom], nodes: u32) -> Result
     let Explored { tree, leaves: _ } = explore_with_leaves(alloc, view, atoms, nodes)?;
     Ok(tree)
 }
-
-#[cfg(test)]
-mod tests {
-    use super::*;
-
-    #[test]
-    fn nothing_is_open_in_the_empty_design(rt: HostRuntime) {
-        let view = View::with(
-            Vec::new(rt.alloc()),
-            Vec::new(rt.alloc()),
-            Vec::new(rt.alloc()),
-            Vec::new(rt.alloc()),
-        );
-        let found = explore_with_leaves(rt.alloc(), &view, &[], 1).expect(&rt, "memory");
-        assert!(rt; matches!(&found.tree, Tree::Found));
-        assert!(rt; found.leaves.tilings.len() == 1);
-    }
-}

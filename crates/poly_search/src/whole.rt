@@ -35,20 +35,3 @@ pub fn search_all(alloc: Global, view: &View, atoms: &[Atom]) -> Result<Vec<Tili
     }
     Ok(list.found)
 }
-
-#[cfg(test)]
-mod tests {
-    use super::*;
-
-    #[test]
-    fn the_empty_design_has_one_tiling(rt: HostRuntime) {
-        let view = View::with(
-            Vec::new(rt.alloc()),
-            Vec::new(rt.alloc()),
-            Vec::new(rt.alloc()),
-            Vec::new(rt.alloc()),
-        );
-        let found = search_all(rt.alloc(), &view, &[]).expect(&rt, "memory");
-        assert!(rt; found.len() == 1);
-    }
-}

@@ -1,74 +1,20 @@
-//! Books of whole designs: late and hostile reports, wide changes, and runs of events.
-use crate::designs::{DOMINOES, design_of};
+//! Books of whole designs: late and hostile reports, and runs of events.
+use crate::books::{
+    book_of, covering, edit, edit_of, expect_quiet, expect_refused, expect_status, fail,
+};
+use crate::designs::DOMINOES;
+use crate::trees::{chain, wide_branch};
 use poly_book::laws::{Event, Ran, Reply, run};
 use poly_book::{Applied, Book};
-use poly_design::Edit;
 use poly_grid::{Cell, Refusal};
 use poly_report::{Arm, Report, Tree};
 use poly_search::search_all;
-use poly_text::{Command, asked};
 use poly_tiling::{Item, View};
 use std::alloc::Global;
 use std::process::Abort;
 
-const WIDE: &[u8] =
-    b"{\"format\":1,\"grid\":\"square\",\"board\":[\"++++++++++++++++\",\"++++++++++++++++\",\"++++++++++++++++\",\"++++++++++++++++\",\"++++++++++++++++\",\"++++++++++++++++\",\"++++++++++++++++\",\"++++++++++++++++\",\"++++++++++++++++\",\"++++++++++++++++\",\"++++++++++++++++\",\"++++++++++++++++\",\"++++++++++++++++\",\"++++++++++++++++\",\"++++++++++++++++\",\"++++++++++++++++\"],\"pieces\":[]}";
-
-fn book_of(rt: &impl Abort, alloc: Global, puzzle: &[u8]) -> Book {
-    let design = design_of(alloc, puzzle, &[]).expect(rt, "a puzzle line");
-    Book::begin(alloc, design).expect(rt, "memory")
-}
-
-// The edit of a command line.
-fn edit_of(rt: &impl Abort, alloc: Global, book: &Book, line: &[u8]) -> Edit {
-    let command = asked(alloc, book.design().grid(), line).expect(rt, "a command line");
-    match &command {
-        Some(Command::Edit(edit)) => *edit,
-        _ => abort(rt),
-    }
-}
-
-fn abort<T>(rt: &impl Abort) -> T {
-    let none: Option<T> = None;
-    none.expect(rt, "an edit")
-}
-
-fn edit(rt: &impl Abort, alloc: Global, book: &mut Book, line: &[u8]) {
-    let edit = edit_of(rt, alloc, book, line);
-    let _ = book.edit(edit).expect(rt, "an edit that is accepted");
-}
-
-fn undo(rt: &impl Abort, book: &mut Book) {
-    let _ = book.undo().expect(rt, "a change to undo");
-}
-
-// Asserts the edition and the numbers of listed tilings and pending tasks.
-fn expect_status(rt: &impl Abort, book: &Book, want: (u64, u64, u64)) {
-    let numbers = book.numbers();
-    assert!(rt; (numbers.edition, numbers.listed, numbers.pending) == want);
-}
-
-// Settles the book and asserts how many tilings its Quiet has, and that the book vouches for it.
-fn expect_quiet(rt: &impl Abort, book: &mut Book, want: usize) {
-    let _ = book.settle(10_000, 256).expect(rt, "it settles");
-    let quiet = book.quiet().expect(rt, "nothing is pending");
-    assert!(rt; quiet.tilings().len() == want);
-    assert!(rt; book.vouch(&quiet).expect(rt, "memory"));
-}
-
 fn cell_item(rt: &impl Abort, x: u64, y: u64) -> Item {
     Item::Cell(Cell::new(x, y).expect(rt, "a coordinate below 64"))
-}
-
-// The numbers of the placements that cover the item.
-fn covering(rt: &impl Abort, alloc: Global, view: &View, item: &Item) -> Vec<u32> {
-    let mut numbers = Vec::new(alloc);
-    for number in view.live() {
-        if view.covers(*number, *item) {
-            numbers.push(*number).expect(rt, "memory");
-        }
-    }
-    numbers
 }
 
 // A Branch on the item whose arms are the placements that cover it, except the last `less` of them. Each arm has a Rest.
@@ -108,13 +54,6 @@ fn expect_applied(rt: &impl Abort, applied: Result<Applied, Refusal>, want: (u64
     assert!(rt; (a.listed, a.opened, a.first, a.late) == want);
 }
 
-fn expect_refused(rt: &impl Abort, applied: Result<Applied, Refusal>, want: Refusal) {
-    match applied {
-        Ok(_) => assert!(rt; false),
-        Err(refusal) => assert!(rt; refusal == want),
-    }
-}
-
 #[test]
 fn late_report_after_a_forbid(rt: HostRuntime) {
     let alloc = rt.alloc();
@@ -150,48 +89,14 @@ fn missing_arm(rt: HostRuntime) {
     expect_applied(&rt, book.hand_in(full), (0, 4, 2, false));
 }
 
-fn expect_unfinished(rt: &impl Abort, book: &mut Book, turns: u64) {
-    match book.settle(turns, 1) {
-        Ok(_) => assert!(rt; false),
-        Err(refusal) => assert!(rt; refusal == Refusal::Unfinished),
-    }
-}
-
 #[test]
 fn turns_used_up(rt: HostRuntime) {
     let mut book = book_of(&rt, rt.alloc(), DOMINOES);
-    expect_unfinished(&rt, &mut book, 0);
-    expect_unfinished(&rt, &mut book, 1);
+    expect_refused(&rt, book.settle(0, 1), Refusal::Unfinished);
+    expect_refused(&rt, book.settle(1, 1), Refusal::Unfinished);
     let numbers = book.numbers();
     assert!(rt; numbers.listed == 0 && numbers.endings >= 1 && numbers.pending >= 1);
     expect_quiet(&rt, &mut book, 4);
-}
-
-// A chain of Splits on one placement, each in the `left` of the one before.
-fn chain(rt: &impl Abort, alloc: Global, splits: usize, placement: u32) -> Tree {
-    let mut tree = Tree::Rest;
-    for _ in 0..splits {
-        tree = Tree::Split {
-            placement,
-            taken: Box::new(alloc, Tree::Rest).expect(rt, "memory"),
-            left: Box::new(alloc, tree).expect(rt, "memory"),
-        };
-    }
-    tree
-}
-
-// A Branch with this many arms on the first placement.
-fn wide_branch(rt: &impl Abort, alloc: Global, arms: usize) -> Tree {
-    let item = cell_item(rt, 0, 0);
-    let mut all = Vec::new(alloc);
-    for _ in 0..arms {
-        let arm = Arm {
-            placement: 0,
-            tree: Tree::Rest,
-        };
-        all.push(arm).expect(rt, "memory");
-    }
-    Tree::Branch { item, arms: all }
 }
 
 #[test]
@@ -219,36 +124,6 @@ fn reports_on_no_placement_and_of_no_edition(rt: HostRuntime) {
     let mut full = report_on(&rt, alloc, &other, (0, 0), 0);
     full.edition = 99;
     expect_applied(&rt, other.hand_in(full), (0, 4, 2, false));
-}
-
-#[test]
-fn wide_change(rt: HostRuntime) {
-    let alloc = rt.alloc();
-    let mut book = book_of(&rt, alloc, WIDE);
-    edit(
-        &rt,
-        alloc,
-        &mut book,
-        b"add F optional on 1,0 2,0 0,1 1,1 1,2",
-    );
-    expect_status(&rt, &book, (1, 0, 1569));
-    expect_quiet(&rt, &mut book, 1569);
-}
-
-#[test]
-fn wide_change_and_a_hole(rt: HostRuntime) {
-    let alloc = rt.alloc();
-    let mut book = book_of(&rt, alloc, WIDE);
-    edit(
-        &rt,
-        alloc,
-        &mut book,
-        b"add F optional on 1,0 2,0 0,1 1,1 1,2",
-    );
-    edit(&rt, alloc, &mut book, b"cell 5,5 blocked");
-    expect_status(&rt, &book, (2, 0, 1529));
-    undo(&rt, &mut book);
-    expect_status(&rt, &book, (3, 0, 1569));
 }
 
 // The events of the laws test: an edit, the late report, an undo and a redo.
@@ -286,7 +161,7 @@ fn the_laws(rt: HostRuntime) {
     let all = events(&rt, alloc, &book);
     let Ran { book, replies } = match run(alloc, book, all) {
         Ok(ran) => ran,
-        Err(_) => abort(&rt),
+        Err(_) => fail(&rt, "memory"),
     };
     assert!(rt; replies.len() == 4 && book.numbers().endings == 2);
     expect_all_done(&rt, &replies);

@@ -42,6 +42,14 @@ pub(crate) fn fail<T>(rt: &impl Abort, why: &str) -> T {
     none.expect(rt, why)
 }
 
+/// Asserts that the call was refused, and why.
+pub(crate) fn expect_refused<T: Drop>(rt: &impl Abort, answer: Result<T, Refusal>, want: Refusal) {
+    match answer {
+        Ok(_) => fail(rt, "a refusal"),
+        Err(refusal) => assert!(rt; refusal == want),
+    }
+}
+
 /// Makes the edit that the command line asks for.
 pub(crate) fn edit(rt: &impl Abort, alloc: Global, book: &mut Book, line: &[u8]) {
     let edit = edit_of(rt, alloc, book, line);

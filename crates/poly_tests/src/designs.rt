@@ -13,8 +13,9 @@ ghost use Rattle.poly_design.specs.Changes.{HasBefore, changed};
 ghost use Rattle.poly_design.specs.Limits.{IsDesign};
 ghost use Rattle.poly_tiling.specs.Shows.{IsPlain, Shows};
 
-use poly_design::{Change, Design};
-use poly_grid::Refusal;
+use poly_design::{Change, Design, Name, Placement};
+use poly_grid::{Cell, Refusal};
+use poly_shape::Cells;
 use poly_text::{Command, asked, puzzle_of};
 use poly_tiling::View;
 use std::alloc::{AllocGlobal, Global};
@@ -28,6 +29,14 @@ pub(crate) const DOMINOES: &[u8] =
 /// go on in smaller frames.
 pub(crate) const NARROW: &[u8] =
     b"{\"format\":1,\"grid\":\"square\",\"board\":[\"####################\",\"####################\",\"####################\"],\"pieces\":[{\"name\":\"F\",\"cells\":[[1,0],[2,0],[0,1],[1,1],[1,2]]},{\"name\":\"I\",\"cells\":[[0,0],[1,0],[2,0],[3,0],[4,0]]},{\"name\":\"L\",\"cells\":[[0,0],[0,1],[0,2],[0,3],[1,3]]},{\"name\":\"N\",\"cells\":[[1,0],[1,1],[0,2],[1,2],[0,3]]},{\"name\":\"P\",\"cells\":[[0,0],[1,0],[0,1],[1,1],[0,2]]},{\"name\":\"T\",\"cells\":[[0,0],[1,0],[2,0],[1,1],[1,2]]},{\"name\":\"U\",\"cells\":[[0,0],[2,0],[0,1],[1,1],[2,1]]},{\"name\":\"V\",\"cells\":[[0,0],[0,1],[0,2],[1,2],[2,2]]},{\"name\":\"W\",\"cells\":[[0,0],[0,1],[1,1],[1,2],[2,2]]},{\"name\":\"X\",\"cells\":[[1,0],[0,1],[1,1],[2,1],[1,2]]},{\"name\":\"Y\",\"cells\":[[1,0],[0,1],[1,1],[1,2],[1,3]]},{\"name\":\"Z\",\"cells\":[[0,0],[1,0],[1,1],[1,2],[2,2]]}]}";
+
+/// A board without cells and no pieces: its one tiling has no member.
+pub(crate) const NOWHERE: &[u8] =
+    b"{\"format\":1,\"grid\":\"square\",\"board\":[\".\"],\"pieces\":[]}";
+
+/// A row of eight optional cells and eight optional pieces of one cell: 1,441,729 tilings.
+pub(crate) const EIGHT: &[u8] =
+    b"{\"format\":1,\"grid\":\"square\",\"board\":[\"++++++++\"],\"pieces\":[{\"name\":\"A\",\"cells\":[[0,0]],\"need\":\"optional\"},{\"name\":\"B\",\"cells\":[[0,0]],\"need\":\"optional\"},{\"name\":\"C\",\"cells\":[[0,0]],\"need\":\"optional\"},{\"name\":\"D\",\"cells\":[[0,0]],\"need\":\"optional\"},{\"name\":\"E\",\"cells\":[[0,0]],\"need\":\"optional\"},{\"name\":\"F\",\"cells\":[[0,0]],\"need\":\"optional\"},{\"name\":\"G\",\"cells\":[[0,0]],\"need\":\"optional\"},{\"name\":\"H\",\"cells\":[[0,0]],\"need\":\"optional\"}]}";
 
 /// The design of the puzzle line.
 pub(crate) fn design(rt: &(impl AllocGlobal + Abort), line: &[u8]) -> Design {
@@ -72,4 +81,21 @@ pub(crate) fn design_of(alloc: Global, puzzle: &[u8], lines: &[&[u8]]) -> Result
         design.make(&change)?;
     }
     Ok(design)
+}
+
+/// The piece on the two cells.
+pub(crate) fn placement(
+    rt: &impl Abort,
+    name: &[u8],
+    first: (u64, u64),
+    second: (u64, u64),
+) -> Placement {
+    let cells = [
+        Cell::new(first.0, first.1).expect(rt, "a coordinate below 64"),
+        Cell::new(second.0, second.1).expect(rt, "a coordinate below 64"),
+    ];
+    Placement {
+        name: Name::new(name).expect(rt, "a name"),
+        cells: Cells::new(&cells).expect(rt, "two cells"),
+    }
 }

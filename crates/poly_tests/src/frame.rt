@@ -1,7 +1,8 @@
-//! Frames of small designs: what is open, due and found there is counted by hand.
+//! Frames of small designs: what is open, due and found there is counted by hand. Placement 0 of `DOMINOES` is A on the upper
+//! row, and placement 7 is B on the lower row.
 ghost use Rattle.std.specs.Prelude.{length, ◌+◌, ◌<◌, ◌≡◌};
 
-use crate::designs::design_of;
+use crate::designs::{DOMINOES, design_of};
 use poly_atom::Atom;
 use poly_design::Name;
 use poly_frame::{Frame, Matrix};
@@ -9,10 +10,6 @@ use poly_grid::Refusal;
 use poly_tiling::{Item, View};
 use std::alloc::{AllocGlobal, Global};
 use std::process::Abort;
-
-// Two dominoes on the square of four cells. Placement 0 is A on the upper row, and placement 7 is B on the lower row.
-const SQUARE: &[u8] =
-    b"{\"format\":1,\"grid\":\"square\",\"board\":[\"##\",\"##\"],\"pieces\":[{\"name\":\"A\",\"cells\":[[0,0],[1,0]]},{\"name\":\"B\",\"cells\":[[0,0],[1,0]]}]}";
 
 // Three dominoes on six cells.
 const STRIP: &[u8] =
@@ -54,7 +51,7 @@ fn expect_first(rt: &impl Abort, frame: &Frame<'_>, want: Option<u32>) {
 
 #[test]
 fn a_step_leaves_one_open(rt: HostRuntime) {
-    let view = view_of(rt.alloc(), SQUARE).expect(&rt, "a view");
+    let view = view_of(rt.alloc(), DOMINOES).expect(&rt, "a view");
     let mut frame = Frame::new(rt.alloc(), &view, &[]).expect(&rt, "memory");
     expect_counts(&rt, &view, &mut frame, &[4, 4, 4, 4, 4, 4]);
     frame.pick(0);
@@ -72,7 +69,7 @@ fn expect_found(rt: &impl Abort, frame: &Frame<'_>, want: Option<&[u32]>, due: b
 
 #[test]
 fn a_frame_finds_what_fills_the_square(rt: HostRuntime) {
-    let view = view_of(rt.alloc(), SQUARE).expect(&rt, "a view");
+    let view = view_of(rt.alloc(), DOMINOES).expect(&rt, "a view");
     let matrix = Matrix::new(rt.alloc(), &view).expect(&rt, "memory");
     let lacks = [Atom::Lacks(1)];
     let mut frame = Frame::over(rt.alloc(), &view, &matrix, &lacks).expect(&rt, "memory");
@@ -100,7 +97,7 @@ fn expect_starved(rt: &impl Abort, view: &View, frame: &mut Frame<'_>, placement
 
 #[test]
 fn a_placement_starves_a_cell_that_it_leaves_without_options(rt: HostRuntime) {
-    let view = view_of(rt.alloc(), SQUARE).expect(&rt, "a view");
+    let view = view_of(rt.alloc(), DOMINOES).expect(&rt, "a view");
     let mut frame = Frame::new(rt.alloc(), &view, &[]).expect(&rt, "memory");
     expect_starved(&rt, &view, &mut frame, 0, false);
     expect_starved(&rt, &view, &mut frame, 7, false);
@@ -120,7 +117,7 @@ fn an_item_that_is_not_there_is_due_first(rt: HostRuntime) {
 
 #[test]
 fn numbers_that_name_nothing_take_no_memory(rt: HostRuntime) {
-    let view = view_of(rt.alloc(), SQUARE).expect(&rt, "a view");
+    let view = view_of(rt.alloc(), DOMINOES).expect(&rt, "a view");
     let atoms = [Atom::Lacks(u32::MAX), Atom::Has(u32::MAX - 1)];
     let mut frame = Frame::new(rt.alloc(), &view, &atoms).expect(&rt, "memory");
     expect_counts(&rt, &view, &mut frame, &[4, 4, 4, 4, 4, 4]);

@@ -1,6 +1,9 @@
-//! Tests that cross crates: they compare what one crate answers with what another one does. There is nothing else here.
+//! Tests that need only public calls: examples with known answers, answers of one crate compared with those of another, and
+//! whole days at a desk. There is nothing else here.
 #![tactic(auto)]
 
+#[cfg(test)]
+mod answers;
 #[cfg(test)]
 mod atoms;
 #[cfg(test)]
@@ -12,9 +15,21 @@ mod browse;
 #[cfg(test)]
 mod catalogue;
 #[cfg(test)]
+mod changes;
+#[cfg(test)]
 mod design;
 #[cfg(test)]
 mod designs;
+#[cfg(test)]
+mod desk_day;
+#[cfg(test)]
+mod desk_limits;
+#[cfg(test)]
+mod desk_memory;
+#[cfg(test)]
+mod desk_threads;
+#[cfg(test)]
+mod desks;
 #[cfg(test)]
 mod exchange;
 #[cfg(test)]
@@ -22,11 +37,19 @@ mod frame;
 #[cfg(test)]
 mod full;
 #[cfg(test)]
+mod history;
+#[cfg(test)]
 mod laws;
 #[cfg(test)]
 mod limits;
 #[cfg(test)]
+mod lines;
+#[cfg(test)]
 mod memory;
+#[cfg(test)]
+mod nowhere;
+#[cfg(test)]
+mod numbers;
 #[cfg(test)]
 mod reports;
 #[cfg(test)]
@@ -40,4 +63,10 @@ mod shared_out;
 #[cfg(test)]
 mod solvers;
 #[cfg(test)]
+mod stairs;
+#[cfg(test)]
 mod tables;
+#[cfg(test)]
+mod trees;
+#[cfg(test)]
+mod views;

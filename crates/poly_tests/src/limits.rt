@@ -1,7 +1,8 @@
 //! Books at their limits: more tilings than may be listed, and more changes than may be made.
 
-use crate::books::{book_of, covering, edit, edit_of, expect_status};
-use poly_book::{Book, Done, Which};
+use crate::books::{book_of, covering, edit, edit_of, expect_refused, expect_status};
+use crate::designs::{EIGHT, NOWHERE};
+use poly_book::{Book, Which};
 use poly_design::Edit;
 use poly_grid::{Cell, Refusal};
 use poly_report::{Report, Tree};
@@ -10,19 +11,6 @@ use poly_tiling::Item;
 use std::alloc::Global;
 use std::process::Abort;
 
-const BLOCKED: &[u8] = b"{\"format\":1,\"grid\":\"square\",\"board\":[\".\"],\"pieces\":[]}";
-
-// Eight cells that may stay free and eight optional pieces of one cell: 1,441,729 tilings.
-const EIGHT: &[u8] =
-    b"{\"format\":1,\"grid\":\"square\",\"board\":[\"++++++++\"],\"pieces\":[{\"name\":\"A\",\"cells\":[[0,0]],\"need\":\"optional\"},{\"name\":\"B\",\"cells\":[[0,0]],\"need\":\"optional\"},{\"name\":\"C\",\"cells\":[[0,0]],\"need\":\"optional\"},{\"name\":\"D\",\"cells\":[[0,0]],\"need\":\"optional\"},{\"name\":\"E\",\"cells\":[[0,0]],\"need\":\"optional\"},{\"name\":\"F\",\"cells\":[[0,0]],\"need\":\"optional\"},{\"name\":\"G\",\"cells\":[[0,0]],\"need\":\"optional\"},{\"name\":\"H\",\"cells\":[[0,0]],\"need\":\"optional\"}]}";
-
-fn expect_refused(rt: &impl Abort, done: Result<Done, Refusal>, want: Refusal) {
-    match done {
-        Ok(_) => assert!(rt; false),
-        Err(refusal) => assert!(rt; refusal == want),
-    }
-}
-
 fn make(rt: &impl Abort, book: &mut Book, edit: &Edit) {
     let _ = book.edit(*edit).expect(rt, "an edit that is accepted");
 }
@@ -30,7 +18,7 @@ fn make(rt: &impl Abort, book: &mut Book, edit: &Edit) {
 #[test]
 fn editions_run_out(rt: HostRuntime) {
     let alloc = rt.alloc();
-    let mut book = book_of(&rt, alloc, BLOCKED);
+    let mut book = book_of(&rt, alloc, NOWHERE);
     let optional = edit_of(&rt, alloc, &book, b"cell 0,0 optional");
     let blocked = edit_of(&rt, alloc, &book, b"cell 0,0 blocked");
     for _ in 0..50_000u32 {

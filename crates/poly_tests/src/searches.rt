@@ -1,6 +1,6 @@
 //! What the solver lists: families by atoms, and the limit of a million tilings.
 
-use crate::designs::{DOMINOES, NARROW, design, view};
+use crate::designs::{DOMINOES, EIGHT, NARROW, design, view};
 use poly_atom::Atom;
 use poly_grid::Refusal;
 use poly_search::search_all;
@@ -11,10 +11,6 @@ use std::process::Abort;
 // A row of seven optional cells and seven optional pieces of one cell: 130,922 tilings.
 const SEVEN: &[u8] =
     b"{\"format\":1,\"grid\":\"square\",\"board\":[\"+++++++\"],\"pieces\":[{\"name\":\"A\",\"cells\":[[0,0]],\"need\":\"optional\"},{\"name\":\"B\",\"cells\":[[0,0]],\"need\":\"optional\"},{\"name\":\"C\",\"cells\":[[0,0]],\"need\":\"optional\"},{\"name\":\"D\",\"cells\":[[0,0]],\"need\":\"optional\"},{\"name\":\"E\",\"cells\":[[0,0]],\"need\":\"optional\"},{\"name\":\"F\",\"cells\":[[0,0]],\"need\":\"optional\"},{\"name\":\"G\",\"cells\":[[0,0]],\"need\":\"optional\"}]}";
-
-// A row of eight optional cells and eight optional pieces of one cell: 1,441,729 tilings.
-const EIGHT: &[u8] =
-    b"{\"format\":1,\"grid\":\"square\",\"board\":[\"++++++++\"],\"pieces\":[{\"name\":\"A\",\"cells\":[[0,0]],\"need\":\"optional\"},{\"name\":\"B\",\"cells\":[[0,0]],\"need\":\"optional\"},{\"name\":\"C\",\"cells\":[[0,0]],\"need\":\"optional\"},{\"name\":\"D\",\"cells\":[[0,0]],\"need\":\"optional\"},{\"name\":\"E\",\"cells\":[[0,0]],\"need\":\"optional\"},{\"name\":\"F\",\"cells\":[[0,0]],\"need\":\"optional\"},{\"name\":\"G\",\"cells\":[[0,0]],\"need\":\"optional\"},{\"name\":\"H\",\"cells\":[[0,0]],\"need\":\"optional\"}]}";
 
 fn family(
     rt: &(impl AllocGlobal + Abort),

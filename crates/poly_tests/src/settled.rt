@@ -1,6 +1,6 @@
 //! Books that are settled: the classes of their tilings, and questions about them.
 
-use crate::designs::{DOMINOES, NARROW, design_of};
+use crate::designs::{DOMINOES, NARROW, NOWHERE, design_of};
 use poly_book::{Book, Quiet};
 use poly_browse::{Query, browse, classes};
 use poly_grid::Refusal;
@@ -24,9 +24,7 @@ const CORNER: &[u8] =
 const OPTIONAL: &[u8] =
     b"{\"format\":1,\"grid\":\"square\",\"board\":[\"++\"],\"pieces\":[{\"name\":\"A\",\"cells\":[[0,0],[1,0]],\"need\":\"optional\"}]}";
 
-// A board without cells. Without pieces it has only the empty tiling, and with a piece that must be used it has none.
-const NOWHERE: &[u8] = b"{\"format\":1,\"grid\":\"square\",\"board\":[\".\"],\"pieces\":[]}";
-
+// A board without cells, and a piece that must be used: no tiling.
 const NO_ROOM: &[u8] =
     b"{\"format\":1,\"grid\":\"square\",\"board\":[\".\"],\"pieces\":[{\"name\":\"A\",\"cells\":[[0,0]]}]}";
 
@@ -35,6 +33,15 @@ const NO_ROOM: &[u8] =
 // with the tiling without it, these are three classes.
 const FLOWER: &[u8] =
     b"{\"format\":1,\"grid\":\"hex\",\"board\":[\".++\",\"+++\",\"++.\"],\"pieces\":[{\"name\":\"A\",\"cells\":[[0,0],[1,0]],\"need\":\"optional\"}]}";
+
+// The 36 ways to fill four by four cells with eight dominoes are 9 up to the symmetries of the square.
+const EIGHT_DOMINOES: &[u8] =
+    b"{\"format\":2,\"grid\":\"square\",\"board\":[\"####\",\"####\",\"####\",\"####\"],\"pieces\":[{\"name\":\"A\",\"cells\":[[0,0],[1,0]],\"least\":8,\"most\":8}]}";
+
+// A rhombus of four hexagons has the symmetries of a rectangle. A domino on one of its four sides is one class, on its short
+// diagonal another, and the tiling without it is the third.
+const RHOMBUS: &[u8] =
+    b"{\"format\":1,\"grid\":\"hex\",\"board\":[\"++\",\"++\"],\"pieces\":[{\"name\":\"A\",\"cells\":[[0,0],[1,0]],\"need\":\"optional\"}]}";
 
 // All tilings of the design of the puzzle line, by a book that is settled.
 fn settled(alloc: Global, puzzle: &[u8]) -> Result<Quiet, Refusal> {
@@ -67,6 +74,7 @@ fn expect_classes(rt: &(impl AllocGlobal + Abort), puzzle: &[u8], tilings: u64, 
 #[test]
 fn classes_of_rectangles(rt: HostRuntime) {
     expect_classes(&rt, DOMINOES, 4, 1);
+    expect_classes(&rt, EIGHT_DOMINOES, 36, 9);
     expect_classes(&rt, NARROW, 8, 2);
     expect_classes(&rt, WIDER, 9356, 2339);
 }
@@ -78,8 +86,9 @@ fn classes_of_a_parallelogram_of_hexagons(rt: HostRuntime) {
 }
 
 #[test]
-fn classes_of_hexagons_around_one(rt: HostRuntime) {
+fn classes_of_few_hexagons(rt: HostRuntime) {
     expect_classes(&rt, FLOWER, 13, 3);
+    expect_classes(&rt, RHOMBUS, 6, 3);
 }
 
 #[test]

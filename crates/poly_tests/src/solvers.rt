@@ -1,6 +1,6 @@
 //! The solver and the plain lister give the same tilings.
 
-use crate::designs::design_of;
+use crate::designs::{DOMINOES, design_of};
 use poly_grid::Refusal;
 use poly_search::search_all;
 use poly_tiling::{View, list_tilings, sort_tilings};
@@ -39,9 +39,6 @@ fn optional_cells_and_pieces(rt: HostRuntime) -> Result<(), Fail> {
     assert_eq!(rt; both(alloc, blocked, &[])?, Some(1));
     Ok(())
 }
-
-const DOMINOES: &[u8] =
-    b"{\"format\":1,\"grid\":\"square\",\"board\":[\"##\",\"##\"],\"pieces\":[{\"name\":\"A\",\"cells\":[[0,0],[1,0]]},{\"name\":\"B\",\"cells\":[[0,0],[1,0]]}]}";
 
 #[test]
 fn pins_and_forbidden_places(rt: HostRuntime) -> Result<(), Fail> {

@@ -4,7 +4,7 @@ ghost use Rattle.poly_design.specs.Changes.{changed};
 ghost use Rattle.poly_design.specs.Limits.{IsDesign};
 ghost use Rattle.poly_place.specs.Right.{IsRight};
 
-use crate::designs::{change_of, design_of};
+use crate::designs::{DOMINOES, change_of, design_of};
 use poly_design::{Change, Design, Placement};
 use poly_grid::Refusal;
 use poly_place::Table;
@@ -134,9 +134,6 @@ fn is_as_new_along(
     let back_too = is_as_new_back(alloc, design, table, &change, &back)?;
     Ok(later_too && back_too)
 }
-
-const DOMINOES: &[u8] =
-    b"{\"format\":1,\"grid\":\"square\",\"board\":[\"##\",\"##\"],\"pieces\":[{\"name\":\"A\",\"cells\":[[0,0],[1,0]]},{\"name\":\"B\",\"cells\":[[0,0],[1,0]]}]}";
 
 #[test]
 fn along_edits(rt: HostRuntime) -> Result<(), Fail> {

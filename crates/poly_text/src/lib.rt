@@ -21,8 +21,6 @@
 mod command;
 mod puzzle;
 mod replies;
-#[cfg(test)]
-mod tests;
 mod words;
 
 pub use command::{Command, Question, asked};

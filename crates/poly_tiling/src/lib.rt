@@ -27,6 +27,3 @@ pub use numbers::{ascends, has_all, has_number};
 pub use order::{sort_tilings, tilings_in_order};
 pub use tiling::Tiling;
 pub use view::{View, find_bound};
-
-#[cfg(test)]
-mod tests;

@@ -13,6 +13,3 @@ mod step;
 pub use history::{History, MAX_STEPS};
 pub use shelf::Shelf;
 pub use step::Step;
-
-#[cfg(test)]
-mod tests;

@@ -1,0 +1,193 @@
+//! What a desk does when memory runs out.
+//!
+//! With ample memory this test says little. It is run again with each allocation refused in turn: then one call fails
+//! with `Memory`, has to leave the desk as it was, and succeeds when it is made again.
+ghost use Rattle.std.specs.Prelude.{◌≡◌};
+ghost use Rattle.poly_desk.specs.Changes.{cut_count};
+
+use crate::books::{begun, edit_by, expect_status};
+use crate::designs::{DOMINOES, design_of};
+use crate::desks::{FORBID, shown, work};
+use crate::shared_out::is_shared_out;
+use poly_book::{Book, Quiet, Which};
+use poly_design::Edit;
+use poly_desk::{Desk, NotBegun, Opening, PARTS, Pass};
+use poly_grid::Refusal;
+use std::alloc::Global;
+use std::marker::Brand;
+use std::process::Abort;
+use std::sync::Wait;
+use std::sync::ledger::{Blank, Ledger};
+
+// What to ask of a desk. Work is a task that is taken, explored and handed in.
+#[derive(Clone, Copy)]
+enum Asked {
+    Edit(Edit),
+    Undo,
+    Redo,
+    Work,
+    Quiet,
+}
+
+fn ask<C: Ledger, K: Ledger, O: Opening, R: Wait + Abort>(
+    rt: &R,
+    alloc: Global,
+    desk: &Desk<C, K, O>,
+    pass: &mut Pass<C, K, O>,
+    asked: Asked,
+) -> Result<Option<Quiet>, Refusal> {
+    let _ = match asked {
+        Asked::Edit(edit) => desk.edit(rt, pass, edit)?,
+        Asked::Undo => desk.undo(rt, pass)?,
+        Asked::Redo => desk.redo(rt, pass)?,
+        Asked::Work => work(rt, alloc, desk, pass, Which::Any)?.1,
+        Asked::Quiet => return Ok(Some(desk.quiet(rt, pass)?)),
+    };
+    Ok(None)
+}
+
+// Asks, and asks again if memory was refused.
+fn make<C: Ledger, K: Ledger, O: Opening, R: Wait + Abort>(
+    rt: &R,
+    alloc: Global,
+    desk: &Desk<C, K, O>,
+    pass: &mut Pass<C, K, O>,
+    asked: Asked,
+) -> Option<Quiet> {
+    let before = shown(rt, alloc, desk, pass);
+    match ask(rt, alloc, desk, pass, asked) {
+        Ok(quiet) => quiet,
+        Err(why) => {
+            assert!(rt; why == Refusal::Memory);
+            assert!(rt; shown(rt, alloc, desk, pass) == before);
+            ask(rt, alloc, desk, pass, asked).expect(rt, "memory")
+        }
+    }
+}
+
+// Works until no task is pending, in at most 1,000 reports.
+fn work_on<C: Ledger, K: Ledger, O: Opening, R: Wait + Abort>(
+    rt: &R,
+    alloc: Global,
+    desk: &Desk<C, K, O>,
+    pass: &mut Pass<C, K, O>,
+) {
+    for _ in 0..1000 {
+        if desk.next(rt, pass, 1) == Ok(None) {
+            break;
+        }
+        let _ = make(rt, alloc, desk, pass, Asked::Work);
+    }
+}
+
+// A second pass.
+fn second_pass<C: Ledger, K: Ledger, O: Opening, R: Wait + Abort>(
+    rt: &R,
+    alloc: Global,
+    desk: &Desk<C, K, O>,
+    pass: &mut Pass<C, K, O>,
+) -> Pass<C, K, O> {
+    let before = shown(rt, alloc, desk, pass);
+    match desk.pass(rt, alloc, pass) {
+        Ok(further) => further,
+        Err(why) => {
+            assert!(rt; why == Refusal::Memory);
+            assert!(rt; shown(rt, alloc, desk, pass) == before);
+            desk.pass(rt, alloc, pass).expect(rt, "memory")
+        }
+    }
+}
+
+fn day<C: Ledger, K: Ledger, O: Opening, R: Wait + Abort>(
+    rt: &R,
+    alloc: Global,
+    changes: Blank,
+    cuts: Blank,
+    book: Book,
+    forbid: Edit,
+) -> Result<(Book, Quiet), NotBegun>
+    requires changes { (changes.name ≡ C.name) × (changes.parts ≡ C.parts) × (changes.parts ≡ PARTS) }
+    requires cuts { (cuts.name ≡ K.name) × (cuts.parts ≡ K.parts) × (cuts.parts ≡ PARTS) }
+    requires design { book.opened ≡ O.design }
+    requires view { book.view ≡ O.view }
+    requires steps { book.steps ≡ O.steps }
+    requires endings { cut_count book.endings ≡ O.cuts }
+{
+    let (desk, mut p) = match Desk::<C, K, O>::begin(alloc, changes, cuts, book) {
+        Ok(both) => both,
+        Err(not_begun) => return Err(not_begun),
+    };
+    let mut q = second_pass(rt, alloc, &desk, &mut p);
+    let _ = make(rt, alloc, &desk, &mut p, Asked::Work);
+    let _ = make(rt, alloc, &desk, &mut q, Asked::Edit(forbid));
+    let _ = make(rt, alloc, &desk, &mut q, Asked::Undo);
+    let _ = make(rt, alloc, &desk, &mut q, Asked::Redo);
+    work_on(rt, alloc, &desk, &mut p);
+    let answer = make(rt, alloc, &desk, &mut p, Asked::Quiet);
+    let quiet = answer.expect(rt, "a Quiet");
+    assert!(rt; shown(rt, alloc, &desk, &mut q).2 == 3);
+    let mut passes = match Vec::with_capacity(alloc, 2) {
+        Ok(passes) => passes,
+        Err(_) => Vec::with_capacity(alloc, 2).expect(rt, "memory"),
+    };
+    passes.push(p).expect(rt, "room");
+    passes.push(q).expect(rt, "room");
+    let settled = desk.settle_up(passes, Vec::new(alloc));
+    Ok((settled.ok().expect(rt, "it is settled up"), quiet))
+}
+
+// Asserts that the book and its Quiet have the design without one placement, at edition 3, and exactly its tilings.
+fn expect_whole(rt: &impl Abort, alloc: Global, book: &Book, quiet: &Quiet) {
+    expect_status(rt, book, (3, 3, 0));
+    assert!(rt; (quiet.edition(), quiet.tilings().len()) == (3, 3));
+    let design = match design_of(alloc, DOMINOES, &[FORBID]) {
+        Ok(design) => design,
+        Err(_) => design_of(alloc, DOMINOES, &[FORBID]).expect(rt, "memory"),
+    };
+    assert!(rt; quiet.design().is_same(&design) && book.design().is_same(&design));
+    let shared_out = match is_shared_out(alloc, book) {
+        Ok(shared_out) => shared_out,
+        Err(_) => is_shared_out(alloc, book).expect(rt, "memory"),
+    };
+    assert!(rt; shared_out);
+}
+
+// An opening book, and the edit that forbids a placement.
+fn opening(alloc: Global) -> Result<(Book, Edit), Refusal> {
+    let book = begun(alloc, DOMINOES)?;
+    let forbid = edit_by(alloc, &book, FORBID)?;
+    Ok((book, forbid))
+}
+
+#[test]
+fn a_day_without_memory(rt: HostRuntime) {
+    let alloc = rt.alloc();
+    let (book, forbid) = match opening(alloc) {
+        Ok(both) => both,
+        Err(_) => opening(alloc).expect(&rt, "memory"),
+    };
+    let first = day::<Brand, Brand, Brand, HostRuntime>(
+        &rt,
+        alloc,
+        Blank::new(PARTS),
+        Blank::new(PARTS),
+        book,
+        forbid,
+    );
+    let (after, quiet) = match first {
+        Ok(both) => both,
+        Err(not_begun) => {
+            assert!(rt; not_begun.why == Refusal::Memory);
+            let second = day::<Brand, Brand, Brand, HostRuntime>(
+                &rt,
+                alloc,
+                Blank::new(PARTS),
+                Blank::new(PARTS),
+                not_begun.book,
+                forbid,
+            );
+            second.ok().expect(&rt, "memory")
+        }
+    };
+    expect_whole(&rt, alloc, &after, &quiet);
+}

@@ -1,0 +1,87 @@
+//! The test kit of desks: work on a task, what a desk shows, and the place of a receipt.
+
+use poly_board::Posted;
+use poly_book::{Applied, Job, Which};
+use poly_browse::Query;
+use poly_desk::{Desk, Opening, Pass, Receipt};
+use poly_grid::Refusal;
+use poly_report::Report;
+use poly_search::explore;
+use std::alloc::Global;
+use std::process::Abort;
+use std::sync::Wait;
+use std::sync::ledger::Ledger;
+
+/// Forbids one placement to A, which leaves `DOMINOES` 3 tilings.
+pub(crate) const FORBID: &[u8] = b"forbid A 0,0 1,0";
+
+// The report that exploring the task gives. That on task 1 is a Branch whose arms are all left to others.
+fn report_on(alloc: Global, job: &Job) -> Result<Report, Refusal> {
+    let turns = if job.task == 1 { 1 } else { 256 };
+    let tree = explore(alloc, &job.view, &job.atoms, turns)?;
+    Ok(Report {
+        task: job.task,
+        edition: job.edition,
+        tree,
+    })
+}
+
+/// Takes a task, explores it and hands the report in. The test fails if there is no task to take.
+pub(crate) fn work<C: Ledger, K: Ledger, O: Opening, R: Wait + Abort>(
+    rt: &R,
+    alloc: Global,
+    desk: &Desk<C, K, O>,
+    pass: &mut Pass<C, K, O>,
+    which: Which,
+) -> Result<(Applied, Receipt), Refusal> {
+    let job = desk.take(rt, pass, which)?.expect(rt, "a pending task");
+    let report = report_on(alloc, &job)?;
+    desk.hand_in(rt, pass, report)
+}
+
+/// How many tilings are listed, as browsing without words counts them.
+pub(crate) fn count<C: Ledger, K: Ledger, O: Opening, R: Wait>(
+    rt: &R,
+    alloc: Global,
+    desk: &Desk<C, K, O>,
+    pass: &mut Pass<C, K, O>,
+) -> Result<u64, Refusal> {
+    let query = Query {
+        has: Vec::new(alloc),
+        lacks: Vec::new(alloc),
+        covers: Vec::new(alloc),
+    };
+    let answer = desk.browse(rt, alloc, pass, &query)?;
+    Ok(answer.count)
+}
+
+/// What a desk shows: its numbers, the least pending task, and how many tilings are listed.
+pub(crate) type Shown = (Posted, Option<u32>, u64);
+
+/// What the desk shows. If browsing is refused for memory, it must leave the desk as it was, and is tried again.
+pub(crate) fn shown<C: Ledger, K: Ledger, O: Opening, R: Wait + Abort>(
+    rt: &R,
+    alloc: Global,
+    desk: &Desk<C, K, O>,
+    pass: &mut Pass<C, K, O>,
+) -> Shown {
+    let posted = desk.look(pass);
+    let next = desk.next(rt, pass, 1).expect(rt, "the edition noted");
+    match count(rt, alloc, desk, pass) {
+        Ok(listed) => (posted, next, listed),
+        Err(why) => {
+            assert!(rt; why == Refusal::Memory);
+            assert!(rt; desk.look(pass) == posted && desk.next(rt, pass, 1) == Ok(next));
+            let listed = count(rt, alloc, desk, pass).expect(rt, "memory");
+            (posted, next, listed)
+        }
+    }
+}
+
+/// The place of the receipt, counted from 1.
+pub(crate) fn place_of(receipt: &Receipt) -> u64 {
+    match receipt {
+        Receipt::Changed { place, .. } => *place,
+        Receipt::Cut { place, .. } => *place,
+    }
+}

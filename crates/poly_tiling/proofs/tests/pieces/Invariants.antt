@@ -1,6 +1,0 @@
-use Rattle.poly_grid.specs.declared.grid.Grid.TheVariants.{Square}
-use Rattle.poly_design.specs.Limits.{AreOfGrid}
-use Rattle.poly_tiling.proofs.tests.pieces.Given as goal
-
-abbrev pub invariant-loop-name : goal.invariant-loop-name
-invariant-loop-name l = AreOfGrid Square l.pieces.entries
