@@ -8,7 +8,7 @@ ghost use Rattle.poly_desk.specs.Changes.{cut_count};
 use crate::reports::inner_nodes;
 use poly_book::{Book, Job, Which};
 use poly_design::Design;
-use poly_desk::{Desk, Opening, Pass};
+use poly_desk::{Desk, Opening, PARTS, Pass};
 use poly_grid::Refusal;
 use poly_report::Report;
 use poly_search::explore;
@@ -59,8 +59,8 @@ pub fn measure<R: Clock + Print + Wait>(rt: &R, alloc: Global, design: &Design) 
         Err(refusal) => return println!(rt; "a book was refused: {}", refusal.name()),
     };
     // A ledger has a part for each of 10,000 passes, and one that no pass has.
-    let changes = Blank::new(10001);
-    let cuts = Blank::new(10001);
+    let changes = Blank::new(PARTS);
+    let cuts = Blank::new(PARTS);
     measure_sides::<Brand, Brand, Brand, R>(rt, alloc, changes, cuts, book, other)
 }
 
@@ -80,8 +80,8 @@ fn measure_sides<C: Ledger, K: Ledger, O: Opening, R: Clock + Print + Wait>(
     book: Book,
     other: Book,
 ) -> io::Result<()>
-    requires changes { (changes.name ≡ C.name) × (changes.parts ≡ C.parts) × (changes.parts ≡ 10001) }
-    requires cuts { (cuts.name ≡ K.name) × (cuts.parts ≡ K.parts) × (cuts.parts ≡ 10001) }
+    requires changes { (changes.name ≡ C.name) × (changes.parts ≡ C.parts) × (changes.parts ≡ PARTS) }
+    requires cuts { (cuts.name ≡ K.name) × (cuts.parts ≡ K.parts) × (cuts.parts ≡ PARTS) }
     requires design { other.opened ≡ O.design }
     requires view { other.view ≡ O.view }
     requires steps { other.steps ≡ O.steps }

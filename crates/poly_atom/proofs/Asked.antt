@@ -2,7 +2,7 @@
 use Rattle.std.proofs.Common.{Bool, List, [], ap, eqb, false, get_or, inl, inr, length, not, refl, set, subst, sym, take, true, ℕ, ◌++◌, ◌||◌, ◌&&◌, ◌+◌, ◌<◌, ◌∙◌, ◌∷◌, ◌≡◌, ◌≤◌}
 use Rattle.std.proofs.lemmas.Bool.{eq-eqb, eqb-true, or_cases, or_left, or_right, true≢false}
 use Rattle.std.proofs.lemmas.List.{take_all, take_more, take_more_set}
-use Rattle.std.specs.List.{list_all, list_any}
+use Rattle.std.specs.List.{list_any}
 use Rattle.std.specs.Prelude.{nat_lt}
 use Rattle.poly_tiling.specs.Lists.{mem}
 use Rattle.poly_tiling.specs.Puzzle.{View, clash, count, is_piece, items, most}
@@ -12,7 +12,6 @@ use Rattle.poly_atom.specs.declared.atom.Atom.{Atom}
 use Rattle.poly_atom.specs.declared.atom.Atom.TheVariants.{AtLeast, AtMost, Has, Lacks}
 use Rattle.poly_atom.specs.Hopeless.{AskTheSame, asked, bad, base, beyond, hopeless, lacks, lost}
 use Rattle.poly_atom.proofs.Bases.{asked_in, base_in, base_up, in_asked, in_base_has, in_base_pin}
-use Rattle.poly_atom.proofs.Counted.{or_no}
 
 pub asked_append : (A B : List Atom) → asked (A ++ B) ≡ asked A ++ asked B
 asked_append [] B = refl

@@ -7,7 +7,6 @@ use Rattle.poly_place.specs.Between.{IsChangeOf}
 use Rattle.poly_place.specs.Index.{item_of}
 use Rattle.poly_place.specs.declared.delta.Delta.{Delta}
 use Rattle.poly_tiling.specs.Lists.{mem}
-use Rattle.poly_tiling.specs.Names.{WellNamed}
 use Rattle.poly_tiling.specs.Puzzle.{View, clash, count, has_item, is_piece, items, most, same_item}
 use Rattle.poly_tiling.specs.declared.item.Item.{Item}
 use Rattle.poly_tiling.specs.declared.item.Item.TheVariants.{Piece}

@@ -9,7 +9,7 @@ use Rattle.poly_book.specs.declared.laws.Reply.{Reply}
 use Rattle.poly_book.specs.declared.laws.Reply.TheVariants as reply
 use Rattle.poly_design.specs.Changes.{inverse_of}
 use Rattle.poly_book.specs.Events as event
-use Rattle.poly_book.specs.Events.{Goes, LeadsBy, step}
+use Rattle.poly_book.specs.Events.{LeadsBy, step}
 use Rattle.poly_book.specs.Happenings.{AllHappen, Happens, HoldsNow, KeepsHolding}
 use Rattle.poly_book.specs.States.{State}
 use Rattle.poly_book.specs.Whole.{Runs, Whole}

@@ -25,7 +25,7 @@ pub record HasAll (q : AllTilings) : Type 0 where
   pub each : HasEachOnce q.view q.tilings
   pub order : IsSorted (tiling_cmp q.view) q.tilings
 
--- they are those of a state in which nothing is pending
+-- nothing is pending in the state, and the tilings are those of its design, at its edition
 pub record IsQuietOf (s : State) (q : AllTilings) : Type 0 where
   pub none : s.pending ≡ []
   pub design : q.design ≡ s.design

@@ -5,7 +5,9 @@ use Rattle.poly_design.specs.Changes.{changed, inverse_of}
 use Rattle.poly_design.specs.Layout.{Layout}
 use Rattle.poly_design.specs.declared.placement.Placement.{Placement}
 use Rattle.poly_tiling.specs.Listings.{HasOverTilings, IsListOfTilings}
+use Rattle.poly_tiling.specs.declared.lister.TheConstants.{MAX_TILINGS}
 use Rattle.poly_book.specs.States.{State, Way}
+use Rattle.poly_book.specs.declared.prepare.TheConstants.{MAX_GUARDS}
 
 -- the design has at least n tilings
 abbrev pub AreTilingsOf : ℕ → Layout → Type 0
@@ -17,15 +19,15 @@ AreAllTilingsOf n d = (all : List (List Placement)) → IsListOfTilings d all �
 
 -- undoing the last change leads to a design with over 1,000,000 tilings
 abbrev pub UndoIsFull : State → Type 0
-UndoIsFull s = (way : Way) × (rest : List Way) × (s.back ≡ way ∷ rest) × HasOverTilings 1000000 (changed s.design (inverse_of way.change))
+UndoIsFull s = (way : Way) × (rest : List Way) × (s.back ≡ way ∷ rest) × HasOverTilings MAX_TILINGS (changed s.design (inverse_of way.change))
 
 -- redoing the change that was undone last leads to one
 abbrev pub RedoIsFull : State → Type 0
-RedoIsFull s = (way : Way) × (rest : List Way) × (s.forth ≡ way ∷ rest) × HasOverTilings 1000000 (changed s.design way.change)
+RedoIsFull s = (way : Way) × (rest : List Way) × (s.forth ≡ way ∷ rest) × HasOverTilings MAX_TILINGS (changed s.design way.change)
 
 -- the change from the first design to the second, or its way back, has more than 20,000 guards
 abbrev pub IsWide : Layout → Layout → Type 0
-IsWide d e = (n : ℕ) × (20000 < n) × (HasWidth d e n ⊎ HasWidth e d n)
+IsWide d e = (n : ℕ) × (MAX_GUARDS < n) × (HasWidth d e n ⊎ HasWidth e d n)
 
 -- the change from the first design to the second and its way back have at most 20,000 guards each
 pub record IsNarrow (d e : Layout) : Type 0 where
@@ -33,5 +35,5 @@ pub record IsNarrow (d e : Layout) : Type 0 where
   pub back : ℕ
   pub forth_width : HasWidth d e forth
   pub back_width : HasWidth e d back
-  pub few_forth : forth ≤ 20000
-  pub few_back : back ≤ 20000
+  pub few_forth : forth ≤ MAX_GUARDS
+  pub few_back : back ≤ MAX_GUARDS

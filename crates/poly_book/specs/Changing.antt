@@ -16,6 +16,7 @@ use Rattle.poly_atom.specs.Stairs.{stairs}
 use Rattle.poly_place.specs.declared.plan.Plan.{Plan}
 use Rattle.poly_undo.specs.declared.step.Step.{Step as Beside}
 use Rattle.poly_undo.specs.Steps.{Moves, Steps, newest, next_of}
+use Rattle.poly_book.specs.declared.prepare.TheConstants.{MAX_CHANGES, MAX_GUARDS, MAX_SHELF}
 use Rattle.poly_book.specs.declared.shelf.Kept.{Kept}
 use Rattle.poly_book.specs.declared.step.Kind.{Kind}
 use Rattle.poly_book.specs.declared.step.Kind.TheVariants.{Edit, Redo, Undo}
@@ -31,7 +32,7 @@ use Rattle.poly_book.specs.Tasks.{atoms_of, hopeful}
 
 -- what is kept of what a change takes away, if the inverse has this many guards
 abbrev pub shelf_by : View → List (List ℕ) → List (List Atom) → List Pending → ℕ → Option Stored
-shelf_by w listed log ps width = cond (nat_le (length ps * width) 4096) (Some (record { taken = filter (λ T. not (is_tiling w T)) listed; frozen = map (λ t. atoms_of t) (tasks_of log ps) })) None
+shelf_by w listed log ps width = cond (nat_le (length ps * width) MAX_SHELF) (Some (record { taken = filter (λ T. not (is_tiling w T)) listed; frozen = map (λ t. atoms_of t) (tasks_of log ps) })) None
 
 -- what is prepared for a change from one view to another
 pub record IsGathered (v : View) (listed : List (List ℕ)) (log : List (List Atom)) (ps : List Pending) (stood : Option Stored) (after : Layout) (plan : Plan) (next : ℕ) (r : Prepared) : Type 0 where
@@ -53,8 +54,8 @@ pub record IsGathered (v : View) (listed : List (List ℕ)) (log : List (List At
 -- there were 100,000 changes, or a task number would be over 4,294,967,295
 abbrev pub IsNotGathered : View → View → Kind → ℕ → ℕ → Option Stored → Refusal → Type 0
 IsNotGathered v w k count next stood e =
-    ((e ≡ TooWide) × (k ≡ Edit) × ((20000 < length (guards v w)) ⊎ (20000 < length (guards w v))))
-    ⊎ ((e ≡ Spent) × ((100000 ≤ count) ⊎ (4294967296 < next + length (hopeful w (openings stood (stairs (guards v w))))))) ⊎ (e ≡ Memory)
+    ((e ≡ TooWide) × (k ≡ Edit) × ((MAX_GUARDS < length (guards v w)) ⊎ (MAX_GUARDS < length (guards w v))))
+    ⊎ ((e ≡ Spent) × ((MAX_CHANGES ≤ count) ⊎ (4294967296 < next + length (hopeful w (openings stood (stairs (guards v w))))))) ⊎ (e ≡ Memory)
 
 -- there is a step to undo or redo
 abbrev pub CanNote : Kind → Steps Change Kept → Type 0

@@ -21,6 +21,7 @@ use Rattle.poly_book.specs.declared.step.Ending.TheVariants.{Cut, Hopeless}
 use Rattle.poly_book.specs.Tasks.{Task, atoms_of, drop_task, find_task, hopeful, lay, tasks_from}
 use Rattle.poly_book.specs.States.{State, Stored, Way}
 use Rattle.poly_book.specs.Shelves.{is_kept, newest, openings, returned, way_back}
+use Rattle.poly_undo.specs.declared.history.TheConstants.{MAX_STEPS}
 
 -- A change comes with the view of the design that it leads to.
 pub data Event : Type 0 where
@@ -57,7 +58,7 @@ undone s w (b ∷ ways) = moved s kind.Undo (inverse_of b.change) w b.shelf (is_
 
 abbrev pub redone : State → View → List Way → State
 redone s w [] = s
-redone s w (b ∷ ways) = moved s kind.Redo b.change w b.shelf (is_kept b.shelf) (newest 256 (way_back s b.change w ∷ s.back)) ways
+redone s w (b ∷ ways) = moved s kind.Redo b.change w b.shelf (is_kept b.shelf) (newest MAX_STEPS (way_back s b.change w ∷ s.back)) ways
 
 -- the task ends, the tree's tilings are listed, and its rests opened
 abbrev pub cut : State → ℕ → Task → Plan → State
@@ -76,7 +77,7 @@ handed_in s k None tree = s
 handed_in s k (Some t) tree = cond (fits tree && holds s.view (atoms_of t) tree) (cut s k t tree) s
 
 abbrev pub step : State → Event → State
-step s (Edit x w) = moved s kind.Edit x w None true (newest 256 (way_back s x w ∷ s.back)) []
+step s (Edit x w) = moved s kind.Edit x w None true (newest MAX_STEPS (way_back s x w ∷ s.back)) []
 step s (Undo w) = undone s w s.back
 step s (Redo w) = redone s w s.forth
 step s (Report k tree) = handed_in s k (find_task k s.pending) tree

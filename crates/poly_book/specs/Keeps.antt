@@ -7,6 +7,8 @@ use Rattle.poly_tiling.specs.Puzzle.{View}
 use Rattle.poly_atom.specs.declared.atom.Atom.{Atom}
 use Rattle.poly_place.specs.Right.{IsRight}
 use Rattle.poly_undo.specs.Steps.{Steps}
+use Rattle.poly_undo.specs.declared.history.TheConstants.{MAX_STEPS}
+use Rattle.poly_book.specs.declared.prepare.TheConstants.{MAX_CHANGES}
 use Rattle.poly_book.specs.declared.parts.Parts.{Parts}
 use Rattle.poly_book.specs.declared.register.Register.{Register}
 use Rattle.poly_book.specs.declared.shelf.Kept.{Kept}
@@ -32,10 +34,10 @@ pub record KeepsOf (m : Register) (o d : Layout) (v table : View) (ls : List (Li
   pub mapped : AreNotedBelow m.below m.maps log ps
   pub below : m.below ≤ n
   pub log_length : length log ≡ length ss
-  pub few_steps : length ss ≤ 100000
+  pub few_steps : length ss ≤ MAX_CHANGES
   pub few_tasks : n ≤ 4294967296
   pub numbered : length es + length ps < n
-  pub few_ways : length h.undo + length h.redo ≤ 256
+  pub few_ways : length h.undo + length h.redo ≤ MAX_STEPS
 
 -- the state that the fields show
 abbrev pub state_of : Parts → State

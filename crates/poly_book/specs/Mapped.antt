@@ -9,18 +9,20 @@ use Rattle.poly_tiling.specs.declared.item.Item.{Item}
 use Rattle.poly_tiling.specs.declared.item.Item.TheVariants.{Cell, Piece}
 use Rattle.poly_atom.specs.declared.atom.Atom.{Atom}
 use Rattle.poly_atom.specs.declared.atom.Atom.TheVariants.{AtLeast, AtMost, Has, Lacks}
+use Rattle.poly_book.specs.declared.maps.TheConstants.{FIRST_NAME}
 use Rattle.poly_book.specs.declared.maps.Maps.{Maps}
 use Rattle.poly_book.specs.declared.maps.Prefix.{Prefix}
 use Rattle.poly_book.specs.declared.rows.Span.{Span}
 use Rattle.poly_book.specs.declared.task.Pending.{Pending}
 use Rattle.poly_book.specs.Meaning.{own_of}
+use Rattle.poly_grid.specs.declared.cell.TheConstants.{SIDE}
 
 abbrev pub key_of_name : List ℕ → ℕ
-key_of_name n = 4096 + slice_index_or n (length n - 1) 0
+key_of_name n = FIRST_NAME + slice_index_or n (length n - 1) 0
 
 -- a number for each item
 abbrev pub key_of : Item → ℕ
-key_of (Cell c) = c.y * 64 + c.x
+key_of (Cell c) = c.y * SIDE + c.x
 key_of (Piece n) = key_of_name n
 
 abbrev pub in_span : Span → ℕ → Bool

@@ -34,7 +34,7 @@ task_of log p = record { number = p.number; own = own_of log p.own; laid = flat 
 abbrev pub tasks_of : List (List Atom) → List Pending → List Task
 tasks_of log ps = map (λ p. task_of log p) ps
 
--- its stair is in the log, and the log has the edition at which it was made
+-- the task's stair is in the log, and the log has the edition at which it was made
 pub record IsTask (log : List (List Atom)) (p : Pending) : Type 0 where
   pub own : IsOwn log p.own
   pub made : p.made ≤ length log

@@ -8,11 +8,13 @@ use Rattle.poly_design.specs.declared.change.Change.{Change}
 use Rattle.poly_design.specs.declared.edit.Edit.{Edit}
 use Rattle.poly_tiling.specs.Names.{Grown}
 use Rattle.poly_tiling.specs.Puzzle.{View}
+use Rattle.poly_tiling.specs.declared.lister.TheConstants.{MAX_TILINGS}
 use Rattle.poly_atom.specs.Guards.{guards}
 use Rattle.poly_place.specs.Spent.{IsSpent as NumbersAreSpent}
 use Rattle.poly_report.specs.Trees.{Plan}
 use Rattle.poly_report.specs.Sizes.{fits}
 use Rattle.poly_report.specs.Holds.{holds}
+use Rattle.poly_book.specs.declared.prepare.TheConstants.{MAX_CHANGES, MAX_GUARDS}
 use Rattle.poly_book.specs.declared.step.Kind.{Kind}
 use Rattle.poly_book.specs.declared.step.Kind.TheVariants as kind
 use Rattle.poly_book.specs.Amounts.{IsWide}
@@ -27,19 +29,19 @@ LeadsTo s x P = (w : View) × Leads s x w × P w
 
 -- the guards of the change, or of its way back, are more than 20,000: as its designs say, and as views of them show
 abbrev pub IsTooWide : Change → State → Type 0
-IsTooWide x s = IsWide s.design (changed s.design x) × LeadsTo s x (λ w. (20000 < length (guards s.view w)) ⊎ (20000 < length (guards w s.view)))
+IsTooWide x s = IsWide s.design (changed s.design x) × LeadsTo s x (λ w. (MAX_GUARDS < length (guards s.view w)) ⊎ (MAX_GUARDS < length (guards w s.view)))
 
 -- There were 100,000 changes, or a new task would get a number over 4,294,967,295, or there are more placements than
 -- placement numbers: those of the view, and further ones that refused changes gave out.
 abbrev pub IsSpent : Kind → Change → State → Type 0
 IsSpent k x s =
-    (100000 ≤ length s.steps)
+    (MAX_CHANGES ≤ length s.steps)
     ⊎ LeadsTo s x (λ w. 4294967296 < (step s (event_of k x w)).next)
     ⊎ ((given : View) × Grown s.view given × NumbersAreSpent given.placements (changed s.design x))
 
 -- more than 1,000,000 tilings would be listed
 abbrev pub IsFull : Kind → Change → State → Type 0
-IsFull k x s = LeadsTo s x (λ w. 1000000 < length (step s (event_of k x w)).listed)
+IsFull k x s = LeadsTo s x (λ w. MAX_TILINGS < length (step s (event_of k x w)).listed)
 
 -- why a change of the kind isn't made
 abbrev pub IsNotMade : Kind → Change → State → Refusal → Type 0
@@ -62,7 +64,7 @@ IsNotRedone s e = ((e ≡ NothingToRedo) × (s.forth ≡ [])) ⊎ ((way : Way) �
 -- the report would open a task whose number is over 4,294,967,295, or list more than 1,000,000 tilings
 abbrev pub IsOver : ℕ → Plan → State → Refusal → Type 0
 IsOver k tree s e =
-    ((e ≡ Spent) × (4294967296 < (step s (Report k tree)).next)) ⊎ ((e ≡ CatalogueFull) × (1000000 < length (step s (Report k tree)).listed)) ⊎ (e ≡ Memory)
+    ((e ≡ Spent) × (4294967296 < (step s (Report k tree)).next)) ⊎ ((e ≡ CatalogueFull) × (MAX_TILINGS < length (step s (Report k tree)).listed)) ⊎ (e ≡ Memory)
 
 -- The task isn't pending; or the tree doesn't fit; or it doesn't hold; or a limit is reached.
 abbrev pub IsNotApplied : ℕ → Plan → State → Refusal → Type 0

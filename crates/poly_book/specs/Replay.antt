@@ -9,6 +9,7 @@ use Rattle.poly_book.specs.declared.step.Kind.TheVariants.{Edit, Redo, Undo}
 use Rattle.poly_book.specs.declared.step.Step.{Step}
 use Rattle.poly_book.specs.States.{State}
 use Rattle.poly_book.specs.Shelves.{newest}
+use Rattle.poly_undo.specs.declared.history.TheConstants.{MAX_STEPS}
 
 -- a design, the changes that can be undone and those that can be redone, the newest first
 pub record Trace : Type 0 where
@@ -18,9 +19,9 @@ pub record Trace : Type 0 where
 
 -- a change is made: an undo makes the inverse of the change that it undoes
 abbrev pub traced : Trace → Kind → Change → Trace
-traced t Edit x = record { design = changed t.design x; back = newest 256 (x ∷ t.back); forth = [] }
+traced t Edit x = record { design = changed t.design x; back = newest MAX_STEPS (x ∷ t.back); forth = [] }
 traced t Undo x = record { design = changed t.design x; back = drop 1 t.back; forth = inverse_of x ∷ t.forth }
-traced t Redo x = record { design = changed t.design x; back = newest 256 (x ∷ t.back); forth = drop 1 t.forth }
+traced t Redo x = record { design = changed t.design x; back = newest MAX_STEPS (x ∷ t.back); forth = drop 1 t.forth }
 
 -- the newest step comes first
 abbrev pub replayed : Layout → List Step → Trace

@@ -12,7 +12,7 @@ use Rattle.poly_book.specs.Refused.{IsOver}
 use Rattle.poly_book.specs.States.{State}
 use Rattle.poly_book.specs.Tasks.{atoms_of}
 
--- this many tasks were cut; the opening design, the design and the steps are the same
+-- n tasks were cut; the opening design, the design and the steps are the same
 pub record Cuts (s t : State) (n : ℕ) : Type 0 where
   pub opened : t.opened ≡ s.opened
   pub design : t.design ≡ s.design

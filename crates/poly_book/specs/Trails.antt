@@ -11,6 +11,7 @@ use Rattle.poly_book.specs.States.{State, Stored, Way}
 use Rattle.poly_book.specs.Shelves.{newest, shelf_of}
 use Rattle.poly_book.specs.Events.{Edit, Event, Redo, Report, Undo}
 use Rattle.poly_book.specs.Partition.{IsShelf, Partition}
+use Rattle.poly_undo.specs.declared.history.TheConstants.{MAX_STEPS}
 
 -- an earlier view, the number of the step that led away from it, and what that step stored
 pub record Led : Type 0 where
@@ -32,11 +33,11 @@ trail_undone s w (u ∷ us) t = record { back = us; forth = led_back s w ∷ t.f
 
 abbrev pub trail_redone : State → View → List Led → Trail → Trail
 trail_redone s w [] t = t
-trail_redone s w (u ∷ us) t = record { back = newest 256 (led_back s w ∷ t.back); forth = us }
+trail_redone s w (u ∷ us) t = record { back = newest MAX_STEPS (led_back s w ∷ t.back); forth = us }
 
 -- the views after an event
 abbrev pub trailed : State → Event → Trail → Trail
-trailed s (Edit x w) t = record { back = newest 256 (led_back s w ∷ t.back); forth = [] }
+trailed s (Edit x w) t = record { back = newest MAX_STEPS (led_back s w ∷ t.back); forth = [] }
 trailed s (Undo w) t = trail_undone s w t.back t
 trailed s (Redo w) t = trail_redone s w t.forth t
 trailed s (Report k tree) t = t

@@ -18,6 +18,7 @@ ghost use Rattle.poly_book.specs.Keeps.{Keeps, state_of};
 ghost use Rattle.poly_book.specs.Mapped.{AreNoted};
 ghost use Rattle.poly_book.specs.Refused.{IsNotMade};
 ghost use Rattle.poly_book.specs.Steps.{IsDone};
+ghost use Rattle.poly_tiling.specs.declared.lister.TheConstants.{MAX_TILINGS};
 
 use crate::parts::Parts;
 use crate::prepare::{Prepared, gather, is_shelved};
@@ -185,7 +186,7 @@ fn enter(
     ensures listed { OnOk result (AreSame listed.new (filter (λ T. is_tiling view.now T) listed.old ++ more.items)) }
     ensures log_stays { OnErr result (log.new ≡ log.old) }
     ensures listed_stays { OnErr result (listed.new ≡ listed.old) }
-    ensures why { IfErr result (λ e. ((e ≡ Refusal.CatalogueFull) × (0 < length more.items) × (1000000 < length (filter (λ T. is_tiling view.now T) listed.old) + length more.items)) ⊎ (e ≡ Refusal.Memory)) }
+    ensures why { IfErr result (λ e. ((e ≡ Refusal.CatalogueFull) × (0 < length more.items) × (MAX_TILINGS < length (filter (λ T. is_tiling view.now T) listed.old) + length more.items)) ⊎ (e ≡ Refusal.Memory)) }
 {
     log.push(laid)?;
     if more.is_empty() {

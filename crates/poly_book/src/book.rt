@@ -4,6 +4,7 @@ ghost use Rattle.std.specs.Prelude.{true, ◌≡◌, ◌≤◌, ◌<◌, length,
 ghost use Rattle.std.specs.Arc.{arc_value};
 ghost use Rattle.poly_book.specs.Amounts.{AreAllTilingsOf, AreTilingsOf};
 ghost use Rattle.poly_book.specs.Whole.{Whole};
+ghost use Rattle.poly_book.specs.declared.prepare.TheConstants.{MAX_CHANGES};
 
 use crate::parts::Parts;
 use crate::step::{Ending, Step};
@@ -62,7 +63,7 @@ impl Book {
         ensures pending { result.pending ≡ length self.now.pending }
         ensures tilings { AreTilingsOf result.listed self.now.design }
         ensures all { result.pending ≡ 0 → AreAllTilingsOf result.listed self.now.design }
-        ensures few_changes { result.edition ≤ 100000 }
+        ensures few_changes { result.edition ≤ MAX_CHANGES }
         ensures few_endings { result.endings < 4294967296 }
         ensures few_tasks { result.pending < 4294967296 }
     {

@@ -12,6 +12,8 @@ ghost use Rattle.poly_book.specs.Findings.{HasAtoms, IsFound};
 ghost use Rattle.poly_book.specs.Keeps.{Keeps, state_of};
 ghost use Rattle.poly_book.specs.Refused.{IsNotApplied};
 ghost use Rattle.poly_book.specs.Reports.{IsApplied};
+ghost use Rattle.poly_tiling.specs.declared.lister.TheConstants.{MAX_TILINGS};
+ghost use Rattle.poly_report.specs.declared.size.TheConstants.{NODES};
 
 use crate::book::Book;
 use crate::hand_in::{apply_leaves, apply_report, place_of};
@@ -53,7 +55,7 @@ impl Found {
     ) -> Result<Found, Refusal>
         requires whole { IsWhole (arc_value view) matrix.now }
         requires some { 1 ≤ nodes }
-        requires few { nodes ≤ 4096 }
+        requires few { nodes ≤ NODES }
         ensures task { IfOk result (λ f. f.report.task ≡ job.task) }
         ensures edition { IfOk result (λ f. f.report.edition ≡ job.edition) }
         ensures atoms { IfOk result (λ f. f.atoms.items ≡ job.atoms.items) }
@@ -91,7 +93,7 @@ impl Book {
         ensures ok { IfOk result (λ a. IsApplied found.report.task found.report.edition (plan_of found.report.tree) self.old self.new a) }
         ensures err { OnErr result (self.new ≡ self.old) }
         ensures why { IfErr result (λ e. IsNotApplied found.report.task (plan_of found.report.tree) self.old e) }
-        ensures full { IfErr result (λ e. e ≡ Refusal.CatalogueFull → HasOverTilings 1000000 self.old.design) }
+        ensures full { IfErr result (λ e. e ≡ Refusal.CatalogueFull → HasOverTilings MAX_TILINGS self.old.design) }
     {
         apply_found(&mut self.parts, found)
     }

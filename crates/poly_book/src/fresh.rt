@@ -11,6 +11,7 @@ ghost use Rattle.poly_book.specs.Opens.{Opens};
 ghost use Rattle.poly_book.specs.Meaning.{stored_of};
 ghost use Rattle.poly_book.specs.Shelves.{crossed, openings};
 ghost use Rattle.poly_book.specs.Tasks.{AreHopeful, hopeful};
+ghost use Rattle.poly_book.specs.declared.prepare.TheConstants.{MAX_CHANGES};
 
 use crate::task::{Own, Pending};
 use poly_atom::{Atom, Stair, hopeless, staircase};
@@ -72,7 +73,7 @@ pub(crate) fn opened_stairs(
     edition: u64,
 ) -> Result<Vec<Pending>, Refusal>
     requires next { next ≤ 4294967296 }
-    requires edition { edition < 1000000 }
+    requires edition { edition ≤ MAX_CHANGES }
     requires small { AllSmall guards.now }
     ensures ok { IfOk result (λ ps. (log : List (List AtomOf)) → length log ≡ edition → Opens (log ++ guards.now ∷ []) next view.now (stairs guards.now) ps.items) }
     ensures few { IfOk result (λ ps. next + length ps.items ≤ 4294967296) }
@@ -169,7 +170,7 @@ pub(crate) fn fresh_tasks(
     edition: u64,
 ) -> Result<Vec<Pending>, Refusal>
     requires next { next ≤ 4294967296 }
-    requires edition { edition < 1000000 }
+    requires edition { edition ≤ MAX_CHANGES }
     requires small { AllSmall guards.now }
     ensures ok { IfOk result (λ ps. (log : List (List AtomOf)) → length log ≡ edition → Opens (log ++ guards.now ∷ []) next view.now (openings (stored_of (option_copied stood.entry)) (stairs guards.now)) ps.items) }
     ensures few { IfOk result (λ ps. next + length ps.items ≤ 4294967296) }
@@ -190,7 +191,7 @@ fn fresh_crossed(
     edition: u64,
 ) -> Result<Vec<Pending>, Refusal>
     requires next { next ≤ 4294967296 }
-    requires edition { edition < 1000000 }
+    requires edition { edition ≤ MAX_CHANGES }
     requires small { AllSmall guards.now }
     ensures ok { IfOk result (λ ps. (log : List (List AtomOf)) → length log ≡ edition → Opens (log ++ guards.now ∷ []) next view.now (crossed (lists frozen.now) (stairs guards.now)) ps.items) }
     ensures few { IfOk result (λ ps. next + length ps.items ≤ 4294967296) }

@@ -10,6 +10,7 @@ ghost use Rattle.poly_book.specs.Keeps.{Keeps, state_of};
 ghost use Rattle.poly_book.specs.Refused.{IsNotApplied, IsOver};
 ghost use Rattle.poly_book.specs.Reports.{AreLeaves, IsApplied};
 ghost use Rattle.poly_book.specs.Tasks.{AreHopeful};
+ghost use Rattle.poly_tiling.specs.declared.lister.TheConstants.{MAX_TILINGS};
 
 use crate::apply::push_tasks;
 use crate::book::Book;
@@ -31,7 +32,7 @@ impl Book {
         ensures ok { IfOk result (λ a. IsApplied report.task report.edition (plan_of report.tree) self.old self.new a) }
         ensures err { OnErr result (self.new ≡ self.old) }
         ensures why { IfErr result (λ e. IsNotApplied report.task (plan_of report.tree) self.old e) }
-        ensures full { IfErr result (λ e. e ≡ Refusal.CatalogueFull → HasOverTilings 1000000 self.old.design) }
+        ensures full { IfErr result (λ e. e ≡ Refusal.CatalogueFull → HasOverTilings MAX_TILINGS self.old.design) }
     {
         apply_report(&mut self.parts, &report)
     }

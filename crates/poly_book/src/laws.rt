@@ -7,11 +7,20 @@ ghost use Rattle.poly_book.specs.Laws.{ListedStay, OpeningsAreWhole, QuietRedo, 
 ghost use Rattle.poly_book.specs.Whole.{Whole};
 
 use crate::book::Book;
+use crate::prepare::{MAX_CHANGES, MAX_GUARDS, MAX_SHELF};
 use crate::step::{Applied, Done};
 use poly_design::Edit;
 use poly_grid::Refusal;
 use poly_report::Report;
 use std::alloc::Global;
+
+/// A book makes at most 100,000 changes. A change and its inverse have at most 20,000 guards each, and a shelf is kept if
+/// its frozen tasks times the guards of the inverse are at most 4,096.
+pub fn limits_of_books()
+    ensures changes { MAX_CHANGES ≡ 100000 }
+    ensures guards { MAX_GUARDS ≡ 20000 }
+    ensures shelf { MAX_SHELF ≡ 4096 }
+{}
 
 /// What may happen to a book.
 #[derive(Drop)]

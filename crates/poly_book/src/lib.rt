@@ -38,6 +38,7 @@ mod vouch;
 
 pub use book::{Book, Numbers};
 pub use found::Found;
+pub use prepare::{MAX_CHANGES, MAX_GUARDS, MAX_SHELF};
 pub use quiet::Quiet;
 pub use shelf::Kept;
 pub use step::{Applied, Done, Ending, Kind, Step};

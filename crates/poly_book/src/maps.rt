@@ -13,7 +13,7 @@ ghost use Rattle.poly_book.specs.Meaning.{AreTasks, IsOwn, own_of};
 use crate::rows::{Row, Span, note_span, tidy_rows};
 use crate::task::{Own, Pending};
 use poly_atom::{Atom, GuardLog, Stair};
-use poly_grid::Refusal;
+use poly_grid::{Refusal, SIDE};
 use poly_tiling::Item;
 use std::alloc::Global;
 use std::collections::BTreeMap;
@@ -193,12 +193,15 @@ fn last_number(tasks: &[Pending]) -> u32 {
     }
 }
 
+// The first key that isn't a cell's.
+const FIRST_NAME: u32 = 4096;
+
 /// The key of the item. Pieces whose names end alike share one, so a task may be found for the other piece.
 pub(crate) fn key_of(item: &Item) -> u32
     ensures { result ≡ key_of item.now }
 {
     match item {
-        Item::Cell(cell) => u32::from(cell.y()) * 64 + u32::from(cell.x()),
+        Item::Cell(cell) => u32::from(cell.y()) * SIDE as u32 + u32::from(cell.x()),
         Item::Piece(name) => key_of_name(name.as_bytes()),
     }
 }
@@ -208,5 +211,5 @@ fn key_of_name(name: &[u8]) -> u32
     requires { 1 ≤ length name.now }
     ensures { result ≡ key_of_name name.now }
 {
-    4096 + u32::from(name[name.len() - 1])
+    FIRST_NAME + u32::from(name[name.len() - 1])
 }

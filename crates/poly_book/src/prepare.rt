@@ -37,13 +37,13 @@ use std::alloc::Global;
 use std::sync::Arc;
 
 /// The most guards of a change, and of its way back.
-const MAX_GUARDS: usize = 20_000;
+pub const MAX_GUARDS: usize = 20_000;
 
 /// The most changes of a book.
-const MAX_CHANGES: usize = 100_000;
+pub const MAX_CHANGES: usize = 100_000;
 
 /// A shelf is kept if the number of its frozen tasks times the guards of the inverse is at most this.
-const MAX_SHELF: usize = 4096;
+pub const MAX_SHELF: usize = 4096;
 
 /// The parts of the book after a change.
 #[derive(Drop)]
@@ -83,8 +83,8 @@ pub(crate) fn gather(
     requires made { IsMadeBy parts.now.scene (arc_value plan.view) plan.delta change.now }
     requires either { AreOfEither (arc_value plan.view) plan.delta parts.now.listed }
     ensures ok { IfOk result (λ r. IsGathered parts.now.scene parts.now.listed parts.now.log parts.now.tasks.items (stood_by kind parts.now.history) after plan parts.now.next r) }
-    ensures few { IfOk result (λ r. length parts.now.steps.items < 100000) }
-    ensures narrow { OnOk result (kind ≡ Kind.Edit → (length (guards parts.now.scene (arc_value plan.view)) ≤ 20000) × (length (guards (arc_value plan.view) parts.now.scene) ≤ 20000)) }
+    ensures few { IfOk result (λ r. length parts.now.steps.items < MAX_CHANGES) }
+    ensures narrow { OnOk result (kind ≡ Kind.Edit → (length (guards parts.now.scene (arc_value plan.view)) ≤ MAX_GUARDS) × (length (guards (arc_value plan.view) parts.now.scene) ≤ MAX_GUARDS)) }
     ensures why { IfErr result (λ e. IsNotGathered parts.now.scene (arc_value plan.view) kind (length parts.now.steps.items) parts.now.next (stood_by kind parts.now.history) e) }
 {
     let alloc = parts.alloc;
@@ -120,8 +120,8 @@ pub(crate) fn gather(
 
 // Refuses an edit if it or its inverse has too many guards.
 fn check_width(kind: Kind, forth: usize, back: usize) -> Result<(), Refusal>
-    ensures ok { OnOk result (kind ≡ Kind.Edit → (forth ≤ 20000) × (back ≤ 20000)) }
-    ensures why { IfErr result (λ e. (e ≡ Refusal.TooWide) × (kind ≡ Kind.Edit) × ((20000 < forth) ⊎ (20000 < back))) }
+    ensures ok { OnOk result (kind ≡ Kind.Edit → (forth ≤ MAX_GUARDS) × (back ≤ MAX_GUARDS)) }
+    ensures why { IfErr result (λ e. (e ≡ Refusal.TooWide) × (kind ≡ Kind.Edit) × ((MAX_GUARDS < forth) ⊎ (MAX_GUARDS < back))) }
 {
     if is_edit(kind) && (forth > MAX_GUARDS || back > MAX_GUARDS) {
         return Err(Refusal::TooWide);
@@ -232,7 +232,7 @@ fn shelve(parts: &Parts, view: &View, delta: &Delta, width: usize) -> Result<Opt
 }
 
 fn is_small(count: usize, width: usize) -> bool
-    ensures { result ≡ nat_le (count * width) 4096 }
+    ensures { result ≡ nat_le (count * width) MAX_SHELF }
 {
     if count == 0 || width == 0 {
         return true;

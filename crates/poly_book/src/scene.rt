@@ -9,6 +9,7 @@ ghost use Rattle.poly_report.specs.Opened.{opened};
 ghost use Rattle.poly_report.specs.Shapes.{plan_of};
 ghost use Rattle.poly_report.specs.Sizes.{fits};
 ghost use Rattle.poly_book.specs.Scenes.{IsMatrixOf};
+ghost use Rattle.poly_report.specs.declared.size.TheConstants.{NODES};
 
 use poly_atom::Atom;
 use poly_grid::Refusal;
@@ -68,7 +69,7 @@ impl Scene {
         nodes: u32,
     ) -> Result<Explored, Refusal>
         requires some { 1 ≤ nodes }
-        requires few { nodes ≤ 4096 }
+        requires few { nodes ≤ NODES }
         ensures stays { self.new ≡ self.old }
         ensures fits { IfOk result (λ e. fits (plan_of e.tree) ≡ true) }
         ensures holds { IfOk result (λ e. holds self.old atoms.now (plan_of e.tree) ≡ true) }
@@ -106,7 +107,7 @@ fn explore_from(
 ) -> Result<Explored, Refusal>
     requires matrix { IsMatrixOf view.now slot.old }
     requires some { 1 ≤ nodes }
-    requires few { nodes ≤ 4096 }
+    requires few { nodes ≤ NODES }
     ensures matrix { IsMatrixOf view.now slot.new }
     ensures fits { IfOk result (λ e. fits (plan_of e.tree) ≡ true) }
     ensures holds { IfOk result (λ e. holds view.now atoms.now (plan_of e.tree) ≡ true) }

@@ -7,6 +7,8 @@ ghost use Rattle.poly_book.specs.Keeps.{Keeps, state_of};
 ghost use Rattle.poly_book.specs.Reports.{AreLeaves};
 ghost use Rattle.poly_book.specs.Settled.{AreHopefulFrom, IsNotSettled, IsNotTurned, IsSettled, IsTurn};
 ghost use Rattle.poly_book.specs.Tasks.{AreHopeful};
+ghost use Rattle.poly_tiling.specs.declared.lister.TheConstants.{MAX_TILINGS};
+ghost use Rattle.poly_report.specs.declared.size.TheConstants.{NODES};
 
 use crate::book::Book;
 use crate::hand_in::apply_leaves;
@@ -24,10 +26,10 @@ impl Book {
     /// applied.
     pub fn settle(&mut self, turns: u64, nodes: u32) -> Result<u64, Refusal>
         requires some { 1 ≤ nodes }
-        requires few { nodes ≤ 4096 }
+        requires few { nodes ≤ NODES }
         ensures ok { IfOk result (λ n. IsSettled self.old self.new n) }
         ensures why { IfErr result (λ e. IsNotSettled turns self.old self.new e) }
-        ensures full { IfErr result (λ e. e ≡ Refusal.CatalogueFull → HasOverTilings 1000000 self.old.design) }
+        ensures full { IfErr result (λ e. e ≡ Refusal.CatalogueFull → HasOverTilings MAX_TILINGS self.old.design) }
     {
         settle_all(&mut self.parts, turns, nodes)
     }
@@ -35,7 +37,7 @@ impl Book {
 
 fn settle_all(parts: &mut Parts, turns: u64, nodes: u32) -> Result<u64, Refusal>
     requires some { 1 ≤ nodes }
-    requires few { nodes ≤ 4096 }
+    requires few { nodes ≤ NODES }
     requires keeps { Keeps parts.old }
     ensures keeps { Keeps parts.new }
     ensures ok { IfOk result (λ n. IsSettled (state_of parts.old) (state_of parts.new) n) }
@@ -59,7 +61,7 @@ fn settle_all(parts: &mut Parts, turns: u64, nodes: u32) -> Result<u64, Refusal>
 // first `unsure` tasks may be hopeless, so the rests of another one are opened without a check.
 fn settle_one(parts: &mut Parts, nodes: u32, unsure: &mut usize) -> Result<bool, Refusal>
     requires some { 1 ≤ nodes }
-    requires few { nodes ≤ 4096 }
+    requires few { nodes ≤ NODES }
     requires keeps { Keeps parts.old }
     requires sure { AreHopefulFrom unsure.old (state_of parts.old) }
     ensures keeps { Keeps parts.new }
@@ -87,7 +89,7 @@ fn settle_one(parts: &mut Parts, nodes: u32, unsure: &mut usize) -> Result<bool,
 // The leaves of a tree that fits and holds for the task at the place. If the task isn't hopeless, no rest is.
 fn explored_leaves(parts: &mut Parts, at: usize, nodes: u32) -> Result<Leaves, Refusal>
     requires some { 1 ≤ nodes }
-    requires few { nodes ≤ 4096 }
+    requires few { nodes ≤ NODES }
     requires keeps { Keeps parts.old }
     requires place { at < length parts.old.tasks.items }
     ensures stays { parts.new ≡ parts.old }

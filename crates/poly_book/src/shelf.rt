@@ -1,8 +1,8 @@
-//! What the history keeps beside a change.
+//! What the history keeps with a change.
 
 use poly_undo::Shelf;
 
-/// What the history keeps beside a change.
+/// What the history keeps with a change.
 #[derive(Drop)]
 pub struct Kept {
     /// The edition after the step that put it there.

@@ -5,7 +5,7 @@ ghost use Rattle.poly_tiling.specs.Shows.{names};
 ghost use Rattle.poly_browse.specs.Maps.{IsSmall};
 
 use poly_design::{Design, Mode, Placement};
-use poly_grid::{Cell, Refusal};
+use poly_grid::{Cell, Refusal, SIDE};
 use poly_tiling::View;
 use std::alloc::Global;
 
@@ -17,8 +17,8 @@ pub(crate) fn board_of(alloc: Global, design: &Design) -> Result<Vec<(Cell, Mode
 {
     let mut list = Vec::new(alloc);
     for (cell, mode) in design.cells() {
-        prove!(cell.x() < 64);
-        prove!(cell.y() < 64);
+        prove!(cell.x() < SIDE as u8);
+        prove!(cell.y() < SIDE as u8);
         list.push((*cell, *mode))?;
     }
     Ok(list)

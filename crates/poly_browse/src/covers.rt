@@ -112,7 +112,7 @@ fn is_there(view: &View, item: &Item) -> bool
 
 // Returns masks of the items: the first has the lowest bit.
 fn masks_of(alloc: Global, view: &View, items: &[Item]) -> Result<Masks, Refusal>
-    requires few { length items.now ≤ 64 }
+    requires few { length items.now ≤ MOST_BITS }
     ensures ok { IfOk result (λ masks. (T : List ℕ) → AreSmall T → have_all masks T ≡ list_all (λ i. has_it view.now T i) items.now) }
     ensures why { IfErr result (λ e. e ≡ Refusal.Memory) }
 {
@@ -128,7 +128,7 @@ fn masks_of(alloc: Global, view: &View, items: &[Item]) -> Result<Masks, Refusal
 
 // Sets a bit in the mask of each number whose flag is raised.
 fn mark(masks: &mut Vec<u64>, flags: &[bool], bit: usize) -> Result<(), Refusal>
-    requires { bit < 64 }
+    requires { bit < MOST_BITS }
     ensures ok { OnOk result ((n t : ℕ) → in_mask masks.new.items n t ≡ (in_mask masks.old.items n t || (slice_index_or flags.now n false && nat_eq bit t))) }
     ensures why { IfErr result (λ e. e ≡ Refusal.Memory) }
 {
@@ -140,7 +140,7 @@ fn mark(masks: &mut Vec<u64>, flags: &[bool], bit: usize) -> Result<(), Refusal>
 }
 
 fn mark_all(masks: &mut Vec<u64>, flags: &[bool], bit: usize)
-    requires bit { bit < 64 }
+    requires bit { bit < MOST_BITS }
     requires long { length flags.now ≤ length masks.old.items }
     ensures { (n t : ℕ) → in_mask masks.new.items n t ≡ (in_mask masks.old.items n t || (slice_index_or flags.now n false && nat_eq bit t)) }
 {

@@ -51,7 +51,7 @@ impl Catalogue {
     /// How many tilings are listed.
     pub fn len(&self) -> usize
         ensures value { result ≡ length self.now }
-        ensures few { length self.now ≤ 1000000 }
+        ensures few { length self.now ≤ MAX_TILINGS }
     {
         self.listing.len()
     }
@@ -100,7 +100,7 @@ impl Catalogue {
         requires once { AreOnce (self.old ++ tilings.items) }
         ensures ok { OnOk result (self.new ≡ self.old ++ tilings.items) }
         ensures err { OnErr result (self.new ≡ self.old) }
-        ensures full { (result ≡ Err Refusal.CatalogueFull) ↔ (1000000 < length self.old + length tilings.items) }
+        ensures full { (result ≡ Err Refusal.CatalogueFull) ↔ (MAX_TILINGS < length self.old + length tilings.items) }
         ensures why { IfErr result (λ e. (e ≡ Refusal.CatalogueFull) ⊎ (e ≡ Refusal.Memory)) }
     {
         if tilings.len() > MAX_TILINGS - self.listing.len() {
@@ -143,7 +143,7 @@ impl Catalogue {
         requires once { AreOnce (self.old ++ tilings.items) }
         ensures ok { OnOk result (AreSame self.new (filter (is_tiling view.now) self.old ++ tilings.items)) }
         ensures err { OnErr result (self.new ≡ self.old) }
-        ensures full { result ≡ Err Refusal.CatalogueFull → 1000000 < length (filter (is_tiling view.now) self.old) + length tilings.items }
+        ensures full { result ≡ Err Refusal.CatalogueFull → MAX_TILINGS < length (filter (is_tiling view.now) self.old) + length tilings.items }
         ensures why { IfErr result (λ e. (e ≡ Refusal.CatalogueFull) ⊎ (e ≡ Refusal.Memory)) }
     {
         match has_room(
@@ -175,9 +175,9 @@ fn has_room(
     more: usize,
 ) -> Result<bool, Refusal>
     requires from { AreOfEither view.now delta.now listing.now }
-    requires few { length listing.now ≤ 1000000 }
+    requires few { length listing.now ≤ MAX_TILINGS }
     requires flags { HasFlags listing.now flag_count }
-    ensures ok { IfOk result (λ room. room ≡ nat_le (length (filter (is_tiling view.now) listing.now) + more) 1000000) }
+    ensures ok { IfOk result (λ room. room ≡ nat_le (length (filter (is_tiling view.now) listing.now) + more) MAX_TILINGS) }
     ensures why { IfErr result (λ e. e ≡ Refusal.Memory) }
 {
     let count = listing.len();

@@ -1,10 +1,10 @@
 -- What a session sees of a book: edits, undo and redo.
-use Rattle.std.proofs.Common.{Bool, List, [], ap, arith, drop, false, length, length-append, length-drop, map, refl, reverse, subst, suc, sym, take, zero, inl, inr, ℕ, ◌+◌, ◌++◌, ◌-◌, ◌∙◌, ◌∷◌, ◌≡◌, ◌≤◌}
-use Rattle.std.proofs.lemmas.List.{drop_all, length-map, length-reverse, reverse-append, reverse-reverse}
+use Rattle.std.proofs.Common.{Bool, List, [], ap, arith, drop, false, length, length-drop, map, refl, reverse, subst, suc, sym, take, zero, inl, inr, ℕ, ◌+◌, ◌++◌, ◌-◌, ◌∙◌, ◌∷◌, ◌≡◌, ◌≤◌}
+use Rattle.std.proofs.lemmas.List.{length-map, reverse-append, reverse-reverse}
 use Rattle.std.specs.Prelude.{◌⊎◌}
 use Rattle.poly_grid.specs.declared.refusal.Refusal.{Refusal}
 use Rattle.poly_grid.specs.declared.refusal.Refusal.TheVariants.{CatalogueFull, Memory}
-use Rattle.poly_design.specs.Changes.{changed, inverse_of}
+use Rattle.poly_design.specs.Changes.{inverse_of}
 use Rattle.poly_design.specs.Layout.{Layout}
 use Rattle.poly_design.specs.declared.change.Change.{Change}
 use Rattle.poly_design.specs.declared.edit.Edit.{Edit}
@@ -24,7 +24,6 @@ use Rattle.poly_book.specs.Shelves.{newest, way_back}
 use Rattle.poly_book.specs.States.{State as Book, Way}
 use Rattle.poly_book.specs.Steps.{IsDone, IsEdited, IsRedone, IsUndone}
 use Rattle.poly_book.proofs.Changes.{newest_all}
-use Rattle.poly_book.proofs.Moves.{inverse_twice}
 use Rattle.poly_tiling.specs.declared.lister.TheConstants.{MAX_TILINGS}
 use Rattle.poly_undo.specs.declared.history.TheConstants.{MAX_STEPS}
 use Rattle.poly_cli.specs.Books.{changes_of, session_of}

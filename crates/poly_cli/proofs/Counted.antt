@@ -1,14 +1,13 @@
 -- A list by numbers that has each tiling once is as long as the design's list of tilings. That list exists, since any list can be put in order.
-use Rattle.std.proofs.Common.{Bool, List, [], ap, arith, cond, false, get_or, length, map, refl, subst, sym, suc, true, true≢false, zero, ℕ, ◌+◌, ◌<◌, ◌∙◌, ◌∷◌, ◌≡◌, ◌≤◌}
+use Rattle.std.proofs.Common.{Bool, List, [], ap, arith, cond, false, get_or, length, map, refl, subst, sym, suc, true, true≢false, zero, ℕ, ◌+◌, ◌<◌, ◌∙◌, ◌∷◌, ◌≡◌}
 use Rattle.std.proofs.lemmas.Cmp.{lists_total}
 use Rattle.std.proofs.lemmas.List.{length-map}
-use Rattle.std.specs.Cmp.Lexicographic.{slice_cmp}
 use Rattle.std.specs.List.Sorted.{IsSorted}
 use Rattle.std.specs.Ordering.{is_lt, ordering_reverse}
 use Rattle.std.specs.declared.cmp.Ordering.{Ordering}
 use Rattle.std.specs.declared.cmp.Ordering.TheVariants.{Equal, Greater, Less}
 use Rattle.poly_design.specs.Layout.{Layout}
-use Rattle.poly_design.specs.PlacementOrder.{placement_cmp, placement_total}
+use Rattle.poly_design.specs.PlacementOrder.{placement_total}
 use Rattle.poly_design.specs.declared.placement.Placement.{Placement}
 use Rattle.poly_tiling.specs.Lister.{HasEachOnce}
 use Rattle.poly_tiling.specs.Listings.{IsListOfTilings, ListingsShow}
@@ -17,7 +16,6 @@ use Rattle.poly_tiling.specs.Names.{WellNamed}
 use Rattle.poly_tiling.specs.Puzzle.{View}
 use Rattle.poly_tiling.specs.Shows.{Shows}
 use Rattle.poly_tiling.specs.TilingOrder.{placed, tiling_cmp}
-use Rattle.poly_book.specs.Partition.{Partition}
 use Rattle.poly_book.specs.States.{State as Book}
 use Rattle.poly_book.specs.Whole.{Whole}
 use Rattle.poly_book.proofs.Nexting.{partition_each}

@@ -1,5 +1,5 @@
 -- How a session opens with its first line, and goes on with those after it.
-use Rattle.std.proofs.Common.{◌≡◌, ◌+◌, ◌-◌, ◌<◌, ◌≤◌, ◌++◌, List, [], ◌∷◌, ℕ, zero, suc, refl, sym, ◌∙◌, ap, subst, append_assoc, append-nil, Option, Some, Result, Ok, Err, take, length, length-append, arith, inl, inr}
+use Rattle.std.proofs.Common.{◌≡◌, ◌+◌, ◌-◌, ◌<◌, ◌≤◌, ◌++◌, List, [], ◌∷◌, ℕ, suc, refl, sym, ◌∙◌, ap, subst, append_assoc, append-nil, Option, Result, Ok, Err, take, length, length-append, arith, inl, inr}
 use Rattle.std.specs.Prelude.{◌⊎◌}
 use Rattle.std.proofs.lemmas.Bool.{le-ltb}
 use Rattle.std.proofs.Math.Seq.{take-append-add, take-nil}

@@ -10,7 +10,7 @@ use Rattle.poly_text.specs.declared.command.Command.{Command}
 use Rattle.poly_text.specs.declared.command.Command.TheVariants as command
 use Rattle.poly_text.specs.Words.{words_of}
 use Rattle.poly_cli.specs.Questions.{AnswersQuestion, BrowseSays, ClassesSay, CountSays, ListSays}
-use Rattle.poly_cli.specs.Slow.{Answers, IsRefusal, Replies, Slow, Steps, WordsSay}
+use Rattle.poly_cli.specs.Slow.{Answers, Replies, Slow, Steps, WordsSay}
 use Rattle.poly_cli.specs.States.{EditRefused, Edits, RedoRefused, Redoes, State, UndoRefused, Undoes}
 
 changed_grid : (d : Layout) (x : Change) → (changed d x).grid ≡ d.grid

@@ -1,5 +1,5 @@
 -- The state of a session, read from the state of its book.
-use Rattle.std.specs.Prelude.{Bool, List, length, map, reverse, ◌≡◌}
+use Rattle.std.specs.Prelude.{Bool, List, length, map, reverse}
 use Rattle.poly_design.specs.declared.change.Change.{Change}
 use Rattle.poly_book.specs.States.{State as Book, Way}
 use Rattle.poly_cli.specs.States.{State}

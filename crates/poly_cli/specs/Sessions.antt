@@ -1,5 +1,5 @@
 -- What a whole session writes: the first line is the puzzle line, and if it is refused, nothing more is written.
-use Rattle.std.specs.Prelude.{◌≡◌, ◌⊎◌, ◌≤◌, ℕ, List, [], ◌∷◌, ◌++◌, length, take, Option, Some, None, Result, Ok, Err}
+use Rattle.std.specs.Prelude.{◌≡◌, ◌⊎◌, ◌≤◌, ℕ, List, [], ◌∷◌, ◌++◌, length, Option, Some, None, Result, Ok, Err}
 use Rattle.std.specs.Io.KnownBytes.{Appends, IsAtEnd}
 use Rattle.poly_grid.specs.declared.grid.Grid.{Grid}
 use Rattle.poly_grid.specs.declared.refusal.Refusal.{Refusal}

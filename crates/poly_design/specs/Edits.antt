@@ -7,6 +7,7 @@ use Rattle.poly_grid.specs.declared.refusal.Refusal.{Refusal}
 use Rattle.poly_grid.specs.declared.refusal.Refusal.TheVariants.{BadShape, NameTaken, NoSuchPiece, TooManyCells, TooManyPieces, TooManyPlacements, NotAPlacement, NoChange}
 use Rattle.poly_shape.specs.Order.{cells_cmp}
 use Rattle.poly_shape.specs.Figure.{Figure}
+use Rattle.poly_design.specs.declared.design.TheConstants.{MAX_CELLS, MAX_PIECES}
 use Rattle.poly_design.specs.declared.need.Need.{Need}
 use Rattle.poly_design.specs.declared.need.Need.TheVariants.{Required, Optional}
 use Rattle.poly_design.specs.declared.spec.Spec.{Spec}
@@ -59,7 +60,7 @@ IsIdle (change.Piece name before after) = before ≡ after
 abbrev pub causes : Layout → Edit → List (Refusal × Type 0)
 causes d (edit.Add name shape need mirror) =
     let after = changed d (change_of d (edit.Add name shape need mirror)) in
-    (NameTaken, spec_of d name ≢ None) ∷ (BadShape, shape.grid ≢ d.grid) ∷ (TooManyPieces, 64 < length after.pieces) ∷ (TooManyPlacements, ¬ FewPlacements after) ∷ []
+    (NameTaken, spec_of d name ≢ None) ∷ (BadShape, shape.grid ≢ d.grid) ∷ (TooManyPieces, MAX_PIECES < length after.pieces) ∷ (TooManyPlacements, ¬ FewPlacements after) ∷ []
 causes d (edit.Drop name) = (NoSuchPiece, spec_of d name ≡ None) ∷ []
 causes d (edit.Need name need) = (NoSuchPiece, spec_of d name ≡ None) ∷ (NoChange, IsIdle (change_of d (edit.Need name need))) ∷ []
 causes d (edit.Copies name copies) = (NoSuchPiece, spec_of d name ≡ None) ∷ (NoChange, IsIdle (change_of d (edit.Copies name copies))) ∷ []
@@ -68,7 +69,7 @@ causes d (edit.Mirror name mirror) =
     (NoSuchPiece, spec_of d name ≡ None) ∷ (NoChange, IsIdle step) ∷ (TooManyPlacements, ¬ FewPlacements (changed d step)) ∷ []
 causes d (edit.Cell cell mode) =
     let step = change_of d (edit.Cell cell mode) in
-    (NoChange, IsIdle step) ∷ (TooManyCells, 256 < length (changed d step).cells) ∷ (TooManyPlacements, ¬ FewPlacements (changed d step)) ∷ []
+    (NoChange, IsIdle step) ∷ (TooManyCells, MAX_CELLS < length (changed d step).cells) ∷ (TooManyPlacements, ¬ FewPlacements (changed d step)) ∷ []
 causes d (edit.Pin name cells) =
     (NoSuchPiece, spec_of d name ≡ None) ∷ (NoChange, IsIdle (change_of d (edit.Pin name cells))) ∷ (NotAPlacement, ¬ IsPlacement d (record { name = name; cells = cells })) ∷ []
 causes d (edit.Unpin name) = (NoSuchPiece, spec_of d name ≡ None) ∷ (NoChange, IsIdle (change_of d (edit.Unpin name))) ∷ []

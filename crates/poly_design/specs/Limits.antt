@@ -2,10 +2,12 @@
 use Rattle.std.specs.Prelude.{◌≡◌, ◌≢◌, ℕ, ◌<◌, ◌≤◌, List, length}
 use Rattle.std.specs.List.{All, Contains}
 use Rattle.std.specs.Map.{keys_of}
+use Rattle.poly_grid.specs.declared.cell.TheConstants.{SIDE}
 use Rattle.poly_grid.specs.declared.grid.Grid.{Grid}
 use Rattle.poly_grid.specs.Spot.{Spot}
 use Rattle.poly_shape.specs.Order.{IsAscending, spot_cmp}
 use Rattle.poly_design.specs.Name.{name_cmp}
+use Rattle.poly_design.specs.declared.design.TheConstants.{MAX_CELLS, MAX_PIECES}
 use Rattle.poly_design.specs.declared.mode.Mode.{Mode}
 use Rattle.poly_design.specs.declared.mode.Mode.TheVariants.{Blocked}
 use Rattle.poly_design.specs.declared.spec.Spec.{Spec}
@@ -16,7 +18,7 @@ use Rattle.poly_design.specs.Placements.{FewPlacements, IsPlacement}
 
 -- the cell is one that a board can have
 abbrev pub IsInRange : Spot → Type 0
-IsInRange c = (c.x < 64) × (c.y < 64)
+IsInRange c = (c.x < SIDE) × (c.y < SIDE)
 
 -- no entry says that its cell is blocked
 abbrev pub NoneBlocked : List (Spot × Mode) → Type 0
@@ -28,10 +30,10 @@ AreOfGrid grid pieces = (name : List ℕ) (spec : Spec) → Contains pieces (nam
 
 pub record IsDesign (d : Layout) : Type 0 where
   pub cells_ascend : IsAscending spot_cmp (keys_of d.cells)
-  pub few_cells : length d.cells ≤ 256
+  pub few_cells : length d.cells ≤ MAX_CELLS
   pub unblocked : NoneBlocked d.cells
   pub pieces_ascend : IsAscending name_cmp (keys_of d.pieces)
-  pub few_pieces : length d.pieces ≤ 64
+  pub few_pieces : length d.pieces ≤ MAX_PIECES
   pub of_grid : AreOfGrid d.grid d.pieces
   pub few_placements : FewPlacements d
 

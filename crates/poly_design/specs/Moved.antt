@@ -2,13 +2,14 @@
 use Rattle.std.specs.Prelude.{◌≡◌, ℕ, ◌+◌, ◌<◌, List}
 use Rattle.std.specs.List.{Contains}
 use Rattle.poly_grid.specs.Spot.{Spot}
+use Rattle.poly_grid.specs.declared.cell.TheConstants.{SIDE}
 use Rattle.poly_shape.specs.Moves.{spot_moved}
 use Rattle.poly_design.specs.Placements.{IsMovedTo}
 
 -- the cell, moved right and down, stays in the range and is one of the board
 pub record LandsOn (board : List Spot) (right down : ℕ) (c : Spot) : Type 0 where
-  pub in_width : c.x + right < 64
-  pub in_height : c.y + down < 64
+  pub in_width : c.x + right < SIDE
+  pub in_height : c.y + down < SIDE
   pub on : Contains board (spot_moved right down c)
 
 -- moved right and down, the cell `from` lies on the cell `to`

@@ -6,6 +6,7 @@ use Rattle.poly_grid.specs.Grid.{turn_count}
 use Rattle.poly_shape.specs.Order.{IsAscending}
 use Rattle.poly_shape.specs.Moves.{StaysInRange, moved_by}
 use Rattle.poly_shape.specs.Shape.{IsImage}
+use Rattle.poly_design.specs.declared.listing.TheConstants.{MAX_PLACEMENTS}
 use Rattle.poly_design.specs.declared.mode.Mode.TheVariants.{Blocked}
 use Rattle.poly_design.specs.declared.spec.Spec.{Spec}
 use Rattle.poly_design.specs.declared.placement.Placement.{Placement}
@@ -44,4 +45,4 @@ IsOfPiece IsFree name spec p = (p.name ≡ name) × ((s : Spec) × (spec ≡ Som
 
 -- there are at most 20,000 placements: no list of different ones is longer
 abbrev pub FewPlacements : Layout → Type 0
-FewPlacements d = (list : List Placement) → IsAscending placement_cmp list → ((p : Placement) → Contains list p → IsPlacement d p) → length list ≤ 20000
+FewPlacements d = (list : List Placement) → IsAscending placement_cmp list → ((p : Placement) → Contains list p → IsPlacement d p) → length list ≤ MAX_PLACEMENTS

@@ -7,12 +7,10 @@ ghost use Rattle.poly_design.specs.Limits.{IsInRange};
 ghost use Rattle.poly_design.specs.Moved.{LandsOn};
 
 use crate::mode::Mode;
-use poly_grid::{Cell, Refusal};
+use poly_grid::{Cell, Refusal, SIDE};
 use std::alloc::Global;
 use std::collections::BTreeMap;
 use std::marker::Model;
-
-const WIDTH: usize = 64;
 
 #[derive(Drop)]
 pub(crate) struct Board {
@@ -52,7 +50,7 @@ impl Board {
         ensures ok { IfOk result (λ board. board ≡ []) }
         ensures why { IfErr result (λ e. e ≡ Refusal.Memory) }
     {
-        let flags = lowered(alloc, WIDTH * WIDTH)?;
+        let flags = lowered(alloc, SIDE * SIDE)?;
         Ok(Board {
             cells: Vec::new(alloc),
             flags,
@@ -64,7 +62,7 @@ impl Board {
         ensures in_range { IsInRange cell }
         ensures why { IfErr result (λ e. e ≡ Refusal.Memory) }
     {
-        let at = WIDTH * usize::from(cell.y()) + usize::from(cell.x());
+        let at = SIDE * usize::from(cell.y()) + usize::from(cell.x());
         self.cells.push(cell)?;
         self.flags[at] = true;
         Ok(())
@@ -82,10 +80,10 @@ impl Board {
     {
         let x = usize::from(cell.x()) + usize::from(right);
         let y = usize::from(cell.y()) + usize::from(down);
-        if x >= WIDTH || y >= WIDTH {
+        if x >= SIDE || y >= SIDE {
             return false;
         }
-        self.flags[WIDTH * y + x]
+        self.flags[SIDE * y + x]
     }
 }
 

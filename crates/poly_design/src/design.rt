@@ -10,6 +10,7 @@ ghost use Rattle.poly_design.specs.PlacementOrder.{placement_cmp};
 ghost use Rattle.poly_design.specs.Placements.{FewPlacements, IsPlacement};
 ghost use Rattle.poly_design.specs.Changes.{changed};
 ghost use Rattle.poly_design.specs.Limits.{AreOfGrid, IsDesign, IsInRange, NoneBlocked};
+ghost use Rattle.poly_design.specs.declared.listing.TheConstants.{MAX_PLACEMENTS};
 
 mod check;
 mod count;
@@ -80,9 +81,9 @@ impl Design {
         cells: BTreeMap<Cell, Mode>,
         pieces: BTreeMap<Name, Spec>,
     ) -> Result<Design, Refusal>
-        requires few_cells { btree_map_len cells ≤ 256 }
+        requires few_cells { btree_map_len cells ≤ MAX_CELLS }
         requires unblocked { NoneBlocked cells.entries }
-        requires few_pieces { btree_map_len pieces ≤ 64 }
+        requires few_pieces { btree_map_len pieces ≤ MAX_PIECES }
         requires of_grid { AreOfGrid grid pieces.entries }
         ensures ok { IfOk result (λ d. d ≡ record { grid = grid; cells = cells.entries; pieces = pieces.entries }) }
         ensures few { IsOk result → FewPlacements (record { grid = grid; cells = cells.entries; pieces = pieces.entries }) }
@@ -143,7 +144,7 @@ impl Design {
     /// All placements, in ascending order. Fails only when out of memory.
     pub fn places(&self) -> Result<Vec<Placement>, Refusal>
         ensures ok { IfOk result (λ list. IsListOf placement_cmp (IsPlacement self.now) list.items) }
-        ensures few { IfOk result (λ list. length list.items ≤ 20000) }
+        ensures few { IfOk result (λ list. length list.items ≤ MAX_PLACEMENTS) }
         ensures why { IfErr result (λ e. e ≡ Refusal.Memory) }
     {
         all_placements(self.alloc, &self.cells, &self.pieces)

@@ -15,6 +15,7 @@ mod copies;
 mod design;
 mod edit;
 mod equal;
+mod laws;
 mod listing;
 mod mode;
 mod name;
@@ -29,11 +30,10 @@ pub use change::Change;
 pub use copies::Copies;
 pub use design::{Design, MAX_CELLS, MAX_PIECES};
 pub use edit::Edit;
+pub use laws::limits_of_designs;
+pub use listing::MAX_PLACEMENTS;
 pub use mode::Mode;
 pub use name::Name;
 pub use need::Need;
 pub use placement::Placement;
 pub use spec::Spec;
-
-#[cfg(test)]
-mod tests;

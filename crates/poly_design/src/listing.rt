@@ -21,7 +21,8 @@ use poly_shape::Cells;
 use std::alloc::Global;
 use std::collections::BTreeMap;
 
-pub(crate) const MAX_PLACEMENTS: usize = 20_000;
+/// The most placements of a design.
+pub const MAX_PLACEMENTS: usize = 20_000;
 
 /// All placements, in ascending order. Fails with `TooManyPlacements` as soon as there are too many.
 pub(crate) fn all_placements(
@@ -33,7 +34,7 @@ pub(crate) fn all_placements(
     ensures ok { (grid : Grid) → IfOk result (λ list. IsListOf placement_cmp (IsPlacement (record { grid = grid; cells = cells.now.entries; pieces = pieces.now.entries })) list.items) }
     ensures ascending { OnOk result (IsAscending spot_cmp (keys cells.now) × IsAscending name_cmp (keys pieces.now)) }
     ensures in_range { OnOk result (All IsInRange (keys cells.now)) }
-    ensures few { IfOk result (λ list. length list.items ≤ 20000) }
+    ensures few { IfOk result (λ list. length list.items ≤ MAX_PLACEMENTS) }
     ensures why { (grid : Grid) → IfErr result (λ e. (e ≡ Refusal.Memory) ⊎ ((e ≡ Refusal.TooManyPlacements) × (¬ FewPlacements (record { grid = grid; cells = cells.now.entries; pieces = pieces.now.entries })))) }
 {
     let board = Board::of(alloc, cells)?;

@@ -8,7 +8,7 @@ ghost use Rattle.poly_design.specs.Limits.{IsInRange};
 use crate::mode::Mode;
 use crate::name::Name;
 use crate::spec::Spec;
-use poly_grid::{Cell, Refusal};
+use poly_grid::{Cell, Refusal, SIDE};
 use std::alloc::Global;
 use std::collections::BTreeMap;
 
@@ -22,8 +22,8 @@ pub(crate) fn put_mode(
     ensures err { OnErr result (cells.new.entries ≡ cells.old.entries) }
     ensures why { IfErr result (λ e. e ≡ Refusal.Memory) }
 {
-    prove!(cell.x() < 64);
-    prove!(cell.y() < 64);
+    prove!(cell.x() < SIDE as u8);
+    prove!(cell.y() < SIDE as u8);
     match mode {
         Mode::Required => {
             cells.insert(cell, Mode::Required)?;

@@ -48,7 +48,7 @@ abbrev pub IsMade : Kind → Held → Held → Receipt → Type 0
 IsMade k p q (receipt.Changed place step) = (step.kind ≡ k) × (p.noted.edition < place) × (place ≤ q.noted.edition)
 IsMade k p q (receipt.Cut place task) = ⊥
 
--- its change is one that the edit asks for on some design
+-- the change of the receipt is one that the edit asks for on some design
 abbrev pub IsAskedFor : Edit → Receipt → Type 0
 IsAskedFor e (receipt.Changed place step) = (d : Layout) × IsAccepted d e step.change
 IsAskedFor e (receipt.Cut place task) = ⊥

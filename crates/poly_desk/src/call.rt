@@ -4,6 +4,7 @@ ghost use Rattle.poly_grid.specs.declared.refusal.Refusal.TheVariants.{Memory};
 ghost use Rattle.poly_board.specs.Posts.{NoneFalls, last_of};
 ghost use Rattle.poly_desk.specs.Calls.{IsBehind};
 ghost use Rattle.poly_desk.specs.Noted.{Held, held, numbers_of};
+ghost use Rattle.poly_book.specs.declared.prepare.TheConstants.{MAX_CHANGES};
 
 use crate::ledgers::Totals;
 use crate::marks::Marks;
@@ -52,7 +53,7 @@ pub(crate) fn make_room(book: &Book, marks: &mut Marks) -> Result<(), Refusal>
     ensures endings { OnOk result (length book.now.endings + length book.now.pending + 1 ≤ vec_len marks.new.endings) }
     ensures steps_stay { vec_len marks.old.steps ≤ vec_len marks.new.steps }
     ensures endings_stay { vec_len marks.old.endings ≤ vec_len marks.new.endings }
-    ensures few_steps { length book.now.steps ≤ 100000 }
+    ensures few_steps { length book.now.steps ≤ MAX_CHANGES }
     ensures few_endings { length book.now.endings < 4294967296 }
     ensures why { IfErr result (λ e. e ≡ Refusal.Memory) }
 {

@@ -11,6 +11,8 @@ use Rattle.poly_frame.specs.Bits.{has_bit}
 use Rattle.poly_frame.specs.FrameItems.{item_of, times}
 use Rattle.poly_frame.specs.Matrices.{place}
 use Rattle.poly_frame.specs.FrameTable.{TableShows}
+use Rattle.poly_frame.specs.declared.frame.TheConstants.{STEPS}
+use Rattle.poly_frame.specs.declared.frame.items.TheConstants.{PLACEMENT_ITEMS}
 use Rattle.poly_frame.specs.declared.frame.matrix.Matrix.{Matrix}
 use Rattle.poly_frame.specs.declared.frame.node.Node.{Node}
 use Rattle.poly_frame.specs.declared.frame.table.Table.{Table}
@@ -37,7 +39,7 @@ pub record LevelShows (v : View) (A0 A : List Atom) (matrix : Matrix) (t : Table
   pub counted : HaveAt v A have raised (mark_of marks raised k)
   pub uppers : (i : Item) → upper v A i ≡ upper v A0 i
   pub asked : (i : Item) → asks v A i ≡ asks v A0 i
-  pub few : mark_of marks raised k ≤ 17 * k
+  pub few : mark_of marks raised k ≤ PLACEMENT_ITEMS * k
   pub begun : mark_of marks raised k ≤ length raised
 
 -- a level for the given atoms, and one for each step
@@ -61,6 +63,6 @@ IsAt n s = StepsKeep n.view.now n.path.now n.given n.matrix.now n.table.now s
 
 -- room for 4,096 steps
 pub record HasRoom (matrix : Matrix) (s : Steps) : Type 0 where
-  pub live : matrix.width * 4097 ≤ vec_capacity s.live
-  pub raised : 69632 ≤ vec_capacity s.raised
-  pub marks : 4096 ≤ vec_capacity s.marks
+  pub live : matrix.width * (STEPS + 1) ≤ vec_capacity s.live
+  pub raised : STEPS * PLACEMENT_ITEMS ≤ vec_capacity s.raised
+  pub marks : STEPS ≤ vec_capacity s.marks

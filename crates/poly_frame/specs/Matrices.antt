@@ -5,6 +5,7 @@ use Rattle.poly_tiling.specs.Names.{WellNamed}
 use Rattle.poly_tiling.specs.Puzzle.{View, has_item, items}
 use Rattle.poly_frame.specs.Bits.{has_bit}
 use Rattle.poly_frame.specs.FrameItems.{Noted, item_of}
+use Rattle.poly_frame.specs.declared.frame.items.TheConstants.{PLACEMENT_ITEMS}
 use Rattle.poly_frame.specs.declared.frame.matrix.Columns.{Columns}
 use Rattle.poly_frame.specs.declared.frame.matrix.Columns.TheVariants.{Own, Lent}
 use Rattle.poly_frame.specs.declared.frame.matrix.Lists.{Lists}
@@ -31,7 +32,7 @@ pub record ListShows (v : View) (p : ℕ) (starts places : List ℕ) (j : ℕ) :
   pub up : slice_index starts j ≤ slice_index starts (j + 1)
   pub end : slice_index starts (j + 1) ≤ length places
   pub noted : Noted v.bounds (items v p) (list_at starts places j)
-  pub short : length (list_at starts places j) ≤ 17
+  pub short : length (list_at starts places j) ≤ PLACEMENT_ITEMS
 
 -- the lists of the first k numbers
 pub record ListsTo (v : View) (ns starts places : List ℕ) (k : ℕ) : Type 0 where

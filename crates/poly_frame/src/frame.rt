@@ -17,6 +17,7 @@ ghost use Rattle.poly_frame.specs.Walk.{back_to, is_due, is_open, is_option, ste
 mod allowed;
 mod busy;
 mod items;
+mod lists;
 mod looks;
 mod matrix;
 mod members;
@@ -27,14 +28,18 @@ mod sound;
 mod starved;
 mod steps;
 mod table;
+mod wanted;
 
+use crate::frame::items::PLACEMENT_ITEMS;
+use crate::frame::lists::{Lists, lists_of};
 pub use crate::frame::matrix::Matrix;
 use crate::frame::matrix::{Columns, columns_of};
 use crate::frame::node::Node;
 use crate::frame::opened::open_row;
 use crate::frame::starved::is_starved;
 use crate::frame::steps::{Steps, start};
-use crate::frame::table::{Table, counts_of, table_of, uppers_of};
+use crate::frame::table::{Table, counts_of, table_of};
+use crate::frame::wanted::wanted_of;
 use crate::plain;
 use poly_atom::Atom;
 use poly_grid::Refusal;
@@ -147,34 +152,34 @@ impl<'a> Frame<'a> {
         ensures well { WellNamed view.now }
         ensures once { distinct view.now.live ≡ true }
     {
-        let pins = view.pins().len();
-        let live = view.live().len();
-        let given = atoms.len();
-        let mut path = Vec::with_capacity(alloc, given.saturating_add(STEPS))?;
-        path.extend_from_slice(atoms)?;
-        let mut members = Vec::with_capacity(alloc, pins + given + STEPS)?;
-        plain::make_base(view, atoms, &mut members);
-        let sizes = Vec::with_capacity(alloc, STEPS)?;
-        let options = Vec::with_capacity(alloc, live)?;
-        let mut raised = Vec::with_capacity(alloc, STEPS * 17)?;
-        let have = counts_of(alloc, view, &members, &part.matrix().cells, &mut raised)?;
-        let uppers = uppers_of(alloc, view, atoms, &part.matrix().cells)?;
-        let sound = sound::begin(view, part.matrix(), atoms, &members, &uppers, &have, sure);
-        let row = open_row(alloc, view, part.matrix(), atoms, &members, &uppers, &have)?;
+        let lists = lists_of(alloc, view, atoms)?;
+        let base = &lists.members;
+        let whole = part.matrix();
+        let mut raised = Vec::with_capacity(alloc, STEPS * PLACEMENT_ITEMS)?;
+        let have = counts_of(alloc, view, base, &whole.cells, &mut raised)?;
+        let wanted = wanted_of(alloc, view, atoms, &whole.cells)?;
+        let sound = sound::begin(view, whole, atoms, base, &wanted.uppers, &have, sure);
+        let row = open_row(alloc, view, whole, atoms, base, &wanted.uppers, &have)?;
         let (columns, row) = columns_of(alloc, view, part, row)?;
-        let table = table_of(alloc, view, columns.matrix(), atoms, &uppers)?;
+        let table = table_of(alloc, view, columns.matrix(), atoms, wanted)?;
         let node = Node {
             view,
             path: atoms,
-            given,
+            given: atoms.len(),
             matrix: columns.matrix(),
             table: &table,
         };
         let steps = start(alloc, &node, row, have, raised)?;
+        let Lists {
+            path,
+            members,
+            sizes,
+            options,
+        } = lists;
         Ok(Frame {
             view,
             path,
-            given,
+            given: atoms.len(),
             members,
             sizes,
             sound,
@@ -201,7 +206,7 @@ impl<'a> Frame<'a> {
 
     /// Takes the placement: the atoms have one more, that it is in.
     pub fn pick(&mut self, placement: u32)
-        requires { length self.old.atoms < self.old.given + 4096 }
+        requires { length self.old.atoms < self.old.given + STEPS }
         ensures { self.new ≡ with_step self.old (Atom.Has placement) }
     {
         let opened = self.stands_open(placement);
@@ -220,7 +225,7 @@ impl<'a> Frame<'a> {
 
     /// Leaves the placement: the atoms have one more, that it is out.
     pub fn leave(&mut self, placement: u32)
-        requires { length self.old.atoms < self.old.given + 4096 }
+        requires { length self.old.atoms < self.old.given + STEPS }
         ensures { self.new ≡ with_step self.old (Atom.Lacks placement) }
     {
         let opened = self.stands_open(placement);
@@ -387,7 +392,7 @@ impl<'a> Frame<'a> {
     /// Whether too few placements that have the item are left once the placement is taken: no tiling that meets the atoms
     /// has the placement. The frame stays as it was.
     pub fn starves(&mut self, placement: u32, item: Item) -> bool
-        requires { length self.old.atoms < self.old.given + 4096 }
+        requires { length self.old.atoms < self.old.given + STEPS }
         ensures same { self.new ≡ self.old }
         ensures value { result ≡ arms_fit self.old.scene (self.old.atoms ++ Atom.Has placement ∷ []) item [] }
     {

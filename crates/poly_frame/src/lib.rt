@@ -7,4 +7,4 @@ mod laws;
 mod plain;
 
 pub use frame::{Frame, Matrix, STEPS};
-pub use laws::steps_come_back;
+pub use laws::{steps_are_4096, steps_come_back};

@@ -6,6 +6,9 @@ ghost use Rattle.poly_grid.specs.Spot.{Spot};
 use crate::grid::Point;
 use std::marker::Model;
 
+/// How many columns and how many rows the cells have.
+pub const SIDE: usize = 64;
+
 /// A cell: its column x and its row y, each 0 to 63, of squares or of hexagons in axial coordinates.
 ///
 /// Cells are ordered by row, then by column.
@@ -18,13 +21,14 @@ pub struct Cell {
 
 impl Model for Cell {
     ghost use Rattle.std.specs.Prelude.{◌<◌};
+    ghost use Rattle.poly_grid.specs.declared.cell.TheConstants.{SIDE};
     ghost use Rattle.poly_grid.specs.Spot.{Spot};
 
     ghost Value = { Spot };
 
     ghost view = { λ c. record { x = c.x; y = c.y } };
 
-    ghost invariant = { λ c. (c.x < 64) × (c.y < 64) };
+    ghost invariant = { λ c. (c.x < SIDE) × (c.y < SIDE) };
 
     ghost inverse = { λ s. record { x = s.x; y = s.y } };
 }
@@ -35,9 +39,9 @@ impl Cell {
 
     /// The cell of a column and a row, or `None` if either is over 63.
     pub fn new(x: u64, y: u64) -> Option<Cell>
-        ensures { SomeIff result ((x < 64) × (y < 64)) (record { x = x; y = y }) }
+        ensures { SomeIff result ((x < SIDE) × (y < SIDE)) (record { x = x; y = y }) }
     {
-        if x < 64 && y < 64 {
+        if x < SIDE as u64 && y < SIDE as u64 {
             Some(Cell {
                 y: y as u8,
                 x: x as u8,
@@ -50,7 +54,7 @@ impl Cell {
     /// The column, 0 to 63.
     pub fn x(self) -> u8
         ensures value { result ≡ self.x }
-        ensures small { result < 64 }
+        ensures small { result < SIDE }
     {
         self.x
     }
@@ -58,14 +62,14 @@ impl Cell {
     /// The row, 0 to 63.
     pub fn y(self) -> u8
         ensures value { result ≡ self.y }
-        ensures small { result < 64 }
+        ensures small { result < SIDE }
     {
         self.y
     }
 
     /// The cell `right` columns to the right and `down` rows down, or `None` if its column or row would be over 63.
     pub fn translated(self, right: u8, down: u8) -> Option<Cell>
-        ensures { SomeIff result ((self.x + right < 64) × (self.y + down < 64)) (record { x = self.x + right; y = self.y + down }) }
+        ensures { SomeIff result ((self.x + right < SIDE) × (self.y + down < SIDE)) (record { x = self.x + right; y = self.y + down }) }
     {
         Cell::new(
             u64::from(self.x) + u64::from(right),
@@ -76,53 +80,11 @@ impl Cell {
     /// The cell as a point of the endless grid, on which turns and neighbours are defined.
     pub fn point(self) -> Point
         ensures value { result ≡ record { x = pos self.x; y = pos self.y } }
-        ensures in_range { (self.x < 64) × (self.y < 64) }
+        ensures in_range { (self.x < SIDE) × (self.y < SIDE) }
     {
         Point {
             x: i16::from(self.x),
             y: i16::from(self.y),
         }
-    }
-}
-
-#[cfg(test)]
-mod tests {
-    use super::*;
-
-    #[test]
-    fn coordinates_end_at_63(rt: HostRuntime) {
-        for (x, y) in [(0, 0), (63, 63), (63, 0), (7, 63)] {
-            let cell = Cell::new(x, y).expect(&rt, "a cell");
-            assert_eq!(rt; u64::from(cell.x()), x);
-            assert_eq!(rt; u64::from(cell.y()), y);
-        }
-        for (x, y) in [
-            (64, 0),
-            (0, 64),
-            (64, 64),
-            (256, 0),
-            (u64::MAX, 0),
-            (0, u64::MAX),
-        ] {
-            assert_eq!(rt; Cell::new(x, y), None, "at {x}, {y}");
-        }
-        assert_eq!(rt; Cell::new(0, 0), Some(Cell::ORIGIN));
-    }
-
-    #[test]
-    fn a_cell_is_moved_and_seen_as_a_point(rt: HostRuntime) {
-        let cell = Cell::new(60, 2).expect(&rt, "a cell");
-        assert_eq!(rt; cell.point(), Point { x: 60, y: 2 });
-        assert_eq!(rt; cell.translated(3, 5), Cell::new(63, 7));
-        assert_eq!(rt; cell.translated(4, 5), None);
-        assert_eq!(rt; cell.translated(0, 255), None);
-    }
-
-    #[test]
-    fn the_row_decides_first(rt: HostRuntime) {
-        let far_above = Cell::new(5, 1).expect(&rt, "a cell");
-        let near_below = Cell::new(0, 2).expect(&rt, "a cell");
-        assert!(rt; far_above < near_below);
-        assert!(rt; Cell::ORIGIN < far_above);
     }
 }

@@ -3,7 +3,15 @@
 //! Each law is the contract of a function that does nothing: it holds for all points, so no call
 //! could test it. The laws are about the tables from which the functions of `Grid` read.
 
+ghost use Rattle.std.specs.Prelude.{◌≡◌};
 ghost use Rattle.poly_grid.specs.Laws.{FirstTurnStays, TurnsCompose, TurnsAreUndone, TurnsDiffer, RotationsArePowers, ReflectionsFollow, NeighboursAreMutual, TurnsKeepNeighbours, CellsGoByRow};
+
+use crate::cell::SIDE;
+
+/// The cells of a board are in 64 columns and 64 rows.
+pub fn side_is_64()
+    ensures { SIDE ≡ 64 }
+{}
 
 /// Turn 0 leaves each point where it is.
 pub fn first_turn_stays()

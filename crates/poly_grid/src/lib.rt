@@ -1,6 +1,6 @@
 //! The base of the workbench: grids of squares and of hexagons, and the refusals of all crates.
 //!
-//! - Cells: [`Cell`] is a cell that a board can have, [`Point`] a point of the endless grid.
+//! - Cells: [`Cell`] is a cell that a board can have, [`SIDE`] the number of columns and of rows, [`Point`] a point of the endless grid.
 //! - Geometry: [`Grid`] gives the neighbours of a point and its images under the symmetries of the grid.
 //! - Laws: [`laws`] states that these symmetries are a group and preserve neighbours.
 //! - Refusals: [`Refusal`] says why a call of any crate was refused.
@@ -11,6 +11,6 @@ mod grid;
 pub mod laws;
 mod refusal;
 
-pub use cell::Cell;
+pub use cell::{Cell, SIDE};
 pub use grid::{Grid, Point};
 pub use refusal::Refusal;

@@ -6,6 +6,8 @@ use Rattle.poly_design.specs.Limits.{IsDesign}
 use Rattle.poly_design.specs.Listed.{IsListOf}
 use Rattle.poly_design.specs.PlacementOrder.{placement_cmp}
 use Rattle.poly_design.specs.Placements.{IsPlacement}
+use Rattle.poly_design.specs.declared.listing.TheConstants.{MAX_PLACEMENTS}
+use Rattle.poly_design.specs.declared.design.TheConstants.{MAX_PIECES}
 use Rattle.poly_design.specs.declared.placement.Placement.{Placement}
 use Rattle.poly_tiling.specs.declared.bound.Bound.{Bound}
 use Rattle.poly_tiling.specs.Shows.{item_bounds}
@@ -22,5 +24,5 @@ pub record ArePartsOf (d : Layout) (list pinned : List Placement) (items : List 
   pub pins : IsListOf placement_cmp (IsPin d) pinned
   pub bounds : items ≡ item_bounds d
   pub small : are_small items ≡ true
-  pub few : length list ≤ 20000
-  pub few_pins : length pinned ≤ 64
+  pub few : length list ≤ MAX_PLACEMENTS
+  pub few_pins : length pinned ≤ MAX_PIECES

@@ -6,6 +6,7 @@ ghost use Rattle.poly_design.specs.PlacementOrder.{placement_cmp};
 ghost use Rattle.poly_tiling.specs.Tilings.{IsPin};
 ghost use Rattle.poly_place.specs.Parts.{ArePartsOf};
 ghost use Rattle.poly_place.specs.Pins.{pin_list};
+ghost use Rattle.poly_design.specs.declared.design.TheConstants.{MAX_PIECES};
 
 use poly_design::{Design, Name, Placement, Spec};
 use poly_grid::Refusal;
@@ -40,7 +41,7 @@ impl Parts {
 /// The pins, in placement order. The only refusal is `Memory`.
 pub(crate) fn pins(alloc: Global, design: &Design) -> Result<Vec<Placement>, Refusal>
     ensures ok { IfOk result (λ list. IsListOf placement_cmp (IsPin design.now) list.items) }
-    ensures few { IfOk result (λ list. length list.items ≤ 64) }
+    ensures few { IfOk result (λ list. length list.items ≤ MAX_PIECES) }
     ensures design { OnOk result (IsDesign design.now) }
     ensures why { IfErr result (λ e. e ≡ Refusal.Memory) }
 {

@@ -6,6 +6,7 @@ use Rattle.poly_tiling.specs.Puzzle.{View}
 use Rattle.poly_report.specs.Trees.{Plan, Rests, Finds, Branches, Splits, Arms, NoArms, OneArm}
 use Rattle.poly_report.specs.Holds.{holds, arms_hold}
 use Rattle.poly_report.specs.Leaves.{rests, arms_rests}
+use Rattle.poly_report.specs.declared.size.TheConstants.{DEPTH, NODES}
 use Rattle.poly_frame.specs.Walk.{open_count}
 
 abbrev mutual
@@ -66,4 +67,4 @@ pub record ArmsGrown (v : View) (A : List Atom) (depth : ℕ) (arms : Arms) : Ty
   pub less : all_fewer v A (arms_rests v A [] arms) ≡ true
 
 abbrev pub fits : Plan → Bool
-fits t = nat_le (total t) 4096 && nat_le (deep t) 512
+fits t = nat_le (total t) NODES && nat_le (deep t) DEPTH

@@ -8,6 +8,7 @@ ghost use Rattle.poly_report.specs.Sizes.{arms_total, fits, total};
 ghost use Rattle.poly_report.specs.Holds.{arms_hold, holds};
 ghost use Rattle.poly_report.specs.Leaves.{arms_rests, arms_tilings, rests, tilings};
 ghost use Rattle.poly_report.specs.Gather.{IsCutUp, lists, taken_holds, taken_rests, taken_tilings};
+ghost use Rattle.poly_frame.specs.declared.frame.TheConstants.{STEPS};
 
 use crate::arms::arms_fit;
 use crate::leaf::Leaves;
@@ -29,7 +30,7 @@ fn walk(
     out: &mut Leaves,
 ) -> Result<bool, Refusal>
     requires begun { frame.old.given ≤ length frame.old.atoms }
-    requires steps { length frame.old.atoms + total (plan_of tree.now) ≤ frame.old.given + 4097 }
+    requires steps { length frame.old.atoms + total (plan_of tree.now) ≤ frame.old.given + STEPS + 1 }
     ensures same { IfOk result (λ yes. yes ≡ true → frame.new ≡ frame.old) }
     ensures says { IfOk result (λ yes. yes ≡ holds frame.old.scene frame.old.atoms (plan_of tree.now)) }
     ensures tilings { IfOk result (λ yes. yes ≡ true → keep ≡ true → out.new.tilings.items ≡ out.old.tilings.items ++ tilings frame.old.scene frame.old.atoms (plan_of tree.now)) }
@@ -89,7 +90,7 @@ fn walk_arms(
     out: &mut Leaves,
 ) -> Result<bool, Refusal>
     requires begun { frame.old.given ≤ length frame.old.atoms }
-    requires steps { length frame.old.atoms + arms_total (arms_list arms.now) ≤ frame.old.given + 4096 }
+    requires steps { length frame.old.atoms + arms_total (arms_list arms.now) ≤ frame.old.given + STEPS }
     requires once { distinct (heads (arms_list arms.now)) ≡ true }
     ensures same { IfOk result (λ yes. yes ≡ true → frame.new ≡ frame.old) }
     ensures says { IfOk result (λ yes. yes ≡ arms_hold frame.old.scene frame.old.atoms [] (arms_list arms.now)) }
@@ -121,7 +122,7 @@ fn walk_taken(
     out: &mut Leaves,
 ) -> Result<bool, Refusal>
     requires begun { frame.old.given ≤ length frame.old.atoms }
-    requires steps { length frame.old.atoms + total (plan_of tree.now) ≤ frame.old.given + 4096 }
+    requires steps { length frame.old.atoms + total (plan_of tree.now) ≤ frame.old.given + STEPS }
     ensures same { IfOk result (λ yes. yes ≡ true → frame.new ≡ frame.old) }
     ensures says { IfOk result (λ yes. yes ≡ taken_holds frame.old.scene frame.old.atoms placement (plan_of tree.now)) }
     ensures tilings { IfOk result (λ yes. yes ≡ true → keep ≡ true → out.new.tilings.items ≡ out.old.tilings.items ++ taken_tilings frame.old.scene frame.old.atoms placement (plan_of tree.now)) }

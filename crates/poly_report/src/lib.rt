@@ -10,7 +10,8 @@ mod tree;
 
 pub use cut::{cut_up, cut_up_over, holds, leaves};
 pub use laws::{
-    open_paths_add_nothing_hopeless, tree_tilings_belong, trees_keep_holding, trees_share_out,
+    limits_of_trees, open_paths_add_nothing_hopeless, tree_tilings_belong, trees_keep_holding,
+    trees_share_out,
 };
 pub use leaf::Leaves;
 pub use poly_frame::{Frame, Matrix, STEPS};

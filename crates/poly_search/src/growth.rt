@@ -15,6 +15,7 @@ ghost use Rattle.poly_report.specs.Sizes.{total, arms_total, inner, arms_inner, 
 ghost use Rattle.poly_frame.specs.Walk.{is_due, is_open, is_option};
 ghost use Rattle.poly_search.specs.Chains.{chain};
 ghost use Rattle.poly_search.specs.Walked.{Walked, left_over};
+ghost use Rattle.poly_frame.specs.declared.frame.TheConstants.{STEPS};
 
 use poly_grid::Refusal;
 use poly_report::{Arm, Frame, Leaves, Tree};
@@ -104,7 +105,7 @@ pub fn grow(
 ) -> Result<Tree, Refusal>
     requires room { kept < growth.old.nodes }
     requires low { 1 ≤ depth }
-    requires steps { length frame.old.atoms + growth.old.nodes ≤ frame.old.given + 4096 + kept }
+    requires steps { length frame.old.atoms + growth.old.nodes ≤ frame.old.given + STEPS + kept }
     requires begun { frame.old.given ≤ length frame.old.atoms }
     requires once { distinct frame.old.scene.live ≡ true }
     ensures same { OnOk result (frame.new ≡ frame.old) }
@@ -164,7 +165,7 @@ fn child(
 ) -> Result<Tree, Refusal>
     requires room { kept < growth.old.nodes }
     requires low { 1 ≤ depth }
-    requires steps { length frame.old.atoms + growth.old.nodes ≤ frame.old.given + 4096 + kept }
+    requires steps { length frame.old.atoms + growth.old.nodes ≤ frame.old.given + STEPS + kept }
     requires begun { frame.old.given ≤ length frame.old.atoms }
     requires once { distinct frame.old.scene.live ≡ true }
     ensures same { OnOk result (frame.new ≡ frame.old) }
@@ -213,7 +214,7 @@ fn walk_arms(
 ) -> Result<Arms, Refusal>
     requires room { kept + length options.now ≤ growth.old.nodes }
     requires low { 2 ≤ depth }
-    requires steps { length frame.old.atoms + growth.old.nodes + 1 ≤ frame.old.given + 4096 + kept }
+    requires steps { length frame.old.atoms + growth.old.nodes + 1 ≤ frame.old.given + STEPS + kept }
     requires begun { frame.old.given ≤ length frame.old.atoms }
     requires once { distinct frame.old.scene.live ≡ true }
     requires each_once { distinct options.now ≡ true }
@@ -279,7 +280,7 @@ fn branch(
     requires room { kept + length options.now < growth.old.nodes }
     requires inner { 1 ≤ growth.old.inner }
     requires low { 2 ≤ depth }
-    requires steps { length frame.old.atoms + growth.old.nodes ≤ frame.old.given + 4096 + kept }
+    requires steps { length frame.old.atoms + growth.old.nodes ≤ frame.old.given + STEPS + kept }
     requires begun { frame.old.given ≤ length frame.old.atoms }
     requires once { distinct frame.old.scene.live ≡ true }
     requires due { is_due frame.old item.now ≡ true }
@@ -345,7 +346,7 @@ fn split(
     requires room { kept + 3 ≤ growth.old.nodes }
     requires inner { 1 ≤ growth.old.inner }
     requires low { 2 ≤ depth }
-    requires steps { length frame.old.atoms + growth.old.nodes ≤ frame.old.given + 4096 + kept }
+    requires steps { length frame.old.atoms + growth.old.nodes ≤ frame.old.given + STEPS + kept }
     requires begun { frame.old.given ≤ length frame.old.atoms }
     requires once { distinct frame.old.scene.live ≡ true }
     requires place { mem frame.old.scene.live placement ≡ true }

@@ -68,7 +68,7 @@ pub fn sweep(
 ) -> Result<bool, Refusal>
     requires begun { frame.old.given ≤ length frame.old.atoms }
     requires room { length frame.old.atoms < end }
-    requires end { end ≤ frame.old.given + 4096 }
+    requires end { end ≤ frame.old.given + STEPS }
     requires once { distinct frame.old.scene.live ≡ true }
     ensures same { OnOk result (frame.new ≡ frame.old) }
     ensures swept { OnOk result (Swept frame.old.scene frame.old.atoms list.old.found.items list.new.found.items (lists list.old.rests.items) (lists list.new.rests.items)) }
@@ -97,7 +97,7 @@ fn sweep_item(
 ) -> Result<bool, Refusal>
     requires begun { frame.old.given ≤ length frame.old.atoms }
     requires room { length frame.old.atoms < end }
-    requires end { end ≤ frame.old.given + 4096 }
+    requires end { end ≤ frame.old.given + STEPS }
     requires once { distinct frame.old.scene.live ≡ true }
     requires due { is_due frame.old item.now ≡ true }
     ensures same { OnOk result (frame.new ≡ frame.old) }
@@ -127,7 +127,7 @@ fn sweep_options(
 ) -> Result<bool, Refusal>
     requires begun { frame.old.given ≤ length frame.old.atoms }
     requires room { length frame.old.atoms < end }
-    requires end { end ≤ frame.old.given + 4096 }
+    requires end { end ≤ frame.old.given + STEPS }
     requires once { distinct frame.old.scene.live ≡ true }
     requires due { is_due frame.old item.now ≡ true }
     requires from { from ≤ length list.old.options.items }
@@ -168,7 +168,7 @@ fn sweep_open(
 ) -> Result<bool, Refusal>
     requires begun { frame.old.given ≤ length frame.old.atoms }
     requires room { length frame.old.atoms < end }
-    requires end { end ≤ frame.old.given + 4096 }
+    requires end { end ≤ frame.old.given + STEPS }
     requires once { distinct frame.old.scene.live ≡ true }
     ensures same { OnOk result (frame.new ≡ frame.old) }
     ensures swept { OnOk result (Swept frame.old.scene frame.old.atoms list.old.found.items list.new.found.items (lists list.old.rests.items) (lists list.new.rests.items)) }
@@ -205,7 +205,7 @@ fn sweep_arm(
 ) -> Result<bool, Refusal>
     requires begun { frame.old.given ≤ length frame.old.atoms }
     requires room { length frame.old.atoms < end }
-    requires end { end ≤ frame.old.given + 4096 }
+    requires end { end ≤ frame.old.given + STEPS }
     requires once { distinct frame.old.scene.live ≡ true }
     requires place { mem frame.old.scene.live placement ≡ true }
     requires open { is_open frame.old placement ≡ true }
@@ -241,7 +241,7 @@ fn sweep_below(
     depth: u32,
 ) -> Result<bool, Refusal>
     requires begun { frame.old.given ≤ length frame.old.atoms }
-    requires end { end ≤ frame.old.given + 4096 }
+    requires end { end ≤ frame.old.given + STEPS }
     requires once { distinct frame.old.scene.live ≡ true }
     ensures same { OnOk result (frame.new ≡ frame.old) }
     ensures room { IfOk result (λ whole. whole ≡ true → length frame.new.atoms < end) }

@@ -34,7 +34,7 @@ pub fn explore_with_leaves(
     nodes: u32,
 ) -> Result<Explored, Refusal>
     requires some { 1 ≤ nodes }
-    requires few { nodes ≤ 4096 }
+    requires few { nodes ≤ NODES }
     ensures fits { IfOk result (λ e. fits (plan_of e.tree) ≡ true) }
     ensures holds { IfOk result (λ e. holds view.now atoms.now (plan_of e.tree) ≡ true) }
     ensures opened { IfOk result (λ e. opened view.now atoms.now (plan_of e.tree) ≡ true) }
@@ -60,7 +60,7 @@ pub fn explore_over(
 ) -> Result<Explored, Refusal>
     requires whole { IsWhole view.now whole.now }
     requires some { 1 ≤ nodes }
-    requires few { nodes ≤ 4096 }
+    requires few { nodes ≤ NODES }
     ensures fits { IfOk result (λ e. fits (plan_of e.tree) ≡ true) }
     ensures holds { IfOk result (λ e. holds view.now atoms.now (plan_of e.tree) ≡ true) }
     ensures opened { IfOk result (λ e. opened view.now atoms.now (plan_of e.tree) ≡ true) }
@@ -90,7 +90,7 @@ pub fn explore_over(
 /// open placements than the atoms. The only refusal is `Memory`.
 pub fn explore(alloc: Global, view: &View, atoms: &[Atom], nodes: u32) -> Result<Tree, Refusal>
     requires some { 1 ≤ nodes }
-    requires few { nodes ≤ 4096 }
+    requires few { nodes ≤ NODES }
     ensures fits { IfOk result (λ t. fits (plan_of t) ≡ true) }
     ensures holds { IfOk result (λ t. holds view.now atoms.now (plan_of t) ≡ true) }
     ensures inner { IfOk result (λ t. inner (plan_of t) ≤ nodes) }

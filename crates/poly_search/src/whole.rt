@@ -14,8 +14,8 @@ use std::alloc::Global;
 /// Fails with `CatalogueFull` if there are over 1,000,000, and otherwise only with `Memory`.
 pub fn search_all(alloc: Global, view: &View, atoms: &[Atom]) -> Result<Vec<Tiling>, Refusal>
     ensures all { IfOk result (λ found. IsFamily view.now atoms.now found.items) }
-    ensures few { IfOk result (λ found. length found.items ≤ 1000000) }
-    ensures too_many { result ≡ Err Refusal.CatalogueFull → HasMore view.now atoms.now 1000000 }
+    ensures few { IfOk result (λ found. length found.items ≤ MAX_TILINGS) }
+    ensures too_many { result ≡ Err Refusal.CatalogueFull → HasMore view.now atoms.now MAX_TILINGS }
     ensures why { IfErr result (λ e. (e ≡ Refusal.CatalogueFull) ⊎ (e ≡ Refusal.Memory)) }
 {
     let whole = Matrix::new(alloc, view)?;

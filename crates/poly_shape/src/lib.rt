@@ -13,6 +13,3 @@ mod shape;
 
 pub use cells::Cells;
 pub use shape::Shape;
-
-#[cfg(test)]
-mod tests;

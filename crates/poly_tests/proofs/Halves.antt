@@ -1,5 +1,5 @@
 -- Tilings that have a number and tilings that lack it may be listed together.
-use Rattle.std.proofs.Common.{Bool, List, [], ap, arith, false, inl, inr, not, refl, suc, sym, take, true, zero, ℕ, ◌&&◌, ◌++◌, ◌+◌, ◌<◌, ◌∙◌, ◌∷◌, ◌≡◌, ◌≤◌}
+use Rattle.std.proofs.Common.{Bool, List, [], ap, arith, false, inl, inr, not, refl, suc, take, true, zero, ℕ, ◌&&◌, ◌++◌, ◌+◌, ◌∙◌, ◌∷◌, ◌≡◌, ◌≤◌}
 use Rattle.std.proofs.lemmas.Bool.{and_parts, cases_eq}
 use Rattle.std.specs.List.{list_all}
 use Rattle.poly_tiling.specs.Lists.{mem, one, same_list, tally}
@@ -7,7 +7,7 @@ use Rattle.poly_tiling.specs.Puzzle.{View, is_tiling}
 use Rattle.poly_tiling.proofs.Ascending.{same_list_is}
 use Rattle.poly_tiling.proofs.Lists.{all_from, all_in, tally_append, tally_none}
 use Rattle.poly_tiling.proofs.Listings.{tally_has}
-use Rattle.poly_atom.specs.Atoms.{in_family, meets, meets_all}
+use Rattle.poly_atom.specs.Atoms.{meets}
 use Rattle.poly_atom.specs.declared.atom.Atom.{Atom}
 use Rattle.poly_search.specs.Whole.{IsFamily}
 use Rattle.poly_catalogue.specs.Listed.{AreOnce}

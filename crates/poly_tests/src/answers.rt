@@ -52,7 +52,7 @@ fn answer_to(alloc: Global, query: &Query) -> Result<Answer, Refusal> {
 }
 
 // Each of the six items has the same number of options.
-fn summary(count: u64, forced: usize, each: u64) -> Summary {
+fn same_for_each(count: u64, forced: usize, each: u64) -> Summary {
     Summary {
         count,
         forced,
@@ -77,7 +77,7 @@ fn browses_two_dominoes(rt: HostRuntime) {
     for &(line, count, forced, each) in &ANSWERS {
         let query = query_of(rt.alloc(), line).expect(&rt, "a line");
         let answer = answer_to(rt.alloc(), &query).expect(&rt, "memory");
-        assert_eq!(rt; summary_of(&answer), summary(count, forced, each));
+        assert_eq!(rt; summary_of(&answer), same_for_each(count, forced, each));
     }
 }
 
@@ -109,7 +109,7 @@ fn many_words_that_say_the_same(rt: HostRuntime) {
     let line = b"browse +A=0,0/1,0 -A=0,1/1,1 @0,0";
     let query = repeated(rt.alloc(), line).expect(&rt, "memory");
     let answer = answer_to(rt.alloc(), &query).expect(&rt, "memory");
-    assert_eq!(rt; summary_of(&answer), summary(1, 2, 1));
+    assert_eq!(rt; summary_of(&answer), same_for_each(1, 2, 1));
 }
 
 // Over a tiling of the first placement and of the greatest number that there is, which names nothing.

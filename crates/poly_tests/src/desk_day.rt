@@ -22,9 +22,9 @@ fn change<C: Ledger, K: Ledger, O: Opening, R: Wait + Abort>(
     alloc: Global,
     desk: &Desk<C, K, O>,
     pass: &mut Pass<C, K, O>,
-    forbid: Edit,
+    forbid: &Edit,
 ) -> Vec<Receipt> {
-    let edit = desk.edit(rt, pass, forbid).expect(rt, "accepted");
+    let edit = desk.edit(rt, pass, *forbid).expect(rt, "accepted");
     let undo = desk.undo(rt, pass).expect(rt, "a step to undo");
     let redo = desk.redo(rt, pass).expect(rt, "a step to redo");
     assert!(rt; (place_of(&edit), place_of(&undo), place_of(&redo)) == (1, 2, 3));
@@ -106,7 +106,7 @@ fn day<C: Ledger, K: Ledger, O: Opening, R: Wait + Abort>(
     changes: Blank,
     cuts: Blank,
     book: Book,
-    forbid: Edit,
+    forbid: &Edit,
     strange: Receipt,
 ) -> (Book, Quiet)
     requires changes { (changes.name ≡ C.name) × (changes.parts ≡ C.parts) × (changes.parts ≡ PARTS) }
@@ -148,7 +148,7 @@ fn fourth<C: Ledger, K: Ledger, O: Opening, R: Wait + Abort>(
     changes: Blank,
     cuts: Blank,
     book: Book,
-    forbid: Edit,
+    forbid: &Edit,
 ) -> Receipt
     requires changes { (changes.name ≡ C.name) × (changes.parts ≡ C.parts) × (changes.parts ≡ PARTS) }
     requires cuts { (cuts.name ≡ K.name) × (cuts.parts ≡ K.parts) × (cuts.parts ≡ PARTS) }
@@ -176,7 +176,7 @@ fn a_day_at_the_desk(rt: HostRuntime) {
         Blank::new(PARTS),
         Blank::new(PARTS),
         book_of(&rt, alloc, DOMINOES),
-        forbid,
+        &forbid,
     );
     let (book, quiet) = day::<Brand, Brand, Brand, HostRuntime>(
         &rt,
@@ -184,7 +184,7 @@ fn a_day_at_the_desk(rt: HostRuntime) {
         Blank::new(PARTS),
         Blank::new(PARTS),
         book_of(&rt, alloc, DOMINOES),
-        forbid,
+        &forbid,
         strange,
     );
     expect_status(&rt, &book, (3, 3, 0));

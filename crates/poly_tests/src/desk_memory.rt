@@ -20,7 +20,7 @@ use std::sync::Wait;
 use std::sync::ledger::{Blank, Ledger};
 
 // What to ask of a desk. Work is a task that is taken, explored and handed in.
-#[derive(Clone, Copy)]
+#[derive(Drop)]
 enum Asked {
     Edit(Edit),
     Undo,
@@ -34,10 +34,10 @@ fn ask<C: Ledger, K: Ledger, O: Opening, R: Wait + Abort>(
     alloc: Global,
     desk: &Desk<C, K, O>,
     pass: &mut Pass<C, K, O>,
-    asked: Asked,
+    asked: &Asked,
 ) -> Result<Option<Quiet>, Refusal> {
     let _ = match asked {
-        Asked::Edit(edit) => desk.edit(rt, pass, edit)?,
+        Asked::Edit(edit) => desk.edit(rt, pass, *edit)?,
         Asked::Undo => desk.undo(rt, pass)?,
         Asked::Redo => desk.redo(rt, pass)?,
         Asked::Work => work(rt, alloc, desk, pass, Which::Any)?.1,
@@ -52,7 +52,7 @@ fn make<C: Ledger, K: Ledger, O: Opening, R: Wait + Abort>(
     alloc: Global,
     desk: &Desk<C, K, O>,
     pass: &mut Pass<C, K, O>,
-    asked: Asked,
+    asked: &Asked,
 ) -> Option<Quiet> {
     let before = shown(rt, alloc, desk, pass);
     match ask(rt, alloc, desk, pass, asked) {
@@ -76,7 +76,7 @@ fn work_on<C: Ledger, K: Ledger, O: Opening, R: Wait + Abort>(
         if desk.next(rt, pass, 1) == Ok(None) {
             break;
         }
-        let _ = make(rt, alloc, desk, pass, Asked::Work);
+        let _ = make(rt, alloc, desk, pass, &Asked::Work);
     }
 }
 
@@ -104,7 +104,7 @@ fn day<C: Ledger, K: Ledger, O: Opening, R: Wait + Abort>(
     changes: Blank,
     cuts: Blank,
     book: Book,
-    forbid: Edit,
+    forbid: &Edit,
 ) -> Result<(Book, Quiet), NotBegun>
     requires changes { (changes.name ≡ C.name) × (changes.parts ≡ C.parts) × (changes.parts ≡ PARTS) }
     requires cuts { (cuts.name ≡ K.name) × (cuts.parts ≡ K.parts) × (cuts.parts ≡ PARTS) }
@@ -118,12 +118,12 @@ fn day<C: Ledger, K: Ledger, O: Opening, R: Wait + Abort>(
         Err(not_begun) => return Err(not_begun),
     };
     let mut q = second_pass(rt, alloc, &desk, &mut p);
-    let _ = make(rt, alloc, &desk, &mut p, Asked::Work);
-    let _ = make(rt, alloc, &desk, &mut q, Asked::Edit(forbid));
-    let _ = make(rt, alloc, &desk, &mut q, Asked::Undo);
-    let _ = make(rt, alloc, &desk, &mut q, Asked::Redo);
+    let _ = make(rt, alloc, &desk, &mut p, &Asked::Work);
+    let _ = make(rt, alloc, &desk, &mut q, &Asked::Edit(*forbid));
+    let _ = make(rt, alloc, &desk, &mut q, &Asked::Undo);
+    let _ = make(rt, alloc, &desk, &mut q, &Asked::Redo);
     work_on(rt, alloc, &desk, &mut p);
-    let answer = make(rt, alloc, &desk, &mut p, Asked::Quiet);
+    let answer = make(rt, alloc, &desk, &mut p, &Asked::Quiet);
     let quiet = answer.expect(rt, "a Quiet");
     assert!(rt; shown(rt, alloc, &desk, &mut q).2 == 3);
     let mut passes = match Vec::with_capacity(alloc, 2) {
@@ -172,7 +172,7 @@ fn a_day_without_memory(rt: HostRuntime) {
         Blank::new(PARTS),
         Blank::new(PARTS),
         book,
-        forbid,
+        &forbid,
     );
     let (after, quiet) = match first {
         Ok(both) => both,
@@ -184,7 +184,7 @@ fn a_day_without_memory(rt: HostRuntime) {
                 Blank::new(PARTS),
                 Blank::new(PARTS),
                 not_begun.book,
-                forbid,
+                &forbid,
             );
             second.ok().expect(&rt, "memory")
         }

@@ -37,6 +37,8 @@ mod frame;
 #[cfg(test)]
 mod full;
 #[cfg(test)]
+mod grids;
+#[cfg(test)]
 mod history;
 #[cfg(test)]
 mod laws;
@@ -51,6 +53,10 @@ mod nowhere;
 #[cfg(test)]
 mod numbers;
 #[cfg(test)]
+mod parts;
+#[cfg(test)]
+mod refusals;
+#[cfg(test)]
 mod reports;
 #[cfg(test)]
 mod scripts;
@@ -58,6 +64,8 @@ mod scripts;
 mod searches;
 #[cfg(test)]
 mod settled;
+#[cfg(test)]
+mod shapes;
 #[cfg(test)]
 mod shared_out;
 #[cfg(test)]

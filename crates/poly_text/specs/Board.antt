@@ -2,6 +2,7 @@
 use Rattle.std.specs.Prelude.{ℕ, suc, ◌+◌, ◌*◌, ◌<◌, ◌&&◌, ◌||◌, ◌==◌, Bool, List, [], ◌∷◌, ◌++◌, length, nat_le, if◌then◌else◌, Option, Some, None, is_some}
 use Rattle.std.specs.List.{list_all}
 use Rattle.poly_grid.specs.Spot.{Spot}
+use Rattle.poly_grid.specs.declared.cell.TheConstants.{SIDE}
 use Rattle.poly_design.specs.declared.mode.Mode.{Mode}
 use Rattle.poly_design.specs.declared.mode.Mode.TheVariants.{Required, Optional}
 
@@ -17,11 +18,11 @@ abbrev pub is_mark : ℕ → Bool
 is_mark byte = is_open byte || byte == 46
 
 abbrev pub is_row : List ℕ → Bool
-is_row row = nat_le (length row) 64 && list_all is_mark row
+is_row row = nat_le (length row) SIDE && list_all is_mark row
 
 -- at most 64 rows, each of at most 64 marks
 abbrev pub is_board : List (List ℕ) → Bool
-is_board rows = nat_le (length rows) 64 && list_all is_row rows
+is_board rows = nat_le (length rows) SIDE && list_all is_row rows
 
 abbrev pub with_mode : Spot → Option Mode → List (Spot × Mode)
 with_mode c None = []
@@ -44,4 +45,4 @@ board_cells rows = cells_from 0 rows
 -- each cell comes before the place, which counts the cells of a board by rows of 64
 abbrev pub AreBefore : ℕ → List (Spot × Mode) → Type 0
 AreBefore place [] = Unit {0}
-AreBefore place (e ∷ es) = (64 * e.0.y + e.0.x < place) × (e.0.x < 64) × AreBefore place es
+AreBefore place (e ∷ es) = (SIDE * e.0.y + e.0.x < place) × (e.0.x < SIDE) × AreBefore place es

@@ -6,6 +6,7 @@ use Rattle.serde_json.specs.Data.{Data}
 use Rattle.serde_json.specs.Find.{get, as_object, as_str, as_bool}
 use Rattle.serde_json.specs.Events.{members_len}
 use Rattle.poly_grid.specs.Spot.{Spot}
+use Rattle.poly_grid.specs.declared.cell.TheConstants.{SIDE}
 use Rattle.poly_design.specs.Bounds.{Bounds}
 use Rattle.poly_text.specs.declared.puzzle.head.Format.{Format}
 use Rattle.poly_text.specs.declared.puzzle.head.Format.TheVariants.{One, Two}
@@ -80,7 +81,7 @@ cell_of_list (x ∷ []) = None
 cell_of_list (x ∷ y ∷ []) = do
   column ← natural x
   row ← natural y
-  when (nat_lt column 64 && nat_lt row 64) (record { x = column; y = row })
+  when (nat_lt column SIDE && nat_lt row SIDE) (record { x = column; y = row })
 cell_of_list (x ∷ y ∷ z ∷ rest) = None
 
 abbrev pub cell_of : Data → Option Spot

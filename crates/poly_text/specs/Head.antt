@@ -12,6 +12,7 @@ use Rattle.poly_text.specs.Board.{is_board, board_cells}
 use Rattle.poly_text.specs.Gives.{◌>>=◌, ok_or, check}
 use Rattle.poly_text.specs.Json as json
 use Rattle.poly_text.specs.Outer.{outer_of}
+use Rattle.poly_design.specs.declared.design.TheConstants.{MAX_CELLS, MAX_PIECES}
 
 abbrev pub format_of : Option ℕ → Option Format
 format_of None = None
@@ -32,12 +33,12 @@ head_of d = do
   format ← ok_or (format_of outer.format) BadFormat
   grid ← ok_or (grid_of outer.grid) BadGrid
   board ← check (is_board (map json.text outer.board)) BadBoard
-  cells ← check (nat_le (length (board_cells (map json.text outer.board))) 256) TooManyCells
-  pieces ← check (nat_le (length outer.pieces) 64) TooManyPieces
+  cells ← check (nat_le (length (board_cells (map json.text outer.board))) MAX_CELLS) TooManyCells
+  pieces ← check (nat_le (length outer.pieces) MAX_PIECES) TooManyPieces
   Ok (record { format = format; grid = grid; rows = map json.text outer.board; pieces = outer.pieces })
 
 -- the limits that an accepted outer object keeps
 pub record IsWithin (h : Head) : Type 0 where
   pub board : is_board h.rows ≡ true
-  pub cells : length (board_cells h.rows) ≤ 256
-  pub pieces : length h.pieces ≤ 64
+  pub cells : length (board_cells h.rows) ≤ MAX_CELLS
+  pub pieces : length h.pieces ≤ MAX_PIECES

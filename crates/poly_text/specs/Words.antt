@@ -6,6 +6,7 @@ use Rattle.std.specs.Result.{is_ok}
 use Rattle.std.specs.Str.{bytes_eq}
 use Rattle.std.specs.Str.Parse.{digits_value}
 use Rattle.poly_grid.specs.Spot.{Spot}
+use Rattle.poly_grid.specs.declared.cell.TheConstants.{SIDE}
 use Rattle.poly_grid.specs.declared.refusal.Refusal.{Refusal}
 use Rattle.poly_grid.specs.declared.refusal.Refusal.TheVariants.{BadCommand, BadCell}
 use Rattle.poly_design.specs.declared.need.Need.{Need}
@@ -55,7 +56,7 @@ coordinates_of word = do
 
 -- the cell of two coordinates
 abbrev pub cell_at : ℕ × ℕ → Result Spot Refusal
-cell_at at = ok_or (when (nat_lt at.0 64 && nat_lt at.1 64) (record { x = at.0; y = at.1 })) BadCell
+cell_at at = ok_or (when (nat_lt at.0 SIDE && nat_lt at.1 SIDE) (record { x = at.0; y = at.1 })) BadCell
 
 abbrev pub cell_of : List ℕ → Result Spot Refusal
 cell_of word = coordinates_of word >>= cell_at

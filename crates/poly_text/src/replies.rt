@@ -2,6 +2,7 @@
 ghost use Rattle.std.specs.Prelude.{◌≡◌, ◌+◌, ◌*◌, ◌≤◌, ◌^◌, ◌<◌, ◌++◌, ◌∷◌, [], length, IfOk, IfErr, codes, decimal, sum_by};
 ghost use Rattle.std.specs.List.{flat_map, join_by};
 ghost use Rattle.poly_text.specs.Replies.{refusal_text, ok_text, tilings_text, cell_text, cells_text, placement_text, placements_text, tiling_text, forced_text, item_name, item_text, matches_text, classes_text, status_text, covered};
+ghost use Rattle.poly_design.specs.declared.design.TheConstants.{MAX_CELLS};
 
 use itoa::Buffer;
 use poly_design::{Name, Placement};
@@ -111,7 +112,7 @@ impl ReplyLine {
     /// Makes this the `tiling` line of the placements in their order, or `tiling -` if there are none. Requires placements that have
     /// at most 256 cells in all.
     pub fn tiling(&mut self, placements: &[Placement])
-        requires { covered placements.now ≤ 256 }
+        requires { covered placements.now ≤ MAX_CELLS }
         ensures { self.new ≡ tiling_text placements.now }
     {
         self.clear();
@@ -123,7 +124,7 @@ impl ReplyLine {
     /// Makes this the `forced` line of the placements in their order, or `forced -` if there are none. Requires placements that have
     /// at most 256 cells in all.
     pub fn forced(&mut self, placements: &[Placement])
-        requires { covered placements.now ≤ 256 }
+        requires { covered placements.now ≤ MAX_CELLS }
         ensures { self.new ≡ forced_text placements.now }
     {
         self.clear();

@@ -1,7 +1,15 @@
 //! Laws of the definitions, each the contract of a function that does nothing.
+ghost use Rattle.std.specs.Prelude.{◌≡◌};
 ghost use Rattle.poly_tiling.specs.Laws.{NumbersMayGrow, NumbersReach, NumbersShow, SameDesignGrows};
 ghost use Rattle.poly_tiling.specs.Listings.{ListingsShow, OverShow};
 ghost use Rattle.poly_tiling.specs.TilingOrder.{RanksCompare};
+
+use crate::lister::MAX_TILINGS;
+
+/// At most 1,000,000 tilings are listed.
+pub fn most_tilings_are_a_million()
+    ensures { MAX_TILINGS ≡ 1000000 }
+{}
 
 /// Assigning new numbers doesn't change whether a list is a tiling.
 pub fn numbers_may_grow()

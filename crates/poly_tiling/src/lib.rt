@@ -18,8 +18,8 @@ pub use bound::Bound;
 pub use conflicts::conflict;
 pub use item::Item;
 pub use laws::{
-    listings_show, numbers_may_grow, numbers_reach, numbers_show, over_shows, ranks_compare,
-    same_design_grows,
+    listings_show, most_tilings_are_a_million, numbers_may_grow, numbers_reach, numbers_show,
+    over_shows, ranks_compare, same_design_grows,
 };
 pub use lister::{MAX_TILINGS, list_tilings};
 pub use numbering::item_list;

@@ -25,8 +25,8 @@ pub const MAX_TILINGS: usize = 1_000_000;
 /// Fails with `CatalogueFull` if there are over 1,000,000, and otherwise only with `Memory`.
 pub fn list_tilings(alloc: Global, view: &View) -> Result<Vec<Tiling>, Refusal>
     ensures ok { IfOk result (λ found. HasEachOnce view.now found.items) }
-    ensures few { IfOk result (λ found. length found.items ≤ 1000000) }
-    ensures full { result ≡ Err Refusal.CatalogueFull → HasOver 1000000 view.now }
+    ensures few { IfOk result (λ found. length found.items ≤ MAX_TILINGS) }
+    ensures full { result ≡ Err Refusal.CatalogueFull → HasOver MAX_TILINGS view.now }
     ensures why { IfErr result (λ e. (e ≡ Refusal.CatalogueFull) ⊎ (e ≡ Refusal.Memory)) }
 {
     let mut found = Vec::new(alloc);
@@ -46,12 +46,12 @@ fn extend(
     found: &mut Vec<Tiling>,
 ) -> Result<(), Refusal>
     requires apart { AreApart chosen.old.items free.items }
-    requires few { length found.old.items ≤ 1000000 }
+    requires few { length found.old.items ≤ MAX_TILINGS }
     ensures adds { OnOk result (AddsLeft view.now chosen.old.items free.items found.old.items found.new.items) }
     ensures at_most { AddsAtMost view.now chosen.old.items free.items found.old.items found.new.items }
     ensures same { OnOk result (chosen.new.items ≡ chosen.old.items) }
-    ensures few { OnOk result (length found.new.items ≤ 1000000) }
-    ensures full { result ≡ Err Refusal.CatalogueFull → 1000000 < length found.new.items }
+    ensures few { OnOk result (length found.new.items ≤ MAX_TILINGS) }
+    ensures full { result ≡ Err Refusal.CatalogueFull → MAX_TILINGS < length found.new.items }
     ensures why { IfErr result (λ e. (e ≡ Refusal.CatalogueFull) ⊎ (e ≡ Refusal.Memory)) }
 {
     let item = unmet_item(view, chosen, &free);
@@ -73,12 +73,12 @@ fn take(
     found: &mut Vec<Tiling>,
 ) -> Result<(), Refusal>
     requires once { distinct (chosen.old.items ++ p ∷ []) ≡ true }
-    requires few { length found.old.items ≤ 1000000 }
+    requires few { length found.old.items ≤ MAX_TILINGS }
     ensures adds { OnOk result (AddsLeft view.now (chosen.old.items ++ p ∷ []) free.now found.old.items found.new.items) }
     ensures at_most { AddsAtMost view.now (chosen.old.items ++ p ∷ []) free.now found.old.items found.new.items }
     ensures same { OnOk result (chosen.new.items ≡ chosen.old.items) }
-    ensures few { OnOk result (length found.new.items ≤ 1000000) }
-    ensures full { result ≡ Err Refusal.CatalogueFull → 1000000 < length found.new.items }
+    ensures few { OnOk result (length found.new.items ≤ MAX_TILINGS) }
+    ensures full { result ≡ Err Refusal.CatalogueFull → MAX_TILINGS < length found.new.items }
     ensures why { IfErr result (λ e. (e ≡ Refusal.CatalogueFull) ⊎ (e ≡ Refusal.Memory)) }
 {
     chosen.push(p)?;
@@ -96,12 +96,12 @@ fn finish(
     item: &Option<Item>,
     found: &mut Vec<Tiling>,
 ) -> Result<(), Refusal>
-    requires few { length found.old.items ≤ 1000000 }
+    requires few { length found.old.items ≤ MAX_TILINGS }
     ensures some { IfSome item.now (λ _. found.new.items ≡ found.old.items) }
     ensures adds { IfNone item.now (OnOk result (AddsLeft view.now chosen.now [] found.old.items found.new.items)) }
     ensures at_most { IfNone item.now (AddsAtMost view.now chosen.now [] found.old.items found.new.items) }
-    ensures few { OnOk result (length found.new.items ≤ 1000000) }
-    ensures full { result ≡ Err Refusal.CatalogueFull → 1000000 < length found.new.items }
+    ensures few { OnOk result (length found.new.items ≤ MAX_TILINGS) }
+    ensures full { result ≡ Err Refusal.CatalogueFull → MAX_TILINGS < length found.new.items }
     ensures why { IfErr result (λ e. (e ≡ Refusal.CatalogueFull) ⊎ (e ≡ Refusal.Memory)) }
 {
     match item {
@@ -112,11 +112,11 @@ fn finish(
 
 // Adds the chosen numbers, if they are a tiling.
 fn add(alloc: Global, view: &View, chosen: &[u32], found: &mut Vec<Tiling>) -> Result<(), Refusal>
-    requires few { length found.old.items ≤ 1000000 }
+    requires few { length found.old.items ≤ MAX_TILINGS }
     ensures adds { OnOk result (AddsLeft view.now chosen.now [] found.old.items found.new.items) }
     ensures at_most { AddsAtMost view.now chosen.now [] found.old.items found.new.items }
-    ensures few { OnOk result (length found.new.items ≤ 1000000) }
-    ensures full { result ≡ Err Refusal.CatalogueFull → 1000000 < length found.new.items }
+    ensures few { OnOk result (length found.new.items ≤ MAX_TILINGS) }
+    ensures full { result ≡ Err Refusal.CatalogueFull → MAX_TILINGS < length found.new.items }
     ensures why { IfErr result (λ e. (e ≡ Refusal.CatalogueFull) ⊎ (e ≡ Refusal.Memory)) }
 {
     let numbers = in_order(alloc, chosen)?;

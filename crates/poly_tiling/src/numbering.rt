@@ -5,6 +5,8 @@ ghost use Rattle.std.specs.List.{AllPairs, list_all, position, range_with_len};
 ghost use Rattle.poly_shape.specs.Order.{spot_eq};
 ghost use Rattle.poly_tiling.specs.Shows.{AddsPins, HasNumber, IsPlain, PutsPin, Shows, cell_bound, item_bounds, piece_bound};
 ghost use Rattle.poly_tiling.specs.Tilings.{bounds_of_mode};
+ghost use Rattle.poly_design.specs.declared.design.TheConstants.{MAX_PIECES};
+ghost use Rattle.poly_design.specs.declared.listing.TheConstants.{MAX_PLACEMENTS};
 
 use crate::bound::Bound;
 use crate::item::Item;
@@ -35,7 +37,7 @@ impl View {
 
 // The indices of the list.
 fn first_numbers(alloc: Global, placements: &[Placement]) -> Result<Vec<u32>, Refusal>
-    requires { length placements.now ≤ 20000 }
+    requires { length placements.now ≤ MAX_PLACEMENTS }
     ensures ok { IfOk result (λ list. list.items ≡ range_with_len 0 (length placements.now)) }
     ensures why { IfErr result (λ e. e ≡ Refusal.Memory) }
 {
@@ -103,8 +105,8 @@ fn number_pins(
     pieces: &BTreeMap<Name, Spec>,
     placements: &mut Vec<Placement>,
 ) -> Result<Vec<u32>, Refusal>
-    requires few_pieces { length pieces.now.entries ≤ 64 }
-    requires few_placements { length placements.old.items ≤ 20000 }
+    requires few_pieces { length pieces.now.entries ≤ MAX_PIECES }
+    requires few_placements { length placements.old.items ≤ MAX_PLACEMENTS }
     requires apart { AllPairs (λ p q. p ≢ q) placements.old.items }
     ensures ok { IfOk result (λ pins. AddsPins pieces.now.entries placements.old.items placements.new.items pins.items) }
     ensures why { IfErr result (λ e. e ≡ Refusal.Memory) }

@@ -1,6 +1,7 @@
 -- The steps of a history as contracts see them.
 use Rattle.std.specs.Prelude.{◌≡◌, ◌+◌, ◌-◌, ◌∷◌, ◌++◌, ◌≤◌, [], length, drop, slice_get, vec_capacity, List, Option, Vec}
 use Rattle.circular_buffer.specs.Buffer.{Buffer}
+use Rattle.poly_undo.specs.declared.history.TheConstants.{MAX_STEPS}
 use Rattle.poly_undo.specs.declared.step.Step.{Step}
 
 -- the steps that can be undone and those that can be redone; each list ends with the step whose turn is next
@@ -10,7 +11,7 @@ pub record Steps (C K : Type 0) : Type 0 where
 
 -- the last 256 of a list
 abbrev pub newest : {X : Type 0} → List X → List X
-newest xs = drop (length xs - 256) xs
+newest xs = drop (length xs - MAX_STEPS) xs
 
 -- the step whose turn is next, if there is one
 abbrev pub next_of : {X : Type 0} → List X → Option X
@@ -26,6 +27,6 @@ pub record Moves {C K : Type 0} (from to left made : List (Step C K)) (kept stoo
 
 -- what holds of the two containers: room for all steps, and never more of them
 pub record HasRoom {X A : Type 0} (undo : Buffer X) (redo : Vec X A) : Type 0 where
-  pub undo_room : undo.capacity ≡ 256
-  pub redo_room : 256 ≤ vec_capacity redo
-  pub few : length undo.items + length redo.items ≤ 256
+  pub undo_room : undo.capacity ≡ MAX_STEPS
+  pub redo_room : MAX_STEPS ≤ vec_capacity redo
+  pub few : length undo.items + length redo.items ≤ MAX_STEPS

@@ -61,7 +61,7 @@ impl<C: Drop, K: Drop> History<C, K> {
     /// How many steps can be undone.
     pub fn undo_len(&self) -> usize
         ensures value { result ≡ length self.now.undo }
-        ensures few { length self.now.undo + length self.now.redo ≤ 256 }
+        ensures few { length self.now.undo + length self.now.redo ≤ MAX_STEPS }
     {
         self.undo.len()
     }
@@ -69,7 +69,7 @@ impl<C: Drop, K: Drop> History<C, K> {
     /// How many steps can be redone.
     pub fn redo_len(&self) -> usize
         ensures value { result ≡ length self.now.redo }
-        ensures few { length self.now.undo + length self.now.redo ≤ 256 }
+        ensures few { length self.now.undo + length self.now.redo ≤ MAX_STEPS }
     {
         self.redo.len()
     }
@@ -78,7 +78,7 @@ impl<C: Drop, K: Drop> History<C, K> {
     pub fn last(&self) -> Option<&Step<C, K>>
         ensures step { option_copied result ≡ next_of self.now.undo }
         ensures some { IsSome result ↔ (0 < length self.now.undo) }
-        ensures few { length self.now.undo + length self.now.redo ≤ 256 }
+        ensures few { length self.now.undo + length self.now.redo ≤ MAX_STEPS }
     {
         self.undo.back()
     }
@@ -87,7 +87,7 @@ impl<C: Drop, K: Drop> History<C, K> {
     pub fn ahead(&self) -> Option<&Step<C, K>>
         ensures step { option_copied result ≡ next_of self.now.redo }
         ensures some { IsSome result ↔ (0 < length self.now.redo) }
-        ensures few { length self.now.undo + length self.now.redo ≤ 256 }
+        ensures few { length self.now.undo + length self.now.redo ≤ MAX_STEPS }
     {
         self.redo.last()
     }

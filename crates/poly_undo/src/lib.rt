@@ -7,9 +7,11 @@
 #![tactic(auto)]
 
 mod history;
+mod laws;
 mod shelf;
 mod step;
 
 pub use history::{History, MAX_STEPS};
+pub use laws::most_steps_are_256;
 pub use shelf::Shelf;
 pub use step::Step;

@@ -283,7 +283,7 @@ impl Design {
 
     // Whether there is room for the cell, if it is not blocked.
     fn has_room(&self, cell: Cell, mode: Mode) -> bool
-        ensures room { IsTrue result ↔ (length (set_mode self.now.cells cell mode) ≤ 256) }
+        ensures room { IsTrue result ↔ (length (set_mode self.now.cells cell mode) ≤ MAX_CELLS) }
         ensures design { IsDesign self.now }
     {
         if self.cells.len() < MAX_CELLS {

@@ -8,17 +8,20 @@ ghost use Rattle.poly_tiling.specs.Puzzle.{items, same_item};
 ghost use Rattle.poly_tiling.specs.declared.item.Item.TheVariants.{Cell as CellItem, Piece as PieceItem};
 ghost use Rattle.poly_frame.specs.FrameItems.{Noted, item_at, times};
 
-use poly_grid::{Cell, Refusal};
+use poly_grid::{Cell, Refusal, SIDE};
 use poly_tiling::{Bound, Item, View};
 use std::alloc::Global;
 
+/// The most items of a placement: 16 cells and a piece.
+pub(crate) const PLACEMENT_ITEMS: usize = 17;
+
 /// The index of a cell in a list with an entry for each cell that a board can have.
 pub(crate) fn cell_place(cell: Cell) -> usize
-    ensures value { result ≡ 64 * cell.y + cell.x }
-    ensures column { cell.x < 64 }
-    ensures small { result < 4096 }
+    ensures value { result ≡ SIDE * cell.y + cell.x }
+    ensures column { cell.x < SIDE }
+    ensures small { result < SIDE * SIDE }
 {
-    usize::from(cell.y()) * 64 + usize::from(cell.x())
+    usize::from(cell.y()) * SIDE + usize::from(cell.x())
 }
 
 // How many entries such a list needs for these items.
@@ -145,9 +148,9 @@ pub(crate) fn note_items(
     number: u32,
     noted: &mut Vec<usize>,
 )
-    requires { vec_len noted.old + 17 ≤ vec_capacity noted.old }
+    requires { vec_len noted.old + PLACEMENT_ITEMS ≤ vec_capacity noted.old }
     ensures capacity { vec_capacity noted.new ≡ vec_capacity noted.old }
-    ensures len { vec_len noted.new ≤ vec_len noted.old + 17 }
+    ensures len { vec_len noted.new ≤ vec_len noted.old + PLACEMENT_ITEMS }
     ensures places { (places : List ℕ) × (noted.new.items ≡ noted.old.items ++ places) × Noted view.now.bounds (items view.now number) places }
 {
     if let Some(placement) = view.placement(number) {

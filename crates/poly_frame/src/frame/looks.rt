@@ -257,7 +257,7 @@ fn scarcest_in(
 ) -> Scarce
     requires kept { IsAt node.now steps.now }
     requires at { at ≡ length steps.now.live.items - node.now.matrix.now.width }
-    requires small { first < 8192 }
+    requires small { first < 64 * NOTED }
     requires best { IfSome best.place (λ b. (b < length steps.now.have.items) × (nat_lt (slice_index steps.now.have.items b) (slice_index node.now.table.now.asked.items b) ≡ true)) }
     ensures { IfSome result.place (λ b. (b < length steps.now.have.items) × (nat_lt (slice_index steps.now.have.items b) (slice_index node.now.table.now.asked.items b) ≡ true)) }
 {

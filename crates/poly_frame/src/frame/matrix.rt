@@ -9,7 +9,7 @@ ghost use Rattle.poly_frame.specs.Bits.{has_bit};
 
 use crate::bits;
 use crate::frame::busy::{Busy, busy_rows, count_bits};
-use crate::frame::items::{guess_cells, note_items};
+use crate::frame::items::{PLACEMENT_ITEMS, guess_cells, note_items};
 use crate::frame::opened::first_row;
 use poly_grid::Refusal;
 use poly_tiling::View;
@@ -215,7 +215,7 @@ fn list_items(
     let mut piece = 0;
     starts.push(0usize)?;
     for p in numbers {
-        places.reserve(17)?;
+        places.reserve(PLACEMENT_ITEMS)?;
         note_items(view, cells, piece, *p, &mut places);
         if places.len() > starts[starts.len() - 1] {
             piece = places[starts[starts.len() - 1]];

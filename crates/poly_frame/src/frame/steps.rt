@@ -9,6 +9,7 @@ ghost use Rattle.poly_frame.specs.FrameItems.{Noted};
 ghost use Rattle.poly_tiling.specs.Puzzle.{items};
 
 use crate::bits;
+use crate::frame::STEPS;
 use crate::frame::items::note_items;
 use crate::frame::matrix::Matrix;
 use crate::frame::node::Node;
@@ -33,6 +34,7 @@ pub(crate) struct Steps {
 ghost use Rattle.poly_frame.specs.Matrices.{IsMatrix, RowOf, place};
 ghost use Rattle.poly_frame.specs.FrameTable.{HaveShows, TableShows};
 ghost use Rattle.poly_frame.specs.FrameSteps.{HasRoom, IsAt, StepsKeep};
+ghost use Rattle.poly_frame.specs.declared.frame.items.TheConstants.{PLACEMENT_ITEMS};
 
 // Notes the indices of the number's items. `place` is the number's column, if it has one.
 fn note_number(
@@ -44,9 +46,9 @@ fn note_number(
 )
     requires part { IsMatrix view.now matrix.now }
     requires place { IfSome place (λ j. (j < length matrix.now.numbers.items) × (slice_index matrix.now.numbers.items j ≡ number)) }
-    requires room { vec_len noted.old + 17 ≤ vec_capacity noted.old }
+    requires room { vec_len noted.old + PLACEMENT_ITEMS ≤ vec_capacity noted.old }
     ensures capacity { vec_capacity noted.new ≡ vec_capacity noted.old }
-    ensures len { vec_len noted.new ≤ vec_len noted.old + 17 }
+    ensures len { vec_len noted.new ≤ vec_len noted.old + PLACEMENT_ITEMS }
     ensures places { (places : List ℕ) × (noted.new.items ≡ noted.old.items ++ places) × Noted view.now.bounds (items view.now number) places }
 {
     match place {
@@ -94,7 +96,7 @@ fn close(
 pub(crate) fn pick(node: &Node<'_>, members: &[u32], steps: &mut Steps, number: u32)
     requires kept { IsAt node.now steps.old }
     requires room { HasRoom node.now.matrix.now steps.old }
-    requires few { length node.now.path.now < node.now.given + 4096 }
+    requires few { length node.now.path.now < node.now.given + STEPS }
     requires members { members.now ≡ base node.now.view.now node.now.path.now }
     ensures kept { StepsKeep node.now.view.now (node.now.path.now ++ Atom.Has number ∷ []) node.now.given node.now.matrix.now node.now.table.now steps.new }
     ensures room { HasRoom node.now.matrix.now steps.new }
@@ -131,7 +133,7 @@ pub(crate) fn pick(node: &Node<'_>, members: &[u32], steps: &mut Steps, number: 
 pub(crate) fn leave(node: &Node<'_>, steps: &mut Steps, number: u32)
     requires kept { IsAt node.now steps.old }
     requires room { HasRoom node.now.matrix.now steps.old }
-    requires few { length node.now.path.now < node.now.given + 4096 }
+    requires few { length node.now.path.now < node.now.given + STEPS }
     ensures kept { StepsKeep node.now.view.now (node.now.path.now ++ Atom.Lacks number ∷ []) node.now.given node.now.matrix.now node.now.table.now steps.new }
     ensures room { HasRoom node.now.matrix.now steps.new }
 {
@@ -168,11 +170,11 @@ pub(crate) fn back(node: &Node<'_>, steps: &mut Steps)
 // The row, with room for one more at each step.
 fn with_room(row: Vec<u64>, width: usize) -> Result<Vec<u64>, Refusal>
     ensures items { IfOk result (λ r. r.items ≡ row.items) }
-    ensures room { IfOk result (λ r. width * 4097 ≤ vec_capacity r) }
+    ensures room { IfOk result (λ r. width * (STEPS + 1) ≤ vec_capacity r) }
     ensures why { IfErr result (λ e. e ≡ Refusal.Memory) }
 {
     let mut rows = row;
-    rows.reserve(width.saturating_mul(4097))?;
+    rows.reserve(width.saturating_mul(STEPS + 1))?;
     Ok(rows)
 }
 
@@ -189,13 +191,13 @@ pub(crate) fn start(
     requires row { RowOf (λ p. open_in node.now.view.now node.now.path.now p) node.now.matrix.now row.items }
     requires have { HaveShows node.now.view.now (base node.now.view.now node.now.path.now) have.items }
     requires len { length have.items ≡ length node.now.view.now.bounds }
-    requires room { 69632 ≤ vec_capacity raised }
+    requires room { STEPS * PLACEMENT_ITEMS ≤ vec_capacity raised }
     ensures kept { IfOk result (λ s. StepsKeep node.now.view.now node.now.path.now (length node.now.path.now) node.now.matrix.now node.now.table.now s) }
     ensures room { IfOk result (λ s. HasRoom node.now.matrix.now s) }
     ensures why { IfErr result (λ e. e ≡ Refusal.Memory) }
 {
     let live = with_room(row, node.matrix.width)?;
-    let marks = Vec::with_capacity(alloc, 4096)?;
+    let marks = Vec::with_capacity(alloc, STEPS)?;
     let mut raised = raised;
     raised.clear();
     let due = notes_of(alloc, &node.table.asked, &have)?;

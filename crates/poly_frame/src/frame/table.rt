@@ -1,14 +1,14 @@
 //! What stays the same while a frame moves.
-ghost use Rattle.std.specs.Prelude.{true, IfErr, IfOk, length, map, slice_index, vec_capacity, ℕ, ◌<◌, ◌^◌, ◌≡◌, ◌≤◌};
+ghost use Rattle.std.specs.Prelude.{IfErr, IfOk, length, slice_index, vec_capacity, ℕ, ◌<◌, ◌^◌, ◌≡◌, ◌≤◌};
 ghost use Rattle.std.specs.List.{list_all, list_any};
-ghost use Rattle.poly_tiling.specs.Names.{items_ascend};
 ghost use Rattle.poly_tiling.specs.Puzzle.{same_item};
 ghost use Rattle.poly_atom.specs.Hopeless.{base};
-ghost use Rattle.poly_frame.specs.Plain.{allowed, needed, of_asked};
+ghost use Rattle.poly_frame.specs.Plain.{of_asked};
 ghost use Rattle.poly_frame.specs.FrameItems.{item_at};
 
-use crate::frame::items::{guess_item, index_of, note_items, raise};
+use crate::frame::items::{note_items, raise};
 use crate::frame::matrix::Matrix;
+use crate::frame::wanted::Wanted;
 use poly_atom::Atom;
 use poly_grid::Refusal;
 use poly_tiling::{Bound, Item, View};
@@ -26,92 +26,7 @@ pub(crate) struct Table {
 
 ghost use Rattle.poly_frame.specs.Matrices.{IsMatrix};
 ghost use Rattle.poly_frame.specs.FrameTable.{AskedShow, HasOpen, HaveShows, TableShows, UppersShow, limit_at};
-
-// Lowers the most of the item that an atom names.
-fn allow(bounds: &[Bound], cells: &[usize], atom: &Atom, uppers: &mut Vec<u8>)
-    requires order { items_ascend bounds.now ≡ true }
-    requires len { length uppers.old.items ≡ length bounds.now }
-    ensures len { length uppers.new.items ≡ length bounds.now }
-    ensures value { (b : ℕ) → b < length bounds.now → slice_index uppers.new.items b ≡ allowed atom.now (item_at bounds.now b) (slice_index uppers.old.items b) }
-{
-    if let Atom::AtMost(item, n) = atom {
-        if let Some(b) = index_of(bounds, guess_item(cells, item), *item) {
-            uppers[b] = (*n).min(uppers[b]);
-        }
-    }
-}
-
-// Raises the least of the item that an atom names.
-fn need(bounds: &[Bound], cells: &[usize], atom: &Atom, asked: &mut Vec<u8>)
-    requires order { items_ascend bounds.now ≡ true }
-    requires len { length asked.old.items ≡ length bounds.now }
-    ensures len { length asked.new.items ≡ length bounds.now }
-    ensures value { (b : ℕ) → b < length bounds.now → slice_index asked.new.items b ≡ needed atom.now (item_at bounds.now b) (slice_index asked.old.items b) }
-{
-    if let Atom::AtLeast(item, n) = atom {
-        if let Some(b) = index_of(bounds, guess_item(cells, item), *item) {
-            asked[b] = (*n).max(asked[b]);
-        }
-    }
-}
-
-fn mosts_of(alloc: Global, bounds: &[Bound]) -> Result<Vec<u8>, Refusal>
-    ensures value { IfOk result (λ u. u.items ≡ map (λ b. b.most) bounds.now) }
-    ensures why { IfErr result (λ e. e ≡ Refusal.Memory) }
-{
-    let mut mosts = Vec::with_capacity(alloc, bounds.len())?;
-    for b in bounds {
-        mosts.push(b.most)?;
-    }
-    Ok(mosts)
-}
-
-fn leasts_of(alloc: Global, bounds: &[Bound]) -> Result<Vec<u8>, Refusal>
-    ensures value { IfOk result (λ u. u.items ≡ map (λ b. b.least) bounds.now) }
-    ensures why { IfErr result (λ e. e ≡ Refusal.Memory) }
-{
-    let mut leasts = Vec::with_capacity(alloc, bounds.len())?;
-    for b in bounds {
-        leasts.push(b.least)?;
-    }
-    Ok(leasts)
-}
-
-/// What each item may have at most.
-pub(crate) fn uppers_of(
-    alloc: Global,
-    view: &View,
-    atoms: &[Atom],
-    cells: &[usize],
-) -> Result<Vec<u8>, Refusal>
-    ensures len { IfOk result (λ u. length u.items ≡ length view.now.bounds) }
-    ensures value { IfOk result (λ u. UppersShow view.now atoms.now u.items) }
-    ensures why { IfErr result (λ e. e ≡ Refusal.Memory) }
-{
-    let bounds = view.items();
-    let mut uppers = mosts_of(alloc, bounds)?;
-    let mut k = atoms.len();
-    while k > 0 {
-        k -= 1;
-        allow(bounds, cells, &atoms[k], &mut uppers);
-    }
-    Ok(uppers)
-}
-
-fn asked_of(alloc: Global, view: &View, atoms: &[Atom], cells: &[usize]) -> Result<Vec<u8>, Refusal>
-    ensures len { IfOk result (λ u. length u.items ≡ length view.now.bounds) }
-    ensures value { IfOk result (λ u. AskedShow view.now atoms.now u.items) }
-    ensures why { IfErr result (λ e. e ≡ Refusal.Memory) }
-{
-    let bounds = view.items();
-    let mut asked = leasts_of(alloc, bounds)?;
-    let mut k = atoms.len();
-    while k > 0 {
-        k -= 1;
-        need(bounds, cells, &atoms[k], &mut asked);
-    }
-    Ok(asked)
-}
+ghost use Rattle.poly_frame.specs.declared.frame.items.TheConstants.{PLACEMENT_ITEMS};
 
 /// How many of the members have each item.
 pub(crate) fn counts_of(
@@ -121,7 +36,7 @@ pub(crate) fn counts_of(
     cells: &[usize],
     noted: &mut Vec<usize>,
 ) -> Result<Vec<u64>, Refusal>
-    requires room { 17 ≤ vec_capacity noted.old }
+    requires room { PLACEMENT_ITEMS ≤ vec_capacity noted.old }
     requires few { length members.now < 2 ^ 63 }
     ensures len { IfOk result (λ h. length h.items ≡ length view.now.bounds) }
     ensures value { IfOk result (λ h. HaveShows view.now members.now h.items) }
@@ -196,26 +111,27 @@ fn end_of(asked: &[u8]) -> usize
     0
 }
 
-/// The table of the atoms, for a matrix with a column for each placement that is open there. `uppers` is what each item
-/// may have at most.
+/// The table of the atoms, for a matrix with a column for each placement that is open there.
 pub(crate) fn table_of(
     alloc: Global,
     view: &View,
     matrix: &Matrix,
     atoms: &[Atom],
-    uppers: &[u8],
+    wanted: Wanted,
 ) -> Result<Table, Refusal>
     requires part { IsMatrix view.now matrix.now }
     requires all { HasOpen view.now atoms.now matrix.now }
     requires few { length (base view.now atoms.now) < 2 ^ 63 }
-    requires uppers_len { length uppers.now ≡ length view.now.bounds }
-    requires uppers { UppersShow view.now atoms.now uppers.now }
+    requires uppers_len { length wanted.uppers.items ≡ length view.now.bounds }
+    requires uppers { UppersShow view.now atoms.now wanted.uppers.items }
+    requires asked_len { length wanted.asked.items ≡ length view.now.bounds }
+    requires asked { AskedShow view.now atoms.now wanted.asked.items }
     ensures value { IfOk result (λ t. TableShows view.now atoms.now matrix.now t) }
     ensures why { IfErr result (λ e. e ≡ Refusal.Memory) }
 {
     let bounds = view.items();
-    let limits = limits_of(alloc, bounds, uppers)?;
-    let asked = asked_of(alloc, view, atoms, &matrix.cells)?;
+    let limits = limits_of(alloc, bounds, &wanted.uppers)?;
+    let asked = wanted.asked;
     let listed = all_listed(bounds, atoms);
     let asked_end = end_of(&asked);
     Ok(Table {

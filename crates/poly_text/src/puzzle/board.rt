@@ -8,13 +8,12 @@ ghost use Rattle.poly_text.specs.Views.{rows_of};
 
 use crate::puzzle::json::text;
 use poly_design::{MAX_CELLS, Mode};
-use poly_grid::{Cell, Refusal};
+use poly_grid::{Cell, Refusal, SIDE};
 use serde_json::Value;
 use std::alloc::Global;
 use std::collections::BTreeMap;
 
 // The most rows of a board, and the most characters of a row.
-const SIDE: usize = 64;
 
 // The mode that a character gives its cell, or `None` if the cell is blocked.
 fn open_mode(byte: u8) -> Option<Mode>
@@ -78,7 +77,7 @@ fn count_row(row: &[u8]) -> usize
 /// Whether at most 256 cells are not blocked.
 #[tactic(auto, using(crate::proofs::Boards::board_length))]
 pub fn is_small(rows: &[Value]) -> bool
-    ensures { result ≡ nat_le (length (board_cells (rows_of rows.now))) 256 }
+    ensures { result ≡ nat_le (length (board_cells (rows_of rows.now))) MAX_CELLS }
 {
     let mut count = 0;
     for row in rows {
@@ -105,10 +104,10 @@ pub fn cells_of_rows(alloc: Global, rows: &[Value]) -> Result<BTreeMap<Cell, Mod
 
 // Adds the cells of row `y`. All cells of the map are in rows above it.
 fn put_row(cells: &mut BTreeMap<Cell, Mode>, y: u64, row: &[u8]) -> Result<(), Refusal>
-    requires few { (y < 64) × (length row.now ≤ 64) }
-    requires after { AreBefore (64 * y) cells.old.entries }
+    requires few { (y < SIDE) × (length row.now ≤ SIDE) }
+    requires after { AreBefore (SIDE * y) cells.old.entries }
     ensures ok { OnOk result (cells.new.entries ≡ cells.old.entries ++ row_cells 0 y row.now) }
-    ensures before { OnOk result (AreBefore (64 * (y + 1)) cells.new.entries) }
+    ensures before { OnOk result (AreBefore (SIDE * (y + 1)) cells.new.entries) }
     ensures why { IfErr result (λ e. e ≡ Refusal.Memory) }
 {
     for x in 0..row.len() {
@@ -119,10 +118,10 @@ fn put_row(cells: &mut BTreeMap<Cell, Mode>, y: u64, row: &[u8]) -> Result<(), R
 
 // Adds the cell, unless it is blocked. All cells of the map come before it, by row, then by column.
 fn put_cell(cells: &mut BTreeMap<Cell, Mode>, cell: Cell, mode: Option<Mode>) -> Result<(), Refusal>
-    requires fits { cell.x < 64 }
-    requires after { AreBefore (64 * cell.y + cell.x) cells.old.entries }
+    requires fits { cell.x < SIDE }
+    requires after { AreBefore (SIDE * cell.y + cell.x) cells.old.entries }
     ensures ok { OnOk result (cells.new.entries ≡ cells.old.entries ++ with_mode cell mode) }
-    ensures before { OnOk result (AreBefore (64 * cell.y + (cell.x + 1)) cells.new.entries) }
+    ensures before { OnOk result (AreBefore (SIDE * cell.y + (cell.x + 1)) cells.new.entries) }
     ensures why { IfErr result (λ e. e ≡ Refusal.Memory) }
 {
     if let Some(mode) = mode {
@@ -133,7 +132,7 @@ fn put_cell(cells: &mut BTreeMap<Cell, Mode>, cell: Cell, mode: Option<Mode>) ->
 
 // The cell of column `x` and row `y`.
 fn cell_at(x: u64, y: u64) -> Cell
-    requires { (x < 64) × (y < 64) }
+    requires { (x < SIDE) × (y < SIDE) }
     ensures { result ≡ record { x = x; y = y } }
 {
     match Cell::new(x, y) {

@@ -1,6 +1,3 @@
-use Rattle.std.proofs.Common.{List, subst, true, ◌≡◌, ℕ}
-use Rattle.std.specs.List.{list_all}
-use Rattle.poly_tiling.specs.Puzzle.{View, is_tiling}
 use Rattle.measure.proofs.Found.{found_once, found_tilings}
 use Rattle.measure.proofs.catalogue.all_tilings.Goals as goal
 

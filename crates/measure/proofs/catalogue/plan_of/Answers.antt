@@ -1,4 +1,4 @@
-use Rattle.std.proofs.Common.{List, subst, sym, true, ◌∙◌, ◌≡◌, ℕ}
+use Rattle.std.proofs.Common.{subst, sym, true, ◌≡◌}
 use Rattle.std.specs.Arc.{arc_value}
 use Rattle.std.specs.List.{list_all}
 use Rattle.poly_design.specs.Changes.{changed}

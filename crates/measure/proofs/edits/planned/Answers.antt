@@ -1,4 +1,4 @@
-use Rattle.std.proofs.Common.{subst, sym, ◌≡◌}
+use Rattle.std.proofs.Common.{subst, sym}
 use Rattle.std.specs.Arc.{arc_value}
 use Rattle.poly_design.specs.Changes.{changed}
 use Rattle.poly_place.proofs.Between.{planned_change}

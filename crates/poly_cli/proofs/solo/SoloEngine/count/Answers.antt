@@ -1,4 +1,4 @@
-use Rattle.std.proofs.Common.{List, length, subst, sym, ◌≡◌, ◌∙◌, ap}
+use Rattle.std.proofs.Common.{List, length, subst, ◌≡◌, ◌∙◌, ap}
 use Rattle.poly_design.specs.declared.placement.Placement.{Placement}
 use Rattle.poly_tiling.specs.Listings.{IsListOfTilings}
 use Rattle.poly_cli.proofs.Counted.{book_counted}

@@ -4,10 +4,10 @@ use Rattle.poly_frame.specs.declared.frame.matrix.Matrix.{Matrix}
 use Rattle.poly_frame.proofs.frame.Frame.begin.Goals as goal
 
 pub begin-sound-requires-clause-part : goal.begin-sound-requires-clause-part
-begin-sound-requires-clause-part c = subst (λ (m : Matrix). IsMatrix c.args.view.now m) (sym c.matrix-3.ensures) c.requires.part
+begin-sound-requires-clause-part c = subst (λ (m : Matrix). IsMatrix c.args.view.now m) (sym c.matrix-whole.ensures) c.requires.part
 
 pub open_row-requires-clause-part : goal.open_row-requires-clause-part
-open_row-requires-clause-part c = subst (λ (m : Matrix). IsMatrix c.args.view.now m) (sym c.matrix-4.ensures) c.requires.part
+open_row-requires-clause-part c = subst (λ (m : Matrix). IsMatrix c.args.view.now m) (sym c.matrix-whole.ensures) c.requires.part
 
 pub columns_of-requires-clause-len : goal.columns_of-requires-clause-len
-columns_of-requires-clause-len c = c.in_ok-row.ensures.len ∙ ap (λ (m : Matrix). m.width) c.matrix-4.ensures
+columns_of-requires-clause-len c = c.in_ok-row.ensures.len ∙ ap (λ (m : Matrix). m.width) c.matrix-whole.ensures

@@ -1,8 +1,9 @@
+//! Sets of cells, shapes and their orientations, and how many shapes there are of a size.
 ghost use Rattle.std.specs.Prelude.{◌<◌, length};
 ghost use Rattle.poly_grid.specs.Grid.{steps};
 
-use crate::{Cells, Shape};
 use poly_grid::{Cell, Grid, Refusal};
+use poly_shape::{Cells, Shape};
 use std::alloc::{AllocGlobal, Global};
 use std::collections::HashSet;
 use std::process::Abort;

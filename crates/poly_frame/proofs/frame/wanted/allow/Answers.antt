@@ -3,7 +3,7 @@ use Rattle.std.proofs.lemmas.List.{get_or_read}
 use Rattle.poly_frame.specs.FrameItems.{item_at}
 use Rattle.poly_frame.specs.Plain.{allowed}
 use Rattle.poly_frame.proofs.FrameTable.{written}
-use Rattle.poly_frame.proofs.frame.table.allow.Goals as goal
+use Rattle.poly_frame.proofs.frame.wanted.allow.Goals as goal
 
 pub returns-in-Some-clause-value : goal.returns-in-Some-clause-value
 returns-in-Some-clause-value c = λ b h.

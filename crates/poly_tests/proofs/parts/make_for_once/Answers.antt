@@ -3,7 +3,7 @@ use Rattle.poly_design.specs.Layout.{Layout}
 use Rattle.poly_design.specs.Limits.{IsDesign}
 use Rattle.poly_design.specs.Changes.{changed}
 use Rattle.poly_design.proofs.Restored.{accepted_before}
-use Rattle.poly_design.proofs.tests.make_for_once.Goals as goal
+use Rattle.poly_tests.proofs.parts.make_for_once.Goals as goal
 
 pub make-requires-2 : goal.make-requires-2
 make-requires-2 c =

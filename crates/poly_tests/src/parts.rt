@@ -1,6 +1,7 @@
+//! The parts of a design, its placements, and a change that is taken back.
 ghost use Rattle.std.specs.Prelude.{◌≡◌, OnOk};
 
-use crate::{CellsSet, Change, Copies, Design, Edit, Mode, Name, Need};
+use poly_design::{CellsSet, Change, Copies, Design, Edit, Mode, Name, Need};
 use poly_grid::{Cell, Grid, Refusal};
 use poly_shape::{Cells, Shape};
 use std::alloc::AllocGlobal;
