@@ -26,7 +26,7 @@ fn report_on(alloc: Global, job: &Job) -> Result<Report, Refusal> {
     })
 }
 
-/// Takes a task, explores it and hands the report in. The test fails if there is no task to take.
+/// Searches one task of the desk and hands in the report. Ends the test if no task is pending.
 pub(crate) fn work<C: Ledger, K: Ledger, O: Opening, R: Wait + Abort>(
     rt: &R,
     alloc: Global,

@@ -43,11 +43,11 @@ fn goes_back_and_forward(rt: HostRuntime) {
     history.push(change(Mode::Optional), Some(shelf(&rt, 1)));
     assert!(rt; (history.undo_len(), history.redo_len()) == (2, 0));
     assert!(rt; history.last().is_some());
-    let stood = history.back(Some(shelf(&rt, 2)));
-    assert!(rt; has_tasks(&stood, 1));
+    let shelf_kept = history.back(Some(shelf(&rt, 2)));
+    assert!(rt; has_tasks(&shelf_kept, 1));
     assert!(rt; history.ahead().is_some());
-    let stood = history.forward(None);
-    assert!(rt; has_tasks(&stood, 2));
+    let shelf_kept = history.forward(None);
+    assert!(rt; has_tasks(&shelf_kept, 2));
 }
 
 #[test]

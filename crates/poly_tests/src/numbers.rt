@@ -180,7 +180,7 @@ fn out_of_order(alloc: Global) -> Result<Vec<Tiling>, Refusal> {
     Ok(tilings)
 }
 
-// New placements get new numbers, which stand in placement order among the old ones.
+// A view lists its numbers in the order of their placements, so a new number may come before an old one.
 #[test]
 fn sorted_by_placement(rt: HostRuntime) {
     let mut design = design(&rt, DOMINOES);

@@ -81,7 +81,7 @@ fn items_and_bounds(rt: HostRuntime) {
     assert!(rt; !view.covers(1, piece));
 }
 
-// A pin on a blocked cell is no placement of the design, so its number comes after theirs.
+// A pin that covers a blocked cell isn't a placement. Its number follows those of the placements.
 #[test]
 fn pins(rt: HostRuntime) {
     let pin: &[u8] = b"pin A 0,0 0,1";
