@@ -1,5 +1,5 @@
 -- Lists as loops go through them, and tests over the placements that numbers name.
-use Rattle.std.proofs.Common.{Bool, Err, IfNone, IfOk, IfSome, Ok, Result, List, None, Option, Some, SomeIff, [], ap, arith, cond, eqb, false, get_or, inl, inr, length, not, refl, set, slice_get, subst, suc, sym, take, true, zero, ℕ, ◌&&◌, ◌++◌, ◌+◌, ◌<◌, ◌≤◌, ◌||◌, ◌∙◌, ◌∷◌, ◌≡◌}
+use Rattle.std.proofs.Common.{Bool, IfNone, IfSome, List, None, Option, Some, SomeIff, [], ap, arith, cond, eqb, false, get_or, inl, inr, length, not, refl, set, slice_get, subst, suc, sym, take, true, zero, ℕ, ◌&&◌, ◌++◌, ◌+◌, ◌<◌, ◌≤◌, ◌||◌, ◌∙◌, ◌∷◌, ◌≡◌}
 use Rattle.std.proofs.lemmas.Bool.{and_from, and_parts, cases_eq, cases_lt, eq-eqb, ne_eqb, true≢false}
 use Rattle.std.proofs.lemmas.Grind.{get_or-set_at}
 use Rattle.std.proofs.lemmas.List.{get_or-set_other, get_or-take, get_or_past, get_or_read, take_more}
@@ -228,7 +228,3 @@ meets_is v q T =
     (all_as (λ p. not (is_in (names v T) p)) (λ p. not (names_it v T p)) q.lacks (λ p. ap not (sym (any_named v (λ r. same_placement r p) T))))
     ∙ ap (λ b. list_all (λ p. names_it v T p) q.has && list_all (λ p. not (names_it v T p)) q.lacks && b)
     (all_as (λ i. is_covered (names v T) i) (λ i. has_it v T i) q.covers (λ i. sym (any_has_item v i T)))
-
-pub if_ok_as : {T E : Type 0} (P Q : T → Type 0) (r : Result T E) → IfOk r P → ((x : T) → P x → Q x) → IfOk r Q
-if_ok_as P Q (Ok x) h to = to x h
-if_ok_as P Q (Err e) h to = tt

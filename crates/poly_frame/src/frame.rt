@@ -219,7 +219,7 @@ impl<'a> Frame<'a> {
         };
         steps::pick(&node, &self.members, &mut self.steps, placement);
         members::pick(&node, &mut self.members, &mut self.sizes, placement);
-        self.sound = sound::pick(&node, self.sound, placement, opened);
+        self.sound = sound::step(&node, self.sound, placement, opened);
         self.path.push_reserved(Atom::Has(placement));
     }
 
@@ -238,7 +238,7 @@ impl<'a> Frame<'a> {
         };
         steps::leave(&node, &mut self.steps, placement);
         members::leave(&node, &self.members, &mut self.sizes, placement);
-        self.sound = sound::leave(&node, self.sound, placement, opened);
+        self.sound = sound::step(&node, self.sound, placement, opened);
         self.path.push_reserved(Atom::Lacks(placement));
     }
 

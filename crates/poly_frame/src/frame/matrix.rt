@@ -81,19 +81,7 @@ impl Matrix {
         numbers.extend_from_slice(live)?;
         let cells = guess_cells(alloc, view.items())?;
         let lists = list_items(alloc, view, &cells, &numbers)?;
-        let width = numbers.len() / 64 + 1;
-        let rows = rows_of(alloc, view, &numbers, &lists, width)?;
-        let stands = stands_of(alloc, &numbers)?;
-        let busy = busy_rows(alloc, &rows, width, view.items().len())?;
-        Ok(Matrix {
-            numbers,
-            stands,
-            lists,
-            cells,
-            width,
-            rows,
-            busy,
-        })
+        with_columns(alloc, view, numbers, lists, cells)
     }
 
     /// The column of the number.
@@ -158,6 +146,25 @@ pub(crate) fn narrowed(
     list_set(&whole.numbers, row, whole.width, &mut numbers);
     let cells = copied(alloc, &whole.cells)?;
     let lists = copy_lists(alloc, whole, &numbers)?;
+    with_columns(alloc, view, numbers, lists, cells)
+}
+
+// The matrix with a column for each of the numbers, from the lists of their items.
+fn with_columns(
+    alloc: Global,
+    view: &View,
+    numbers: Vec<u32>,
+    lists: Lists,
+    cells: Vec<usize>,
+) -> Result<Matrix, Refusal>
+    requires well { WellNamed view.now }
+    requires once { distinct numbers.items ≡ true }
+    requires fewer { length numbers.items ≤ length view.now.live }
+    requires live { (q : ℕ) → mem numbers.items q ≡ true → mem view.now.live q ≡ true }
+    requires lists { ListsShow view.now numbers.items lists }
+    ensures made { IfOk result (λ m. IsMatrix view.now m × (m.numbers.items ≡ numbers.items)) }
+    ensures why { IfErr result (λ e. e ≡ Refusal.Memory) }
+{
     let width = numbers.len() / 64 + 1;
     let rows = rows_of(alloc, view, &numbers, &lists, width)?;
     let stands = stands_of(alloc, &numbers)?;

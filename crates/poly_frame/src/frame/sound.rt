@@ -106,26 +106,13 @@ pub(crate) fn begin(
     }
 }
 
-/// After a placement is taken, which may be known to be open.
-pub(crate) fn pick(node: &Node<'_>, sound: usize, number: u32, opened: bool) -> usize
+/// After a placement is taken or left. `opened` is whether it is known to have been open.
+pub(crate) fn step(node: &Node<'_>, sound: usize, number: u32, opened: bool) -> usize
     requires shows { SoundShows node.now.view.now node.now.path.now node.now.given sound }
     requires low { node.now.given ≤ length node.now.path.now }
     requires opened { opened ≡ true → (mem node.now.view.now.live number ≡ true) × (open_in node.now.view.now node.now.path.now number ≡ true) }
-    ensures { SoundShows node.now.view.now (node.now.path.now ++ Atom.Has number ∷ []) node.now.given result }
-{
-    if opened && sound > node.path.len() - node.given {
-        sound + 1
-    } else {
-        sound
-    }
-}
-
-/// After a placement is left, which may be known to be open.
-pub(crate) fn leave(node: &Node<'_>, sound: usize, number: u32, opened: bool) -> usize
-    requires shows { SoundShows node.now.view.now node.now.path.now node.now.given sound }
-    requires low { node.now.given ≤ length node.now.path.now }
-    requires opened { opened ≡ true → (mem node.now.view.now.live number ≡ true) × (open_in node.now.view.now node.now.path.now number ≡ true) }
-    ensures { SoundShows node.now.view.now (node.now.path.now ++ Atom.Lacks number ∷ []) node.now.given result }
+    ensures taken { SoundShows node.now.view.now (node.now.path.now ++ Atom.Has number ∷ []) node.now.given result }
+    ensures left { SoundShows node.now.view.now (node.now.path.now ++ Atom.Lacks number ∷ []) node.now.given result }
 {
     if opened && sound > node.path.len() - node.given {
         sound + 1

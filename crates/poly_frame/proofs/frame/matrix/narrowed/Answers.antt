@@ -1,9 +1,10 @@
-use Rattle.std.proofs.Common.{Bool, List, ap, arith, get_or, length, subst, sym, ℕ, ◌+◌, ◌/◌, ◌<◌, ◌∙◌, ◌≡◌}
+use Rattle.std.proofs.Common.{Bool, List, ap, arith, get_or, length, subst, sym, ℕ, ◌<◌, ◌∙◌, ◌≡◌}
 use Rattle.std.specs.List.{filter}
 use Rattle.std.proofs.lemmas.Bool.{and_parts}
+use Rattle.std.proofs.lemmas.Result.{IfOk-weaker}
 use Rattle.poly_tiling.specs.Lists.{distinct, mem}
 use Rattle.poly_frame.specs.Bits.{has_bit}
-use Rattle.poly_frame.specs.Matrices.{ListsTo, RowsShow, StandsShow}
+use Rattle.poly_frame.specs.Matrices.{IsMatrix, ListsTo, StandsShow}
 use Rattle.poly_frame.proofs.FrameTable.{filter_len}
 use Rattle.poly_frame.proofs.Walks.{distinct_filter, mem_filter}
 use Rattle.poly_frame.proofs.frame.matrix.narrowed.Goals as goal
@@ -23,38 +24,47 @@ copy_lists-requires-clause-among c = λ p m.
     let e : c.list_set.new.into.items ≡ filter f ns = c.list_set.ensures f (chosen_at ns w.stands.items c.args.row.now c.deref.result.now c.requires.whole.stands c.deref.ensures.value) ∙ ap (λ xs. filter f xs) c.deref.ensures.value in
     (and_parts (mem ns p) (f p) (sym (mem_filter f ns p) ∙ ap (λ xs. mem xs p) (sym (c.deref-3.ensures.value ∙ e)) ∙ m)).0
 
-pub stands_of-requires : goal.stands_of-requires
-stands_of-requires c =
+pub with_columns-requires-clause-once : goal.with_columns-requires-clause-once
+with_columns-requires-clause-once c =
     let w = c.args.whole.now in
     let ns = w.numbers.items in
     let f = chosen w.stands.items c.args.row.now in
     let e : c.list_set.new.into.items ≡ filter f ns = c.list_set.ensures f (chosen_at ns w.stands.items c.args.row.now c.deref.result.now c.requires.whole.stands c.deref.ensures.value) ∙ ap (λ xs. filter f xs) c.deref.ensures.value in
-    ap distinct (c.deref-5.ensures.value ∙ e) ∙ distinct_filter f ns c.requires.whole.once
+    ap distinct e ∙ distinct_filter f ns c.requires.whole.once
+
+pub with_columns-requires-clause-fewer : goal.with_columns-requires-clause-fewer
+with_columns-requires-clause-fewer c =
+    let w = c.args.whole.now in
+    let ns = w.numbers.items in
+    let f = chosen w.stands.items c.args.row.now in
+    let e : c.list_set.new.into.items ≡ filter f ns = c.list_set.ensures f (chosen_at ns w.stands.items c.args.row.now c.deref.result.now c.requires.whole.stands c.deref.ensures.value) ∙ ap (λ xs. filter f xs) c.deref.ensures.value in
+    omega (arith, ap length e, filter_len f ns, c.requires.whole.fewer)
+
+pub with_columns-requires-clause-live : goal.with_columns-requires-clause-live
+with_columns-requires-clause-live c =
+    let w = c.args.whole.now in
+    let ns = w.numbers.items in
+    let f = chosen w.stands.items c.args.row.now in
+    let e : c.list_set.new.into.items ≡ filter f ns = c.list_set.ensures f (chosen_at ns w.stands.items c.args.row.now c.deref.result.now c.requires.whole.stands c.deref.ensures.value) ∙ ap (λ xs. filter f xs) c.deref.ensures.value in
+    λ q m. c.requires.whole.live q (and_parts (mem ns q) (f q) (sym (mem_filter f ns q) ∙ ap (λ xs. mem xs q) (sym e) ∙ m)).0
+
+pub with_columns-requires-clause-lists : goal.with_columns-requires-clause-lists
+with_columns-requires-clause-lists c =
+    let lists = c.in_ok-lists.lists in
+    subst (λ (xs : List ℕ). ListsTo c.args.view.now xs lists.starts.items lists.places.items (length xs)) c.deref-3.ensures.value (c.in_ok-lists.ensures.value c.args.view.now c.requires.whole)
 
 pub returns-clause-made : goal.returns-clause-made
 returns-clause-made c =
     let v = c.args.view.now in
-    let w = c.args.whole.now in
-    let M = c.requires.whole in
-    let ns = w.numbers.items in
-    let f = chosen w.stands.items c.args.row.now in
-    let numbers = c.list_set.new.into in
-    let e : c.list_set.new.into.items ≡ filter f ns = c.list_set.ensures f (chosen_at ns w.stands.items c.args.row.now c.deref.result.now c.requires.whole.stands c.deref.ensures.value) ∙ ap (λ xs. filter f xs) c.deref.ensures.value in
-    let lists = c.in_ok-lists.lists in
-    record {
-      well = M.well;
-      once = ap distinct e ∙ distinct_filter f ns M.once;
-      fewer = omega (arith, ap length e, filter_len f ns, M.fewer);
-      live = λ q m. M.live q (and_parts (mem ns q) (f q) (sym (mem_filter f ns q) ∙ ap (λ xs. mem xs q) (sym e) ∙ m)).0;
-      stands = subst (λ (xs : List ℕ). StandsShow xs c.in_ok-stands.stands.items) c.deref-5.ensures.value c.in_ok-stands.ensures.value;
-      lists = subst (λ (xs : List ℕ). ListsTo v xs lists.starts.items lists.places.items (length xs)) c.deref-3.ensures.value (c.in_ok-lists.ensures.value v M);
-      wide = omega (arith, c.len-2.ensures, numbers.ok.0);
-      narrow = omega (arith, c.len-2.ensures, numbers.ok.0, numbers.ok.1, numbers.small);
-      rows = subst (λ (xs : List ℕ). RowsShow v xs (c.len-2.result / 64 + 1) c.in_ok-rows.rows.items) c.deref-4.ensures.value c.in_ok-rows.ensures.value;
-      rows_len = c.in_ok-rows.ensures.len;
-    }
+    IfOk-weaker c.with_columns.result (λ m. IsMatrix v m × (m.numbers.items ≡ c.list_set.new.into.items)) (λ m. IsMatrix v m)
+    (λ m h. h.0) c.with_columns.ensures.made
 
 pub returns-clause-numbers : goal.returns-clause-numbers
-returns-clause-numbers c = λ f h.
-    let given = subst (λ (xs : List ℕ). (j : ℕ) → j < length xs → f (get_or xs j 0) ≡ has_bit c.args.row.now j) (sym c.deref.ensures.value) h in
-    c.list_set.ensures f given ∙ ap (λ xs. filter f xs) c.deref.ensures.value
+returns-clause-numbers c =
+    let v = c.args.view.now in
+    let row = c.args.row.now in
+    let ns = c.args.whole.now.numbers.items in
+    let given : (f : ℕ → Bool) → ((j : ℕ) → j < length ns → f (get_or ns j 0) ≡ has_bit row j) → c.list_set.new.into.items ≡ filter f ns =
+    λ f h. c.list_set.ensures f (subst (λ (xs : List ℕ). (j : ℕ) → j < length xs → f (get_or xs j 0) ≡ has_bit row j) (sym c.deref.ensures.value) h) ∙ ap (λ xs. filter f xs) c.deref.ensures.value in
+    IfOk-weaker c.with_columns.result (λ m. IsMatrix v m × (m.numbers.items ≡ c.list_set.new.into.items)) (λ m. (f : ℕ → Bool) → ((j : ℕ) → j < length ns → f (get_or ns j 0) ≡ has_bit row j) → m.numbers.items ≡ filter f ns)
+    (λ m h. λ f g. h.1 ∙ given f g) c.with_columns.ensures.made
