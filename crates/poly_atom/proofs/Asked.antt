@@ -5,7 +5,7 @@ use Rattle.std.proofs.lemmas.List.{take_all, take_more, take_more_set}
 use Rattle.std.specs.List.{list_any}
 use Rattle.std.specs.Prelude.{nat_lt}
 use Rattle.poly_tiling.specs.Lists.{mem}
-use Rattle.poly_tiling.specs.Puzzle.{View, clash, count, is_piece, items, most}
+use Rattle.poly_tiling.specs.Puzzle.{View, conflicts, count, is_piece, items, most}
 use Rattle.poly_tiling.proofs.Ascending.{ascending_same}
 use Rattle.poly_tiling.proofs.Lists.{In, any_append, any_from, any_in, in_mem, mem_in, same_truth}
 use Rattle.poly_atom.specs.declared.atom.Atom.{Atom}
@@ -48,7 +48,7 @@ base_same : (v : View) (D A : List Atom) → AskTheSame D A → base v D ≡ bas
 base_same v D A h = ascending_same (base v D) (base v A) (base_up v D) (base_up v A) (base_within v D A h) (base_within v A D (λ p. sym (h p)))
 
 lost_same : (v : View) (D A : List Atom) → AskTheSame D A → (p : ℕ) → lost v D (Has p) ≡ lost v A (Has p)
-lost_same v D A h p = ap (λ b. not (mem v.live p) || list_any (λ q. clash v p q) b || list_any (λ i. is_piece i && nat_lt (most v i) (count v b i)) (items v p)) (base_same v D A h)
+lost_same v D A h p = ap (λ b. not (mem v.live p) || list_any (λ q. conflicts v p q) b || list_any (λ i. is_piece i && nat_lt (most v i) (count v b i)) (items v p)) (base_same v D A h)
 
 more_or : (n l c o : Bool) → (n || c || o) ≡ true → (n || l || c || o) ≡ true
 more_or true l c o h = refl
@@ -68,7 +68,7 @@ either_or false false c o h = h
 lost_bad : (v : View) (D A : List Atom) → AskTheSame D A → (a : Atom) → In a D → lost v D a ≡ true → hopeless v A ≡ true
 lost_bad v D A h (Has p) i l =
     any_from (λ a. bad v A a) A (Has p) (has_same D A h p i)
-    (more_or (not (mem v.live p)) (list_any (λ a. lacks a p) A) (list_any (λ q. clash v p q) (base v A)) (list_any (λ j. is_piece j && nat_lt (most v j) (count v (base v A) j)) (items v p)) (sym (lost_same v D A h p) ∙ l))
+    (more_or (not (mem v.live p)) (list_any (λ a. lacks a p) A) (list_any (λ q. conflicts v p q) (base v A)) (list_any (λ j. is_piece j && nat_lt (most v j) (count v (base v A) j)) (items v p)) (sym (lost_same v D A h p) ∙ l))
 lost_bad v D A h (Lacks p) i l = absurd (true≢false (sym l))
 lost_bad v D A h (AtLeast j n) i l = absurd (true≢false (sym l))
 lost_bad v D A h (AtMost j n) i l = absurd (true≢false (sym l))
@@ -79,7 +79,7 @@ beyond_bad v D A h (Lacks p) i b = elim (or_cases (mem v.pins p) (mem (asked D) 
   | inl k ↦ any_from (λ a. bad v A a) A (Lacks p) i k
   | inr k ↦
       any_from (λ a. bad v A a) A (Has p) (asked_in A p (mem_in (asked A) p (sym (h p) ∙ k)))
-      (lacked_or (not (mem v.live p)) (list_any (λ a. lacks a p) A) (list_any (λ q. clash v p q) (base v A)) (list_any (λ j. is_piece j && nat_lt (most v j) (count v (base v A) j)) (items v p))
+      (lacked_or (not (mem v.live p)) (list_any (λ a. lacks a p) A) (list_any (λ q. conflicts v p q) (base v A)) (list_any (λ j. is_piece j && nat_lt (most v j) (count v (base v A) j)) (items v p))
       (any_from (λ a. lacks a p) A (Lacks p) i (eq-eqb p p refl)))
 ]
 beyond_bad v D A h (AtLeast j n) i b = any_from (λ a. bad v A a) A (AtLeast j n) i b
@@ -106,7 +106,7 @@ bad_found v D A h (Has p) i b = elim (or_cases (list_any (λ a. lacks a p) A) (l
 ]
   where
     parts : (list_any (λ a. lacks a p) A || lost v A (Has p)) ≡ true
-    parts = either_or (not (mem v.live p)) (list_any (λ a. lacks a p) A) (list_any (λ q. clash v p q) (base v A)) (list_any (λ j. is_piece j && nat_lt (most v j) (count v (base v A) j)) (items v p)) b
+    parts = either_or (not (mem v.live p)) (list_any (λ a. lacks a p) A) (list_any (λ q. conflicts v p q) (base v A)) (list_any (λ j. is_piece j && nat_lt (most v j) (count v (base v A) j)) (items v p)) b
 bad_found v D A h (Lacks p) i b = found_beyond v D A (Lacks p) i (or_left (mem v.pins p) (mem (asked D) p) b)
 bad_found v D A h (AtLeast j n) i b = found_beyond v D A (AtLeast j n) i b
 bad_found v D A h (AtMost j n) i b = found_beyond v D A (AtMost j n) i b

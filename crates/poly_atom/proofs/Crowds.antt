@@ -13,12 +13,12 @@ use Rattle.poly_tiling.specs.declared.item.Item.{Item}
 use Rattle.poly_tiling.specs.declared.item.Item.TheVariants.{Cell, Piece}
 use Rattle.poly_tiling.specs.Lists.{ascending, distinct, mem, one, put, put_all, tally}
 use Rattle.poly_tiling.specs.Names.{WellNamed}
-use Rattle.poly_tiling.specs.Puzzle.{View, clash, count, is_piece, items, items_of, most, same_item}
+use Rattle.poly_tiling.specs.Puzzle.{View, conflicts, count, is_piece, items, items_of, most, same_item}
 use Rattle.poly_tiling.proofs.Ascending.{ascending_same, distinct_rest, in_put_all_left, in_put_self, in_put, not_head, put_all_in, put_all_up, put_in, put_up}
 use Rattle.poly_tiling.proofs.Contained.{in_contains}
 use Rattle.poly_tiling.proofs.Counts.{ascending_distinct, tally_within}
 use Rattle.poly_tiling.proofs.Lists.{In, all_in, any_from, in_append_cases, in_append_left, in_append_right, mem_in, tally_none}
-use Rattle.poly_tiling.proofs.Shown.{clash_from, live_given, same_number}
+use Rattle.poly_tiling.proofs.Shown.{conflicts_from, live_given, same_number}
 use Rattle.poly_tiling.proofs.Tilings.{same_item_is, same_spot_is}
 use Rattle.poly_atom.specs.declared.atom.Atom.{Atom}
 use Rattle.poly_atom.specs.declared.atom.Atom.TheVariants.{AtLeast, AtMost, Has, Lacks}
@@ -77,7 +77,7 @@ shares m n [] (d ∷ ds) h = absurd (true≢false (sym h))
 shares m n (c ∷ cs) [] h = absurd (true≢false (sym h))
 shares m n (c ∷ cs) (d ∷ ds) h = inr (c, inl refl, inl (sym (same_spot_is c d h)))
 
-leads_one : (v : View) → WellNamed v → (b : Bound) (p q : ℕ) → In p v.live → In q v.live → clash v p q ≡ false → leads v b p ≡ true → leads v b q ≡ true → p ≡ q
+leads_one : (v : View) → WellNamed v → (b : Bound) (p q : ℕ) → In p v.live → In q v.live → conflicts v p q ≡ false → leads v b p ≡ true → leads v b q ≡ true → p ≡ q
 leads_one v w b p q i j free hp hq =
     let x = live_given v w p i in
     let y = live_given v w q j in
@@ -90,8 +90,8 @@ leads_one v w b p q i j free hp hq =
       | inl e ↦ one_number (λ k. record { name = e.0 k; cells = e.1 k })
       | inr c ↦ elim (cases_Bool (eqb p q)) [
         | inl e ↦ eqb-true p q e
-        | inr n ↦ absurd (both_ways (clash v p q) free
-            (clash_from v p q x.0 y.0 x.1 y.1 (record {
+        | inr n ↦ absurd (both_ways (conflicts v p q) free
+            (conflicts_from v p q x.0 y.0 x.1 y.1 (record {
               differ = λ same. eqb-false p q n (one_number same);
               shared = c.0;
               in_first = in_contains x.0.cells c.0 c.1;
@@ -119,16 +119,16 @@ leads_in v w p i =
 -- a placement that is asked for and isn't bad
 record IsFine (v : View) (A : List Atom) (p : ℕ) : Type 0 where
   live : In p v.live
-  apart : (q : ℕ) → In (Has q) A → clash v p q ≡ false
+  apart : (q : ℕ) → In (Has q) A → conflicts v p q ≡ false
 
 fine : (v : View) (A : List Atom) (p : ℕ) → bad v A (Has p) ≡ false → IsFine v A p
 fine v A p h =
-    let third = or_parts (not (mem v.live p) || list_any (λ a. lacks a p) A || list_any (λ q. clash v p q) (base v A)) (list_any (λ i. is_piece i && nat_lt (most v i) (count v (base v A) i)) (items v p)) h in
-    let second = or_parts (not (mem v.live p) || list_any (λ a. lacks a p) A) (list_any (λ q. clash v p q) (base v A)) third.0 in
+    let third = or_parts (not (mem v.live p) || list_any (λ a. lacks a p) A || list_any (λ q. conflicts v p q) (base v A)) (list_any (λ i. is_piece i && nat_lt (most v i) (count v (base v A) i)) (items v p)) h in
+    let second = or_parts (not (mem v.live p) || list_any (λ a. lacks a p) A) (list_any (λ q. conflicts v p q) (base v A)) third.0 in
     let first = or_parts (not (mem v.live p)) (list_any (λ a. lacks a p) A) second.0 in
     record {
       live = mem_in v.live p (not-false (mem v.live p) first.0);
-      apart = λ q i. false_from_ne_true (clash v p q) (λ e. both_ways (list_any (λ q. clash v p q) (base v A)) second.1 (any_from (λ q. clash v p q) (base v A) q (in_base_has v A q i) e));
+      apart = λ q i. false_from_ne_true (conflicts v p q) (λ e. both_ways (list_any (λ q. conflicts v p q) (base v A)) second.1 (any_from (λ q. conflicts v p q) (base v A) q (in_base_has v A q i) e));
     }
 
 asked_up : (A : List Atom) → ascending (put_all (asked A) []) ≡ true

@@ -3,7 +3,7 @@ use Rattle.std.proofs.Common.{List, arith, inl, inr, nat_lt, not, true, ℕ, ◌
 use Rattle.std.proofs.lemmas.Bool.{and_parts, both_ways, false_from_ne_true, leb-true, ltb-true, not-true, or_cases}
 use Rattle.std.specs.List.{list_any}
 use Rattle.poly_tiling.specs.Lists.{mem}
-use Rattle.poly_tiling.specs.Puzzle.{is_piece, View, clash, count, has_item, is_tiling, items, most}
+use Rattle.poly_tiling.specs.Puzzle.{is_piece, View, conflicts, count, has_item, is_tiling, items, most}
 use Rattle.poly_tiling.proofs.Lists.{any_in, in_mem, mem_in}
 use Rattle.poly_tiling.proofs.Tilings.{IsTiling, parts}
 use Rattle.poly_atom.specs.declared.atom.Atom.{Atom}
@@ -14,13 +14,13 @@ use Rattle.poly_atom.specs.Laws.{HopelessIsEmpty}
 use Rattle.poly_atom.proofs.Bases.{atom_met, base_fewer, base_within, not_lacked}
 
 not_bad : (v : View) (A : List Atom) (T : List ℕ) → IsTiling v T → meets_all v T A ≡ true → (a : Atom) → meets v T a ≡ true → bad v A a ≡ true → ⊥
-not_bad v A T t m (Has p) h b = elim (or_cases (not (mem v.live p) || list_any (λ a. lacks a p) A || list_any (λ q. clash v p q) (base v A)) (list_any (λ i. is_piece i && nat_lt (most v i) (count v (base v A) i)) (items v p)) b) [
-  | inl e ↦ elim (or_cases (not (mem v.live p) || list_any (λ a. lacks a p) A) (list_any (λ q. clash v p q) (base v A)) e) [
+not_bad v A T t m (Has p) h b = elim (or_cases (not (mem v.live p) || list_any (λ a. lacks a p) A || list_any (λ q. conflicts v p q) (base v A)) (list_any (λ i. is_piece i && nat_lt (most v i) (count v (base v A) i)) (items v p)) b) [
+  | inl e ↦ elim (or_cases (not (mem v.live p) || list_any (λ a. lacks a p) A) (list_any (λ q. conflicts v p q) (base v A)) e) [
     | inl d ↦ elim (or_cases (not (mem v.live p)) (list_any (λ a. lacks a p) A) d) [
       | inl n ↦ both_ways (mem v.live p) (not-true _ n) (in_mem v.live p (t.placed p (mem_in T p h)))
       | inr l ↦ let x = any_in (λ a. lacks a p) A l in not_lacked v T p x.0 (atom_met v T A m x.0 x.1) x.2 (mem_in T p h)
     ]
-    | inr c ↦ let x = any_in (λ q. clash v p q) (base v A) c in both_ways (clash v p x.0) (t.apart p x.0 (mem_in T p h) (base_within v T A t m x.0 x.1)) x.2
+    | inr c ↦ let x = any_in (λ q. conflicts v p q) (base v A) c in both_ways (conflicts v p x.0) (t.apart p x.0 (mem_in T p h) (base_within v T A t m x.0 x.1)) x.2
   ]
   | inr u ↦
       let x = any_in (λ i. is_piece i && nat_lt (most v i) (count v (base v A) i)) (items v p) u in

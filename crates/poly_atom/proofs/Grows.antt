@@ -5,7 +5,7 @@ use Rattle.std.specs.List.{filter, list_all, list_any}
 use Rattle.std.specs.Prelude.{nat_lt}
 use Rattle.poly_tiling.specs.Lists.{mem, put_all}
 use Rattle.poly_tiling.specs.declared.item.Item.{Item}
-use Rattle.poly_tiling.specs.Puzzle.{View, bound_in, clash, count, has_item, is_piece, is_tiling, items, items_of, least, most, same_item, share_cell}
+use Rattle.poly_tiling.specs.Puzzle.{View, bound_in, conflicts, count, has_item, is_piece, is_tiling, items, items_of, least, most, same_item, share_cell}
 use Rattle.poly_tiling.specs.Names.{Grown, Names, WellNamed}
 use Rattle.poly_tiling.proofs.Lists.{In, all_in, any_from, mem_in}
 use Rattle.poly_tiling.proofs.Grown.{grown_bound, numbers_may_grow_lem}
@@ -41,8 +41,8 @@ live_low v wn p i = ltb-true p (length v.placements) (all_in (λ q. nat_lt q (le
 pub pin_low : (v : View) → WellNamed v → (p : ℕ) → In p v.pins → p < length v.placements
 pin_low v wn p i = ltb-true p (length v.placements) (all_in (λ q. nat_lt q (length v.placements)) v.pins wn.pins_named p i)
 
-pub clash_named : (v w : View) → Names v w → (p q : ℕ) → p < length v.placements → q < length v.placements → clash w p q ≡ clash v p q
-clash_named v w n p q hp hq =
+pub conflict_named : (v w : View) → Names v w → (p q : ℕ) → p < length v.placements → q < length v.placements → conflicts w p q ≡ conflicts v p q
+conflict_named v w n p q hp hq =
     ap (λ o. not (eqb p q) && share_cell o (slice_get w.placements q)) (slot_same v w n p hp) ∙ ap (λ o. not (eqb p q) && share_cell (slice_get v.placements p) o) (slot_same v w n q hq)
 
 count_named : (v w : View) → Names v w → (T : List ℕ) → ((p : ℕ) → In p T → p < length v.placements) → (i : Item) → count w T i ≡ count v T i
@@ -57,14 +57,14 @@ bad_same v w A wn g known (Has p) k =
     let here = live_low v wn p (known p (in_asked A p k)) in
     let bases : base w A ≡ base v A = ap (λ ps. put_all (asked A) (put_all ps [])) g.3 in
     let gone = ap (λ xs. not (mem xs p)) g.1 in
-    let clashes = ap (λ xs. list_any (λ q. clash w p q) xs) bases ∙ any_same_in (λ q. clash w p q) (λ q. clash v p q) (base v A) (λ q i. clash_named v w g.0 p q here (low q i)) in
+    let meeting = ap (λ xs. list_any (λ q. conflicts w p q) xs) bases ∙ any_same_in (λ q. conflicts w p q) (λ q. conflicts v p q) (base v A) (λ q i. conflict_named v w g.0 p q here (low q i)) in
     let over = ap (λ o. list_any (λ i. is_piece i && nat_lt (most w i) (count w (base w A) i)) (items_of o)) (slot_same v w g.0 p here)
     ∙ any_same_in (λ i. is_piece i && nat_lt (most w i) (count w (base w A) i)) (λ i. is_piece i && nat_lt (most v i) (count v (base v A) i)) (items v p)
     (λ i j. ap (λ m. is_piece i && nat_lt m (count w (base w A) i)) (grown_bound v w g i (λ b. b.most))
     ∙ ap (λ n. is_piece i && nat_lt (most v i) n) (ap (λ T. count w T i) bases ∙ count_named v w g.0 (base v A) low i)) in
-    ap (λ b. b || list_any (λ a. lacks a p) A || list_any (λ q. clash w p q) (base w A) || list_any (λ i. is_piece i && nat_lt (most w i) (count w (base w A) i)) (items w p)) gone
-    ∙ ap (λ b. not (mem v.live p) || list_any (λ a. lacks a p) A || b || list_any (λ i. is_piece i && nat_lt (most w i) (count w (base w A) i)) (items w p)) clashes
-    ∙ ap (λ b. not (mem v.live p) || list_any (λ a. lacks a p) A || list_any (λ q. clash v p q) (base v A) || b) over
+    ap (λ b. b || list_any (λ a. lacks a p) A || list_any (λ q. conflicts w p q) (base w A) || list_any (λ i. is_piece i && nat_lt (most w i) (count w (base w A) i)) (items w p)) gone
+    ∙ ap (λ b. not (mem v.live p) || list_any (λ a. lacks a p) A || b || list_any (λ i. is_piece i && nat_lt (most w i) (count w (base w A) i)) (items w p)) meeting
+    ∙ ap (λ b. not (mem v.live p) || list_any (λ a. lacks a p) A || list_any (λ q. conflicts v p q) (base v A) || b) over
 bad_same v w A wn g known (Lacks p) k = ap (λ xs. mem xs p) g.3
 bad_same v w A wn g known (AtLeast i n) k =
     ap (λ bs. list_any (λ b. same_item b.item i) bs && nat_lt (most w i) n) g.2 ∙ ap (λ m. list_any (λ b. same_item b.item i) v.bounds && nat_lt m n) (grown_bound v w g i (λ b. b.most))

@@ -5,7 +5,7 @@ use Rattle.std.specs.List.{list_any}
 use Rattle.std.specs.Prelude.{nat_le}
 use Rattle.poly_design.specs.declared.placement.Placement.{Placement}
 use Rattle.poly_tiling.specs.Lists.{mem, one, put_all}
-use Rattle.poly_tiling.specs.Puzzle.{View, clash, count, has_item, is_piece, items, most, same_item, share_cell}
+use Rattle.poly_tiling.specs.Puzzle.{View, conflicts, count, has_item, is_piece, items, most, same_item, share_cell}
 use Rattle.poly_tiling.specs.declared.item.Item.{Item}
 use Rattle.poly_tiling.proofs.Counts.{ascending_distinct, tally_within}
 use Rattle.poly_tiling.proofs.Grown.{grown_self}
@@ -25,8 +25,8 @@ share_back (Some p) None h = absurd (true≢false (sym h))
 share_back (Some p) (Some q) h = let r = cell_shared p q h in shared_cell q p r.0 r.2 r.1
 
 -- conflict goes both ways
-pub clash_back : (v : View) (p q : ℕ) → clash v p q ≡ true → clash v q p ≡ true
-clash_back v p q h =
+pub conflict_back : (v : View) (p q : ℕ) → conflicts v p q ≡ true → conflicts v q p ≡ true
+conflict_back v p q h =
     let hs = and_parts (not (eqb p q)) (share_cell (slice_get v.placements p) (slice_get v.placements q)) h in
     and_from _ _ (not_from_false _ (false_from_ne_true (eqb q p) (λ e. both_ways (eqb p q) (not-true _ hs.0) (eq-eqb p q (sym (eqb-true q p e))))))
     (share_back (slice_get v.placements p) (slice_get v.placements q) hs.1)
@@ -77,41 +77,41 @@ module _ (v : View) (A : List Atom) (p : ℕ) (o : IsOpenFor v A p) where
   ]
 
   bad_before : (q : ℕ) → In (Has q) A → bad v (A ++ Has p ∷ []) (Has q) ≡ true → bad v A (Has q) ≡ true
-  bad_before q k h = elim (or_cases (not (mem v.live q) || list_any (λ a. lacks a q) (A ++ Has p ∷ []) || list_any (λ r. clash v q r) (base v (A ++ Has p ∷ []))) _ h) [
-    | inl h1 ↦ or_left _ _ (elim (or_cases (not (mem v.live q) || list_any (λ a. lacks a q) (A ++ Has p ∷ [])) (list_any (λ r. clash v q r) (base v (A ++ Has p ∷ []))) h1) [
+  bad_before q k h = elim (or_cases (not (mem v.live q) || list_any (λ a. lacks a q) (A ++ Has p ∷ []) || list_any (λ r. conflicts v q r) (base v (A ++ Has p ∷ []))) _ h) [
+    | inl h1 ↦ or_left _ _ (elim (or_cases (not (mem v.live q) || list_any (λ a. lacks a q) (A ++ Has p ∷ [])) (list_any (λ r. conflicts v q r) (base v (A ++ Has p ∷ []))) h1) [
       | inl h2 ↦ or_left _ _ (elim (or_cases (not (mem v.live q)) (list_any (λ a. lacks a q) (A ++ Has p ∷ [])) h2) [
         | inl n ↦ or_left _ _ n
         | inr l ↦ or_right (not (mem v.live q)) _ (elim (lacked_by A (Has p) q l) [ inl e ↦ e | inr e ↦ absurd (true≢false (sym e)) ])
       ])
       | inr z ↦
-          let r = any_in (λ r. clash v q r) (base v (A ++ Has p ∷ [])) z in
+          let r = any_in (λ r. conflicts v q r) (base v (A ++ Has p ∷ [])) z in
           or_right (not (mem v.live q) || list_any (λ a. lacks a q) A) _ (elim (joined r.0 r.1) [
-            | inl e ↦ absurd (both_ways _ o.apart (any_from (λ r. clash v p r) (base v A) q (in_base_has v A q k) (clash_back v q p (subst (λ z. clash v q z ≡ true) (sym e) r.2))))
-            | inr i ↦ any_from (λ r. clash v q r) (base v A) r.0 i r.2
+            | inl e ↦ absurd (both_ways _ o.apart (any_from (λ r. conflicts v p r) (base v A) q (in_base_has v A q k) (conflict_back v q p (subst (λ z. conflicts v q z ≡ true) (sym e) r.2))))
+            | inr i ↦ any_from (λ r. conflicts v q r) (base v A) r.0 i r.2
           ])
     ])
     | inr u ↦
         let i = any_in (λ i. is_piece i && nat_lt (most v i) (count v (base v (A ++ Has p ∷ [])) i)) (items v q) u in
         let both = and_parts (is_piece i.0) (nat_lt (most v i.0) (count v (base v (A ++ Has p ∷ [])) i.0)) i.2 in
-        or_right (not (mem v.live q) || list_any (λ a. lacks a q) A || list_any (λ r. clash v q r) (base v A)) _
+        or_right (not (mem v.live q) || list_any (λ a. lacks a q) A || list_any (λ r. conflicts v q r) (base v A)) _
         (any_from (λ i. is_piece i && nat_lt (most v i) (count v (base v A) i)) (items v q) i.0 i.1 (and_from _ _ both.0 (lt-ltb _ _ (over_before q i.0 both.0 (ltb-true _ _ both.1)))))
   ]
 
-  not_itself : clash v p p ≡ true → ⊥
+  not_itself : conflicts v p p ≡ true → ⊥
   not_itself h = both_ways (eqb p p) (not-true _ (and_parts (not (eqb p p)) (share_cell (slice_get v.placements p) (slice_get v.placements p)) h).0) (eq-eqb p p refl)
 
   own_fine : bad v (A ++ Has p ∷ []) (Has p) ≡ true → ⊥
-  own_fine h = elim (or_cases (not (mem v.live p) || list_any (λ a. lacks a p) (A ++ Has p ∷ []) || list_any (λ r. clash v p r) (base v (A ++ Has p ∷ []))) _ h) [
-    | inl h1 ↦ elim (or_cases (not (mem v.live p) || list_any (λ a. lacks a p) (A ++ Has p ∷ [])) (list_any (λ r. clash v p r) (base v (A ++ Has p ∷ []))) h1) [
+  own_fine h = elim (or_cases (not (mem v.live p) || list_any (λ a. lacks a p) (A ++ Has p ∷ []) || list_any (λ r. conflicts v p r) (base v (A ++ Has p ∷ []))) _ h) [
+    | inl h1 ↦ elim (or_cases (not (mem v.live p) || list_any (λ a. lacks a p) (A ++ Has p ∷ [])) (list_any (λ r. conflicts v p r) (base v (A ++ Has p ∷ []))) h1) [
       | inl h2 ↦ elim (or_cases (not (mem v.live p)) (list_any (λ a. lacks a p) (A ++ Has p ∷ [])) h2) [
         | inl n ↦ both_ways (mem v.live p) (not-true _ n) o.live
         | inr l ↦ elim (lacked_by A (Has p) p l) [ inl e ↦ both_ways _ o.spared e | inr e ↦ true≢false (sym e) ]
       ]
       | inr z ↦
-          let r = any_in (λ r. clash v p r) (base v (A ++ Has p ∷ [])) z in
+          let r = any_in (λ r. conflicts v p r) (base v (A ++ Has p ∷ [])) z in
           elim (joined r.0 r.1) [
-            | inl e ↦ not_itself (subst (λ z. clash v p z ≡ true) (sym e) r.2)
-            | inr i ↦ both_ways _ o.apart (any_from (λ r. clash v p r) (base v A) r.0 i r.2)
+            | inl e ↦ not_itself (subst (λ z. conflicts v p z ≡ true) (sym e) r.2)
+            | inr i ↦ both_ways _ o.apart (any_from (λ r. conflicts v p r) (base v A) r.0 i r.2)
           ]
     ]
     | inr u ↦
@@ -159,11 +159,11 @@ module _ (v : View) (A : List Atom) (p : ℕ) (outside : mem (base v A) p ≡ fa
 
   left_bad : (a : Atom) → In a A → bad v (A ++ Lacks p ∷ []) a ≡ true → bad v A a ≡ true
   left_bad (Has q) k h =
-      let h0 : (not (mem v.live q) || list_any (λ a. lacks a q) (A ++ Lacks p ∷ []) || list_any (λ r. clash v q r) (base v A) || list_any (λ i. is_piece i && nat_lt (most v i) (count v (base v A) i)) (items v q)) ≡ true =
-      subst (λ B. (not (mem v.live q) || list_any (λ a. lacks a q) (A ++ Lacks p ∷ []) || list_any (λ r. clash v q r) B || list_any (λ i. is_piece i && nat_lt (most v i) (count v B i)) (items v q)) ≡ true) base_left h in
-      elim (or_cases (not (mem v.live q) || list_any (λ a. lacks a q) (A ++ Lacks p ∷ []) || list_any (λ r. clash v q r) (base v A)) _ h0) [
-        | inl h1 ↦ or_left (not (mem v.live q) || list_any (λ a. lacks a q) A || list_any (λ r. clash v q r) (base v A)) _ (elim (or_cases (not (mem v.live q) || list_any (λ a. lacks a q) (A ++ Lacks p ∷ [])) (list_any (λ r. clash v q r) (base v A)) h1) [
-          | inl h2 ↦ or_left (not (mem v.live q) || list_any (λ a. lacks a q) A) (list_any (λ r. clash v q r) (base v A)) (elim (or_cases (not (mem v.live q)) (list_any (λ a. lacks a q) (A ++ Lacks p ∷ [])) h2) [
+      let h0 : (not (mem v.live q) || list_any (λ a. lacks a q) (A ++ Lacks p ∷ []) || list_any (λ r. conflicts v q r) (base v A) || list_any (λ i. is_piece i && nat_lt (most v i) (count v (base v A) i)) (items v q)) ≡ true =
+      subst (λ B. (not (mem v.live q) || list_any (λ a. lacks a q) (A ++ Lacks p ∷ []) || list_any (λ r. conflicts v q r) B || list_any (λ i. is_piece i && nat_lt (most v i) (count v B i)) (items v q)) ≡ true) base_left h in
+      elim (or_cases (not (mem v.live q) || list_any (λ a. lacks a q) (A ++ Lacks p ∷ []) || list_any (λ r. conflicts v q r) (base v A)) _ h0) [
+        | inl h1 ↦ or_left (not (mem v.live q) || list_any (λ a. lacks a q) A || list_any (λ r. conflicts v q r) (base v A)) _ (elim (or_cases (not (mem v.live q) || list_any (λ a. lacks a q) (A ++ Lacks p ∷ [])) (list_any (λ r. conflicts v q r) (base v A)) h1) [
+          | inl h2 ↦ or_left (not (mem v.live q) || list_any (λ a. lacks a q) A) (list_any (λ r. conflicts v q r) (base v A)) (elim (or_cases (not (mem v.live q)) (list_any (λ a. lacks a q) (A ++ Lacks p ∷ [])) h2) [
             | inl n ↦ or_left (not (mem v.live q)) (list_any (λ a. lacks a q) A) n
             | inr l ↦ or_right (not (mem v.live q)) (list_any (λ a. lacks a q) A) (elim (lacked_by A (Lacks p) q l) [
               | inl e ↦ e
@@ -172,7 +172,7 @@ module _ (v : View) (A : List Atom) (p : ℕ) (outside : mem (base v A) p ≡ fa
           ])
           | inr z ↦ or_right (not (mem v.live q) || list_any (λ a. lacks a q) A) _ z
         ])
-        | inr u ↦ or_right (not (mem v.live q) || list_any (λ a. lacks a q) A || list_any (λ r. clash v q r) (base v A)) _ u
+        | inr u ↦ or_right (not (mem v.live q) || list_any (λ a. lacks a q) A || list_any (λ r. conflicts v q r) (base v A)) _ u
       ]
   left_bad (Lacks q) k h = h
   left_bad (AtLeast i n) k h = h

@@ -150,11 +150,11 @@ module _ (a b : View) (d e : Layout) (wn : WellNamed a) (first : IsDesign d) (s 
       ∙ ap (λ xs. guards_fresh a b ++ (guards_least a b ++ (guards_most a b ++ xs))) has
 
 pub forth_is : (v w : View) (x : Delta) → IsChangeOf v w x → guards_by v x.fresh.items x.unneeded.items x.widened.items x.unpinned.items ≡ guards v w
-forth_is v w x c = guards_by_is v w c.before c.after c.shown.well c.first c.shown.shows c.turned.shows x.fresh.items x.unneeded.items x.widened.items x.unpinned.items
+forth_is v w x c = guards_by_is v w c.before c.after c.shown.well c.first c.shown.shows c.updated.shows x.fresh.items x.unneeded.items x.widened.items x.unpinned.items
     (fresh_is v w x c) c.delta.unneeded c.delta.widened (unpinned_is v w x c)
 
 pub back_is : (v w : View) (x : Delta) → IsChangeOf v w x → guards_by w x.gone.items x.needed.items x.narrowed.items x.pinned.items ≡ guards w v
-back_is v w x c = guards_by_is w v c.after c.before c.turned.well c.second c.turned.shows c.shown.shows x.gone.items x.needed.items x.narrowed.items x.pinned.items
+back_is v w x c = guards_by_is w v c.after c.before c.updated.well c.second c.updated.shows c.shown.shows x.gone.items x.needed.items x.narrowed.items x.pinned.items
     (gone_is v w x c) c.delta.needed c.delta.narrowed (pinned_is v w x c)
 
 pub guards_by_length : (v : View) (fresh : List ℕ) (ls : List Item) (ms : List (List ℕ)) (gone : List ℕ) → length (guards_by v fresh ls ms gone) ≡ length fresh + (length ls + (length ms + length gone))
@@ -209,13 +209,13 @@ few_mosts a b d e ms wn is s t l =
     omega (arith, h, m, k)
 
 pub few_unneeded : (v w : View) (x : Delta) → IsChangeOf v w x → length x.unneeded.items ≤ 320
-few_unneeded v w x c = few_leasts v w c.before c.after x.unneeded.items c.shown.well c.first c.shown.shows c.turned.shows c.delta.unneeded
+few_unneeded v w x c = few_leasts v w c.before c.after x.unneeded.items c.shown.well c.first c.shown.shows c.updated.shows c.delta.unneeded
 
 pub few_widened : (v w : View) (x : Delta) → IsChangeOf v w x → length x.widened.items ≤ 320
-few_widened v w x c = few_mosts v w c.before c.after x.widened.items c.shown.well c.first c.shown.shows c.turned.shows c.delta.widened
+few_widened v w x c = few_mosts v w c.before c.after x.widened.items c.shown.well c.first c.shown.shows c.updated.shows c.delta.widened
 
 pub few_needed : (v w : View) (x : Delta) → IsChangeOf v w x → length x.needed.items ≤ 320
-few_needed v w x c = few_leasts w v c.after c.before x.needed.items c.turned.well c.second c.turned.shows c.shown.shows c.delta.needed
+few_needed v w x c = few_leasts w v c.after c.before x.needed.items c.updated.well c.second c.updated.shows c.shown.shows c.delta.needed
 
 pub few_narrowed : (v w : View) (x : Delta) → IsChangeOf v w x → length x.narrowed.items ≤ 320
-few_narrowed v w x c = few_mosts w v c.after c.before x.narrowed.items c.turned.well c.second c.turned.shows c.shown.shows c.delta.narrowed
+few_narrowed v w x c = few_mosts w v c.after c.before x.narrowed.items c.updated.well c.second c.updated.shows c.shown.shows c.delta.narrowed

@@ -12,7 +12,7 @@ use Rattle.poly_place.specs.declared.delta.Delta.{Delta}
 use Rattle.poly_place.proofs.Arrives.{arrives}
 use Rattle.poly_place.proofs.Between.{gone_is, pinned_is}
 use Rattle.poly_tiling.specs.Lists.{mem}
-use Rattle.poly_tiling.specs.Puzzle.{View, clash, count, has_item, is_piece, items, items_of, least, most, same_item, share_cell}
+use Rattle.poly_tiling.specs.Puzzle.{View, conflicts, count, has_item, is_piece, items, items_of, least, most, same_item, share_cell}
 use Rattle.poly_tiling.specs.Shows.{item_bounds}
 use Rattle.poly_tiling.specs.declared.item.Item.{Item}
 use Rattle.poly_tiling.specs.declared.item.Item.TheVariants.{Cell, Piece}
@@ -27,7 +27,7 @@ use Rattle.poly_atom.specs.declared.atom.Atom.TheVariants.{AtLeast, AtMost, Has,
 use Rattle.poly_atom.specs.Hopeless.{bad, base, hopeless, lacks}
 use Rattle.poly_atom.specs.Newly.{NewlyHopelessIsTouched, touched}
 use Rattle.poly_atom.proofs.Bases.{base_in, base_up, in_base_has, in_base_pin}
-use Rattle.poly_atom.proofs.Grows.{clash_named, live_low, pin_low}
+use Rattle.poly_atom.proofs.Grows.{conflict_named, live_low, pin_low}
 use Rattle.poly_atom.proofs.Laid.{risen_piece}
 use Rattle.poly_atom.proofs.Merge.{slot_same}
 
@@ -40,8 +40,8 @@ shared_item (Some p) (Some q) h =
     any_from (λ i. list_any (λ j. same_item j i) (items_of (Some p))) (items_of (Some q)) (Cell r.0) (inr (in_map (λ c. Cell c) q.cells r.0 r.2))
     (any_from (λ j. same_item j (Cell r.0)) (items_of (Some p)) (Cell r.0) (inr (in_map (λ c. Cell c) p.cells r.0 r.1)) (same_item_self (Cell r.0)))
 
-clash_item : (v : View) (p q : ℕ) → clash v p q ≡ true → list_any (λ i. has_item v p i) (items v q) ≡ true
-clash_item v p q h = shared_item (slice_get v.placements p) (slice_get v.placements q) (and_parts (not (eqb p q)) (share_cell (slice_get v.placements p) (slice_get v.placements q)) h).1
+conflict_item : (v : View) (p q : ℕ) → conflicts v p q ≡ true → list_any (λ i. has_item v p i) (items v q) ≡ true
+conflict_item v p q h = shared_item (slice_get v.placements p) (slice_get v.placements q) (and_parts (not (eqb p q)) (share_cell (slice_get v.placements p) (slice_get v.placements q)) h).1
 
 item_there : (v : View) (p : ℕ) (i : Item) → In i (items v p) → has_item v p i ≡ true
 item_there v p i k = any_from (λ j. same_item j i) (items v p) i k (same_item_self i)
@@ -76,20 +76,20 @@ module _ (v w : View) (x : Delta) (y : Change) (A : List Atom) (c : IsChangeOf v
   by_pin p q i e h = or_right (mem x.gone.items p || list_any (λ n. has_item w p (Piece n)) x.narrowed.items) _
       (any_from (λ q. list_any (λ i. has_item w p i) (items w q)) x.pinned.items q (pin_new q i e) h)
 
-  by_clash : (p q : ℕ) → In (Has p) A → In q (base w A) → clash w p q ≡ true → touched w x (item_of y) (Has p) ≡ true
-  by_clash p q k i h = elim (base_in w A q i) [
-    | inl j ↦ absurd (clashes j)
+  by_conflict : (p q : ℕ) → In (Has p) A → In q (base w A) → conflicts w p q ≡ true → touched w x (item_of y) (Has p) ≡ true
+  by_conflict p q k i h = elim (base_in w A q i) [
+    | inl j ↦ absurd (meeting j)
     | inr j ↦ elim (cases_Bool (mem v.pins q)) [
       | inl e ↦ absurd (pinned (mem_in v.pins q e))
-      | inr e ↦ by_pin p q j e (clash_item w p q h)
+      | inr e ↦ by_pin p q j e (conflict_item w p q h)
     ]
   ]
     where
       bad_there : In q (base v A) → q < length v.placements → ⊥
-      bad_there b l = not_bad (Has p) k (or_left _ _ (or_right _ _ (any_from (λ q. clash v p q) (base v A) q b (sym (clash_named v w c.names p q (low p k) l) ∙ h))))
+      bad_there b l = not_bad (Has p) k (or_left _ _ (or_right _ _ (any_from (λ q. conflicts v p q) (base v A) q b (sym (conflict_named v w c.names p q (low p k) l) ∙ h))))
 
-      clashes : In (Has q) A → ⊥
-      clashes j = bad_there (in_base_has v A q j) (low q j)
+      meeting : In (Has q) A → ⊥
+      meeting j = bad_there (in_base_has v A q j) (low q j)
 
       pinned : In q v.pins → ⊥
       pinned j = bad_there (in_base_pin v A q j) (pin_low v c.shown.well q j)
@@ -117,8 +117,8 @@ module _ (v w : View) (x : Delta) (y : Change) (A : List Atom) (c : IsChangeOf v
   by_count : (p : ℕ) (i : Item) → In (Has p) A → In p w.live → In i (items w p) → is_piece i ≡ true → most w i < count w (base w A) i → touched w x (item_of y) (Has p) ≡ true
   by_count p i k here j is l = elim (cases_lt (most w i) (most v i)) [
     | inl m ↦
-        let b = any_in (λ b. same_item b.item i) w.bounds (listed_item w c.turned.well p here i (item_there w p i j)) in
-        let r = risen_piece w v c.after c.before c.turned.well c.second c.turned.shows c.shown.shows i b.0 b.1 (same_item_is b.0.item i b.2) m in
+        let b = any_in (λ b. same_item b.item i) w.bounds (listed_item w c.updated.well p here i (item_there w p i j)) in
+        let r = risen_piece w v c.after c.before c.updated.well c.second c.updated.shows c.shown.shows i b.0 b.1 (same_item_is b.0.item i b.2) m in
         or_left _ _ (or_right (mem x.gone.items p) _ (any_from (λ n. has_item w p (Piece n)) x.narrowed.items r.0 (narrowed_has r.0 r.2) (subst (λ z. has_item w p z ≡ true) r.1 (item_there w p i j))))
     | inr g ↦ elim (cases_Bool (list_any (λ q. has_item w q i) x.pinned.items)) [
       | inl e ↦
@@ -132,13 +132,13 @@ module _ (v w : View) (x : Delta) (y : Change) (A : List Atom) (c : IsChangeOf v
   bad_touched : c.after ≡ changed c.before y → (a : Atom) → In a A → bad w A a ≡ true → touched w x (item_of y) a ≡ true
   bad_touched is (Has p) k h = elim (cases_Bool (mem w.live p)) [
     | inr e ↦ or_left _ _ (or_left _ _ (is_gone p (asked_live p k) e))
-    | inl e ↦ elim (or_cases (not (mem w.live p) || list_any (λ a. lacks a p) A || list_any (λ q. clash w p q) (base w A)) _ h) [
-      | inl h1 ↦ elim (or_cases (not (mem w.live p) || list_any (λ a. lacks a p) A) (list_any (λ q. clash w p q) (base w A)) h1) [
+    | inl e ↦ elim (or_cases (not (mem w.live p) || list_any (λ a. lacks a p) A || list_any (λ q. conflicts w p q) (base w A)) _ h) [
+      | inl h1 ↦ elim (or_cases (not (mem w.live p) || list_any (λ a. lacks a p) A) (list_any (λ q. conflicts w p q) (base w A)) h1) [
         | inl h2 ↦ elim (or_cases (not (mem w.live p)) (list_any (λ a. lacks a p) A) h2) [
           | inl n ↦ absurd (both_ways (mem w.live p) (not-true _ n) e)
           | inr l ↦ absurd (not_bad (Has p) k (or_left _ _ (or_left _ _ (or_right _ _ l))))
         ]
-        | inr z ↦ let q = any_in (λ q. clash w p q) (base w A) z in by_clash p q.0 k q.1 q.2
+        | inr z ↦ let q = any_in (λ q. conflicts w p q) (base w A) z in by_conflict p q.0 k q.1 q.2
       ]
       | inr u ↦
           let i = any_in (λ i. is_piece i && nat_lt (most w i) (count w (base w A) i)) (items w p) u in
@@ -156,10 +156,10 @@ module _ (v w : View) (x : Delta) (y : Change) (A : List Atom) (c : IsChangeOf v
             let high : nat_lt (most v i) n ≡ false = false_from_ne_true _ (λ m. not_bad (AtLeast i n) k (and_from _ _ e m)) in
             let g = ltb-false (most v i) n high in
             let m : most w i < most v i = omega (arith, l, g) in
-            let r = risen_piece w v c.after c.before c.turned.well c.second c.turned.shows c.shown.shows i b.0 b.1 (same_item_is b.0.item i b.2) m in
+            let r = risen_piece w v c.after c.before c.updated.well c.second c.updated.shows c.shown.shows i b.0 b.1 (same_item_is b.0.item i b.2) m in
             or_left _ _ (any_from (λ m. same_item (Piece m) i) x.narrowed.items r.0 (narrowed_has r.0 r.2) (subst (λ z. same_item z i ≡ true) r.1 (same_item_self i)))
         | inr e ↦
-            let here : list_any (λ b. same_item b.item i) (item_bounds (changed c.before y)) ≡ true = ap (λ d. list_any (λ b. same_item b.item i) (item_bounds d)) (sym is) ∙ ap (λ bs. list_any (λ b. same_item b.item i) bs) (sym c.turned.shows.bounds) ∙ both.0 in
+            let here : list_any (λ b. same_item b.item i) (item_bounds (changed c.before y)) ≡ true = ap (λ d. list_any (λ b. same_item b.item i) (item_bounds d)) (sym is) ∙ ap (λ bs. list_any (λ b. same_item b.item i) bs) (sym c.updated.shows.bounds) ∙ both.0 in
             let none : list_any (λ b. same_item b.item i) (item_bounds c.before) ≡ false = ap (λ bs. list_any (λ b. same_item b.item i) bs) (sym c.shown.shows.bounds) ∙ e in
             or_right _ _ (subst (λ z. same_item z i ≡ true) (arrives c.before y i here none) (same_item_self i))
       ]
@@ -167,7 +167,7 @@ module _ (v w : View) (x : Delta) (y : Change) (A : List Atom) (c : IsChangeOf v
       let l = ltb-true n (least w i) h in
       let low_before : nat_lt n (least v i) ≡ false = false_from_ne_true _ (λ m. not_bad (AtMost i n) k m) in
       let g = ltb-false n (least v i) low_before in
-      let rises : LeastRises c.before c.after i = omega (arith, l, g, shown_least v c.before c.shown.shows i, shown_least w c.after c.turned.shows i) in
+      let rises : LeastRises c.before c.after i = omega (arith, l, g, shown_least v c.before c.shown.shows i, shown_least w c.after c.updated.shows i) in
       any_from (λ j. same_item j i) x.needed.items i (contains_in x.needed.items i ((c.delta.needed.exact i).1 rises)) (same_item_self i)
 
 pub newly_hopeless_is_touched_lem : NewlyHopelessIsTouched

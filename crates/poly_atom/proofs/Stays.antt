@@ -4,12 +4,12 @@ use Rattle.std.proofs.lemmas.Bool.{and_from, and_parts, cond-false, false_from_n
 use Rattle.std.specs.List.{filter, list_any}
 use Rattle.poly_tiling.specs.Lists.{mem}
 use Rattle.poly_tiling.specs.declared.item.Item.{Item}
-use Rattle.poly_tiling.specs.Puzzle.{is_piece, View, clash, count, has_item, items, least, most, same_item}
+use Rattle.poly_tiling.specs.Puzzle.{is_piece, View, conflicts, count, has_item, items, least, most, same_item}
 use Rattle.poly_tiling.specs.Names.{Grown, Names, WellNamed}
 use Rattle.poly_tiling.proofs.Lists.{In, all_from, any_from, any_in, in_append_left, in_append_right, in_mem}
 use Rattle.poly_tiling.proofs.Counts.{ascending_distinct, tally_within}
 use Rattle.poly_tiling.proofs.Tilings.{IsTiling, parts}
-use Rattle.poly_tiling.proofs.Named.{all_same, any_items, named_clash, old_count}
+use Rattle.poly_tiling.proofs.Named.{all_same, any_items, named_conflict, old_count}
 use Rattle.poly_tiling.proofs.Grown.{grown_bound}
 use Rattle.poly_atom.specs.declared.atom.Atom.{Atom}
 use Rattle.poly_atom.specs.declared.atom.Atom.TheVariants.{AtLeast, AtMost, Has, Lacks}
@@ -39,16 +39,16 @@ any_more : {X : Type 0} (f g : X → Bool) (xs : List X) → ((x : X) → f x �
 any_more f g xs h e = let x = any_in f xs e in any_from g xs x.0 x.1 (h x.0 x.2)
 
 bad_more : (v w : View) (A B : List Atom) → Grown v w → ((a : Atom) → In a A → In a B) → (a : Atom) → bad v A a ≡ true → bad w B a ≡ true
-bad_more v w A B g h (Has p) e = elim (or_cases (not (mem v.live p) || list_any (λ a. lacks a p) A || list_any (λ q. clash v p q) (base v A)) (list_any (λ i. is_piece i && nat_lt (most v i) (count v (base v A) i)) (items v p)) e) [
-  | inl e1 ↦ or_left (not (mem w.live p) || list_any (λ a. lacks a p) B || list_any (λ q. clash w p q) (base w B)) _ (elim (or_cases (not (mem v.live p) || list_any (λ a. lacks a p) A) (list_any (λ q. clash v p q) (base v A)) e1) [
-    | inl e2 ↦ or_left (not (mem w.live p) || list_any (λ a. lacks a p) B) (list_any (λ q. clash w p q) (base w B)) (elim (or_cases (not (mem v.live p)) (list_any (λ a. lacks a p) A) e2) [
+bad_more v w A B g h (Has p) e = elim (or_cases (not (mem v.live p) || list_any (λ a. lacks a p) A || list_any (λ q. conflicts v p q) (base v A)) (list_any (λ i. is_piece i && nat_lt (most v i) (count v (base v A) i)) (items v p)) e) [
+  | inl e1 ↦ or_left (not (mem w.live p) || list_any (λ a. lacks a p) B || list_any (λ q. conflicts w p q) (base w B)) _ (elim (or_cases (not (mem v.live p) || list_any (λ a. lacks a p) A) (list_any (λ q. conflicts v p q) (base v A)) e1) [
+    | inl e2 ↦ or_left (not (mem w.live p) || list_any (λ a. lacks a p) B) (list_any (λ q. conflicts w p q) (base w B)) (elim (or_cases (not (mem v.live p)) (list_any (λ a. lacks a p) A) e2) [
       | inl n ↦ or_left (not (mem w.live p)) (list_any (λ a. lacks a p) B) (ap (λ xs. not (mem xs p)) g.1 ∙ n)
       | inr l ↦ let x = any_in (λ a. lacks a p) A l in or_right (not (mem w.live p)) _ (any_from (λ a. lacks a p) B x.0 (h x.0 x.1) x.2)
     ])
-    | inr c ↦ let x = any_in (λ q. clash v p q) (base v A) c in
-        or_right (not (mem w.live p) || list_any (λ a. lacks a p) B) _ (any_from (λ q. clash w p q) (base w B) x.0 (base_more v w A B g h x.0 x.1) (named_clash v w g.0 p x.0 x.2))
+    | inr c ↦ let x = any_in (λ q. conflicts v p q) (base v A) c in
+        or_right (not (mem w.live p) || list_any (λ a. lacks a p) B) _ (any_from (λ q. conflicts w p q) (base w B) x.0 (base_more v w A B g h x.0 x.1) (named_conflict v w g.0 p x.0 x.2))
   ])
-  | inr u ↦ or_right (not (mem w.live p) || list_any (λ a. lacks a p) B || list_any (λ q. clash w p q) (base w B)) _
+  | inr u ↦ or_right (not (mem w.live p) || list_any (λ a. lacks a p) B || list_any (λ q. conflicts w p q) (base w B)) _
       (any_more (λ i. is_piece i && nat_lt (most v i) (count v (base v A) i)) (λ i. is_piece i && nat_lt (most w i) (count w (base w B) i)) (items w p)
       (λ i k. let ks = and_parts (is_piece i) (nat_lt (most v i) (count v (base v A) i)) k in
       let l = ltb-true _ _ ks.1 in

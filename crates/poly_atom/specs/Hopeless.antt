@@ -2,7 +2,7 @@
 use Rattle.std.specs.List.{list_any}
 use Rattle.std.specs.Prelude.{Bool, List, [], false, nat_lt, not, ℕ, ◌&&◌, ◌==◌, ◌||◌, ◌∷◌, ◌≡◌}
 use Rattle.poly_tiling.specs.Lists.{mem, put_all}
-use Rattle.poly_tiling.specs.Puzzle.{View, is_piece, clash, count, items, least, most, same_item}
+use Rattle.poly_tiling.specs.Puzzle.{View, is_piece, conflicts, count, items, least, most, same_item}
 use Rattle.poly_atom.specs.declared.atom.Atom.{Atom}
 use Rattle.poly_atom.specs.declared.atom.Atom.TheVariants.{AtLeast, AtMost, Has, Lacks}
 
@@ -27,7 +27,7 @@ lacks (AtMost i n) p = false
 -- an atom that no tiling of the family can meet
 abbrev pub bad : View → List Atom → Atom → Bool
 bad v A (Has p) =
-    not (mem v.live p) || list_any (λ a. lacks a p) A || list_any (λ q. clash v p q) (base v A)
+    not (mem v.live p) || list_any (λ a. lacks a p) A || list_any (λ q. conflicts v p q) (base v A)
     || list_any (λ i. is_piece i && nat_lt (most v i) (count v (base v A) i)) (items v p)
 bad v A (Lacks p) = mem v.pins p
 bad v A (AtLeast i n) = list_any (λ b. same_item b.item i) v.bounds && nat_lt (most v i) n
@@ -43,7 +43,7 @@ AskTheSame D A = (p : ℕ) → mem (asked D) p ≡ mem (asked A) p
 -- an atom of D asks for a placement that the design doesn't have, that is in conflict with the base, or whose piece is over its most
 abbrev pub lost : View → List Atom → Atom → Bool
 lost v D (Has p) =
-    not (mem v.live p) || list_any (λ q. clash v p q) (base v D)
+    not (mem v.live p) || list_any (λ q. conflicts v p q) (base v D)
     || list_any (λ i. is_piece i && nat_lt (most v i) (count v (base v D) i)) (items v p)
 lost v D (Lacks p) = false
 lost v D (AtLeast i n) = false

@@ -7,7 +7,7 @@ use Rattle.poly_place.specs.Between.{IsChangeOf}
 use Rattle.poly_place.specs.Index.{item_of}
 use Rattle.poly_place.specs.declared.delta.Delta.{Delta}
 use Rattle.poly_tiling.specs.Lists.{mem}
-use Rattle.poly_tiling.specs.Puzzle.{View, clash, count, has_item, is_piece, items, most, same_item}
+use Rattle.poly_tiling.specs.Puzzle.{View, conflicts, count, has_item, is_piece, items, most, same_item}
 use Rattle.poly_tiling.specs.declared.item.Item.{Item}
 use Rattle.poly_tiling.specs.declared.item.Item.TheVariants.{Piece}
 use Rattle.poly_atom.specs.declared.atom.Atom.{Atom}
@@ -34,7 +34,7 @@ pub record IsOpenFor (v : View) (A : List Atom) (p : ℕ) : Type 0 where
   pub live : mem v.live p ≡ true
   pub outside : mem (base v A) p ≡ false
   pub spared : list_any (λ a. lacks a p) A ≡ false
-  pub apart : list_any (λ q. clash v p q) (base v A) ≡ false
+  pub apart : list_any (λ q. conflicts v p q) (base v A) ≡ false
   pub room : list_any (λ i. is_piece i && nat_le (most v i) (count v (base v A) i)) (items v p) ≡ false
 
 -- Asking for an open placement leaves a list as hopeless as it was.

@@ -4,7 +4,7 @@
 mod atom;
 mod both;
 mod change;
-mod doom;
+mod hopelessness;
 mod laws;
 mod log;
 mod order;
@@ -13,7 +13,7 @@ mod stair;
 pub use atom::Atom;
 pub use both::{BothGuards, both_guards, guard_counts};
 pub use change::guards;
-pub use doom::hopeless;
+pub use hopelessness::hopeless;
 pub use laws::{
     answers_may_grow, families_may_grow, guards_may_grow, guards_tell, hopeless_is_empty,
     hopeless_may_grow, hopeless_stays, leaving_keeps_hope, negation_is_opposite,

@@ -130,7 +130,7 @@ fn reach_span(reach: &mut Vec<u32>, tasks: &[Pending], span: &Span)
     raise(reach, place, span.to);
 }
 
-// Lets the place, if it is one, reach the number.
+// Raises the entry at `place` to at least `to`, if there is such an entry.
 fn raise(reach: &mut Vec<u32>, place: usize, to: u32)
     ensures farther { IsFarther reach.old.items reach.new.items }
     ensures reached { place < length reach.old.items → to ≤ slice_index_or reach.new.items place 0 }

@@ -8,36 +8,36 @@ use Rattle.poly_tiling.proofs.Lists.{all_in, any_in}
 use Rattle.poly_tiling.proofs.Tilings.{bound_none, same_item_is}
 use Rattle.poly_atom.specs.declared.atom.Atom.{Atom}
 use Rattle.poly_atom.specs.declared.atom.Atom.TheVariants.{AtLeast, AtMost, Has, Lacks}
-use Rattle.poly_frame.specs.Open.{asks}
-use Rattle.poly_frame.specs.Plain.{asks_for, of_asked}
+use Rattle.poly_frame.specs.Open.{least_at}
+use Rattle.poly_frame.specs.Plain.{least_for, of_asked}
 
 -- an item that neither the design nor an atom names isn't asked for
-asks_none : (v : View) (A : List Atom) (i : Item) → list_any (λ b. same_item b.item i) v.bounds ≡ false → list_any (asks_for i) A ≡ false → asks v A i ≡ 0
-asks_none v [] i n m = bound_none v.bounds i (λ b. b.least) n
-asks_none v (Has p ∷ A) i n m = asks_none v A i n m
-asks_none v (Lacks p ∷ A) i n m = asks_none v A i n m
-asks_none v (AtLeast j k ∷ A) i n m =
-    let ms = or_parts (same_item j i) (list_any (asks_for i) A) m in
-    cond-false (same_item j i) (max k (asks v A i)) (asks v A i) ms.0 ∙ asks_none v A i n ms.1
-asks_none v (AtMost j k ∷ A) i n m = asks_none v A i n m
+least_none : (v : View) (A : List Atom) (i : Item) → list_any (λ b. same_item b.item i) v.bounds ≡ false → list_any (least_for i) A ≡ false → least_at v A i ≡ 0
+least_none v [] i n m = bound_none v.bounds i (λ b. b.least) n
+least_none v (Has p ∷ A) i n m = least_none v A i n m
+least_none v (Lacks p ∷ A) i n m = least_none v A i n m
+least_none v (AtLeast j k ∷ A) i n m =
+    let ms = or_parts (same_item j i) (list_any (least_for i) A) m in
+    cond-false (same_item j i) (max k (least_at v A i)) (least_at v A i) ms.0 ∙ least_none v A i n ms.1
+least_none v (AtMost j k ∷ A) i n m = least_none v A i n m
 
-asked_one : (f : Item → Bool) (i : Item) (a : Atom) → asks_for i a ≡ true → of_asked f a ≡ true → f i ≡ true
-asked_one f i (Has p) s h = absurd (cc)
-asked_one f i (Lacks p) s h = absurd (cc)
-asked_one f i (AtLeast j n) s h = subst (λ k. f k ≡ true) (same_item_is j i s) h
-asked_one f i (AtMost j n) s h = absurd (cc)
+leasts_one : (f : Item → Bool) (i : Item) (a : Atom) → least_for i a ≡ true → of_asked f a ≡ true → f i ≡ true
+leasts_one f i (Has p) s h = absurd (cc)
+leasts_one f i (Lacks p) s h = absurd (cc)
+leasts_one f i (AtLeast j n) s h = subst (λ k. f k ≡ true) (same_item_is j i s) h
+leasts_one f i (AtMost j n) s h = absurd (cc)
 
 -- if no item of the design and none that an atom asks for is due, no item is
 pub none_due : (v : View) (A : List Atom) (T : List ℕ) →
-    list_all (λ b. not (nat_lt (count v T b.item) (asks v A b.item))) v.bounds ≡ true →
-    list_all (of_asked (λ i. not (nat_lt (count v T i) (asks v A i)))) A ≡ true →
-    (i : Item) → nat_lt (count v T i) (asks v A i) ≡ false
+    list_all (λ b. not (nat_lt (count v T b.item) (least_at v A b.item))) v.bounds ≡ true →
+    list_all (of_asked (λ i. not (nat_lt (count v T i) (least_at v A i)))) A ≡ true →
+    (i : Item) → nat_lt (count v T i) (least_at v A i) ≡ false
 none_due v A T bounds atoms i =
-    let free = λ (k : Item). not (nat_lt (count v T k) (asks v A k)) in
+    let free = λ (k : Item). not (nat_lt (count v T k) (least_at v A k)) in
     elim (cases_Bool (list_any (λ b. same_item b.item i) v.bounds)) [
       | inl y ↦ let x = any_in (λ b. same_item b.item i) v.bounds y in not-true _ (subst (λ k. free k ≡ true) (same_item_is x.0.item i x.2) (all_in (λ b. free b.item) v.bounds bounds x.0 x.1))
-      | inr n ↦ elim (cases_Bool (list_any (asks_for i) A)) [
-        | inl y ↦ let x = any_in (asks_for i) A y in not-true _ (asked_one free i x.0 x.2 (all_in (of_asked free) A atoms x.0 x.1))
-        | inr m ↦ let e = asks_none v A i n m in false_from_ne_true (nat_lt (count v T i) (asks v A i)) (λ h. let l = ltb-true _ _ h in omega arith)
+      | inr n ↦ elim (cases_Bool (list_any (least_for i) A)) [
+        | inl y ↦ let x = any_in (least_for i) A y in not-true _ (leasts_one free i x.0 x.2 (all_in (of_asked free) A atoms x.0 x.1))
+        | inr m ↦ let e = least_none v A i n m in false_from_ne_true (nat_lt (count v T i) (least_at v A i)) (λ h. let l = ltb-true _ _ h in omega arith)
       ]
     ]

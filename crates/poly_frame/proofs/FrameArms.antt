@@ -5,7 +5,7 @@ use Rattle.std.proofs.lemmas.Bool.{and_from, and_parts, false_from_ne_true, ltb-
 use Rattle.std.proofs.lemmas.List.{take_more}
 use Rattle.poly_tiling.specs.declared.item.Item.{Item}
 use Rattle.poly_tiling.specs.Lists.{distinct, mem, one, tally}
-use Rattle.poly_tiling.specs.Puzzle.{View, clash, count, has_item, is_tiling, items, same_item}
+use Rattle.poly_tiling.specs.Puzzle.{View, conflicts, count, has_item, is_tiling, items, same_item}
 use Rattle.poly_tiling.proofs.Lists.{In, in_mem, mem_in}
 use Rattle.poly_tiling.proofs.Counts.{ascending_distinct, tally_within}
 use Rattle.poly_tiling.proofs.Orders.{live_once}
@@ -14,23 +14,23 @@ use Rattle.poly_atom.specs.declared.atom.Atom.{Atom}
 use Rattle.poly_atom.specs.Atoms.{in_family, meets_all}
 use Rattle.poly_atom.specs.Hopeless.{base, lacks}
 use Rattle.poly_atom.proofs.Bases.{base_up}
-use Rattle.poly_frame.specs.Open.{asks, dead, lower, open_in, others, ruled_out, upper}
+use Rattle.poly_frame.specs.Open.{least_at, dead, least_with_base, open_in, others, ruled_out, most_at}
 use Rattle.poly_frame.specs.Bits.{in_both}
 use Rattle.poly_frame.specs.FrameItems.{item_of}
 use Rattle.poly_frame.specs.FrameSteps.{Kept}
 use Rattle.poly_frame.specs.declared.frame.matrix.Matrix.{Matrix}
 use Rattle.poly_frame.specs.declared.frame.table.Table.{Table}
-use Rattle.poly_frame.proofs.Ruled.{asks_is}
+use Rattle.poly_frame.proofs.Ruled.{least_is}
 use Rattle.poly_frame.proofs.FrameSteps.{top_have, top_level}
-use Rattle.poly_frame.proofs.FrameLooks.{open_first, row_says}
+use Rattle.poly_frame.proofs.FrameQueries.{open_first, row_says}
 
 -- an open placement is not dead
 pub open_lives : (v : View) (A : List Atom) (p : ℕ) → mem v.live p ≡ true → open_in v A p ≡ true → dead v A p ≡ false
 open_lives v A p m o =
     let free = not-true _ (and_parts (not (mem (base v A) p)) (not (ruled_out v A p)) o).1 in
-    let full = list_any (λ i. leb (upper v A i) (others v (base v A) p i)) (items v p) in
-    let apart = (or_parts (list_any (λ a. lacks a p) A || list_any (λ q. clash v p q) (base v A)) full free).0 in
-    let named = (or_parts (list_any (λ a. lacks a p) A) (list_any (λ q. clash v p q) (base v A)) apart).0 in
+    let full = list_any (λ i. leb (most_at v A i) (others v (base v A) p i)) (items v p) in
+    let apart = (or_parts (list_any (λ a. lacks a p) A || list_any (λ q. conflicts v p q) (base v A)) full free).0 in
+    let named = (or_parts (list_any (λ a. lacks a p) A) (list_any (λ q. conflicts v p q) (base v A)) apart).0 in
     ap (λ b. not b || list_any (λ a. lacks a p) A) m ∙ named
 
 -- an open placement of the design is not ruled out
@@ -38,11 +38,11 @@ pub open_right : (v : View) (A : List Atom) (p : ℕ) → mem v.live p ≡ true 
 open_right v A p m o = and_from _ _ m (and_parts (not (mem (base v A) p)) (not (ruled_out v A p)) o).1
 
 -- a base that is short isn't a tiling that meets the atoms
-pub short_none : (v : View) (A : List Atom) (T : List ℕ) (i : Item) → ltb (count v T i) (asks v A i) ≡ true → in_family v A T ≡ false
+pub short_none : (v : View) (A : List Atom) (T : List ℕ) (i : Item) → ltb (count v T i) (least_at v A i) ≡ true → in_family v A T ≡ false
 short_none v A T i h = false_from_ne_true (in_family v A T) (λ f.
     let fs = and_parts (is_tiling v T) (meets_all v T A) f in
-    let less = ltb-true (count v T i) (asks v A i) h in
-    absurd (omega (arith, less, asks_is v T i ((parts v T fs.0).enough i) A fs.1)))
+    let less = ltb-true (count v T i) (least_at v A i) h in
+    absurd (omega (arith, less, least_is v T i ((parts v T fs.0).enough i) A fs.1)))
 
 pub tally_more : (g : ℕ → Bool) (xs : List ℕ) (k : ℕ) → k < length xs → tally g (take (k + 1) xs) ≡ tally g (take k xs) + one (g (get_or xs k 0))
 tally_more g xs k h = ap (λ ys. tally g ys) (take_more xs k 0 h) ∙ tally_end (take k xs)
@@ -147,9 +147,9 @@ loose_says v A first matrix t live have raised marks K i at b e l s j h =
     ∙ row_says v A first matrix t live have raised marks K at b e l j h
 
 -- what a Branch needs is the greater of what is asked for and what the base has
-pub lower_says : (v : View) (A : List Atom) (first : ℕ) (matrix : Matrix) (t : Table) (live have raised marks : List ℕ) → Kept v A first matrix t live have raised marks → (i : Item) (b : ℕ) → b < length v.bounds → same_item (item_of v b) i ≡ true →
-    max (get_or t.asked.items b 0) (get_or have b 0) ≡ lower v A i
-lower_says v A first matrix t live have raised marks K i b h s =
+pub with_base_says : (v : View) (A : List Atom) (first : ℕ) (matrix : Matrix) (t : Table) (live have raised marks : List ℕ) → Kept v A first matrix t live have raised marks → (i : Item) (b : ℕ) → b < length v.bounds → same_item (item_of v b) i ≡ true →
+    max (get_or t.leasts.items b 0) (get_or have b 0) ≡ least_with_base v A i
+with_base_says v A first matrix t live have raised marks K i b h s =
     let held = top_have v A first matrix t live have raised marks K b h in
-    let asked = K.table.asked b h ∙ sym ((top_level v A first matrix t live have raised marks K).asked (item_of v b)) in
-    ap (λ n. max n (get_or have b 0)) asked ∙ ap (λ n. max (asks v A (item_of v b)) n) held ∙ ap (λ k. lower v A k) (same_item_is (item_of v b) i s)
+    let least_there = K.table.leasts b h ∙ sym ((top_level v A first matrix t live have raised marks K).leasts (item_of v b)) in
+    ap (λ n. max n (get_or have b 0)) least_there ∙ ap (λ n. max (least_at v A (item_of v b)) n) held ∙ ap (λ k. least_with_base v A k) (same_item_is (item_of v b) i s)

@@ -132,12 +132,12 @@ module _ (old have xs : List ℕ) (k : ℕ) (h : k < length xs) (same : length h
       (b : ℕ) → b < length old → get_or (set have (get_or xs k 0) (get_or have (get_or xs k 0) 0 + 1)) b 0 ≡ get_or old b 0 + times (take (k + 1) xs) b
   raise_step inv b l = omega (arith, change_at have (get_or xs k 0) 0 b (omega (arith, at_low, same)), inv b l, times_more xs k b h)
 
-  pub lower_fits : ((b : ℕ) → b < length old → times xs b ≤ get_or old b 0) → ((b : ℕ) → b < length old → get_or have b 0 + times (take k xs) b ≡ get_or old b 0) → 1 ≤ get_or have (get_or xs k 0) 0
-  lower_fits enough inv = omega (arith, inv (get_or xs k 0) at_low, enough (get_or xs k 0) at_low, times_front xs (k + 1) (get_or xs k 0), times_more xs k (get_or xs k 0) h, ap one (eq-eqb (get_or xs k 0) (get_or xs k 0) refl))
+  pub with_base_fits : ((b : ℕ) → b < length old → times xs b ≤ get_or old b 0) → ((b : ℕ) → b < length old → get_or have b 0 + times (take k xs) b ≡ get_or old b 0) → 1 ≤ get_or have (get_or xs k 0) 0
+  with_base_fits enough inv = omega (arith, inv (get_or xs k 0) at_low, enough (get_or xs k 0) at_low, times_front xs (k + 1) (get_or xs k 0), times_more xs k (get_or xs k 0) h, ap one (eq-eqb (get_or xs k 0) (get_or xs k 0) refl))
 
-  pub lower_step : 1 ≤ get_or have (get_or xs k 0) 0 → ((b : ℕ) → b < length old → get_or have b 0 + times (take k xs) b ≡ get_or old b 0) →
+  pub with_base_step : 1 ≤ get_or have (get_or xs k 0) 0 → ((b : ℕ) → b < length old → get_or have b 0 + times (take k xs) b ≡ get_or old b 0) →
       (b : ℕ) → b < length old → get_or (set have (get_or xs k 0) (get_or have (get_or xs k 0) 0 - 1)) b 0 + times (take (k + 1) xs) b ≡ get_or old b 0
-  lower_step some inv b l = omega (arith, change_back have (get_or xs k 0) 0 b (omega (arith, at_low, same)) some, inv b l, times_more xs k b h)
+  with_base_step some inv b l = omega (arith, change_back have (get_or xs k 0) 0 b (omega (arith, at_low, same)) some, inv b l, times_more xs k b h)
 
 in_take : {X : Type 0} (xs : List X) (k : ℕ) (y d : X) → In y (take k xs) → (i : ℕ) × (i < k) × (get_or xs i d ≡ y)
 in_take xs zero y d i = absurd i

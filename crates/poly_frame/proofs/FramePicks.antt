@@ -10,7 +10,7 @@ use Rattle.poly_tiling.specs.declared.item.Item.{Item}
 use Rattle.poly_tiling.specs.declared.item.Item.TheVariants.{Cell, Piece}
 use Rattle.poly_tiling.specs.Lists.{one, tally, mem, put, put_all}
 use Rattle.poly_tiling.specs.Names.{WellNamed}
-use Rattle.poly_tiling.specs.Puzzle.{View, clash, count, has_cell, has_item, is_piece, items, items_of, same_item, share_cell}
+use Rattle.poly_tiling.specs.Puzzle.{View, conflicts, count, has_cell, has_item, is_piece, items, items_of, same_item, share_cell}
 use Rattle.poly_tiling.proofs.Lists.{In, any_append, any_from, any_in, in_map, in_mem, map_in, mem_in, same_truth}
 use Rattle.poly_tiling.proofs.Ascending.{in_put_self, ascending_same, put_in, in_put, put_up}
 use Rattle.poly_tiling.proofs.Named.{listed_item}
@@ -19,12 +19,12 @@ use Rattle.poly_atom.specs.declared.atom.Atom.{Atom}
 use Rattle.poly_atom.specs.declared.atom.Atom.TheVariants.{Has, Lacks}
 use Rattle.poly_atom.specs.Hopeless.{base, lacks}
 use Rattle.poly_atom.proofs.Bases.{base_up}
-use Rattle.poly_frame.specs.Open.{open_in, others, ruled_out, upper}
+use Rattle.poly_frame.specs.Open.{open_in, others, ruled_out, most_at}
 use Rattle.poly_frame.specs.Bits.{has_bit}
 use Rattle.poly_frame.specs.FrameItems.{Noted, item_at, item_of, times}
 use Rattle.poly_frame.specs.Matrices.{RowsShow, place}
 use Rattle.poly_frame.specs.FrameTable.{limit_at, shut_at}
-use Rattle.poly_frame.proofs.Steps.{base_leave, base_pick, open_pick, tally_put, upper_pick}
+use Rattle.poly_frame.proofs.Steps.{base_leave, base_pick, open_pick, tally_put, most_pick}
 
 pub has_in : (v : View) (p : ℕ) (i : Item) → has_item v p i ≡ true → In i (items v p)
 has_in v p i h = let r = any_in (λ j. same_item j i) (items v p) h in subst (λ k. In k (items v p)) (same_item_is r.0 i r.2) r.1
@@ -68,7 +68,7 @@ sharing_item v q p (Piece m) n h k = absurd (true≢false n)
 
 -- with one more member that has the item, no other placement that has it is open
 abbrev pub shuts : View → List Atom → Item → Bool
-shuts v A i = not (is_piece i) || leb (upper v A i) (count v (base v A) i + 1)
+shuts v A i = not (is_piece i) || leb (most_at v A i) (count v (base v A) i + 1)
 
 and_no : (b : Bool) → false ≡ (b && false)
 and_no true = refl
@@ -83,25 +83,25 @@ both_closed true b c e = ap not e
 both_closed false b c e = ap not e
 
 module _ (v : View) (A : List Atom) (p q : ℕ) (m : mem (base v A) p ≡ false) (n : eqb p q ≡ false) where
-  closed_by : mem (base v A) q ≡ false → (clash v q p || list_any (λ i. has_item v p i && leb (upper v A i) (others v (base v A) q i + 1)) (items v q)) ≡ list_any (λ i. has_item v q i && shuts v A i) (items v p)
+  closed_by : mem (base v A) q ≡ false → (conflicts v q p || list_any (λ i. has_item v p i && leb (most_at v A i) (others v (base v A) q i + 1)) (items v q)) ≡ list_any (λ i. has_item v q i && shuts v A i) (items v p)
   closed_by mq = same_truth _ _
-      (λ e. elim (or_cases (clash v q p) _ e) [
+      (λ e. elim (or_cases (conflicts v q p) _ e) [
         | inl c ↦
             let s = shared (slice_get v.placements q) (slice_get v.placements p) (and_parts (not (eqb q p)) _ c).1 in
             any_from (λ i. has_item v q i && shuts v A i) (items v p) (Cell s.0) s.2 (and_from _ _ (in_has v q (Cell s.0) s.1) refl)
         | inr f ↦
-            let r = any_in (λ i. has_item v p i && leb (upper v A i) (others v (base v A) q i + 1)) (items v q) f in
+            let r = any_in (λ i. has_item v p i && leb (most_at v A i) (others v (base v A) q i + 1)) (items v q) f in
             let rs = and_parts (has_item v p r.0) _ r.2 in
             any_from (λ i. has_item v q i && shuts v A i) (items v p) r.0 (has_in v p r.0 rs.0)
-            (and_from _ _ (in_has v q r.0 r.1) (or_right (not (is_piece r.0)) _ (subst (λ k. leb (upper v A r.0) (k + 1) ≡ true) (others_all v (base v A) q r.0 mq) rs.1)))
+            (and_from _ _ (in_has v q r.0 r.1) (or_right (not (is_piece r.0)) _ (subst (λ k. leb (most_at v A r.0) (k + 1) ≡ true) (others_all v (base v A) q r.0 mq) rs.1)))
       ])
       (λ e.
       let r = any_in (λ i. has_item v q i && shuts v A i) (items v p) e in
       let rs = and_parts (has_item v q r.0) (shuts v A r.0) r.2 in
       elim (or_cases (not (is_piece r.0)) _ rs.1) [
         | inl c ↦ or_left _ _ (and_from _ _ (not_from_false _ (ne_eqb q p (λ x. both_ways (eqb p q) n (eq-eqb p q (sym x))))) (sharing_item v q p r.0 (not-true _ c) (has_in v q r.0 rs.0) r.1))
-        | inr f ↦ or_right (clash v q p) _ (any_from (λ i. has_item v p i && leb (upper v A i) (others v (base v A) q i + 1)) (items v q) r.0 (has_in v q r.0 rs.0)
-            (and_from _ _ (in_has v p r.0 r.1) (subst (λ k. leb (upper v A r.0) (k + 1) ≡ true) (sym (others_all v (base v A) q r.0 mq)) f)))
+        | inr f ↦ or_right (conflicts v q p) _ (any_from (λ i. has_item v p i && leb (most_at v A i) (others v (base v A) q i + 1)) (items v q) r.0 (has_in v q r.0 rs.0)
+            (and_from _ _ (in_has v p r.0 r.1) (subst (λ k. leb (most_at v A r.0) (k + 1) ≡ true) (sym (others_all v (base v A) q r.0 mq)) f)))
       ])
 
   -- taking p closes what has an item of p that p shuts
@@ -125,12 +125,12 @@ base_again v A p m = base_pick v A p ∙ ascending_same (put p (base v A)) (base
 pub open_again : (v : View) (A : List Atom) (p q : ℕ) → mem (base v A) p ≡ true → open_in v (A ++ Has p ∷ []) q ≡ open_in v A q
 open_again v A p q m =
     let b = base_again v A p m in
-    let full = any_by (λ i. leb (upper v (A ++ Has p ∷ []) i) (others v (base v (A ++ Has p ∷ [])) q i)) (λ i. leb (upper v A i) (others v (base v A) q i)) (items v q)
-    (λ i. ap (λ u. leb u (others v (base v (A ++ Has p ∷ [])) q i)) (upper_pick v A p i) ∙ ap (λ xs. leb (upper v A i) (others v xs q i)) b) in
+    let full = any_by (λ i. leb (most_at v (A ++ Has p ∷ []) i) (others v (base v (A ++ Has p ∷ [])) q i)) (λ i. leb (most_at v A i) (others v (base v A) q i)) (items v q)
+    (λ i. ap (λ u. leb u (others v (base v (A ++ Has p ∷ [])) q i)) (most_pick v A p i) ∙ ap (λ xs. leb (most_at v A i) (others v xs q i)) b) in
     let named : list_any (λ a. lacks a q) (A ++ Has p ∷ []) ≡ list_any (λ a. lacks a q) A = any_append (λ a. lacks a q) A (Has p ∷ []) ∙ or_none (list_any (λ a. lacks a q) A) in
-    ap (λ xs. not (mem xs q) && not ((list_any (λ a. lacks a q) (A ++ Has p ∷ []) || list_any (λ r. clash v q r) xs) || list_any (λ i. leb (upper v (A ++ Has p ∷ []) i) (others v (base v (A ++ Has p ∷ [])) q i)) (items v q))) b
-    ∙ ap (λ x. not (mem (base v A) q) && not ((list_any (λ a. lacks a q) (A ++ Has p ∷ []) || list_any (λ r. clash v q r) (base v A)) || x)) full
-    ∙ ap (λ x. not (mem (base v A) q) && not ((x || list_any (λ r. clash v q r) (base v A)) || list_any (λ i. leb (upper v A i) (others v (base v A) q i)) (items v q))) named
+    ap (λ xs. not (mem xs q) && not ((list_any (λ a. lacks a q) (A ++ Has p ∷ []) || list_any (λ r. conflicts v q r) xs) || list_any (λ i. leb (most_at v (A ++ Has p ∷ []) i) (others v (base v (A ++ Has p ∷ [])) q i)) (items v q))) b
+    ∙ ap (λ x. not (mem (base v A) q) && not ((list_any (λ a. lacks a q) (A ++ Has p ∷ []) || list_any (λ r. conflicts v q r) (base v A)) || x)) full
+    ∙ ap (λ x. not (mem (base v A) q) && not ((x || list_any (λ r. conflicts v q r) (base v A)) || list_any (λ i. leb (most_at v A i) (others v (base v A) q i)) (items v q))) named
   where
     any_by : (f g : Item → Bool) (is : List Item) → ((i : Item) → f i ≡ g i) → list_any f is ≡ list_any g is
     any_by f g [] e = refl
@@ -177,7 +177,7 @@ one_true false h = absurd (omega arith)
 
 -- the places say the same as the items
 pub places_say : (v : View) (A : List Atom) (p q j w : ℕ) (ns rows limits have2 rs : List ℕ) → WellNamed v → In q v.live → Noted v.bounds (items v p) rs → RowsShow v ns w rows → j < length ns → get_or ns j 0 ≡ q →
-    ((b : ℕ) → b < length v.bounds → get_or limits b 0 ≡ limit_at (item_of v b) (upper v A (item_of v b))) →
+    ((b : ℕ) → b < length v.bounds → get_or limits b 0 ≡ limit_at (item_of v b) (most_at v A (item_of v b))) →
     ((b : ℕ) → b < length v.bounds → get_or have2 b 0 ≡ count v (base v A) (item_of v b) + times rs b) →
     list_any (λ b. leb (get_or limits b 0) (get_or have2 b 0) && has_bit rows (place w b j)) rs ≡ list_any (λ i. has_item v q i && shuts v A i) (items v p)
 places_say v A p q j w ns rows limits have2 rs well live noted shown h e lim counts = same_truth _ _
@@ -190,7 +190,7 @@ places_say v A p q j w ns rows limits have2 rs well live noted shown h e lim cou
     let one : times rs r.0 ≡ 1 = noted.once r.0 l ∙ ap one has in
     any_from (λ i. has_item v q i && shuts v A i) (items v p) (item_of v r.0) (has_in v p _ has)
     (and_from _ _ (ap (λ n. has_item v n (item_of v r.0)) (sym e) ∙ sym (shown r.0 j l h) ∙ rs2.1)
-    (sym (limit_cases (item_of v r.0) (upper v A (item_of v r.0)) (count v (base v A) (item_of v r.0) + 1))
+    (sym (limit_cases (item_of v r.0) (most_at v A (item_of v r.0)) (count v (base v A) (item_of v r.0) + 1))
     ∙ ap (λ n. leb n (count v (base v A) (item_of v r.0) + 1)) (sym (lim r.0 l)) ∙ ap (λ n. leb (get_or limits r.0 0) n) (sym (counts r.0 l ∙ ap (λ n. count v (base v A) (item_of v r.0) + n) one)) ∙ rs2.0)))
     (λ t.
     let r = any_in (λ i. has_item v q i && shuts v A i) (items v p) t in
@@ -200,33 +200,33 @@ places_say v A p q j w ns rows limits have2 rs well live noted shown h e lim cou
     let one : times rs b.0 ≡ 1 = noted.once b.0 b.1 ∙ ap one has in
     any_from (λ b. leb (get_or limits b 0) (get_or have2 b 0) && has_bit rows (place w b j)) rs b.0 (some_times rs b.0 (omega (arith, one)))
     (and_from _ _
-    (ap (λ n. leb n (get_or have2 b.0 0)) (lim b.0 b.1) ∙ ap (λ n. leb (limit_at (item_of v b.0) (upper v A (item_of v b.0))) n) (counts b.0 b.1 ∙ ap (λ n. count v (base v A) (item_of v b.0) + n) one)
-    ∙ limit_cases (item_of v b.0) (upper v A (item_of v b.0)) (count v (base v A) (item_of v b.0) + 1) ∙ ap (λ i. shuts v A i) b.2 ∙ rs2.1)
+    (ap (λ n. leb n (get_or have2 b.0 0)) (lim b.0 b.1) ∙ ap (λ n. leb (limit_at (item_of v b.0) (most_at v A (item_of v b.0))) n) (counts b.0 b.1 ∙ ap (λ n. count v (base v A) (item_of v b.0) + n) one)
+    ∙ limit_cases (item_of v b.0) (most_at v A (item_of v b.0)) (count v (base v A) (item_of v b.0) + 1) ∙ ap (λ i. shuts v A i) b.2 ∙ rs2.1)
     (shown b.0 j b.1 h ∙ ap (λ n. has_item v n (item_of v b.0)) e ∙ ap (λ i. has_item v q i) b.2 ∙ rs2.0)))
 
 -- an item with its counts closes the placements that have it
 abbrev pub is_shut : View → List Atom → Item → Bool
-is_shut v A i = shut_at i (upper v A i) (count v (base v A) i)
+is_shut v A i = shut_at i (most_at v A i) (count v (base v A) i)
 
-no_clash : (v : View) (A : List Atom) (q : ℕ) → mem (base v A) q ≡ false → (list_any (λ r. clash v q r) (base v A) || list_any (λ i. leb (upper v A i) (others v (base v A) q i)) (items v q)) ≡ list_any (is_shut v A) (items v q)
-no_clash v A q m = same_truth _ _
-    (λ e. elim (or_cases (list_any (λ r. clash v q r) (base v A)) _ e) [
+no_conflict : (v : View) (A : List Atom) (q : ℕ) → mem (base v A) q ≡ false → (list_any (λ r. conflicts v q r) (base v A) || list_any (λ i. leb (most_at v A i) (others v (base v A) q i)) (items v q)) ≡ list_any (is_shut v A) (items v q)
+no_conflict v A q m = same_truth _ _
+    (λ e. elim (or_cases (list_any (λ r. conflicts v q r) (base v A)) _ e) [
       | inl c ↦
-          let r = any_in (λ r. clash v q r) (base v A) c in
+          let r = any_in (λ r. conflicts v q r) (base v A) c in
           let s = shared (slice_get v.placements q) (slice_get v.placements r.0) (and_parts (not (eqb q r.0)) _ r.2).1 in
-          any_from (is_shut v A) (items v q) (Cell s.0) s.1 (or_right (leb (upper v A (Cell s.0)) (count v (base v A) (Cell s.0))) _ (and_from true _ refl (counted (λ x. has_item v x (Cell s.0)) (base v A) r.0 r.1 (in_has v r.0 (Cell s.0) s.2))))
+          any_from (is_shut v A) (items v q) (Cell s.0) s.1 (or_right (leb (most_at v A (Cell s.0)) (count v (base v A) (Cell s.0))) _ (and_from true _ refl (counted (λ x. has_item v x (Cell s.0)) (base v A) r.0 r.1 (in_has v r.0 (Cell s.0) s.2))))
       | inr f ↦
-          let r = any_in (λ i. leb (upper v A i) (others v (base v A) q i)) (items v q) f in
-          any_from (is_shut v A) (items v q) r.0 r.1 (or_left _ _ (subst (λ k. leb (upper v A r.0) k ≡ true) (others_all v (base v A) q r.0 m) r.2))
+          let r = any_in (λ i. leb (most_at v A i) (others v (base v A) q i)) (items v q) f in
+          any_from (is_shut v A) (items v q) r.0 r.1 (or_left _ _ (subst (λ k. leb (most_at v A r.0) k ≡ true) (others_all v (base v A) q r.0 m) r.2))
     ])
     (λ e.
     let r = any_in (is_shut v A) (items v q) e in
-    elim (or_cases (leb (upper v A r.0) (count v (base v A) r.0)) _ r.2) [
-      | inl f ↦ or_right (list_any (λ r. clash v q r) (base v A)) _ (any_from (λ i. leb (upper v A i) (others v (base v A) q i)) (items v q) r.0 r.1 (subst (λ k. leb (upper v A r.0) k ≡ true) (sym (others_all v (base v A) q r.0 m)) f))
+    elim (or_cases (leb (most_at v A r.0) (count v (base v A) r.0)) _ r.2) [
+      | inl f ↦ or_right (list_any (λ r. conflicts v q r) (base v A)) _ (any_from (λ i. leb (most_at v A i) (others v (base v A) q i)) (items v q) r.0 r.1 (subst (λ k. leb (most_at v A r.0) k ≡ true) (sym (others_all v (base v A) q r.0 m)) f))
       | inr c ↦
           let cs = and_parts (not (is_piece r.0)) _ c in
           let x = member (λ x. has_item v x r.0) (base v A) (ltb-true 0 _ cs.1) in
-          or_left _ _ (any_from (λ r. clash v q r) (base v A) x.0 x.1
+          or_left _ _ (any_from (λ r. conflicts v q r) (base v A) x.0 x.1
           (and_from _ _ (not_from_false _ (ne_eqb q x.0 (λ y. both_ways (mem (base v A) q) m (subst (λ z. mem (base v A) z ≡ true) (sym y) (in_mem _ x.0 x.1)))))
           (sharing_item v q x.0 r.0 (not-true _ cs.0) r.1 (has_in v x.0 r.0 x.2))))
     ])
@@ -250,4 +250,4 @@ free_at false false c f s h = ap not (h refl) ∙ sym (and_yes (not s))
 
 -- open by items
 pub open_is_free : (v : View) (A : List Atom) (q : ℕ) → open_in v A q ≡ (not (list_any (is_shut v A) (items v q)) && (not (mem (base v A) q) && not (list_any (λ a. lacks a q) A)))
-open_is_free v A q = free_at (mem (base v A) q) (list_any (λ a. lacks a q) A) (list_any (λ r. clash v q r) (base v A)) (list_any (λ i. leb (upper v A i) (others v (base v A) q i)) (items v q)) (list_any (is_shut v A) (items v q)) (no_clash v A q)
+open_is_free v A q = free_at (mem (base v A) q) (list_any (λ a. lacks a q) A) (list_any (λ r. conflicts v q r) (base v A)) (list_any (λ i. leb (most_at v A i) (others v (base v A) q i)) (items v q)) (list_any (is_shut v A) (items v q)) (no_conflict v A q)

@@ -13,7 +13,7 @@ use Rattle.poly_tiling.proofs.Ascending.{distinct_rest, not_head}
 use Rattle.poly_atom.specs.declared.atom.Atom.{Atom}
 use Rattle.poly_atom.specs.declared.atom.Atom.TheVariants.{AtLeast, AtMost, Has, Lacks}
 use Rattle.poly_atom.specs.Hopeless.{base}
-use Rattle.poly_frame.specs.Open.{asks, open_in, upper}
+use Rattle.poly_frame.specs.Open.{least_at, open_in, most_at}
 use Rattle.poly_frame.specs.Bits.{has_bit}
 use Rattle.poly_frame.specs.FrameItems.{Noted, item_of, times}
 use Rattle.poly_frame.specs.Matrices.{RowOf, StandsShow, place}
@@ -21,7 +21,7 @@ use Rattle.poly_frame.specs.FrameTable.{HaveShows, TableShows, limit_at}
 use Rattle.poly_frame.specs.FrameSteps.{Kept, LevelShows, RowShows, mark_of}
 use Rattle.poly_frame.specs.declared.frame.matrix.Matrix.{Matrix}
 use Rattle.poly_frame.specs.declared.frame.table.Table.{Table}
-use Rattle.poly_frame.proofs.Steps.{open_leave, upper_leave, upper_pick}
+use Rattle.poly_frame.proofs.Steps.{open_leave, most_leave, most_pick}
 use Rattle.poly_frame.proofs.Words.{take_bits}
 use Rattle.poly_frame.proofs.FramePicks.{base_again, open_again, count_leave, count_pick, pick_open, pick_self, places_say}
 
@@ -45,19 +45,19 @@ none_and false b e = refl
 abbrev pub is_own : List ℕ → ℕ → ℕ → Bool
 is_own ns p j = eqb p (get_or ns j 0)
 
-pub asks_pick : (v : View) (A : List Atom) (p : ℕ) (i : Item) → asks v (A ++ Has p ∷ []) i ≡ asks v A i
-asks_pick v [] p i = refl
-asks_pick v (Has q ∷ A) p i = asks_pick v A p i
-asks_pick v (Lacks q ∷ A) p i = asks_pick v A p i
-asks_pick v (AtLeast k n ∷ A) p i = ap (λ u. cond (same_item k i) (max n u) u) (asks_pick v A p i)
-asks_pick v (AtMost k n ∷ A) p i = asks_pick v A p i
+pub least_pick : (v : View) (A : List Atom) (p : ℕ) (i : Item) → least_at v (A ++ Has p ∷ []) i ≡ least_at v A i
+least_pick v [] p i = refl
+least_pick v (Has q ∷ A) p i = least_pick v A p i
+least_pick v (Lacks q ∷ A) p i = least_pick v A p i
+least_pick v (AtLeast k n ∷ A) p i = ap (λ u. cond (same_item k i) (max n u) u) (least_pick v A p i)
+least_pick v (AtMost k n ∷ A) p i = least_pick v A p i
 
-asks_leave : (v : View) (A : List Atom) (p : ℕ) (i : Item) → asks v (A ++ Lacks p ∷ []) i ≡ asks v A i
-asks_leave v [] p i = refl
-asks_leave v (Has q ∷ A) p i = asks_leave v A p i
-asks_leave v (Lacks q ∷ A) p i = asks_leave v A p i
-asks_leave v (AtLeast k n ∷ A) p i = ap (λ u. cond (same_item k i) (max n u) u) (asks_leave v A p i)
-asks_leave v (AtMost k n ∷ A) p i = asks_leave v A p i
+least_leave : (v : View) (A : List Atom) (p : ℕ) (i : Item) → least_at v (A ++ Lacks p ∷ []) i ≡ least_at v A i
+least_leave v [] p i = refl
+least_leave v (Has q ∷ A) p i = least_leave v A p i
+least_leave v (Lacks q ∷ A) p i = least_leave v A p i
+least_leave v (AtLeast k n ∷ A) p i = ap (λ u. cond (same_item k i) (max n u) u) (least_leave v A p i)
+least_leave v (AtMost k n ∷ A) p i = least_leave v A p i
 
 -- the columns of a row's numbers
 pub row_below : (w k m j : ℕ) → k < m → j < 64 * w → place w k j < 64 * (w * m)
@@ -89,8 +89,8 @@ pub record Stepped (v : View) (A : List Atom) (a : Atom) (matrix : Matrix) (t : 
   pub low : list_all (λ b. ltb b (length v.bounds)) rs ≡ true
   pub row : RowShows v (A ++ a ∷ []) matrix.numbers.items matrix.width live2 (length marks + 1)
   pub counts : (b : ℕ) → b < length v.bounds → get_or have2 b 0 ≡ count v (base v (A ++ a ∷ [])) (item_of v b)
-  pub uppers : (i : Item) → upper v (A ++ a ∷ []) i ≡ upper v A i
-  pub asked : (i : Item) → asks v (A ++ a ∷ []) i ≡ asks v A i
+  pub mosts : (i : Item) → most_at v (A ++ a ∷ []) i ≡ most_at v A i
+  pub leasts : (i : Item) → least_at v (A ++ a ∷ []) i ≡ least_at v A i
 
 module _ (v : View) (A : List Atom) (first : ℕ) (matrix : Matrix) (t : Table) (live have raised marks : List ℕ) (K : Kept v A first matrix t live have raised marks) where
   -- the level on top
@@ -148,8 +148,8 @@ module _ (v : View) (A : List Atom) (first : ℕ) (matrix : Matrix) (t : Table) 
               subst (λ (B : List Atom). LevelShows v (take first A) B matrix t live2 have2 (raised ++ rs) (marks ++ length raised ∷ []) k) (sym whole) (record {
                 row = subst (λ (n : ℕ). RowShows v (A ++ a ∷ []) matrix.numbers.items matrix.width live2 n) (sym top) S.row;
                 counted = λ b l. S.counts b l ∙ sym (ap (λ n. count v (base v (A ++ a ∷ [])) (item_of v b) + times (drop n (raised ++ rs)) b) mark ∙ ap (λ xs. count v (base v (A ++ a ∷ [])) (item_of v b) + times xs b) (drop-length (raised ++ rs)) ∙ omega arith);
-                uppers = λ i. S.uppers i ∙ top_level.uppers i;
-                asked = λ i. S.asked i ∙ top_level.asked i;
+                mosts = λ i. S.mosts i ∙ top_level.mosts i;
+                leasts = λ i. S.leasts i ∙ top_level.leasts i;
                 few = omega (arith, mark, more, S.few, raised_few);
                 begun = omega (arith, mark);
               })
@@ -166,8 +166,8 @@ module _ (v : View) (A : List Atom) (first : ℕ) (matrix : Matrix) (t : Table) 
                 counted = λ b l.
                     let d = ap (λ n. times (drop n (raised ++ rs)) b) mark ∙ ap (λ xs. times xs b) (drop-append-le (mark_of marks raised k) raised rs L.begun) ∙ tally_append (λ x. eqb x b) (drop (mark_of marks raised k) raised) rs in
                     omega (arith, S.more b l, L.counted b l, d);
-                uppers = L.uppers;
-                asked = L.asked;
+                mosts = L.mosts;
+                leasts = L.leasts;
                 few = omega (arith, mark, L.few);
                 begun = omega (arith, mark, L.begun, more);
               })
@@ -230,9 +230,9 @@ module _ (v : View) (A : List Atom) (first : ℕ) (matrix : Matrix) (t : Table) 
   quiet : (a : Atom) (live2 : List ℕ) → length live2 ≡ length live1 → ((x : ℕ) → x < 64 * length live → has_bit live2 x ≡ has_bit live1 x) →
       ((j : ℕ) → j < length matrix.numbers.items → has_bit live2 (64 * length live + j) ≡ open_in v (A ++ a ∷ []) (get_or matrix.numbers.items j 0)) →
       ((j : ℕ) → length matrix.numbers.items ≤ j → j < 64 * matrix.width → has_bit live2 (64 * length live + j) ≡ false) →
-      ((i : Item) → count v (base v (A ++ a ∷ [])) i ≡ count v (base v A) i) → ((i : Item) → upper v (A ++ a ∷ []) i ≡ upper v A i) → ((i : Item) → asks v (A ++ a ∷ []) i ≡ asks v A i) →
+      ((i : Item) → count v (base v (A ++ a ∷ [])) i ≡ count v (base v A) i) → ((i : Item) → most_at v (A ++ a ∷ []) i ≡ most_at v A i) → ((i : Item) → least_at v (A ++ a ∷ []) i ≡ least_at v A i) →
       Kept v (A ++ a ∷ []) first matrix t live2 have raised (marks ++ length raised ∷ [])
-  quiet a live2 len before opened past counts uppers asked =
+  quiet a live2 len before opened past counts mosts leasts =
       kept_as v (A ++ a ∷ []) first matrix t live2 have (raised ++ []) (marks ++ length raised ∷ []) raised (marks ++ length raised ∷ []) (sym (nothing_more raised)) refl
       (kept_step v A first matrix t live have raised marks K a live2 have [] (record {
         live_len = len ∙ C.len;
@@ -246,8 +246,8 @@ module _ (v : View) (A : List Atom) (first : ℕ) (matrix : Matrix) (t : Table) 
           past = λ j h l. ap (λ x. has_bit live2 x) (top_place j) ∙ past j h l;
         };
         counts = λ b h. top_have v A first matrix t live have raised marks K b h ∙ sym (counts (item_of v b));
-        uppers = uppers;
-        asked = asked;
+        mosts = mosts;
+        leasts = leasts;
       }))
     where
       nothing_more : (xs : List ℕ) → xs ++ [] ≡ xs
@@ -261,7 +261,7 @@ module _ (v : View) (A : List Atom) (first : ℕ) (matrix : Matrix) (t : Table) 
   pub leave_other : (p : ℕ) → mem matrix.numbers.items p ≡ false → Kept v (A ++ Lacks p ∷ []) first matrix t live1 have raised (marks ++ length raised ∷ [])
   leave_other p m = quiet (Lacks p) live1 refl (λ x h. refl)
       (λ j h. copied_open j h ∙ sym (open_leave v A p (get_or matrix.numbers.items j 0) ∙ ap (λ b. open_in v A (get_or matrix.numbers.items j 0) && not b) (apart_at j p m h) ∙ yes_and (open_in v A (get_or matrix.numbers.items j 0))))
-      copied_past (λ i. count_leave v A p i) (λ i. upper_leave v A p i) (λ i. asks_leave v A p i)
+      copied_past (λ i. count_leave v A p i) (λ i. most_leave v A p i) (λ i. least_leave v A p i)
 
   own_number : (i j p : ℕ) → i < length matrix.numbers.items → get_or matrix.numbers.items i 0 ≡ p → j < length matrix.numbers.items → eqb i j ≡ eqb p (get_or matrix.numbers.items j 0)
   own_number i j p low own h = same_truth _ _
@@ -276,13 +276,13 @@ module _ (v : View) (A : List Atom) (first : ℕ) (matrix : Matrix) (t : Table) 
       (λ j h. taken (64 * length live + j) ∙ ap (λ b. b && not (eqb (64 * length live + i) (64 * length live + j))) (copied_open j h)
       ∙ ap (λ b. open_in v A (get_or matrix.numbers.items j 0) && not b) (same_in_row (length live) i j ∙ own_number i j p low own h) ∙ sym (open_leave v A p (get_or matrix.numbers.items j 0)))
       (λ j h l. taken (64 * length live + j) ∙ ap (λ b. b && not (eqb (64 * length live + i) (64 * length live + j))) (copied_past j h l))
-      (λ k. count_leave v A p k) (λ k. upper_leave v A p k) (λ k. asks_leave v A p k)
+      (λ k. count_leave v A p k) (λ k. most_leave v A p k) (λ k. least_leave v A p k)
 
   -- picking a member of the base
   pub pick_again : (p : ℕ) → mem (base v A) p ≡ true → Kept v (A ++ Has p ∷ []) first matrix t live1 have raised (marks ++ length raised ∷ [])
   pick_again p m = quiet (Has p) live1 refl (λ x h. refl)
       (λ j h. copied_open j h ∙ sym (open_again v A p (get_or matrix.numbers.items j 0) m))
-      copied_past (λ i. ap (λ xs. count v xs i) (base_again v A p m)) (λ i. upper_pick v A p i) (λ i. asks_pick v A p i)
+      copied_past (λ i. ap (λ xs. count v xs i) (base_again v A p m)) (λ i. most_pick v A p i) (λ i. least_pick v A p i)
 
   -- picking another number
   pub pick_new : (p : ℕ) (live2 live3 have2 rs : List ℕ) → mem (base v A) p ≡ false → Noted v.bounds (items v p) rs → length rs ≤ 17 → length have2 ≡ length have →
@@ -295,8 +295,8 @@ module _ (v : View) (A : List Atom) (first : ℕ) (matrix : Matrix) (t : Table) 
       Kept v (A ++ Has p ∷ []) first matrix t live3 have2 (raised ++ rs) (marks ++ length raised ∷ [])
   pick_new p live2 live3 have2 rs m noted few len2 more len before closed len3 before3 own past3 =
       let top = top_have v A first matrix t live have raised marks K in
-      let lims : (b : ℕ) → b < length v.bounds → get_or t.limits.items b 0 ≡ limit_at (item_of v b) (upper v A (item_of v b)) =
-      λ b h. K.table.limits b h ∙ ap (λ n. limit_at (item_of v b) n) (sym ((top_level v A first matrix t live have raised marks K).uppers (item_of v b))) in
+      let lims : (b : ℕ) → b < length v.bounds → get_or t.limits.items b 0 ≡ limit_at (item_of v b) (most_at v A (item_of v b)) =
+      λ b h. K.table.limits b h ∙ ap (λ n. limit_at (item_of v b) n) (sym ((top_level v A first matrix t live have raised marks K).mosts (item_of v b))) in
       let counts : (b : ℕ) → b < length v.bounds → get_or have2 b 0 ≡ count v (base v A) (item_of v b) + times rs b = λ b h. more b h ∙ ap (λ n. n + times rs b) (top b h) in
       let bit : (j : ℕ) → j < length matrix.numbers.items → has_bit live3 (64 * length live + j) ≡ ((has_bit live1 (64 * length live + j) && not (list_any (λ b. leb (get_or t.limits.items b 0) (get_or have2 b 0) && has_bit matrix.rows.items (place matrix.width b j)) rs)) && not (is_own matrix.numbers.items p j)) =
       λ j h. own j h ∙ ap (λ b. b && not (is_own matrix.numbers.items p j)) (closed j (omega (arith, K.table.matrix.wide))) in
@@ -321,8 +321,8 @@ module _ (v : View) (A : List Atom) (first : ℕ) (matrix : Matrix) (t : Table) 
           past = λ j h l. ap (λ x. has_bit live3 x) (top_place j) ∙ past3 j (closed j l ∙ none_and _ _ (copied_past j h l));
         };
         counts = λ b h. counts b h ∙ omega (arith, noted.once b h, count_pick v A p (item_of v b) m);
-        uppers = λ i. upper_pick v A p i;
-        asked = λ i. asks_pick v A p i;
+        mosts = λ i. most_pick v A p i;
+        leasts = λ i. least_pick v A p i;
       })
 
 take_take : (m n : ℕ) (xs : List Atom) → m ≤ n → take m (take n xs) ≡ take m xs
@@ -378,8 +378,8 @@ module _ (v : View) (A : List Atom) (first : ℕ) (matrix : Matrix) (t : Table) 
               counted = λ b i.
                   let d = ap (λ xs. times xs b) split ∙ tally_append (λ x. eqb x b) (drop (mark_of marks raised k) (take m raised)) (drop m raised) in
                   omega (arith, less b (omega (arith, K.have_len)), L.counted b i, d, ap (λ q. times (drop q (take m raised)) b) mark);
-              uppers = L.uppers;
-              asked = L.asked;
+              mosts = L.mosts;
+              leasts = L.leasts;
               few = omega (arith, mark, L.few);
               begun = omega (arith, mark, raised_len);
             }));
@@ -472,8 +472,8 @@ kept_start v A matrix t live have raised marks T H len wide er em R =
               past = λ j l g. ap (λ x. has_bit live x) (at j) ∙ R.past j l g;
             };
             counted = λ b l. H b l ∙ omega arith;
-            uppers = λ i. refl;
-            asked = λ i. refl;
+            mosts = λ i. refl;
+            leasts = λ i. refl;
             few = omega arith;
             begun = omega arith;
           }));

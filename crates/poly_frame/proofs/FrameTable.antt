@@ -13,10 +13,10 @@ use Rattle.poly_tiling.proofs.Lists.{tally_append}
 use Rattle.poly_tiling.proofs.Tilings.{same_item_is, same_item_self}
 use Rattle.poly_atom.specs.declared.atom.Atom.{Atom}
 use Rattle.poly_atom.specs.declared.atom.Atom.TheVariants.{Has, Lacks, AtLeast, AtMost}
-use Rattle.poly_frame.specs.Open.{asks, upper}
-use Rattle.poly_frame.specs.Plain.{allowed, needed}
+use Rattle.poly_frame.specs.Open.{least_at, most_at}
+use Rattle.poly_frame.specs.Plain.{most_by, least_by}
 use Rattle.poly_frame.specs.FrameItems.{Noted, item_at, item_of, no_bound, times}
-use Rattle.poly_frame.specs.FrameTable.{AskedShow, HaveShows, UppersShow}
+use Rattle.poly_frame.specs.FrameTable.{LeastsShow, HaveShows, MostsShow}
 use Rattle.poly_frame.proofs.FrameItems.{item_once}
 
 -- the bounds of the item at a place
@@ -39,27 +39,27 @@ pub map_len : (f : Bound → ℕ) (bs : List Bound) → length (map f bs) ≡ le
 map_len f [] = refl
 map_len f (x ∷ bs) = ap suc (map_len f bs)
 
-pub allowed_is : (v : View) (a : Atom) (A : List Atom) (i : Item) → upper v (a ∷ A) i ≡ allowed a i (upper v A i)
-allowed_is v (Has p) A i = refl
-allowed_is v (Lacks p) A i = refl
-allowed_is v (AtLeast j n) A i = refl
-allowed_is v (AtMost j n) A i = refl
+pub most_by_is : (v : View) (a : Atom) (A : List Atom) (i : Item) → most_at v (a ∷ A) i ≡ most_by a i (most_at v A i)
+most_by_is v (Has p) A i = refl
+most_by_is v (Lacks p) A i = refl
+most_by_is v (AtLeast j n) A i = refl
+most_by_is v (AtMost j n) A i = refl
 
-pub needed_is : (v : View) (a : Atom) (A : List Atom) (i : Item) → asks v (a ∷ A) i ≡ needed a i (asks v A i)
-needed_is v (Has p) A i = refl
-needed_is v (Lacks p) A i = refl
-needed_is v (AtLeast j n) A i = refl
-needed_is v (AtMost j n) A i = refl
+pub least_by_is : (v : View) (a : Atom) (A : List Atom) (i : Item) → least_at v (a ∷ A) i ≡ least_by a i (least_at v A i)
+least_by_is v (Has p) A i = refl
+least_by_is v (Lacks p) A i = refl
+least_by_is v (AtLeast j n) A i = refl
+least_by_is v (AtMost j n) A i = refl
 
 drop_end : (A : List Atom) → drop (length A) A ≡ []
 drop_end [] = refl
 drop_end (a ∷ A) = drop_end A
 
-pub uppers_start : (v : View) (A : List Atom) (us : List ℕ) → items_ascend v.bounds ≡ true → us ≡ map (λ b. b.most) v.bounds → UppersShow v (drop (length A) A) us
-uppers_start v A us up e b h = ap (λ xs. get_or xs b 0) e ∙ map_at (λ b. b.most) v.bounds b h ∙ sym (ap (λ B. upper v B (item_of v b)) (drop_end A) ∙ bound_at v.bounds b (λ b. b.most) up h)
+pub mosts_start : (v : View) (A : List Atom) (us : List ℕ) → items_ascend v.bounds ≡ true → us ≡ map (λ b. b.most) v.bounds → MostsShow v (drop (length A) A) us
+mosts_start v A us up e b h = ap (λ xs. get_or xs b 0) e ∙ map_at (λ b. b.most) v.bounds b h ∙ sym (ap (λ B. most_at v B (item_of v b)) (drop_end A) ∙ bound_at v.bounds b (λ b. b.most) up h)
 
-pub asked_start : (v : View) (A : List Atom) (us : List ℕ) → items_ascend v.bounds ≡ true → us ≡ map (λ b. b.least) v.bounds → AskedShow v (drop (length A) A) us
-asked_start v A us up e b h = ap (λ xs. get_or xs b 0) e ∙ map_at (λ b. b.least) v.bounds b h ∙ sym (ap (λ B. asks v B (item_of v b)) (drop_end A) ∙ bound_at v.bounds b (λ b. b.least) up h)
+pub leasts_start : (v : View) (A : List Atom) (us : List ℕ) → items_ascend v.bounds ≡ true → us ≡ map (λ b. b.least) v.bounds → LeastsShow v (drop (length A) A) us
+leasts_start v A us up e b h = ap (λ xs. get_or xs b 0) e ∙ map_at (λ b. b.least) v.bounds b h ∙ sym (ap (λ B. least_at v B (item_of v b)) (drop_end A) ∙ bound_at v.bounds b (λ b. b.least) up h)
 
 -- a write at the item's own place
 module _ (bs : List Bound) (us : List ℕ) (a x : ℕ) (i : Item) (up : items_ascend bs ≡ true) (len : length us ≡ length bs) (w : (a < length bs) × (same_item (item_at bs a) i ≡ true)) where
@@ -84,11 +84,11 @@ drop_more [] k d h = absurd (omega arith)
 drop_more (a ∷ A) zero d h = refl
 drop_more (a ∷ A) (suc k) d h = let e : suc k + 1 ≡ suc (k + 1) = omega arith in drop_more A k d (omega arith) ∙ ap (λ n. get_or A k d ∷ drop n (a ∷ A)) (sym e)
 
-pub uppers_more : (v : View) (A : List Atom) (k : ℕ) (a : Atom) (us new : List ℕ) → k < length A → get_or A k a ≡ a → UppersShow v (drop (k + 1) A) us → ((b : ℕ) → b < length v.bounds → get_or new b 0 ≡ allowed a (item_of v b) (get_or us b 0)) → UppersShow v (drop k A) new
-uppers_more v A k a us new h e shown step b l = step b l ∙ ap (λ n. allowed a (item_of v b) n) (shown b l) ∙ sym (ap (λ B. upper v B (item_of v b)) (drop_more A k a h ∙ ap (λ x. x ∷ drop (k + 1) A) e) ∙ allowed_is v a (drop (k + 1) A) (item_of v b))
+pub mosts_more : (v : View) (A : List Atom) (k : ℕ) (a : Atom) (us new : List ℕ) → k < length A → get_or A k a ≡ a → MostsShow v (drop (k + 1) A) us → ((b : ℕ) → b < length v.bounds → get_or new b 0 ≡ most_by a (item_of v b) (get_or us b 0)) → MostsShow v (drop k A) new
+mosts_more v A k a us new h e shown step b l = step b l ∙ ap (λ n. most_by a (item_of v b) n) (shown b l) ∙ sym (ap (λ B. most_at v B (item_of v b)) (drop_more A k a h ∙ ap (λ x. x ∷ drop (k + 1) A) e) ∙ most_by_is v a (drop (k + 1) A) (item_of v b))
 
-pub asked_more : (v : View) (A : List Atom) (k : ℕ) (a : Atom) (us new : List ℕ) → k < length A → get_or A k a ≡ a → AskedShow v (drop (k + 1) A) us → ((b : ℕ) → b < length v.bounds → get_or new b 0 ≡ needed a (item_of v b) (get_or us b 0)) → AskedShow v (drop k A) new
-asked_more v A k a us new h e shown step b l = step b l ∙ ap (λ n. needed a (item_of v b) n) (shown b l) ∙ sym (ap (λ B. asks v B (item_of v b)) (drop_more A k a h ∙ ap (λ x. x ∷ drop (k + 1) A) e) ∙ needed_is v a (drop (k + 1) A) (item_of v b))
+pub leasts_more : (v : View) (A : List Atom) (k : ℕ) (a : Atom) (us new : List ℕ) → k < length A → get_or A k a ≡ a → LeastsShow v (drop (k + 1) A) us → ((b : ℕ) → b < length v.bounds → get_or new b 0 ≡ least_by a (item_of v b) (get_or us b 0)) → LeastsShow v (drop k A) new
+leasts_more v A k a us new h e shown step b l = step b l ∙ ap (λ n. least_by a (item_of v b) n) (shown b l) ∙ sym (ap (λ B. least_at v B (item_of v b)) (drop_more A k a h ∙ ap (λ x. x ∷ drop (k + 1) A) e) ∙ least_by_is v a (drop (k + 1) A) (item_of v b))
 
 -- one more member counted
 pub counted_more : (v : View) (T : List ℕ) (k : ℕ) (have new places : List ℕ) → k < length T → HaveShows v (take k T) have → Noted v.bounds (items v (get_or T k 0)) places → ((b : ℕ) → b < length v.bounds → get_or new b 0 ≡ get_or have b 0 + times places b) → HaveShows v (take (k + 1) T) new

@@ -5,11 +5,11 @@ use Rattle.std.proofs.lemmas.Bool.{eq-eqb, and_parts, and_from, or_cases, or_lef
 use Rattle.poly_tiling.specs.Lists.{mem, tally}
 use Rattle.poly_tiling.specs.Lists.{distinct}
 use Rattle.poly_tiling.specs.declared.item.Item.{Item}
-use Rattle.poly_tiling.specs.Puzzle.{View, items, same_item, clash, has_item, least, most}
+use Rattle.poly_tiling.specs.Puzzle.{View, items, same_item, conflicts, has_item, least, most}
 use Rattle.poly_atom.specs.declared.atom.Atom.{Atom}
 use Rattle.poly_atom.specs.declared.atom.Atom.TheVariants.{Has, Lacks, AtLeast, AtMost}
 use Rattle.poly_atom.specs.Hopeless.{base, lacks}
-use Rattle.poly_frame.specs.Open.{upper, asks, lower, others, ruled_out, dead, arms_fit}
+use Rattle.poly_frame.specs.Open.{most_at, least_at, least_with_base, others, ruled_out, dead, arms_fit}
 use Rattle.poly_tiling.proofs.Lists.{In, all_in, all_from, any_in, any_from, mem_in, in_mem, in_append_left, in_append_right, in_append_cases}
 use Rattle.poly_tiling.proofs.Counts.{tally_within, ascending_distinct}
 use Rattle.poly_atom.proofs.Bases.{base_in, base_up, in_base_has, in_base_pin}
@@ -24,7 +24,7 @@ pub record Later (v : View) (A : List Atom) (w : View) (B : List Atom) : Type 0 
   pub pinned : (p : ℕ) → In p v.pins → In p w.pins ⊎ In (Has p) B
   pub carried : (p : ℕ) (i : Item) → has_item v p i ≡ true → has_item w p i ≡ true
   pub same_items : (p : ℕ) → In p v.live → items w p ≡ items v p
-  pub clashed : (p q : ℕ) → clash v p q ≡ true → clash w p q ≡ true
+  pub conflicting : (p q : ℕ) → conflicts v p q ≡ true → conflicts w p q ≡ true
   pub once : distinct w.live ≡ true
 
 -- with more atoms on both
@@ -37,47 +37,47 @@ later_push v w A B X l = record {
   pinned = λ p i. elim (l.pinned p i) [ inl j ↦ inl j | inr j ↦ inr (in_append_left (Has p) B X j) ];
   carried = l.carried;
   same_items = l.same_items;
-  clashed = l.clashed;
+  conflicting = l.conflicting;
   once = l.once;
 }
 
-pub upper_le_most : (v : View) (i : Item) (A : List Atom) → upper v A i ≤ most v i
-upper_le_most v i [] = omega arith
-upper_le_most v i (Has p ∷ A) = upper_le_most v i A
-upper_le_most v i (Lacks p ∷ A) = upper_le_most v i A
-upper_le_most v i (AtLeast j n ∷ A) = upper_le_most v i A
-upper_le_most v i (AtMost j n ∷ A) = let r = upper_le_most v i A in cond_both (same_item j i) (min n (upper v A i)) (upper v A i) (λ k. k ≤ most v i) (λ e. omega arith) (λ e. r)
+pub most_le_most : (v : View) (i : Item) (A : List Atom) → most_at v A i ≤ most v i
+most_le_most v i [] = omega arith
+most_le_most v i (Has p ∷ A) = most_le_most v i A
+most_le_most v i (Lacks p ∷ A) = most_le_most v i A
+most_le_most v i (AtLeast j n ∷ A) = most_le_most v i A
+most_le_most v i (AtMost j n ∷ A) = let r = most_le_most v i A in cond_both (same_item j i) (min n (most_at v A i)) (most_at v A i) (λ k. k ≤ most v i) (λ e. omega arith) (λ e. r)
 
-pub upper_le_atom : (v : View) (i : Item) (n : ℕ) (A : List Atom) → In (AtMost i n) A → upper v A i ≤ n
-upper_le_atom v i n [] k = absurd k
-upper_le_atom v i n (Has p ∷ A) (inl e) = cc
-upper_le_atom v i n (Has p ∷ A) (inr k) = upper_le_atom v i n A k
-upper_le_atom v i n (Lacks p ∷ A) (inl e) = cc
-upper_le_atom v i n (Lacks p ∷ A) (inr k) = upper_le_atom v i n A k
-upper_le_atom v i n (AtLeast j m ∷ A) (inl e) = cc
-upper_le_atom v i n (AtLeast j m ∷ A) (inr k) = upper_le_atom v i n A k
-upper_le_atom v i n (AtMost j m ∷ A) (inl e) =
+pub most_le_atom : (v : View) (i : Item) (n : ℕ) (A : List Atom) → In (AtMost i n) A → most_at v A i ≤ n
+most_le_atom v i n [] k = absurd k
+most_le_atom v i n (Has p ∷ A) (inl e) = cc
+most_le_atom v i n (Has p ∷ A) (inr k) = most_le_atom v i n A k
+most_le_atom v i n (Lacks p ∷ A) (inl e) = cc
+most_le_atom v i n (Lacks p ∷ A) (inr k) = most_le_atom v i n A k
+most_le_atom v i n (AtLeast j m ∷ A) (inl e) = cc
+most_le_atom v i n (AtLeast j m ∷ A) (inr k) = most_le_atom v i n A k
+most_le_atom v i n (AtMost j m ∷ A) (inl e) =
     let a : j ≡ i = cc in let b : m ≡ n = cc in
-    cond_both (same_item j i) (min m (upper v A i)) (upper v A i) (λ k. k ≤ n) (λ y. omega arith) (λ y. absurd (both_ways (same_item j i) y (ap (λ k. same_item k i) a ∙ same_item_self i)))
-upper_le_atom v i n (AtMost j m ∷ A) (inr k) = let r = upper_le_atom v i n A k in cond_both (same_item j i) (min m (upper v A i)) (upper v A i) (λ k. k ≤ n) (λ e. omega arith) (λ e. r)
+    cond_both (same_item j i) (min m (most_at v A i)) (most_at v A i) (λ k. k ≤ n) (λ y. omega arith) (λ y. absurd (both_ways (same_item j i) y (ap (λ k. same_item k i) a ∙ same_item_self i)))
+most_le_atom v i n (AtMost j m ∷ A) (inr k) = let r = most_le_atom v i n A k in cond_both (same_item j i) (min m (most_at v A i)) (most_at v A i) (λ k. k ≤ n) (λ e. omega arith) (λ e. r)
 
-upper_from : (v : View) (i : Item) (k : ℕ) → k ≤ most v i → (A : List Atom) → ((n : ℕ) → In (AtMost i n) A → k ≤ n) → k ≤ upper v A i
-upper_from v i k h [] f = h
-upper_from v i k h (Has p ∷ A) f = upper_from v i k h A (λ n x. f n (inr x))
-upper_from v i k h (Lacks p ∷ A) f = upper_from v i k h A (λ n x. f n (inr x))
-upper_from v i k h (AtLeast j m ∷ A) f = upper_from v i k h A (λ n x. f n (inr x))
-upper_from v i k h (AtMost j m ∷ A) f =
-    let r = upper_from v i k h A (λ n x. f n (inr x)) in
-    cond_both (same_item j i) (min m (upper v A i)) (upper v A i) (λ u. k ≤ u) (λ e. let a = f m (inl (ap (λ x. AtMost x m) (same_item_is j i e))) in omega arith) (λ e. r)
+most_from : (v : View) (i : Item) (k : ℕ) → k ≤ most v i → (A : List Atom) → ((n : ℕ) → In (AtMost i n) A → k ≤ n) → k ≤ most_at v A i
+most_from v i k h [] f = h
+most_from v i k h (Has p ∷ A) f = most_from v i k h A (λ n x. f n (inr x))
+most_from v i k h (Lacks p ∷ A) f = most_from v i k h A (λ n x. f n (inr x))
+most_from v i k h (AtLeast j m ∷ A) f = most_from v i k h A (λ n x. f n (inr x))
+most_from v i k h (AtMost j m ∷ A) f =
+    let r = most_from v i k h A (λ n x. f n (inr x)) in
+    cond_both (same_item j i) (min m (most_at v A i)) (most_at v A i) (λ u. k ≤ u) (λ e. let a = f m (inl (ap (λ x. AtMost x m) (same_item_is j i e))) in omega arith) (λ e. r)
 
-least_le_asks : (v : View) (i : Item) (A : List Atom) → least v i ≤ asks v A i
-least_le_asks v i [] = omega arith
-least_le_asks v i (Has p ∷ A) = least_le_asks v i A
-least_le_asks v i (Lacks p ∷ A) = least_le_asks v i A
-least_le_asks v i (AtMost j n ∷ A) = least_le_asks v i A
-least_le_asks v i (AtLeast j n ∷ A) = let r = least_le_asks v i A in cond_both (same_item j i) (max n (asks v A i)) (asks v A i) (λ k. least v i ≤ k) (λ e. omega arith) (λ e. r)
+least_le_least_at : (v : View) (i : Item) (A : List Atom) → least v i ≤ least_at v A i
+least_le_least_at v i [] = omega arith
+least_le_least_at v i (Has p ∷ A) = least_le_least_at v i A
+least_le_least_at v i (Lacks p ∷ A) = least_le_least_at v i A
+least_le_least_at v i (AtMost j n ∷ A) = least_le_least_at v i A
+least_le_least_at v i (AtLeast j n ∷ A) = let r = least_le_least_at v i A in cond_both (same_item j i) (max n (least_at v A i)) (least_at v A i) (λ k. least v i ≤ k) (λ e. omega arith) (λ e. r)
 
-atom_le_asks : (v : View) (i : Item) (n : ℕ) (A : List Atom) → In (AtLeast i n) A → n ≤ asks v A i
+atom_le_asks : (v : View) (i : Item) (n : ℕ) (A : List Atom) → In (AtLeast i n) A → n ≤ least_at v A i
 atom_le_asks v i n [] k = absurd k
 atom_le_asks v i n (Has p ∷ A) (inl e) = cc
 atom_le_asks v i n (Has p ∷ A) (inr k) = atom_le_asks v i n A k
@@ -87,17 +87,17 @@ atom_le_asks v i n (AtMost j m ∷ A) (inl e) = cc
 atom_le_asks v i n (AtMost j m ∷ A) (inr k) = atom_le_asks v i n A k
 atom_le_asks v i n (AtLeast j m ∷ A) (inl e) =
     let a : j ≡ i = cc in let b : m ≡ n = cc in
-    cond_both (same_item j i) (max m (asks v A i)) (asks v A i) (λ k. n ≤ k) (λ y. omega arith) (λ y. absurd (both_ways (same_item j i) y (ap (λ k. same_item k i) a ∙ same_item_self i)))
-atom_le_asks v i n (AtLeast j m ∷ A) (inr k) = let r = atom_le_asks v i n A k in cond_both (same_item j i) (max m (asks v A i)) (asks v A i) (λ k. n ≤ k) (λ e. omega arith) (λ e. r)
+    cond_both (same_item j i) (max m (least_at v A i)) (least_at v A i) (λ k. n ≤ k) (λ y. omega arith) (λ y. absurd (both_ways (same_item j i) y (ap (λ k. same_item k i) a ∙ same_item_self i)))
+atom_le_asks v i n (AtLeast j m ∷ A) (inr k) = let r = atom_le_asks v i n A k in cond_both (same_item j i) (max m (least_at v A i)) (least_at v A i) (λ k. n ≤ k) (λ e. omega arith) (λ e. r)
 
-asks_from : (v : View) (i : Item) (k : ℕ) → least v i ≤ k → (A : List Atom) → ((n : ℕ) → In (AtLeast i n) A → n ≤ k) → asks v A i ≤ k
-asks_from v i k h [] f = h
-asks_from v i k h (Has p ∷ A) f = asks_from v i k h A (λ n x. f n (inr x))
-asks_from v i k h (Lacks p ∷ A) f = asks_from v i k h A (λ n x. f n (inr x))
-asks_from v i k h (AtMost j m ∷ A) f = asks_from v i k h A (λ n x. f n (inr x))
-asks_from v i k h (AtLeast j m ∷ A) f =
-    let r = asks_from v i k h A (λ n x. f n (inr x)) in
-    cond_both (same_item j i) (max m (asks v A i)) (asks v A i) (λ u. u ≤ k) (λ e. let a = f m (inl (ap (λ x. AtLeast x m) (same_item_is j i e))) in omega arith) (λ e. r)
+least_from : (v : View) (i : Item) (k : ℕ) → least v i ≤ k → (A : List Atom) → ((n : ℕ) → In (AtLeast i n) A → n ≤ k) → least_at v A i ≤ k
+least_from v i k h [] f = h
+least_from v i k h (Has p ∷ A) f = least_from v i k h A (λ n x. f n (inr x))
+least_from v i k h (Lacks p ∷ A) f = least_from v i k h A (λ n x. f n (inr x))
+least_from v i k h (AtMost j m ∷ A) f = least_from v i k h A (λ n x. f n (inr x))
+least_from v i k h (AtLeast j m ∷ A) f =
+    let r = least_from v i k h A (λ n x. f n (inr x)) in
+    cond_both (same_item j i) (max m (least_at v A i)) (least_at v A i) (λ u. u ≤ k) (λ e. let a = f m (inl (ap (λ x. AtLeast x m) (same_item_is j i e))) in omega arith) (λ e. r)
 
 module _ (v w : View) (A B : List Atom) (l : Later v A w B) where
   pub later_base : (p : ℕ) → In p (base v A) → In p (base w B)
@@ -113,35 +113,35 @@ module _ (v w : View) (A B : List Atom) (l : Later v A w B) where
   later_others p i = later_tally (λ q. has_item v q i && not (eqb q p)) (λ q. has_item w q i && not (eqb q p))
       (λ q e. let es = and_parts (has_item v q i) (not (eqb q p)) e in and_from _ _ (l.carried q i es.0) es.1)
 
-  later_upper : (p : ℕ) (i : Item) → In p v.live → has_item v p i ≡ true → upper w B i ≤ upper v A i
-  later_upper p i k h = upper_from v i (upper w B i)
-      (elim (l.few p i k h) [ inl e ↦ let a = upper_le_most w i B in omega arith | inr e ↦ upper_le_atom w i (most v i) B e ])
-      A (λ n x. upper_le_atom w i n B (l.atoms (AtMost i n) x))
+  later_upper : (p : ℕ) (i : Item) → In p v.live → has_item v p i ≡ true → most_at w B i ≤ most_at v A i
+  later_upper p i k h = most_from v i (most_at w B i)
+      (elim (l.few p i k h) [ inl e ↦ let a = most_le_most w i B in omega arith | inr e ↦ most_le_atom w i (most v i) B e ])
+      A (λ n x. most_le_atom w i n B (l.atoms (AtMost i n) x))
 
-  later_asks : (i : Item) → asks v A i ≤ asks w B i
-  later_asks i = asks_from v i (asks w B i)
-      (elim (l.enough i) [ inl e ↦ let a = least_le_asks w i B in omega arith | inr e ↦ atom_le_asks w i (least v i) B e ])
+  later_asks : (i : Item) → least_at v A i ≤ least_at w B i
+  later_asks i = least_from v i (least_at w B i)
+      (elim (l.enough i) [ inl e ↦ let a = least_le_least_at w i B in omega arith | inr e ↦ atom_le_asks w i (least v i) B e ])
       A (λ n x. atom_le_asks w i n B (l.atoms (AtLeast i n) x))
 
-  later_lower : (i : Item) → lower v A i ≤ lower w B i
+  later_lower : (i : Item) → least_with_base v A i ≤ least_with_base w B i
   later_lower i = let a = later_asks i in let b = later_tally (λ p. has_item v p i) (λ p. has_item w p i) (λ p e. l.carried p i e) in omega arith
 
   pub later_ruled : (p : ℕ) → In p v.live → ruled_out v A p ≡ true → ruled_out w B p ≡ true
-  later_ruled p k h = elim (or_cases (list_any (λ a. lacks a p) A || list_any (λ q. clash v p q) (base v A)) (list_any (λ i. leb (upper v A i) (others v (base v A) p i)) (items v p)) h) [
-    | inl e ↦ or_left _ _ (elim (or_cases (list_any (λ a. lacks a p) A) (list_any (λ q. clash v p q) (base v A)) e) [
+  later_ruled p k h = elim (or_cases (list_any (λ a. lacks a p) A || list_any (λ q. conflicts v p q) (base v A)) (list_any (λ i. leb (most_at v A i) (others v (base v A) p i)) (items v p)) h) [
+    | inl e ↦ or_left _ _ (elim (or_cases (list_any (λ a. lacks a p) A) (list_any (λ q. conflicts v p q) (base v A)) e) [
       | inl f ↦ let x = any_in (λ a. lacks a p) A f in or_left _ _ (any_from (λ a. lacks a p) B x.0 (l.atoms x.0 x.1) x.2)
-      | inr c ↦ let x = any_in (λ q. clash v p q) (base v A) c in
-          or_right (list_any (λ a. lacks a p) B) _ (any_from (λ q. clash w p q) (base w B) x.0 (later_base x.0 x.1) (l.clashed p x.0 x.2))
+      | inr c ↦ let x = any_in (λ q. conflicts v p q) (base v A) c in
+          or_right (list_any (λ a. lacks a p) B) _ (any_from (λ q. conflicts w p q) (base w B) x.0 (later_base x.0 x.1) (l.conflicting p x.0 x.2))
     ])
     | inr u ↦
-        let x = any_in (λ i. leb (upper v A i) (others v (base v A) p i)) (items v p) u in
+        let x = any_in (λ i. leb (most_at v A i) (others v (base v A) p i)) (items v p) u in
         let i = x.0 in
         let has = any_from (λ j. same_item j i) (items v p) i x.1 (same_item_self i) in
         let a = leb-true _ _ x.2 in
         let b = later_upper p i k has in
         let c = later_others p i in
-        or_right (list_any (λ a. lacks a p) B || list_any (λ q. clash w p q) (base w B)) _
-        (any_from (λ i. leb (upper w B i) (others w (base w B) p i)) (items w p) i (subst (λ js. In i js) (sym (l.same_items p k)) x.1) (le-leb _ _ (omega arith)))
+        or_right (list_any (λ a. lacks a p) B || list_any (λ q. conflicts w p q) (base w B)) _
+        (any_from (λ i. leb (most_at w B i) (others w (base w B) p i)) (items w p) i (subst (λ js. In i js) (sym (l.same_items p k)) x.1) (le-leb _ _ (omega arith)))
   ]
 
   pub lacks_rules : (p : ℕ) → In (Lacks p) B → ruled_out w B p ≡ true
@@ -163,7 +163,7 @@ module _ (v w : View) (A B : List Atom) (l : Later v A w B) where
   later_arms i ps f =
       let loose = λ (p : ℕ). has_item v p i && not (ruled_out v A p) && not (mem ps p) in
       let loose' = λ (p : ℕ). has_item w p i && not (ruled_out w B p) && not (mem ps p) in
-      let f2 = and_parts (distinct ps && list_all (λ p. has_item v p i) ps) (nat_lt (tally loose v.live) (lower v A i)) f in
+      let f2 = and_parts (distinct ps && list_all (λ p. has_item v p i) ps) (nat_lt (tally loose v.live) (least_with_base v A i)) f in
       let f1 = and_parts (distinct ps) (list_all (λ p. has_item v p i) ps) f2.0 in
       let fewer = tally_within loose' loose w.live v.live l.once (λ p k e.
       let e2 = and_parts (has_item w p i && not (ruled_out w B p)) (not (mem ps p)) e in

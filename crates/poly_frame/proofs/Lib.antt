@@ -12,8 +12,8 @@ pub mod FramePicks
 pub mod FrameSteps
 pub mod FrameOpen
 pub mod Matrices
-pub mod FrameLooks
+pub mod FrameQueries
 pub mod FrameMembers
 pub mod FrameArms
-pub mod FrameSound
+pub mod FrameConsistent
 pub mod Starved

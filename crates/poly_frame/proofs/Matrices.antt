@@ -11,9 +11,9 @@ use Rattle.poly_tiling.proofs.Lists.{any_append, any_from, any_in, mem_in, same_
 use Rattle.poly_tiling.proofs.Named.{listed_item}
 use Rattle.poly_atom.specs.declared.atom.Atom.{Atom}
 use Rattle.poly_atom.specs.Hopeless.{base, lacks}
-use Rattle.poly_frame.specs.Open.{open_in, upper}
+use Rattle.poly_frame.specs.Open.{open_in, most_at}
 use Rattle.poly_frame.specs.FrameItems.{Noted, item_of}
-use Rattle.poly_frame.specs.FrameTable.{HaveShows, UppersShow, shut_at}
+use Rattle.poly_frame.specs.FrameTable.{HaveShows, MostsShow, shut_at}
 use Rattle.poly_frame.specs.Bits.{has_bit}
 use Rattle.poly_frame.specs.Matrices.{ListShows, ListsTo, RowOf, StandsShow, any_below, list_at}
 use Rattle.poly_frame.specs.declared.frame.matrix.Matrix.{Matrix}
@@ -144,9 +144,9 @@ out_more f xs k d old cur new h e g =
     or_false false = refl
 
 -- a placement has an item that is shut if and only if some row that is shut has it
-pub shut_says : (v : View) (A : List Atom) (q : ℕ) (us hs T : List ℕ) (g : ℕ → Bool) → WellNamed v → mem v.live q ≡ true → T ≡ base v A → UppersShow v A us → HaveShows v T hs →
+pub shut_says : (v : View) (A : List Atom) (q : ℕ) (us hs T : List ℕ) (g : ℕ → Bool) → WellNamed v → mem v.live q ≡ true → T ≡ base v A → MostsShow v A us → HaveShows v T hs →
     ((b : ℕ) → b < length v.bounds → g b ≡ (shut_at (item_of v b) (get_or us b 0) (get_or hs b 0) && has_item v q (item_of v b))) → any_below g (length v.bounds) ≡ list_any (is_shut v A) (items v q)
-shut_says v A q us hs T g well live e uppers have says = same_truth _ _
+shut_says v A q us hs T g well live e mosts have says = same_truth _ _
     (λ t.
     let r = below_any g (length v.bounds) t in
     let two = and_parts (shut_at (item_of v r.0) (get_or us r.0 0) (get_or hs r.0 0)) _ (sym (says r.0 r.1) ∙ r.2) in
@@ -157,7 +157,7 @@ shut_says v A q us hs T g well live e uppers have says = same_truth _ _
     any_from_below g (length v.bounds) w.0 w.1 (says w.0 w.1 ∙ and_from _ _ (counts w.0 w.1 ∙ ap (λ i. is_shut v A i) w.2 ∙ r.2) (ap (λ i. has_item v q i) w.2 ∙ in_has v q r.0 r.1)))
   where
     counts : (b : ℕ) → b < length v.bounds → shut_at (item_of v b) (get_or us b 0) (get_or hs b 0) ≡ is_shut v A (item_of v b)
-    counts b h = ap (λ n. shut_at (item_of v b) n (get_or hs b 0)) (uppers b h) ∙ ap (λ n. shut_at (item_of v b) (upper v A (item_of v b)) n) (have b h ∙ ap (λ xs. count v xs (item_of v b)) e)
+    counts b h = ap (λ n. shut_at (item_of v b) n (get_or hs b 0)) (mosts b h) ∙ ap (λ n. shut_at (item_of v b) (most_at v A (item_of v b)) n) (have b h ∙ ap (λ xs. count v xs (item_of v b)) e)
 
 -- what is left is open
 pub left_open : (v : View) (A : List Atom) (q : ℕ) (T : List ℕ) (full shut r1 r2 r3 : Bool) → T ≡ base v A → full ≡ true → shut ≡ list_any (is_shut v A) (items v q) → r1 ≡ (full && not shut) → r2 ≡ (r1 && not (list_any (λ a. lacks a q) A)) → r3 ≡ (r2 && not (mem T q)) → r3 ≡ open_in v A q

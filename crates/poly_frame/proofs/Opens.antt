@@ -1,4 +1,4 @@
--- Which placements stay open as the path grows.
+-- Which placements stay open as the trail grows.
 use Rattle.std.proofs.Common.{◌≡◌, ℕ, true, not, List, ◌++◌, inl, refl, arith}
 use Rattle.std.proofs.lemmas.Bool.{and_parts, and_from, both_ways, not-true, not_from_false, false_from_ne_true}
 use Rattle.poly_atom.specs.declared.atom.Atom.{Atom}
@@ -20,7 +20,7 @@ same_later v A B d = record {
   pinned = λ p i. inl i;
   carried = λ p i h. h;
   same_items = λ p i. refl;
-  clashed = λ p q h. h;
+  conflicting = λ p q h. h;
   once = d;
 }
 

@@ -12,7 +12,7 @@ use Rattle.poly_tiling.proofs.Lists.{In, any_append, any_from, any_in, in_mem, m
 use Rattle.poly_atom.specs.declared.atom.Atom.{Atom}
 use Rattle.poly_atom.specs.declared.atom.Atom.TheVariants.{Has}
 use Rattle.poly_atom.specs.Hopeless.{base}
-use Rattle.poly_frame.specs.Open.{arms_fit, asks, lower, open_in, ruled_out, upper}
+use Rattle.poly_frame.specs.Open.{arms_fit, least_at, least_with_base, open_in, ruled_out, most_at}
 use Rattle.poly_frame.specs.Bits.{has_bit}
 use Rattle.poly_frame.specs.FrameItems.{Noted, item_of}
 use Rattle.poly_frame.specs.FrameTable.{limit_at}
@@ -20,9 +20,9 @@ use Rattle.poly_frame.specs.FrameSteps.{Kept}
 use Rattle.poly_frame.specs.Matrices.{list_at}
 use Rattle.poly_frame.specs.declared.frame.matrix.Matrix.{Matrix}
 use Rattle.poly_frame.specs.declared.frame.table.Table.{Table}
-use Rattle.poly_frame.proofs.FrameLooks.{open_first, top_row}
+use Rattle.poly_frame.proofs.FrameQueries.{open_first, top_row}
 use Rattle.poly_frame.proofs.FramePicks.{has_in, limit_cases, low_in, one_true, open_base, pick_open, shuts, times_some}
-use Rattle.poly_frame.proofs.FrameSteps.{asks_pick, index_in, top_have, top_level}
+use Rattle.poly_frame.proofs.FrameSteps.{least_pick, index_in, top_have, top_level}
 use Rattle.poly_frame.proofs.Steps.{base_pick}
 use Rattle.poly_frame.proofs.Words.{in_word}
 
@@ -53,11 +53,11 @@ module _ (v : View) (A : List Atom) (first : ℕ) (matrix : Matrix) (t : Table) 
   shut_by p q c places noted k less has =
       let l = low_in (length v.bounds) places c noted.low k in
       let mine : has_item v p (item_of v c) ≡ true = one_true _ (omega (arith, times_some places c k, noted.once c l)) in
-      let most : get_or t.limits.items c 0 ≡ limit_at (item_of v c) (upper v A (item_of v c)) = K.table.limits c l ∙ ap (λ u. limit_at (item_of v c) u) (sym ((top_level v A first matrix t live have raised marks K).uppers (item_of v c))) in
+      let most : get_or t.limits.items c 0 ≡ limit_at (item_of v c) (most_at v A (item_of v c)) = K.table.limits c l ∙ ap (λ u. limit_at (item_of v c) u) (sym ((top_level v A first matrix t live have raised marks K).mosts (item_of v c))) in
       let few = leb-true (get_or t.limits.items c 0 - 1) (get_or have c 0) less in
-      let full : limit_at (item_of v c) (upper v A (item_of v c)) ≤ count v (base v A) (item_of v c) + 1 = omega (arith, most, few, top_have v A first matrix t live have raised marks K c l) in
+      let full : limit_at (item_of v c) (most_at v A (item_of v c)) ≤ count v (base v A) (item_of v c) + 1 = omega (arith, most, few, top_have v A first matrix t live have raised marks K c l) in
       any_from (λ i. has_item v q i && shuts v A i) (items v p) (item_of v c) (has_in v p (item_of v c) mine)
-      (and_from _ _ has (sym (limit_cases (item_of v c) (upper v A (item_of v c)) (count v (base v A) (item_of v c) + 1)) ∙ le-leb _ _ full))
+      (and_from _ _ has (sym (limit_cases (item_of v c) (most_at v A (item_of v c)) (count v (base v A) (item_of v c) + 1)) ∙ le-leb _ _ full))
 
   module _ (b j at : ℕ) (e : at ≡ length live - matrix.width) (l : b < length v.bounds) (h : j < length matrix.numbers.items)
       (opened : has_bit live (64 * at + j) ≡ true) (without : has_bit matrix.rows.items (64 * (matrix.width * b) + j) ≡ false) (none : get_or have b 0 ≡ 0)
@@ -106,12 +106,12 @@ module _ (v : View) (A : List Atom) (first : ℕ) (matrix : Matrix) (t : Table) 
       | inr k ↦ none_counted (λ x. has_item v x (item_of v b)) (base v A) q (sym (top_have v A first matrix t live have raised marks K b l) ∙ none) k i
     ])
 
-    pub starved_fits : 0 < get_or t.asked.items b 0 → arms_fit v (A ++ Has p ∷ []) (item_of v b) [] ≡ true
+    pub starved_fits : 0 < get_or t.leasts.items b 0 → arms_fit v (A ++ Has p ∷ []) (item_of v b) [] ≡ true
     starved_fits some =
         let A2 = A ++ Has p ∷ [] in
-        let asked : asks v A2 (item_of v b) ≡ get_or t.asked.items b 0 = asks_pick v A p (item_of v b) ∙ (top_level v A first matrix t live have raised marks K).asked (item_of v b) ∙ sym (K.table.asked b l) in
+        let least_there : least_at v A2 (item_of v b) ≡ get_or t.leasts.items b 0 = least_pick v A p (item_of v b) ∙ (top_level v A first matrix t live have raised marks K).leasts (item_of v b) ∙ sym (K.table.leasts b l) in
         let none' = none_pass (λ q. has_item v q (item_of v b) && not (ruled_out v A2 q) && not (mem [] q)) v.live gone in
-        lt-ltb _ (lower v A2 (item_of v b)) (omega (arith, asked, some, none'))
+        lt-ltb _ (least_with_base v A2 (item_of v b)) (omega (arith, least_there, some, none'))
       where
         and_three : (x y z : Bool) → (x && y && z) ≡ true → (x ≡ true) × (y ≡ true)
         and_three true true z h = (refl, refl)

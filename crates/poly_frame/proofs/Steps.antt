@@ -6,9 +6,9 @@ use Rattle.poly_tiling.specs.declared.item.Item.{Item}
 use Rattle.poly_atom.specs.declared.atom.Atom.{Atom}
 use Rattle.poly_atom.specs.declared.atom.Atom.TheVariants.{Has, Lacks, AtLeast, AtMost}
 use Rattle.poly_tiling.specs.Lists.{one, mem, tally, put, put_all}
-use Rattle.poly_tiling.specs.Puzzle.{View, same_item, items, has_item, clash}
+use Rattle.poly_tiling.specs.Puzzle.{View, same_item, items, has_item, conflicts}
 use Rattle.poly_atom.specs.Hopeless.{base, asked, lacks}
-use Rattle.poly_frame.specs.Open.{upper, others, ruled_out, open_in}
+use Rattle.poly_frame.specs.Open.{most_at, others, ruled_out, open_in}
 use Rattle.poly_tiling.proofs.Lists.{In, any_append, same_truth, in_append_left, in_append_right, in_append_cases}
 use Rattle.poly_tiling.proofs.Ascending.{put_in, in_put, in_put_self, put_up, ascending_same}
 use Rattle.poly_atom.proofs.Bases.{base_in, base_up, in_base_has, in_base_pin}
@@ -21,19 +21,19 @@ base_leave v (Lacks q ∷ A) p = base_leave v A p
 base_leave v (AtLeast i n ∷ A) p = base_leave v A p
 base_leave v (AtMost i n ∷ A) p = base_leave v A p
 
-pub upper_leave : (v : View) (A : List Atom) (p : ℕ) (i : Item) → upper v (A ++ Lacks p ∷ []) i ≡ upper v A i
-upper_leave v [] p i = refl
-upper_leave v (Has q ∷ A) p i = upper_leave v A p i
-upper_leave v (Lacks q ∷ A) p i = upper_leave v A p i
-upper_leave v (AtLeast j n ∷ A) p i = upper_leave v A p i
-upper_leave v (AtMost j n ∷ A) p i = ap (λ u. cond (same_item j i) (min n u) u) (upper_leave v A p i)
+pub most_leave : (v : View) (A : List Atom) (p : ℕ) (i : Item) → most_at v (A ++ Lacks p ∷ []) i ≡ most_at v A i
+most_leave v [] p i = refl
+most_leave v (Has q ∷ A) p i = most_leave v A p i
+most_leave v (Lacks q ∷ A) p i = most_leave v A p i
+most_leave v (AtLeast j n ∷ A) p i = most_leave v A p i
+most_leave v (AtMost j n ∷ A) p i = ap (λ u. cond (same_item j i) (min n u) u) (most_leave v A p i)
 
-pub upper_pick : (v : View) (A : List Atom) (p : ℕ) (i : Item) → upper v (A ++ Has p ∷ []) i ≡ upper v A i
-upper_pick v [] p i = refl
-upper_pick v (Has q ∷ A) p i = upper_pick v A p i
-upper_pick v (Lacks q ∷ A) p i = upper_pick v A p i
-upper_pick v (AtLeast j n ∷ A) p i = upper_pick v A p i
-upper_pick v (AtMost j n ∷ A) p i = ap (λ u. cond (same_item j i) (min n u) u) (upper_pick v A p i)
+pub most_pick : (v : View) (A : List Atom) (p : ℕ) (i : Item) → most_at v (A ++ Has p ∷ []) i ≡ most_at v A i
+most_pick v [] p i = refl
+most_pick v (Has q ∷ A) p i = most_pick v A p i
+most_pick v (Lacks q ∷ A) p i = most_pick v A p i
+most_pick v (AtLeast j n ∷ A) p i = most_pick v A p i
+most_pick v (AtMost j n ∷ A) p i = ap (λ u. cond (same_item j i) (min n u) u) (most_pick v A p i)
 
 any_same : {X : Type 0} (f g : X → Bool) (xs : List X) → ((x : X) → f x ≡ g x) → list_any f xs ≡ list_any g xs
 any_same f g [] e = refl
@@ -55,13 +55,13 @@ leave_at false false c f false = sym (and_true_right (not (c || f)))
 pub open_leave : (v : View) (A : List Atom) (p q : ℕ) → open_in v (A ++ Lacks p ∷ []) q ≡ (open_in v A q && not (eqb p q))
 open_leave v A p q =
     let b : base v (A ++ Lacks p ∷ []) ≡ base v A = ap (λ xs. put_all xs (put_all v.pins [])) (base_leave v A p) in
-    let full = any_same (λ i. leb (upper v (A ++ Lacks p ∷ []) i) (others v (base v (A ++ Lacks p ∷ [])) q i)) (λ i. leb (upper v A i) (others v (base v A) q i)) (items v q)
-    (λ i. ap (λ u. leb u (others v (base v (A ++ Lacks p ∷ [])) q i)) (upper_leave v A p i) ∙ ap (λ xs. leb (upper v A i) (others v xs q i)) b) in
+    let full = any_same (λ i. leb (most_at v (A ++ Lacks p ∷ []) i) (others v (base v (A ++ Lacks p ∷ [])) q i)) (λ i. leb (most_at v A i) (others v (base v A) q i)) (items v q)
+    (λ i. ap (λ u. leb u (others v (base v (A ++ Lacks p ∷ [])) q i)) (most_leave v A p i) ∙ ap (λ xs. leb (most_at v A i) (others v xs q i)) b) in
     ap (λ xs. not (mem xs q) && not (ruled_out v (A ++ Lacks p ∷ []) q)) b
-    ∙ ap (λ x. not (mem (base v A) q) && not ((x || list_any (λ r. clash v q r) (base v (A ++ Lacks p ∷ []))) || list_any (λ i. leb (upper v (A ++ Lacks p ∷ []) i) (others v (base v (A ++ Lacks p ∷ [])) q i)) (items v q))) (lacks_leave A p q)
-    ∙ ap (λ xs. not (mem (base v A) q) && not (((list_any (λ a. lacks a q) A || eqb p q) || list_any (λ r. clash v q r) xs) || list_any (λ i. leb (upper v (A ++ Lacks p ∷ []) i) (others v (base v (A ++ Lacks p ∷ [])) q i)) (items v q))) b
-    ∙ ap (λ x. not (mem (base v A) q) && not (((list_any (λ a. lacks a q) A || eqb p q) || list_any (λ r. clash v q r) (base v A)) || x)) full
-    ∙ leave_at (mem (base v A) q) (list_any (λ a. lacks a q) A) (list_any (λ r. clash v q r) (base v A)) (list_any (λ i. leb (upper v A i) (others v (base v A) q i)) (items v q)) (eqb p q)
+    ∙ ap (λ x. not (mem (base v A) q) && not ((x || list_any (λ r. conflicts v q r) (base v (A ++ Lacks p ∷ []))) || list_any (λ i. leb (most_at v (A ++ Lacks p ∷ []) i) (others v (base v (A ++ Lacks p ∷ [])) q i)) (items v q))) (lacks_leave A p q)
+    ∙ ap (λ xs. not (mem (base v A) q) && not (((list_any (λ a. lacks a q) A || eqb p q) || list_any (λ r. conflicts v q r) xs) || list_any (λ i. leb (most_at v (A ++ Lacks p ∷ []) i) (others v (base v (A ++ Lacks p ∷ [])) q i)) (items v q))) b
+    ∙ ap (λ x. not (mem (base v A) q) && not (((list_any (λ a. lacks a q) A || eqb p q) || list_any (λ r. conflicts v q r) (base v A)) || x)) full
+    ∙ leave_at (mem (base v A) q) (list_any (λ a. lacks a q) A) (list_any (λ r. conflicts v q r) (base v A)) (list_any (λ i. leb (most_at v A i) (others v (base v A) q i)) (items v q)) (eqb p q)
 
 -- the base with one more member
 pub base_pick : (v : View) (A : List Atom) (p : ℕ) → base v (A ++ Has p ∷ []) ≡ put p (base v A)
@@ -122,20 +122,20 @@ pick_at false false false false false g = refl
 
 -- taking p closes p, what is in conflict with it, and what it makes full
 pub open_pick : (v : View) (A : List Atom) (p q : ℕ) → mem (base v A) p ≡ false → eqb p q ≡ false →
-    open_in v (A ++ Has p ∷ []) q ≡ (open_in v A q && (not (clash v q p) && not (list_any (λ i. has_item v p i && leb (upper v A i) (others v (base v A) q i + 1)) (items v q))))
+    open_in v (A ++ Has p ∷ []) q ≡ (open_in v A q && (not (conflicts v q p) && not (list_any (λ i. has_item v p i && leb (most_at v A i) (others v (base v A) q i + 1)) (items v q))))
 open_pick v A p q m n =
     let b = base_pick v A p in
     let mq : mem (put p (base v A)) q ≡ mem (base v A) q = any_put (λ y. eqb y q) p (base v A) ∙ ap (λ x. x || mem (base v A) q) n in
-    let full : list_any (λ i. leb (upper v (A ++ Has p ∷ []) i) (others v (put p (base v A)) q i)) (items v q) ≡ (list_any (λ i. leb (upper v A i) (others v (base v A) q i)) (items v q) || list_any (λ i. has_item v p i && leb (upper v A i) (others v (base v A) q i + 1)) (items v q)) =
-    any_same (λ i. leb (upper v (A ++ Has p ∷ []) i) (others v (put p (base v A)) q i)) (λ i. leb (upper v A i) (others v (base v A) q i) || (has_item v p i && leb (upper v A i) (others v (base v A) q i + 1))) (items v q)
-    (λ i. ap (λ u. leb u (others v (put p (base v A)) q i)) (upper_pick v A p i) ∙ ap (λ x. leb (upper v A i) x) (others_put v (base v A) p q i m n) ∙ le_one (upper v A i) (others v (base v A) q i) (has_item v p i))
-    ∙ any_or (λ i. leb (upper v A i) (others v (base v A) q i)) (λ i. has_item v p i && leb (upper v A i) (others v (base v A) q i + 1)) (items v q) in
-    let far = λ (xs : List ℕ). list_any (λ r. clash v q r) xs in
-    let fullish = λ (xs : List ℕ). list_any (λ i. leb (upper v (A ++ Has p ∷ []) i) (others v xs q i)) (items v q) in
+    let full : list_any (λ i. leb (most_at v (A ++ Has p ∷ []) i) (others v (put p (base v A)) q i)) (items v q) ≡ (list_any (λ i. leb (most_at v A i) (others v (base v A) q i)) (items v q) || list_any (λ i. has_item v p i && leb (most_at v A i) (others v (base v A) q i + 1)) (items v q)) =
+    any_same (λ i. leb (most_at v (A ++ Has p ∷ []) i) (others v (put p (base v A)) q i)) (λ i. leb (most_at v A i) (others v (base v A) q i) || (has_item v p i && leb (most_at v A i) (others v (base v A) q i + 1))) (items v q)
+    (λ i. ap (λ u. leb u (others v (put p (base v A)) q i)) (most_pick v A p i) ∙ ap (λ x. leb (most_at v A i) x) (others_put v (base v A) p q i m n) ∙ le_one (most_at v A i) (others v (base v A) q i) (has_item v p i))
+    ∙ any_or (λ i. leb (most_at v A i) (others v (base v A) q i)) (λ i. has_item v p i && leb (most_at v A i) (others v (base v A) q i + 1)) (items v q) in
+    let far = λ (xs : List ℕ). list_any (λ r. conflicts v q r) xs in
+    let fullish = λ (xs : List ℕ). list_any (λ i. leb (most_at v (A ++ Has p ∷ []) i) (others v xs q i)) (items v q) in
     let named = list_any (λ a. lacks a q) (A ++ Has p ∷ []) in
     ap (λ xs. not (mem xs q) && not ((named || far xs) || fullish xs)) b
     ∙ ap (λ x. not x && not ((named || far (put p (base v A))) || fullish (put p (base v A)))) mq
     ∙ ap (λ x. not (mem (base v A) q) && not ((x || far (put p (base v A))) || fullish (put p (base v A)))) (lacks_pick A p q)
-    ∙ ap (λ x. not (mem (base v A) q) && not ((list_any (λ a. lacks a q) A || x) || fullish (put p (base v A)))) (any_put (λ r. clash v q r) p (base v A))
-    ∙ ap (λ x. not (mem (base v A) q) && not ((list_any (λ a. lacks a q) A || (clash v q p || far (base v A))) || x)) full
-    ∙ pick_at (mem (base v A) q) (list_any (λ a. lacks a q) A) (clash v q p) (far (base v A)) (list_any (λ i. leb (upper v A i) (others v (base v A) q i)) (items v q)) (list_any (λ i. has_item v p i && leb (upper v A i) (others v (base v A) q i + 1)) (items v q))
+    ∙ ap (λ x. not (mem (base v A) q) && not ((list_any (λ a. lacks a q) A || x) || fullish (put p (base v A)))) (any_put (λ r. conflicts v q r) p (base v A))
+    ∙ ap (λ x. not (mem (base v A) q) && not ((list_any (λ a. lacks a q) A || (conflicts v q p || far (base v A))) || x)) full
+    ∙ pick_at (mem (base v A) q) (list_any (λ a. lacks a q) A) (conflicts v q p) (far (base v A)) (list_any (λ i. leb (most_at v A i) (others v (base v A) q i)) (items v q)) (list_any (λ i. has_item v p i && leb (most_at v A i) (others v (base v A) q i + 1)) (items v q))

@@ -6,7 +6,7 @@ use Rattle.poly_tiling.specs.declared.item.Item.{Item}
 use Rattle.poly_tiling.specs.Puzzle.{View, count}
 use Rattle.poly_atom.specs.declared.atom.Atom.{Atom}
 use Rattle.poly_atom.specs.Hopeless.{base}
-use Rattle.poly_frame.specs.Open.{asks, open_in, upper}
+use Rattle.poly_frame.specs.Open.{least_at, open_in, most_at}
 use Rattle.poly_frame.specs.Bits.{has_bit}
 use Rattle.poly_frame.specs.FrameItems.{item_of, times}
 use Rattle.poly_frame.specs.Matrices.{place}
@@ -37,8 +37,8 @@ HaveAt v A have raised mark = (b : ℕ) → b < length v.bounds → slice_index 
 pub record LevelShows (v : View) (A0 A : List Atom) (matrix : Matrix) (t : Table) (live have raised marks : List ℕ) (k : ℕ) : Type 0 where
   pub row : RowShows v A matrix.numbers.items matrix.width live k
   pub counted : HaveAt v A have raised (mark_of marks raised k)
-  pub uppers : (i : Item) → upper v A i ≡ upper v A0 i
-  pub asked : (i : Item) → asks v A i ≡ asks v A0 i
+  pub mosts : (i : Item) → most_at v A i ≡ most_at v A0 i
+  pub leasts : (i : Item) → least_at v A i ≡ least_at v A0 i
   pub few : mark_of marks raised k ≤ PLACEMENT_ITEMS * k
   pub begun : mark_of marks raised k ≤ length raised
 
@@ -59,7 +59,7 @@ StepsKeep v A first m t s = Kept v A first m t s.live.items s.have.items s.raise
 
 -- the steps are those of the node
 abbrev pub IsAt : Node → Steps → Type 0
-IsAt n s = StepsKeep n.view.now n.path.now n.given n.matrix.now n.table.now s
+IsAt n s = StepsKeep n.view.now n.trail.now n.given n.matrix.now n.table.now s
 
 -- room for 4,096 steps
 pub record HasRoom (matrix : Matrix) (s : Steps) : Type 0 where

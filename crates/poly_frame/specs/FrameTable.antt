@@ -6,7 +6,7 @@ use Rattle.poly_tiling.specs.Lists.{mem}
 use Rattle.poly_tiling.specs.Puzzle.{View, count, is_piece, same_item}
 use Rattle.poly_atom.specs.declared.atom.Atom.{Atom}
 use Rattle.poly_atom.specs.Hopeless.{base}
-use Rattle.poly_frame.specs.Open.{asks, open_in, upper}
+use Rattle.poly_frame.specs.Open.{least_at, open_in, most_at}
 use Rattle.poly_frame.specs.Plain.{of_asked}
 use Rattle.poly_frame.specs.FrameItems.{item_of}
 use Rattle.poly_frame.specs.Matrices.{IsMatrix}
@@ -16,11 +16,11 @@ use Rattle.poly_frame.specs.declared.frame.table.Table.{Table}
 abbrev pub HaveShows : View → List ℕ → List ℕ → Type 0
 HaveShows v T have = (b : ℕ) → b < length v.bounds → slice_index have b ≡ count v T (item_of v b)
 
-abbrev pub UppersShow : View → List Atom → List ℕ → Type 0
-UppersShow v A uppers = (b : ℕ) → b < length v.bounds → slice_index uppers b ≡ upper v A (item_of v b)
+abbrev pub MostsShow : View → List Atom → List ℕ → Type 0
+MostsShow v A mosts = (b : ℕ) → b < length v.bounds → slice_index mosts b ≡ most_at v A (item_of v b)
 
-abbrev pub AskedShow : View → List Atom → List ℕ → Type 0
-AskedShow v A asked = (b : ℕ) → b < length v.bounds → slice_index asked b ≡ asks v A (item_of v b)
+abbrev pub LeastsShow : View → List Atom → List ℕ → Type 0
+LeastsShow v A leasts = (b : ℕ) → b < length v.bounds → slice_index leasts b ≡ least_at v A (item_of v b)
 
 -- whether an item closes the placements that have it, if it may be in `most` members and is in `have` members of the base
 abbrev pub shut_at : Item → ℕ → ℕ → Bool
@@ -38,10 +38,10 @@ HasOpen v A m = (q : ℕ) → mem v.live q ≡ true → open_in v A q ≡ true �
 pub record TableShows (v : View) (A : List Atom) (m : Matrix) (t : Table) : Type 0 where
   pub matrix : IsMatrix v m
   pub all : HasOpen v A m
-  pub limits : (b : ℕ) → b < length v.bounds → slice_index t.limits.items b ≡ limit_at (item_of v b) (upper v A (item_of v b))
+  pub limits : (b : ℕ) → b < length v.bounds → slice_index t.limits.items b ≡ limit_at (item_of v b) (most_at v A (item_of v b))
   pub limits_len : length t.limits.items ≡ length v.bounds
-  pub asked : AskedShow v A t.asked.items
-  pub asked_len : length t.asked.items ≡ length v.bounds
+  pub leasts : LeastsShow v A t.leasts.items
+  pub leasts_len : length t.leasts.items ≡ length v.bounds
   pub listed : t.listed ≡ true → list_all (of_asked (λ i. list_any (λ b. same_item b.item i) v.bounds)) A ≡ true
-  pub quiet : (b : ℕ) → t.asked_end ≤ b → b < length v.bounds → slice_index t.asked.items b ≡ 0
+  pub quiet : (b : ℕ) → t.leasts_end ≤ b → b < length v.bounds → slice_index t.leasts.items b ≡ 0
   pub small : (i : Item) → count v (base v A) i < 2 ^ 63

@@ -4,12 +4,12 @@ use Rattle.poly_tiling.specs.Lists.{tally}
 use Rattle.poly_tiling.specs.declared.item.Item.{Item}
 use Rattle.poly_atom.specs.declared.atom.Atom.{Atom}
 use Rattle.poly_atom.specs.Hopeless.{base}
-use Rattle.poly_frame.specs.Walk.{Walk, back_to, is_option, step_back, with_step}
+use Rattle.poly_frame.specs.Walk.{Walk, backtrack_to, is_option, step_back, with_step}
 
--- A step that is undone leaves no trace: not in the path, the base, the options of an item or their number.
+-- A step that is undone leaves no trace: not in the trail, the base, the options of an item or their number.
 pub record ComesBack (w : Walk) (a : Atom) : Type 0 where
-  pub path : step_back (with_step w a) ≡ w
-  pub mark : back_to (with_step w a) (length w.atoms) ≡ w
+  pub trail : step_back (with_step w a) ≡ w
+  pub mark : backtrack_to (with_step w a) (length w.atoms) ≡ w
   pub base : base w.scene (step_back (with_step w a)).atoms ≡ base w.scene w.atoms
   pub options : (i : Item) (p : ℕ) → is_option (step_back (with_step w a)) i p ≡ is_option w i p
   pub sizes : (i : Item) → tally (is_option (step_back (with_step w a)) i) w.scene.live ≡ tally (is_option w i) w.scene.live

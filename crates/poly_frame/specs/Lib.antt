@@ -9,5 +9,5 @@ pub mod FrameItems
 pub mod Matrices
 pub mod FrameTable
 pub mod FrameMembers
-pub mod FrameSound
+pub mod FrameConsistent
 pub mod FrameSteps

@@ -4,30 +4,30 @@ use Rattle.std.specs.List.{list_any, list_all}
 use Rattle.poly_tiling.specs.Lists.{mem, tally}
 use Rattle.poly_tiling.specs.Lists.{distinct}
 use Rattle.poly_tiling.specs.declared.item.Item.{Item}
-use Rattle.poly_tiling.specs.Puzzle.{View, items, has_item, clash, same_item, count, least, most}
+use Rattle.poly_tiling.specs.Puzzle.{View, items, has_item, conflicts, same_item, count, least, most}
 use Rattle.poly_atom.specs.declared.atom.Atom.{Atom}
 use Rattle.poly_atom.specs.declared.atom.Atom.TheVariants.{Has, Lacks, AtLeast, AtMost}
 use Rattle.poly_atom.specs.Hopeless.{base, lacks}
 
 -- the least of `most` and what the atoms allow
-abbrev pub upper : View → List Atom → Item → ℕ
-upper v [] i = most v i
-upper v (Has p ∷ A) i = upper v A i
-upper v (Lacks p ∷ A) i = upper v A i
-upper v (AtLeast j n ∷ A) i = upper v A i
-upper v (AtMost j n ∷ A) i = cond (same_item j i) (min n (upper v A i)) (upper v A i)
+abbrev pub most_at : View → List Atom → Item → ℕ
+most_at v [] i = most v i
+most_at v (Has p ∷ A) i = most_at v A i
+most_at v (Lacks p ∷ A) i = most_at v A i
+most_at v (AtLeast j n ∷ A) i = most_at v A i
+most_at v (AtMost j n ∷ A) i = cond (same_item j i) (min n (most_at v A i)) (most_at v A i)
 
 -- the greatest of `least` and what the atoms ask for
-abbrev pub asks : View → List Atom → Item → ℕ
-asks v [] i = least v i
-asks v (Has p ∷ A) i = asks v A i
-asks v (Lacks p ∷ A) i = asks v A i
-asks v (AtLeast j n ∷ A) i = cond (same_item j i) (max n (asks v A i)) (asks v A i)
-asks v (AtMost j n ∷ A) i = asks v A i
+abbrev pub least_at : View → List Atom → Item → ℕ
+least_at v [] i = least v i
+least_at v (Has p ∷ A) i = least_at v A i
+least_at v (Lacks p ∷ A) i = least_at v A i
+least_at v (AtLeast j n ∷ A) i = cond (same_item j i) (max n (least_at v A i)) (least_at v A i)
+least_at v (AtMost j n ∷ A) i = least_at v A i
 
 -- the greatest of these and what the base has
-abbrev pub lower : View → List Atom → Item → ℕ
-lower v A i = max (asks v A i) (count v (base v A) i)
+abbrev pub least_with_base : View → List Atom → Item → ℕ
+least_with_base v A i = max (least_at v A i) (count v (base v A) i)
 
 -- how many members other than p have the item
 abbrev pub others : View → List ℕ → ℕ → Item → ℕ
@@ -36,8 +36,8 @@ others v T p i = tally (λ q. has_item v q i && not (q == p)) T
 abbrev pub ruled_out : View → List Atom → ℕ → Bool
 ruled_out v A p =
     list_any (λ a. lacks a p) A
-    || list_any (λ q. clash v p q) (base v A)
-    || list_any (λ i. nat_le (upper v A i) (others v (base v A) p i)) (items v p)
+    || list_any (λ q. conflicts v p q) (base v A)
+    || list_any (λ i. nat_le (most_at v A i) (others v (base v A) p i)) (items v p)
 
 abbrev pub open_in : View → List Atom → ℕ → Bool
 open_in v A p = not (mem (base v A) p) && not (ruled_out v A p)
@@ -50,4 +50,4 @@ abbrev pub arms_fit : View → List Atom → Item → List ℕ → Bool
 arms_fit v A i ps =
     distinct ps
     && list_all (λ p. has_item v p i) ps
-    && nat_lt (tally (λ p. has_item v p i && not (ruled_out v A p) && not (mem ps p)) v.live) (lower v A i)
+    && nat_lt (tally (λ p. has_item v p i && not (ruled_out v A p) && not (mem ps p)) v.live) (least_with_base v A i)

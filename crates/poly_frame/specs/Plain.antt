@@ -6,25 +6,25 @@ use Rattle.poly_atom.specs.declared.atom.Atom.{Atom}
 use Rattle.poly_atom.specs.declared.atom.Atom.TheVariants.{AtLeast, AtMost, Has, Lacks}
 
 -- the most after one more atom
-abbrev pub allowed : Atom → Item → ℕ → ℕ
-allowed (Has p) i n = n
-allowed (Lacks p) i n = n
-allowed (AtLeast j k) i n = n
-allowed (AtMost j k) i n = cond (same_item j i) (min k n) n
+abbrev pub most_by : Atom → Item → ℕ → ℕ
+most_by (Has p) i n = n
+most_by (Lacks p) i n = n
+most_by (AtLeast j k) i n = n
+most_by (AtMost j k) i n = cond (same_item j i) (min k n) n
 
 -- the least after one more atom
-abbrev pub needed : Atom → Item → ℕ → ℕ
-needed (Has p) i n = n
-needed (Lacks p) i n = n
-needed (AtLeast j k) i n = cond (same_item j i) (max k n) n
-needed (AtMost j k) i n = n
+abbrev pub least_by : Atom → Item → ℕ → ℕ
+least_by (Has p) i n = n
+least_by (Lacks p) i n = n
+least_by (AtLeast j k) i n = cond (same_item j i) (max k n) n
+least_by (AtMost j k) i n = n
 
 -- an atom that asks for the item
-abbrev pub asks_for : Item → Atom → Bool
-asks_for i (Has p) = false
-asks_for i (Lacks p) = false
-asks_for i (AtLeast j n) = same_item j i
-asks_for i (AtMost j n) = false
+abbrev pub least_for : Item → Atom → Bool
+least_for i (Has p) = false
+least_for i (Lacks p) = false
+least_for i (AtLeast j n) = same_item j i
+least_for i (AtMost j n) = false
 
 -- a test of the item that an atom asks for
 abbrev pub of_asked : (Item → Bool) → Atom → Bool

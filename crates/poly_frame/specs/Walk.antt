@@ -1,11 +1,11 @@
--- What contracts see of a frame: a view, and the atoms on the path.
+-- What contracts see of a frame: a view, and the atoms on the trail.
 use Rattle.std.specs.Prelude.{ℕ, Bool, ◌&&◌, List, [], ◌∷◌, ◌++◌, take, nat_lt, length, ◌-◌}
 use Rattle.poly_tiling.specs.declared.item.Item.{Item}
 use Rattle.poly_atom.specs.declared.atom.Atom.{Atom}
 use Rattle.poly_tiling.specs.Lists.{tally}
 use Rattle.poly_tiling.specs.Puzzle.{View, has_item, count}
 use Rattle.poly_atom.specs.Hopeless.{base}
-use Rattle.poly_frame.specs.Open.{asks, open_in}
+use Rattle.poly_frame.specs.Open.{least_at, open_in}
 
 -- the atoms are the first `given` ones, and the steps that were not undone
 pub record Walk : Type 0 where
@@ -16,16 +16,16 @@ pub record Walk : Type 0 where
 abbrev pub with_step : Walk → Atom → Walk
 with_step w a = record w { atoms = w.atoms ++ a ∷ [] }
 
-abbrev pub back_to : Walk → ℕ → Walk
-back_to w n = record w { atoms = take n w.atoms }
+abbrev pub backtrack_to : Walk → ℕ → Walk
+backtrack_to w n = record w { atoms = take n w.atoms }
 
 -- the last step is undone
 abbrev pub step_back : Walk → Walk
-step_back w = back_to w (length w.atoms - 1)
+step_back w = backtrack_to w (length w.atoms - 1)
 
 -- an item that the base doesn't cover often enough
 abbrev pub is_due : Walk → Item → Bool
-is_due w i = nat_lt (count w.scene (base w.scene w.atoms) i) (asks w.scene w.atoms i)
+is_due w i = nat_lt (count w.scene (base w.scene w.atoms) i) (least_at w.scene w.atoms i)
 
 abbrev pub is_open : Walk → ℕ → Bool
 is_open w p = open_in w.scene w.atoms p

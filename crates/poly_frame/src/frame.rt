@@ -8,23 +8,23 @@ ghost use Rattle.poly_tiling.specs.Names.{WellNamed};
 ghost use Rattle.poly_tiling.specs.Puzzle.{has_item};
 ghost use Rattle.poly_atom.specs.Atoms.{in_family};
 ghost use Rattle.poly_atom.specs.Hopeless.{base};
-ghost use Rattle.poly_frame.specs.Open.{arms_fit, dead, lower, ruled_out};
-ghost use Rattle.poly_frame.specs.FrameSound.{is_sound};
+ghost use Rattle.poly_frame.specs.Open.{arms_fit, dead, least_with_base, ruled_out};
+ghost use Rattle.poly_frame.specs.FrameConsistent.{is_consistent};
 ghost use Rattle.poly_frame.specs.FrameTable.{HasOpen};
 ghost use Rattle.poly_frame.specs.Matrices.{IsMatrix, IsWhole, matrix_of};
-ghost use Rattle.poly_frame.specs.Walk.{back_to, is_due, is_open, is_option, step_back, with_step};
+ghost use Rattle.poly_frame.specs.Walk.{backtrack_to, is_due, is_open, is_option, step_back, with_step};
 
 mod allowed;
-mod busy;
+mod consistent;
 mod items;
 mod lists;
-mod looks;
 mod matrix;
 mod members;
 mod node;
 mod notes;
+mod occupied;
 mod opened;
-mod sound;
+mod queries;
 mod starved;
 mod steps;
 mod table;
@@ -54,11 +54,11 @@ pub const STEPS: usize = 4096;
 #[derive(Drop)]
 pub struct Frame<'a> {
     view: &'a View,
-    path: Vec<Atom>,
+    trail: Vec<Atom>,
     given: usize,
     members: Vec<u32>,
     sizes: Vec<usize>,
-    sound: usize,
+    consistent: usize,
     options: Vec<u32>,
     columns: Columns<'a>,
     table: Table,
@@ -72,9 +72,9 @@ impl<'a> Model for Frame<'a> {
 
     ghost Value = { Walk };
 
-    ghost view = { λ f. record { scene = f.view.now; atoms = f.path.items; given = f.given } };
+    ghost view = { λ f. record { scene = f.view.now; atoms = f.trail.items; given = f.given } };
 
-    ghost invariant = { λ f. IsFrame f.view.now f.path f.given f.members f.sizes f.sound f.options (matrix_of f.columns) f.table f.steps };
+    ghost invariant = { λ f. IsFrame f.view.now f.trail f.given f.members f.sizes f.consistent f.options (matrix_of f.columns) f.table f.steps };
 }
 
 impl<'a> Frame<'a> {
@@ -118,24 +118,24 @@ impl<'a> Frame<'a> {
         ensures made { IfOk result (λ o. IfSome o (λ f. f ≡ record { scene = self.now.scene; atoms = self.now.atoms; given = length self.now.atoms })) }
         ensures why { IfErr result (λ e. e ≡ Refusal.Memory) }
     {
-        if !looks::is_sparse(self.columns.matrix(), &self.steps) {
+        if !queries::is_sparse(self.columns.matrix(), &self.steps) {
             return Ok(None);
         }
-        let sure = self.sound > self.path.len() - self.given;
+        let sure = self.consistent > self.trail.len() - self.given;
         let node = Node {
             view: self.view,
-            path: &self.path,
+            trail: &self.trail,
             given: self.given,
             matrix: self.columns.matrix(),
             table: &self.table,
         };
-        let narrow = looks::narrowed_now(alloc, &node, &self.steps)?;
-        let frame = Frame::begin(alloc, self.view, Columns::Own(narrow), &self.path, sure)?;
+        let narrow = queries::narrowed_now(alloc, &node, &self.steps)?;
+        let frame = Frame::begin(alloc, self.view, Columns::Own(narrow), &self.trail, sure)?;
         Ok(Some(frame))
     }
 
     // A frame at the atoms, from a matrix with a column for each placement that is open there. The base may be known to be
-    // sound.
+    // consistent.
     #[tactic(auto, using(poly_tiling::proofs::Orders::live_once))]
     fn begin(
         alloc: Global,
@@ -146,7 +146,7 @@ impl<'a> Frame<'a> {
     ) -> Result<Frame<'a>, Refusal>
         requires part { IsMatrix view.now (matrix_of part) }
         requires all { HasOpen view.now atoms.now (matrix_of part) }
-        requires sure { sure ≡ true → is_sound view.now atoms.now ≡ true }
+        requires sure { sure ≡ true → is_consistent view.now atoms.now ≡ true }
         ensures made { IfOk result (λ f. f ≡ record { scene = view.now; atoms = atoms.now; given = length atoms.now }) }
         ensures why { IfErr result (λ e. e ≡ Refusal.Memory) }
         ensures well { WellNamed view.now }
@@ -158,31 +158,31 @@ impl<'a> Frame<'a> {
         let mut raised = Vec::with_capacity(alloc, STEPS * PLACEMENT_ITEMS)?;
         let have = counts_of(alloc, view, base, &whole.cells, &mut raised)?;
         let wanted = wanted_of(alloc, view, atoms, &whole.cells)?;
-        let sound = sound::begin(view, whole, atoms, base, &wanted.uppers, &have, sure);
-        let row = open_row(alloc, view, whole, atoms, base, &wanted.uppers, &have)?;
+        let consistent = consistent::begin(view, whole, atoms, base, &wanted.mosts, &have, sure);
+        let row = open_row(alloc, view, whole, atoms, base, &wanted.mosts, &have)?;
         let (columns, row) = columns_of(alloc, view, part, row)?;
         let table = table_of(alloc, view, columns.matrix(), atoms, wanted)?;
         let node = Node {
             view,
-            path: atoms,
+            trail: atoms,
             given: atoms.len(),
             matrix: columns.matrix(),
             table: &table,
         };
         let steps = start(alloc, &node, row, have, raised)?;
         let Lists {
-            path,
+            trail,
             members,
             sizes,
             options,
         } = lists;
         Ok(Frame {
             view,
-            path,
+            trail,
             given: atoms.len(),
             members,
             sizes,
-            sound,
+            consistent,
             options,
             columns,
             table,
@@ -190,18 +190,18 @@ impl<'a> Frame<'a> {
         })
     }
 
-    /// How many atoms are on the path.
-    pub fn mark(&self) -> usize
+    /// How many atoms are on the trail.
+    pub fn level(&self) -> usize
         ensures { result ≡ length self.now.atoms }
     {
-        self.path.len()
+        self.trail.len()
     }
 
-    /// The atoms on the path: the given ones and the steps that were not undone.
+    /// The atoms on the trail: the given ones and the steps that were not undone.
     pub fn atoms(&self) -> &[Atom]
         ensures { result.now ≡ self.now.atoms }
     {
-        self.path.as_slice()
+        self.trail.as_slice()
     }
 
     /// Takes the placement: the atoms have one more, that it is in.
@@ -212,15 +212,15 @@ impl<'a> Frame<'a> {
         let opened = self.stands_open(placement);
         let node = Node {
             view: self.view,
-            path: &self.path,
+            trail: &self.trail,
             given: self.given,
             matrix: self.columns.matrix(),
             table: &self.table,
         };
         steps::pick(&node, &self.members, &mut self.steps, placement);
         members::pick(&node, &mut self.members, &mut self.sizes, placement);
-        self.sound = sound::step(&node, self.sound, placement, opened);
-        self.path.push_reserved(Atom::Has(placement));
+        self.consistent = consistent::step(&node, self.consistent, placement, opened);
+        self.trail.push_reserved(Atom::Has(placement));
     }
 
     /// Leaves the placement: the atoms have one more, that it is out.
@@ -231,15 +231,15 @@ impl<'a> Frame<'a> {
         let opened = self.stands_open(placement);
         let node = Node {
             view: self.view,
-            path: &self.path,
+            trail: &self.trail,
             given: self.given,
             matrix: self.columns.matrix(),
             table: &self.table,
         };
         steps::leave(&node, &mut self.steps, placement);
         members::leave(&node, &self.members, &mut self.sizes, placement);
-        self.sound = sound::step(&node, self.sound, placement, opened);
-        self.path.push_reserved(Atom::Lacks(placement));
+        self.consistent = consistent::step(&node, self.consistent, placement, opened);
+        self.trail.push_reserved(Atom::Lacks(placement));
     }
 
     /// Undoes the last step.
@@ -247,26 +247,26 @@ impl<'a> Frame<'a> {
         requires { self.old.given < length self.old.atoms }
         ensures { self.new ≡ step_back self.old }
     {
-        let mark = self.path.len() - 1;
+        let level = self.trail.len() - 1;
         let node = Node {
             view: self.view,
-            path: &self.path,
+            trail: &self.trail,
             given: self.given,
             matrix: self.columns.matrix(),
             table: &self.table,
         };
         steps::back(&node, &mut self.steps);
         members::back(&node, &mut self.members, &mut self.sizes);
-        self.sound = sound::back(&node, self.sound);
-        self.path.truncate(mark);
+        self.consistent = consistent::back(&node, self.consistent);
+        self.trail.truncate(level);
     }
 
-    /// Undoes the steps after a mark.
-    pub fn back_to(&mut self, mark: usize)
-        requires { self.old.given ≤ mark }
-        ensures { self.new ≡ back_to self.old mark }
+    /// Undoes the steps after a level.
+    pub fn backtrack_to(&mut self, level: usize)
+        requires { self.old.given ≤ level }
+        ensures { self.new ≡ backtrack_to self.old level }
     {
-        while self.mark() > mark {
+        while self.level() > level {
             self.back();
         }
     }
@@ -280,12 +280,12 @@ impl<'a> Frame<'a> {
     {
         let node = Node {
             view: self.view,
-            path: &self.path,
+            trail: &self.trail,
             given: self.given,
             matrix: self.columns.matrix(),
             table: &self.table,
         };
-        looks::list_options(&node, &self.steps, item, &mut self.options);
+        queries::list_options(&node, &self.steps, item, &mut self.options);
         &self.options
     }
 
@@ -295,12 +295,12 @@ impl<'a> Frame<'a> {
     {
         let node = Node {
             view: self.view,
-            path: &self.path,
+            trail: &self.trail,
             given: self.given,
             matrix: self.columns.matrix(),
             table: &self.table,
         };
-        looks::first_open(&node, &self.steps)
+        queries::first_open(&node, &self.steps)
     }
 
     /// Whether no placement is open.
@@ -321,12 +321,12 @@ impl<'a> Frame<'a> {
     {
         let node = Node {
             view: self.view,
-            path: &self.path,
+            trail: &self.trail,
             given: self.given,
             matrix: self.columns.matrix(),
             table: &self.table,
         };
-        looks::next_due(&node, &self.steps, &self.members)
+        queries::next_due(&node, &self.steps, &self.members)
     }
 
     /// Whether the placement is dead: it isn't a placement of the design now, or an atom leaves it out.
@@ -336,7 +336,7 @@ impl<'a> Frame<'a> {
         if self.stands_open(placement) {
             return false;
         }
-        plain::is_dead(self.view, &self.path, placement)
+        plain::is_dead(self.view, &self.trail, placement)
     }
 
     /// Whether the placement has the item.
@@ -355,7 +355,7 @@ impl<'a> Frame<'a> {
         if self.stands_open(placement) {
             return true;
         }
-        sound::is_right(self.view, &self.path, &self.members, placement)
+        consistent::is_right(self.view, &self.trail, &self.members, placement)
     }
 
     /// How many placements of the design have the item and are not ruled out.
@@ -366,7 +366,7 @@ impl<'a> Frame<'a> {
     {
         let node = Node {
             view: self.view,
-            path: &self.path,
+            trail: &self.trail,
             given: self.given,
             matrix: self.columns.matrix(),
             table: &self.table,
@@ -377,11 +377,11 @@ impl<'a> Frame<'a> {
     /// How many members with the item each tiling that meets the atoms has at least: what the design and the atoms ask
     /// for, or what the base has if that is more.
     pub fn least(&self, item: Item) -> usize
-        ensures { result ≡ lower self.now.scene self.now.atoms item }
+        ensures { result ≡ least_with_base self.now.scene self.now.atoms item }
     {
         let node = Node {
             view: self.view,
-            path: &self.path,
+            trail: &self.trail,
             given: self.given,
             matrix: self.columns.matrix(),
             table: &self.table,
@@ -398,7 +398,7 @@ impl<'a> Frame<'a> {
     {
         let node = Node {
             view: self.view,
-            path: &self.path,
+            trail: &self.trail,
             given: self.given,
             matrix: self.columns.matrix(),
             table: &self.table,
@@ -418,12 +418,12 @@ impl<'a> Frame<'a> {
     {
         let node = Node {
             view: self.view,
-            path: &self.path,
+            trail: &self.trail,
             given: self.given,
             matrix: self.columns.matrix(),
             table: &self.table,
         };
-        match looks::judge(&node, &self.steps, self.sound) {
+        match queries::judge(&node, &self.steps, self.consistent) {
             Some(true) => Some(&self.members),
             Some(false) => None,
             None => self.found_plainly(),
@@ -434,7 +434,7 @@ impl<'a> Frame<'a> {
     fn found_plainly(&self) -> Option<&[u32]>
         ensures { MatchOption result (in_family self.now.scene self.now.atoms (base self.now.scene self.now.atoms) ≡ false) (λ t. (t.now ≡ base self.now.scene self.now.atoms) × (in_family self.now.scene self.now.atoms (base self.now.scene self.now.atoms) ≡ true)) }
     {
-        if !plain::is_member(self.view, &self.path, &self.members) {
+        if !plain::is_member(self.view, &self.trail, &self.members) {
             return None;
         }
         Some(&self.members)
@@ -446,11 +446,11 @@ impl<'a> Frame<'a> {
     {
         let node = Node {
             view: self.view,
-            path: &self.path,
+            trail: &self.trail,
             given: self.given,
             matrix: self.columns.matrix(),
             table: &self.table,
         };
-        looks::stands_open(&node, &self.steps, placement)
+        queries::stands_open(&node, &self.steps, placement)
     }
 }

@@ -4,12 +4,12 @@ ghost use Rattle.std.specs.Prelude.{MatchOption, false, if◌then◌else◌, len
 ghost use Rattle.std.specs.List.{filter, list_all, list_any};
 ghost use Rattle.std.specs.Vec.{vec_capacity};
 ghost use Rattle.poly_tiling.specs.Lists.{mem, put, put_all, tally};
-ghost use Rattle.poly_tiling.specs.Puzzle.{clash, count, has_item, items, items_of, same_item};
+ghost use Rattle.poly_tiling.specs.Puzzle.{conflicts, count, has_item, items, items_of, same_item};
 ghost use Rattle.poly_tiling.specs.Names.{WellNamed};
 ghost use Rattle.poly_atom.specs.Atoms.{in_family, meets, meets_all};
 ghost use Rattle.poly_atom.specs.Hopeless.{asked, base, lacks};
-ghost use Rattle.poly_frame.specs.Open.{asks, dead, lower, open_in, others, ruled_out, upper};
-ghost use Rattle.poly_frame.specs.Plain.{allowed, needed, of_asked};
+ghost use Rattle.poly_frame.specs.Open.{least_at, dead, least_with_base, open_in, others, ruled_out, most_at};
+ghost use Rattle.poly_frame.specs.Plain.{most_by, least_by, of_asked};
 ghost use Rattle.poly_tiling.specs.declared.item.Item.{Item};
 ghost use Rattle.poly_tiling.specs.declared.item.Item.TheVariants.{Cell as CellItem, Piece as PieceItem};
 
@@ -100,7 +100,7 @@ pub fn is_dead(view: &View, atoms: &[Atom], number: u32) -> bool
 
 // What one more atom lets an item have at most.
 fn under(atom: &Atom, item: &Item, most: u8) -> u8
-    ensures { result ≡ allowed atom.now item.now most }
+    ensures { result ≡ most_by atom.now item.now most }
 {
     match atom {
         Atom::AtMost(i, n) => { if i.is(item) { (*n).min(most) } else { most } }
@@ -109,7 +109,7 @@ fn under(atom: &Atom, item: &Item, most: u8) -> u8
 }
 
 fn most_of(view: &View, atoms: &[Atom], item: &Item) -> u8
-    ensures { result ≡ upper view.now atoms.now item.now }
+    ensures { result ≡ most_at view.now atoms.now item.now }
 {
     let mut most = view.bounds(*item).1;
     let mut k = atoms.len();
@@ -122,7 +122,7 @@ fn most_of(view: &View, atoms: &[Atom], item: &Item) -> u8
 
 // What one more atom asks an item to have at least.
 fn over(atom: &Atom, item: &Item, least: u8) -> u8
-    ensures { result ≡ needed atom.now item.now least }
+    ensures { result ≡ least_by atom.now item.now least }
 {
     match atom {
         Atom::AtLeast(i, n) => { if i.is(item) { (*n).max(least) } else { least } }
@@ -131,7 +131,7 @@ fn over(atom: &Atom, item: &Item, least: u8) -> u8
 }
 
 pub(crate) fn least_of(view: &View, atoms: &[Atom], item: &Item) -> u8
-    ensures { result ≡ asks view.now atoms.now item.now }
+    ensures { result ≡ least_at view.now atoms.now item.now }
 {
     let mut least = view.bounds(*item).0;
     let mut k = atoms.len();
@@ -155,13 +155,13 @@ fn others_with(view: &View, members: &[u32], but: u32, item: &Item) -> usize
 }
 
 fn is_full(view: &View, atoms: &[Atom], members: &[u32], number: u32, item: &Item) -> bool
-    ensures { result ≡ nat_le (upper view.now atoms.now item.now) (others view.now members.now number item.now) }
+    ensures { result ≡ nat_le (most_at view.now atoms.now item.now) (others view.now members.now number item.now) }
 {
     most_of(view, atoms, item) as usize <= others_with(view, members, number, item)
 }
 
 fn is_full_cell(view: &View, atoms: &[Atom], members: &[u32], number: u32, cells: &[Cell]) -> bool
-    ensures { result ≡ list_any (λ c. nat_le (upper view.now atoms.now (CellItem c)) (others view.now members.now number (CellItem c))) cells.now }
+    ensures { result ≡ list_any (λ c. nat_le (most_at view.now atoms.now (CellItem c)) (others view.now members.now number (CellItem c))) cells.now }
 {
     cells
         .iter()
@@ -176,7 +176,7 @@ fn is_full_with(
     name: Name,
     cells: &[Cell],
 ) -> bool
-    ensures { result ≡ list_any (λ i. nat_le (upper view.now atoms.now i) (others view.now members.now number i)) (PieceItem name ∷ map (λ c. CellItem c) cells.now) }
+    ensures { result ≡ list_any (λ i. nat_le (most_at view.now atoms.now i) (others view.now members.now number i)) (PieceItem name ∷ map (λ c. CellItem c) cells.now) }
 {
     if is_full(view, atoms, members, number, &Item::Piece(name)) {
         return true;
@@ -185,7 +185,7 @@ fn is_full_with(
 }
 
 fn is_full_somewhere(view: &View, atoms: &[Atom], members: &[u32], number: u32) -> bool
-    ensures { result ≡ list_any (λ i. nat_le (upper view.now atoms.now i) (others view.now members.now number i)) (items view.now number) }
+    ensures { result ≡ list_any (λ i. nat_le (most_at view.now atoms.now i) (others view.now members.now number i)) (items view.now number) }
 {
     match view.placement(number) {
         None => false,
@@ -199,7 +199,7 @@ pub fn is_ruled_out(view: &View, atoms: &[Atom], members: &[u32], number: u32) -
     ensures { result ≡ ruled_out view.now atoms.now number }
 {
     any_lacks(atoms, number)
-        || view.any_clash(number, members)
+        || view.any_conflict(number, members)
         || is_full_somewhere(view, atoms, members, number)
 }
 
@@ -213,7 +213,7 @@ pub fn is_open(view: &View, atoms: &[Atom], members: &[u32], number: u32) -> boo
 
 // Whether the members have too few of the item.
 fn is_due(view: &View, atoms: &[Atom], members: &[u32], item: &Item) -> bool
-    ensures { result ≡ nat_lt (count view.now members.now item.now) (asks view.now atoms.now item.now) }
+    ensures { result ≡ nat_lt (count view.now members.now item.now) (least_at view.now atoms.now item.now) }
 {
     view.count(members, item) < least_of(view, atoms, item) as usize
 }
@@ -226,7 +226,7 @@ fn is_listed(view: &View, item: &Item) -> bool
 
 /// An item that an atom asks for, that is not in the view, and that the members don't cover often enough. It has no option.
 pub(crate) fn due_elsewhere(view: &View, atoms: &[Atom], members: &[u32]) -> Option<Item>
-    ensures { MatchOption result (list_all (of_asked (λ i. list_any (λ b. same_item b.item i) view.now.bounds || not (nat_lt (count view.now members.now i) (asks view.now atoms.now i)))) atoms.now ≡ true) (λ i. nat_lt (count view.now members.now i) (asks view.now atoms.now i) ≡ true) }
+    ensures { MatchOption result (list_all (of_asked (λ i. list_any (λ b. same_item b.item i) view.now.bounds || not (nat_lt (count view.now members.now i) (least_at view.now atoms.now i)))) atoms.now ≡ true) (λ i. nat_lt (count view.now members.now i) (least_at view.now atoms.now i) ≡ true) }
 {
     for atom in atoms {
         if let Atom::AtLeast(item, _) = atom {
@@ -253,9 +253,9 @@ pub(crate) fn count_allowed(view: &View, atoms: &[Atom], members: &[u32], item: 
 }
 
 /// How many members with the item a tiling of the family has at least.
-pub(crate) fn lower_of(view: &View, atoms: &[Atom], members: &[u32], item: &Item) -> usize
+pub(crate) fn with_base_of(view: &View, atoms: &[Atom], members: &[u32], item: &Item) -> usize
     requires { members.now ≡ base view.now atoms.now }
-    ensures { result ≡ lower view.now atoms.now item.now }
+    ensures { result ≡ least_with_base view.now atoms.now item.now }
 {
     (least_of(view, atoms, item) as usize).max(view.count(members, item))
 }

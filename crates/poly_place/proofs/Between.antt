@@ -90,17 +90,17 @@ module _ (v w : View) (x : Delta) (c : IsChangeOf v w x) where
   low_pins = carried_given v w c.names v.pins (pin_given v c.shown.well)
 
   pub fresh_is : x.fresh.items ≡ filter (λ n. not (mem v.live n)) w.live
-  fresh_is = rest_is w c.turned.well w.live v.live x.fresh.items (IsPlacement c.after) (IsPlacement c.before) c.turned.shows.places was_live c.delta.fresh c.turned.well.named c.turned.well.live_up
+  fresh_is = rest_is w c.updated.well w.live v.live x.fresh.items (IsPlacement c.after) (IsPlacement c.before) c.updated.shows.places was_live c.delta.fresh c.updated.well.named c.updated.well.live_up
 
   pub gone_is : x.gone.items ≡ filter (λ n. not (mem w.live n)) v.live
-  gone_is = rest_is w c.turned.well v.live w.live x.gone.items (IsPlacement c.before) (IsPlacement c.after) was_live c.turned.shows.places c.delta.gone low_live
+  gone_is = rest_is w c.updated.well v.live w.live x.gone.items (IsPlacement c.before) (IsPlacement c.after) was_live c.updated.shows.places c.delta.gone low_live
       (order_kept v w c.names v.live c.shown.well.named c.shown.well.live_up)
 
   pub pinned_is : x.pinned.items ≡ filter (λ n. not (mem v.pins n)) w.pins
-  pinned_is = rest_is w c.turned.well w.pins v.pins x.pinned.items (IsPin c.after) (IsPin c.before) c.turned.shows.pins was_pinned c.delta.pinned c.turned.well.pins_named c.turned.well.pins_up
+  pinned_is = rest_is w c.updated.well w.pins v.pins x.pinned.items (IsPin c.after) (IsPin c.before) c.updated.shows.pins was_pinned c.delta.pinned c.updated.well.pins_named c.updated.well.pins_up
 
   pub unpinned_is : x.unpinned.items ≡ filter (λ n. not (mem w.pins n)) v.pins
-  unpinned_is = rest_is w c.turned.well v.pins w.pins x.unpinned.items (IsPin c.before) (IsPin c.after) was_pinned c.turned.shows.pins c.delta.unpinned low_pins
+  unpinned_is = rest_is w c.updated.well v.pins w.pins x.unpinned.items (IsPin c.before) (IsPin c.after) was_pinned c.updated.shows.pins c.delta.unpinned low_pins
       (order_kept v w c.names v.pins c.shown.well.pins_named c.shown.well.pins_up)
 
 -- a plan of the table, by a view that the table has grown from
@@ -109,7 +109,7 @@ planned_change v t w before after x right grown d e plan = record {
   before = before;
   after = after;
   shown = right;
-  turned = plan.right;
+  updated = plan.right;
   first = d;
   second = e;
   names = names_on v t w grown.0 plan.names;

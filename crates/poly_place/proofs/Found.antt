@@ -21,7 +21,7 @@ use Rattle.poly_place.specs.Touched.{AreMarked, touches, touches_named}
 use Rattle.poly_place.proofs.Indexed.{touched_has}
 use Rattle.poly_place.proofs.Righted.{number_in}
 use Rattle.poly_place.proofs.Rows.{with_from}
-use Rattle.poly_place.proofs.Turned.{apart_list, kept_is, stays_named, unmarked_in}
+use Rattle.poly_place.proofs.Updated.{apart_list, kept_is, stays_named, unmarked_in}
 
 pub found_numbers : (v u : View) (x : Change) (marks : List Bool) (new more : List Placement) (kept fresh : List ℕ) (found : List Placement) {d : Layout} → WellNamed v → AreMarked v x marks → kept ≡ unmarked_in v marks →
     GoesOnWith v.placements found new → u.placements ≡ new ++ more → AreNumbersOf new fresh found → IsListOf placement_cmp (λ p. IsPlacement d p × (touches x p ≡ true)) found → IsPermutation (kept ++ fresh) u.live →

@@ -28,7 +28,7 @@ use Rattle.poly_place.proofs.Marks.{or_false}
 use Rattle.poly_place.specs.Index.{AreNumbersWith, IsIndex, Row, has_of, item_of, row_in, rows_without, with_numbers}
 use Rattle.poly_place.specs.Touched.{AreMarked, touches, touches_named}
 use Rattle.poly_place.proofs.Rows.{items_stay, items_without, live_with, no_row_in, row_grown, row_kept, same_rows, with_from, with_live}
-use Rattle.poly_place.proofs.Turned.{apart_both, apart_list}
+use Rattle.poly_place.proofs.Updated.{apart_both, apart_list}
 use Rattle.poly_place.proofs.Untouched.{untouched_stays, untouched_was}
 
 -- the items of the design's placements are items of the design
@@ -161,8 +161,8 @@ module _ (v u : View) (d : Layout) (x : Change) (old : List Row) (marks : List B
         in_append_left n (kept i) (fresh i) (in_filter (λ n. not (marked n)) (row_in old i) n there (not_from_false (marked n) (marked_is n was ∙ f)))
   ]
 
-  turned_row : (i : Item) → AreNumbersWith u i (kept i ++ fresh i)
-  turned_row i = with_from u i (kept i ++ fresh i)
+  updated_row : (i : Item) → AreNumbersWith u i (kept i ++ fresh i)
+  updated_row i = with_from u i (kept i ++ fresh i)
       (λ n j. elim (in_append_cases n (kept i) (fresh i) j) [
         | inl k ↦ let r = still i n k in (r.0, r.1)
         | inr k ↦ let r = comes_in i n k in (r.0, r.1)
@@ -173,6 +173,6 @@ module _ (v u : View) (d : Layout) (x : Change) (old : List Row) (marks : List B
       (AllPairs-filter (λ x y. x ≢ y) (λ n. has_item u n i) found come.apart)
       (λ n a b. both_ways (touch n) (still i n a).2 (comes_in i n b).2))
 
-  pub turned_index : (rows : List Row) → rows ≡ with_numbers (has_of u.placements) found (rows_without marked old u.bounds) → IsIndex u rows
-  turned_index rows e = index_from u rows wu (grown_items u marked old found rows e) (λ i t.
-      subst (λ ns. AreNumbersWith u i ns) (sym (grown_row u marked old found rows i e t)) (turned_row i))
+  pub updated_index : (rows : List Row) → rows ≡ with_numbers (has_of u.placements) found (rows_without marked old u.bounds) → IsIndex u rows
+  updated_index rows e = index_from u rows wu (grown_items u marked old found rows e) (λ i t.
+      subst (λ ns. AreNumbersWith u i ns) (sym (grown_row u marked old found rows i e t)) (updated_row i))

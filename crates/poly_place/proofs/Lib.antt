@@ -7,7 +7,7 @@ pub mod Planned
 pub mod Marks
 pub mod RunOut
 pub mod Untouched
-pub mod Turned
+pub mod Updated
 pub mod Rows
 pub mod Indexed
 pub mod Found

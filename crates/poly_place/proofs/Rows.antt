@@ -140,13 +140,13 @@ pub row_missing : (rows : List Row) (i : Item) (ord : Row → Ordering) → ((r 
     (IsNonDecreasingBy (λ r. ordering_index (ord r)) rows → IsPartitionPoint (λ r. ord r ≡ Less) (λ r. ord r ≡ Greater) rows at) → None ≡ place_in rows i
 row_missing rows i ord is up at point =
     let rises : IsNonDecreasingBy (λ r. ordering_index (ord r)) rows = λ m n d l h. omega (arith, searchable rows i up m n d l h, ap ordering_index (is (get_or rows m d)), ap ordering_index (is (get_or rows n d))) in
-    let sides = point rises in
+    let numbered = point rises in
     no_place rows i (λ r j. elim (cases_Bool (same_item r.0 i)) [
       | inl t ↦
           let e : item_cmp r.0 i ≡ Equal = is_equal (item_cmp r.0 i) (sym (same_item_ties r.0 i) ∙ t) in
           let k = in_contains rows r j in
           let same : ord (get_or rows k.0 r) ≡ Equal = is (get_or rows k.0 r) ∙ ap (λ z. item_cmp z.0 i) k.2 ∙ e in
-          elim (cases_lt k.0 at) [ inl l ↦ let o = sides.0 k.0 r (omega arith) l in cc | inr g ↦ let o = sides.1 k.0 r g k.1 in cc ]
+          elim (cases_lt k.0 at) [ inl l ↦ let o = numbered.0 k.0 r (omega arith) l in cc | inr g ↦ let o = numbered.1 k.0 r g k.1 in cc ]
       | inr f ↦ f
     ])
 

@@ -13,7 +13,7 @@ pub record IsChangeOf (v w : View) (x : Delta) : Type 0 where
   pub before : Layout
   pub after : Layout
   pub shown : IsRight v before
-  pub turned : IsRight w after
+  pub updated : IsRight w after
   pub first : IsDesign before
   pub second : IsDesign after
   pub names : Names v w

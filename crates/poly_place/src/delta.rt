@@ -7,7 +7,7 @@ ghost use Rattle.poly_tiling.specs.Puzzle.{bound_in, same_item};
 ghost use Rattle.poly_place.specs.Falls.{falls};
 ghost use Rattle.poly_place.specs.Differences.{AreDifferences};
 
-use crate::sides::Sides;
+use crate::numbered::Numbered;
 use poly_design::Name;
 use poly_grid::Refusal;
 use poly_tiling::{Bound, Item, find_bound};
@@ -173,8 +173,8 @@ fn falls(to: &[Bound], bound: &Bound) -> Option<Name>
 pub(crate) fn differences(
     alloc: Global,
     count: usize,
-    old: &Sides,
-    new: &Sides,
+    old: &Numbered,
+    new: &Numbered,
 ) -> Result<Delta, Refusal>
     requires live_before { list_all (λ n. nat_lt n count) old.now.live.items ≡ true }
     requires live_after { list_all (λ n. nat_lt n count) new.now.live.items ≡ true }

@@ -12,13 +12,13 @@ ghost use Rattle.poly_tiling.specs.Puzzle.{View, items_of, same_item};
 ghost use Rattle.poly_tiling.specs.Shows.{Shows};
 ghost use Rattle.poly_tiling.specs.declared.item.Item.TheVariants.{Cell as CellItem};
 ghost use Rattle.poly_place.specs.Index.{AreNumbersWith, AreRows, IsIndex, has_of, item_of, place_in, row_in, rows_without, with_numbers};
-ghost use Rattle.poly_place.specs.Sides.{by_sides};
+ghost use Rattle.poly_place.specs.Numbered.{numbered_view};
 ghost use Rattle.poly_place.specs.Touched.{AreMarked};
 
 use crate::delta::{marks_of, unmarked};
 use crate::interner::Interner;
-use crate::sides::Sides;
-use crate::turn::Turn;
+use crate::numbered::Numbered;
+use crate::update::Update;
 use poly_design::{Change, Placement};
 use poly_grid::{Cell, Refusal};
 use poly_tiling::{Bound, Item};
@@ -77,13 +77,13 @@ impl Row {
 
 impl Index {
     /// The index of a whole design. The only refusal is `Memory`.
-    pub(crate) fn of(alloc: Global, names: &Interner, sides: &Sides) -> Result<Index, Refusal>
-        requires { WellNamed (by_sides names.now sides.now) }
-        ensures ok { IfOk result (λ x. IsIndex (by_sides names.now sides.now) x.rows.items) }
+    pub(crate) fn of(alloc: Global, names: &Interner, numbered: &Numbered) -> Result<Index, Refusal>
+        requires { WellNamed (numbered_view names.now numbered.now) }
+        ensures ok { IfOk result (λ x. IsIndex (numbered_view names.now numbered.now) x.rows.items) }
         ensures why { IfErr result (λ e. e ≡ Refusal.Memory) }
     {
-        let mut rows = copied(alloc, &[], &sides.bounds, &[])?;
-        scatter(&mut rows, names, &sides.live)?;
+        let mut rows = copied(alloc, &[], &numbered.bounds, &[])?;
+        scatter(&mut rows, names, &numbered.live)?;
         Ok(Index { rows })
     }
 
@@ -111,15 +111,15 @@ impl Index {
         alloc: Global,
         names: &Interner,
         marks: &[bool],
-        turn: &Turn,
+        update: &Update,
     ) -> Result<Index, Refusal>
         requires rows { AreRows self.now.rows.items }
-        requires well { WellNamed (by_sides names.now turn.now.sides) }
-        ensures ok { (v : View) (d : Layout) (x : Change) → v.placements ≡ names.now → WellNamed v → Shows v d → IsIndex v self.now.rows.items → AreMarked v x marks.now → Shows (by_sides names.now turn.now.sides) (changed d x) → AreNumbersWith (by_sides names.now turn.now.sides) (item_of x) turn.now.found.items → IfOk result (λ i. IsIndex (by_sides names.now turn.now.sides) i.rows.items) }
+        requires well { WellNamed (numbered_view names.now update.now.numbered) }
+        ensures ok { (v : View) (d : Layout) (x : Change) → v.placements ≡ names.now → WellNamed v → Shows v d → IsIndex v self.now.rows.items → AreMarked v x marks.now → Shows (numbered_view names.now update.now.numbered) (changed d x) → AreNumbersWith (numbered_view names.now update.now.numbered) (item_of x) update.now.found.items → IfOk result (λ i. IsIndex (numbered_view names.now update.now.numbered) i.rows.items) }
         ensures why { IfErr result (λ e. e ≡ Refusal.Memory) }
     {
-        let mut rows = copied(alloc, &self.rows, &turn.sides.bounds, marks)?;
-        scatter(&mut rows, names, &turn.found)?;
+        let mut rows = copied(alloc, &self.rows, &update.numbered.bounds, marks)?;
+        scatter(&mut rows, names, &update.found)?;
         Ok(Index { rows })
     }
 

@@ -4,12 +4,12 @@
 mod delta;
 mod index;
 mod interner;
-mod lead;
+mod numbered;
 mod parts;
 mod plan;
-mod sides;
+mod plan_change;
 mod table;
-mod turn;
+mod update;
 
 pub use delta::Delta;
 pub use interner::Interner;

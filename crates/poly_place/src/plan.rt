@@ -6,7 +6,7 @@ ghost use Rattle.poly_place.specs.Index.{IsIndex};
 
 use crate::delta::Delta;
 use crate::index::Index;
-use crate::sides::Sides;
+use crate::numbered::Numbered;
 use poly_tiling::View;
 use std::sync::Arc;
 
@@ -17,9 +17,9 @@ pub struct Plan {
     pub delta: Delta,
     /// The design after.
     pub view: Arc<View>,
-    pub(crate) sides: Sides,
+    pub(crate) numbered: Numbered,
     pub(crate) index: Index,
     ghost well: { WellNamed (arc_value view) },
-    ghost shown: { arc_value view ≡ record { placements = (arc_value view).placements; live = sides.live.items; bounds = sides.bounds.items; pins = sides.pins.items } },
+    ghost shown: { arc_value view ≡ record { placements = (arc_value view).placements; live = numbered.live.items; bounds = numbered.bounds.items; pins = numbered.pins.items } },
     ghost indexed: { IsIndex (arc_value view) index.rows.items },
 }

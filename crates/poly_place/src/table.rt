@@ -12,10 +12,10 @@ ghost use Rattle.poly_place.specs.Spent.{IsSpent};
 
 use crate::index::Index;
 use crate::interner::Interner;
-use crate::lead::{lead, view_of};
+use crate::numbered::Numbered;
 use crate::parts::Parts;
 use crate::plan::Plan;
-use crate::sides::Sides;
+use crate::plan_change::{plan_change, view_of};
 use poly_design::{Change, Design};
 use poly_grid::Refusal;
 use poly_tiling::{Item, View};
@@ -27,20 +27,20 @@ use std::marker::Model;
 pub struct Table {
     alloc: Global,
     names: Interner,
-    sides: Sides,
+    numbered: Numbered,
     index: Index,
 }
 
 impl Model for Table {
     ghost use Rattle.poly_tiling.specs.Puzzle.{View};
     ghost use Rattle.poly_place.specs.Index.{IsIndexed};
-    ghost use Rattle.poly_place.specs.Sides.{by_sides};
+    ghost use Rattle.poly_place.specs.Numbered.{numbered_view};
 
     ghost Value = { View };
 
-    ghost view = { λ t. by_sides t.names t.sides };
+    ghost view = { λ t. numbered_view t.names t.numbered };
 
-    ghost invariant = { λ t. IsIndexed (by_sides t.names t.sides) t.index.rows.items };
+    ghost invariant = { λ t. IsIndexed (numbered_view t.names t.numbered) t.index.rows.items };
 }
 
 impl Table {
@@ -53,13 +53,13 @@ impl Table {
     {
         let mut names = Interner::new(alloc);
         let parts = Parts::of(alloc, design)?;
-        match Sides::of(&mut names, parts) {
-            Ok(sides) => {
-                let index = Index::of(alloc, &names, &sides)?;
+        match Numbered::of(&mut names, parts) {
+            Ok(numbered) => {
+                let index = Index::of(alloc, &names, &numbered)?;
                 Ok(Table {
                     alloc,
                     names,
-                    sides,
+                    numbered,
                     index,
                 })
             }
@@ -72,7 +72,7 @@ impl Table {
         ensures ok { IfOk result (λ v. v ≡ self.now) }
         ensures why { IfErr result (λ e. e ≡ Refusal.Memory) }
     {
-        view_of(self.alloc, &self.names, &self.sides)
+        view_of(self.alloc, &self.names, &self.numbered)
     }
 
     /// The numbers of the design's placements that have the item, each once; none if the item isn't in the design.
@@ -119,10 +119,10 @@ impl Table {
         ensures spent { result ≡ Err Refusal.Spent → IsSpent self.old.placements after.now }
         ensures why { IfErr result (λ e. (e ≡ Refusal.Spent) ⊎ (e ≡ Refusal.Memory)) }
     {
-        lead(
+        plan_change(
             self.alloc,
             &mut self.names,
-            &self.sides,
+            &self.numbered,
             &self.index,
             design,
             change,
@@ -136,7 +136,7 @@ impl Table {
         ensures now { self.new ≡ arc_value plan.view }
         ensures right { (d : Layout) → IsRight (arc_value plan.view) d → IsRight self.new d }
     {
-        self.sides = plan.sides;
+        self.numbered = plan.numbered;
         self.index = plan.index;
     }
 }

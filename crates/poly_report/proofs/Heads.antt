@@ -12,7 +12,7 @@ use Rattle.poly_atom.specs.declared.atom.Atom.{Atom}
 use Rattle.poly_report.specs.declared.tree.Arm.{Arm}
 use Rattle.poly_report.specs.Trees.{heads}
 use Rattle.poly_report.specs.Shapes.{arms_list}
-use Rattle.poly_frame.specs.Open.{arms_fit, lower, ruled_out}
+use Rattle.poly_frame.specs.Open.{arms_fit, least_with_base, ruled_out}
 
 pub all_heads : (f : ℕ → Bool) (arms : List Arm) → list_all f (heads (arms_list arms)) ≡ list_all (λ a. f a.placement) arms
 all_heads f [] = refl
@@ -22,22 +22,22 @@ all_heads f (a ∷ arms) = ap (λ b. f a.placement && b) (all_heads f arms)
 pub not_once : (v : View) (A : List Atom) (i : Item) (arms : List Arm) → distinct (heads (arms_list arms)) ≡ false → false ≡ arms_fit v A i (heads (arms_list arms))
 not_once v A i arms n =
     let ps = heads (arms_list arms) in
-    ap (λ b. b && list_all (λ p. has_item v p i) ps && ltb (tally (λ p. has_item v p i && not (ruled_out v A p) && not (mem ps p)) v.live) (lower v A i)) (sym n)
+    ap (λ b. b && list_all (λ p. has_item v p i) ps && ltb (tally (λ p. has_item v p i && not (ruled_out v A p) && not (mem ps p)) v.live) (least_with_base v A i)) (sym n)
 
 pub not_all : (v : View) (A : List Atom) (i : Item) (arms : List Arm) → distinct (heads (arms_list arms)) ≡ true → list_all (λ a. has_item v a.placement i) arms ≡ false →
     false ≡ arms_fit v A i (heads (arms_list arms))
 not_all v A i arms d n =
     let ps = heads (arms_list arms) in
-    let few = ltb (tally (λ p. has_item v p i && not (ruled_out v A p) && not (mem ps p)) v.live) (lower v A i) in
+    let few = ltb (tally (λ p. has_item v p i && not (ruled_out v A p) && not (mem ps p)) v.live) (least_with_base v A i) in
     ap (λ b. b && few) (sym (all_heads (λ p. has_item v p i) arms ∙ n)) ∙ ap (λ b. b && list_all (λ p. has_item v p i) ps && few) (sym d)
 
 -- other arms fit if the count does
 few_fit : (v : View) (A : List Atom) (i : Item) (arms : List Arm) (loose low : ℕ) → distinct (heads (arms_list arms)) ≡ true → list_all (λ a. has_item v a.placement i) arms ≡ true →
-    loose ≡ tally (λ p. has_item v p i && not (ruled_out v A p) && not (mem (heads (arms_list arms)) p)) v.live → low ≡ lower v A i →
+    loose ≡ tally (λ p. has_item v p i && not (ruled_out v A p) && not (mem (heads (arms_list arms)) p)) v.live → low ≡ least_with_base v A i →
     ltb loose low ≡ arms_fit v A i (heads (arms_list arms))
 few_fit v A i arms loose low d h e l =
     let ps = heads (arms_list arms) in
-    let few = ltb (tally (λ p. has_item v p i && not (ruled_out v A p) && not (mem ps p)) v.live) (lower v A i) in
+    let few = ltb (tally (λ p. has_item v p i && not (ruled_out v A p) && not (mem ps p)) v.live) (least_with_base v A i) in
     ap (λ n. ltb n low) e ∙ ap (λ n. ltb (tally (λ p. has_item v p i && not (ruled_out v A p) && not (mem ps p)) v.live) n) l
     ∙ ap (λ b. b && few) (sym (all_heads (λ p. has_item v p i) arms ∙ h)) ∙ ap (λ b. b && list_all (λ p. has_item v p i) ps && few) (sym d)
 
@@ -73,7 +73,7 @@ allowed_apart v A i ps once d h =
 
 -- so three counts decide whether arms fit: the placements of the item that are not ruled out, the arms among these, and what is needed
 pub rest_fits : (v : View) (A : List Atom) (i : Item) (arms : List Arm) (all taken rest low : ℕ) → distinct v.live ≡ true → distinct (heads (arms_list arms)) ≡ true → list_all (λ a. has_item v a.placement i) arms ≡ true →
-    all ≡ tally (λ p. has_item v p i && not (ruled_out v A p)) v.live → taken ≡ tally (λ a. mem v.live a.placement && not (ruled_out v A a.placement)) arms → rest ≡ all - taken → low ≡ lower v A i →
+    all ≡ tally (λ p. has_item v p i && not (ruled_out v A p)) v.live → taken ≡ tally (λ a. mem v.live a.placement && not (ruled_out v A a.placement)) arms → rest ≡ all - taken → low ≡ least_with_base v A i →
     ltb rest low ≡ arms_fit v A i (heads (arms_list arms))
 rest_fits v A i arms all taken rest low once d h a t r l =
     let parts = allowed_apart v A i (heads (arms_list arms)) once d (all_heads (λ p. has_item v p i) arms ∙ h) in

@@ -4,7 +4,7 @@ use Rattle.std.specs.List.{list_any}
 use Rattle.std.proofs.lemmas.Bool.{and_parts, and_from, or_cases, or_left, or_right, both_ways, not-true, not-false, not_from_false, false_from_ne_true, cases_Bool, and_cases, ltb-false}
 use Rattle.poly_tiling.specs.Lists.{mem}
 use Rattle.poly_design.specs.declared.placement.Placement.{Placement}
-use Rattle.poly_tiling.specs.Puzzle.{View, items_of, same_item, clash, share_cell, least, most}
+use Rattle.poly_tiling.specs.Puzzle.{View, items_of, same_item, conflicts, share_cell, least, most}
 use Rattle.poly_atom.specs.declared.atom.Atom.{Atom}
 use Rattle.poly_atom.specs.declared.atom.Atom.TheVariants.{Has, Lacks, AtLeast, AtMost}
 use Rattle.poly_atom.specs.Guards.{guards}
@@ -60,8 +60,8 @@ share_none : (o : Option Placement) → share_cell o None ≡ false
 share_none None = refl
 share_none (Some x) = refl
 
-named_clash : (old new : View) → Names old new → (p q : ℕ) → clash old p q ≡ true → clash new p q ≡ true
-named_clash old new names p q h =
+named_conflict : (old new : View) → Names old new → (p q : ℕ) → conflicts old p q ≡ true → conflicts new p q ≡ true
+named_conflict old new names p q h =
     let hs = and_parts (not (eqb p q)) (share_cell (slice_get old.placements p) (slice_get old.placements q)) h in
     let a = slice_get_more (λ o. share_cell o (slice_get old.placements q)) old.placements names.0 p refl hs.1 in
     let b = slice_get_more (λ o. share_cell (slice_get (old.placements ++ names.0) p) o) old.placements names.0 q (share_none _) a in
@@ -84,7 +84,7 @@ later_change old new A wn wm names = record {
   pinned = λ p i. elim (cases_Bool (mem new.pins p)) [ inl y ↦ inl (mem_in new.pins p y) | inr n ↦ inr (in_append_right (Has p) A (guards old new) (guard_has old new p i n)) ];
   carried = λ p i h. ap (λ xs. list_any (λ j. same_item j i) (items_of (slice_get xs p))) names.1 ∙ slice_get_more (λ o. list_any (λ j. same_item j i) (items_of o)) old.placements names.0 p refl h;
   same_items = items_same old new wn names;
-  clashed = named_clash old new names;
+  conflicting = named_conflict old new names;
   once = (live_once new wm);
 }
 

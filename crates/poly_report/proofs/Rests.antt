@@ -5,7 +5,7 @@ use Rattle.std.proofs.lemmas.Bool.{and_from, and_parts, both_ways, cases_lt, le-
 use Rattle.std.proofs.lemmas.List.{append-nil, map-append}
 use Rattle.poly_tiling.specs.Lists.{mem}
 use Rattle.poly_tiling.specs.declared.item.Item.{Item}
-use Rattle.poly_tiling.specs.Puzzle.{View, clash, count, has_item, is_piece, items, most}
+use Rattle.poly_tiling.specs.Puzzle.{View, conflicts, count, has_item, is_piece, items, most}
 use Rattle.poly_tiling.proofs.Counts.{ascending_distinct, tally_within}
 use Rattle.poly_tiling.proofs.Lists.{In, all_from, any_from, any_none, in_append_cases, in_append_left, in_mem}
 use Rattle.poly_atom.specs.declared.atom.Atom.{Atom}
@@ -14,8 +14,8 @@ use Rattle.poly_atom.specs.Hopeless.{base, hopeless, lacks}
 use Rattle.poly_atom.specs.Newly.{IsOpenFor}
 use Rattle.poly_atom.proofs.Bases.{base_up}
 use Rattle.poly_atom.proofs.Hopes.{leaving_keeps_hope_lem, taking_keeps_hope_lem}
-use Rattle.poly_frame.specs.Open.{dead, open_in, others, ruled_out, upper}
-use Rattle.poly_frame.proofs.Later.{upper_le_most}
+use Rattle.poly_frame.specs.Open.{dead, open_in, others, ruled_out, most_at}
+use Rattle.poly_frame.proofs.Later.{most_le_most}
 use Rattle.poly_report.specs.Trees.{Arms, Branches, Finds, NoArms, OneArm, Plan, Rests, Splits}
 use Rattle.poly_report.specs.Holds.{arm_atoms}
 use Rattle.poly_report.specs.Leaves.{arms_rests, rests}
@@ -60,9 +60,9 @@ open_for v A p h =
     let hs = and_parts (mem v.live p) (open_in v A p) h in
     let os = and_parts (not (mem (base v A) p)) (not (ruled_out v A p)) hs.1 in
     let out = not-true _ os.0 in
-    let full = list_any (λ i. leb (upper v A i) (others v (base v A) p i)) (items v p) in
-    let x = or_parts (list_any (λ a. lacks a p) A || list_any (λ q. clash v p q) (base v A)) full (not-true _ os.1) in
-    let y = or_parts (list_any (λ a. lacks a p) A) (list_any (λ q. clash v p q) (base v A)) x.0 in
+    let full = list_any (λ i. leb (most_at v A i) (others v (base v A) p i)) (items v p) in
+    let x = or_parts (list_any (λ a. lacks a p) A || list_any (λ q. conflicts v p q) (base v A)) full (not-true _ os.1) in
+    let y = or_parts (list_any (λ a. lacks a p) A) (list_any (λ q. conflicts v p q) (base v A)) x.0 in
     record {
       live = hs.0;
       outside = out;
@@ -71,10 +71,10 @@ open_for v A p h =
       room = any_none (λ i. is_piece i && leb (most v i) (count v (base v A) i)) (items v p) (λ i k e.
           let low = leb-true (most v i) (count v (base v A) i) (and_parts (is_piece i) (leb (most v i) (count v (base v A) i)) e).1 in
           let all = count_others v A p i out in
-          let top = upper_le_most v i A in
-          elim (cases_lt (others v (base v A) p i) (upper v A i)) [
+          let top = most_le_most v i A in
+          elim (cases_lt (others v (base v A) p i) (most_at v A i)) [
             | inl l ↦ absurd (omega arith)
-            | inr g ↦ both_ways full x.1 (any_from (λ j. leb (upper v A j) (others v (base v A) p j)) (items v p) i k (le-leb _ _ g))
+            | inr g ↦ both_ways full x.1 (any_from (λ j. leb (most_at v A j) (others v (base v A) p j)) (items v p) i k (le-leb _ _ g))
           ]);
     }
 

@@ -12,7 +12,7 @@ use Rattle.poly_atom.specs.declared.atom.Atom.TheVariants.{Has, Lacks}
 use Rattle.poly_atom.specs.Atoms.{meets, meets_all, in_family}
 use Rattle.poly_atom.specs.Hopeless.{base}
 use Rattle.poly_report.specs.Trees.{Plan, Rests, Finds, Branches, Splits, Arms, NoArms, OneArm, heads}
-use Rattle.poly_frame.specs.Open.{ruled_out, open_in, dead, lower, arms_fit}
+use Rattle.poly_frame.specs.Open.{ruled_out, open_in, dead, least_with_base, arms_fit}
 use Rattle.poly_report.specs.Holds.{arm_atoms, holds, arms_hold}
 use Rattle.poly_report.specs.Leaves.{tilings, arms_tilings, rests, arms_rests}
 use Rattle.poly_report.specs.Laws.{TreesShareOut}
@@ -22,7 +22,7 @@ use Rattle.poly_tiling.proofs.Counts.{tally_within, ascending_distinct}
 use Rattle.poly_atom.proofs.Stairs.{meets_push, one_split, and_true}
 use Rattle.poly_tiling.proofs.Tilings.{IsTiling, parts}
 use Rattle.poly_atom.proofs.Bases.{base_up, base_within, base_fewer}
-use Rattle.poly_frame.proofs.Ruled.{not_ruled_out, dead_is_out, asks_is}
+use Rattle.poly_frame.proofs.Ruled.{not_ruled_out, dead_is_out, least_is}
 
 -- a member that is open nowhere is in the base
 found_same : (v : View) (T : List ℕ) (A : List Atom) → IsTiling v T → meets_all v T A ≡ true → holds v A Finds ≡ true → base v A ≡ T
@@ -51,15 +51,15 @@ some_arm v T A i ps t m f = elim (cases_Bool (list_any (λ p. mem T p) ps)) [
   | inl y ↦ y
   | inr n ↦
       let loose = λ (p : ℕ). has_item v p i && not (ruled_out v A p) && not (mem ps p) in
-      let f1 = and_parts (distinct ps && list_all (λ p. has_item v p i) ps) (nat_lt (tally loose v.live) (lower v A i)) f in
-      let short = ltb-true (tally loose v.live) (lower v A i) f1.1 in
+      let f1 = and_parts (distinct ps && list_all (λ p. has_item v p i) ps) (nat_lt (tally loose v.live) (least_with_base v A i)) f in
+      let short = ltb-true (tally loose v.live) (least_with_base v A i) f1.1 in
       let many = tally_within (λ p. has_item v p i) loose T v.live (ascending_distinct T t.up)
       (λ p k e. (
         t.placed p k,
         and_from _ _ (and_from _ _ e (not_from_false _ (not_ruled_out v T A t m p k)))
             (not_from_false _ (false_from_ne_true (mem ps p) (λ q. both_ways (list_any (λ p. mem T p) ps) n (any_from (λ p. mem T p) ps p (mem_in ps p q) (in_mem T p k))))),
       )) in
-      let a = asks_is v T i (t.enough i) A m in
+      let a = least_is v T i (t.enough i) A m in
       let b = base_fewer v T A t m (λ p. has_item v p i) in
       absurd (omega arith)
 ]

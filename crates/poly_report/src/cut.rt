@@ -98,7 +98,7 @@ fn walk_arms(
     ensures rests { IfOk result (λ yes. yes ≡ true → keep ≡ true → lists out.new.rests.items ≡ lists out.old.rests.items ++ arms_rests frame.old.scene frame.old.atoms [] (arms_list arms.now)) }
     ensures why { IfErr result (λ e. e ≡ Refusal.Memory) }
 {
-    let mark = frame.mark();
+    let level = frame.level();
     for arm in arms {
         let yes = walk_taken(alloc, frame, arm.placement, &arm.tree, keep, out)?;
         if !yes {
@@ -106,7 +106,7 @@ fn walk_arms(
         }
         frame.leave(arm.placement);
     }
-    frame.back_to(mark);
+    frame.backtrack_to(level);
     Ok(true)
 }
 

@@ -12,7 +12,7 @@ use Rattle.poly_report.specs.Trees.{Plan, Rests, Finds, Branches, Splits, Arms, 
 use Rattle.poly_frame.specs.Open.{open_in, dead, arms_fit}
 use Rattle.poly_report.specs.Holds.{arm_atoms, holds, arms_hold}
 use Rattle.poly_report.specs.Leaves.{rests, arms_rests}
-use Rattle.poly_frame.specs.Walk.{Walk, with_step, back_to, is_open, is_option, is_due, open_count}
+use Rattle.poly_frame.specs.Walk.{Walk, with_step, backtrack_to, is_open, is_option, is_due, open_count}
 use Rattle.poly_tiling.proofs.Lists.{In, all_in, all_from, all_append, in_append_right, in_mem}
 use Rattle.poly_report.specs.declared.tree.Arm.{Arm}
 use Rattle.poly_report.specs.Shapes.{plan_of, arms_list}
@@ -109,10 +109,10 @@ pub branch_grown : (v : View) (A : List Atom) (d : ℕ) (i : Item) (arms : Arms)
 branch_grown v A d i arms f g = record { right = and_from _ _ f g.right; low = let a = g.low in omega arith; less = g.less }
 
 -- a step that was taken back
-pub back_is : (w wp wq wb : Walk) (a : Atom) (m : ℕ) → m ≡ length w.atoms → wp ≡ with_step w a → wq ≡ wp → wb ≡ back_to wq m → wb ≡ w
+pub back_is : (w wp wq wb : Walk) (a : Atom) (m : ℕ) → m ≡ length w.atoms → wp ≡ with_step w a → wq ≡ wp → wb ≡ backtrack_to wq m → wb ≡ w
 back_is w wp wq wb a m e p q b =
     let t = take_at w.atoms (a ∷ []) m (sym e) in
-    b ∙ ap (λ x. back_to x m) (q ∙ p) ∙ ap (λ xs. record w { atoms = xs }) t
+    b ∙ ap (λ x. backtrack_to x m) (q ∙ p) ∙ ap (λ xs. record w { atoms = xs }) t
 
 pub split_of : (w wp wl : Walk) (d : ℕ) (q : ℕ) (t u : Plan) → 2 ≤ d → distinct w.scene.live ≡ true → mem w.scene.live q ≡ true → is_open w q ≡ true →
     wp ≡ with_step w (Has q) → wl ≡ with_step w (Lacks q) → Grown wp.scene wp.atoms (d - 1) t → Grown wl.scene wl.atoms (d - 1) u → Grown w.scene w.atoms d (Splits q t u)
@@ -131,8 +131,8 @@ past_next w wl wn ps j h e n =
     n ∙ ap (λ x. with_step x (Lacks p)) e ∙ ap (λ xs. record w { atoms = xs }) (append_assoc w.atoms (map (λ q. Lacks q) (take j ps)) (Lacks p ∷ []) ∙ ap (λ xs. w.atoms ++ xs) (sym (map-append (λ q. Lacks q) (take j ps) (p ∷ [])) ∙ ap (λ xs. map (λ q. Lacks q) xs) (sym (take_more ps j 0 h))))
 
 -- undoing the steps past the atoms
-pub past_back : (w wl : Walk) (ps : List ℕ) → wl ≡ past w ps → back_to wl (length w.atoms) ≡ w
-past_back w wl ps e = ap (λ x. back_to x (length w.atoms)) e ∙ ap (λ xs. record w { atoms = xs }) (take_at w.atoms (map (λ q. Lacks q) ps) (length w.atoms) refl)
+pub past_back : (w wl : Walk) (ps : List ℕ) → wl ≡ past w ps → backtrack_to wl (length w.atoms) ≡ w
+past_back w wl ps e = ap (λ x. backtrack_to x (length w.atoms)) e ∙ ap (λ xs. record w { atoms = xs }) (take_at w.atoms (map (λ q. Lacks q) ps) (length w.atoms) refl)
 
 pub names_next : (arms next : List Arm) (a : Arm) (ps : List ℕ) (j : ℕ) → j < length ps → next ≡ arms ++ a ∷ [] → a.placement ≡ get_or ps j 0 → heads (arms_list arms) ≡ take j ps → heads (arms_list next) ≡ take (j + 1) ps
 names_next arms next a ps j h e p n = ap (λ xs. heads (arms_list xs)) e ∙ ap heads (list_snoc arms a) ∙ heads_snoc (arms_list arms) a.placement (plan_of a.tree) ∙ ap (λ xs. xs ++ a.placement ∷ []) n ∙ ap (λ x. take j ps ++ x ∷ []) p ∙ sym (take_more ps j 0 h)

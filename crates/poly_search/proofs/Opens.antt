@@ -8,7 +8,7 @@ use Rattle.poly_atom.specs.declared.atom.Atom.TheVariants.{Has, Lacks}
 use Rattle.poly_tiling.specs.Lists.{mem, tally, distinct}
 use Rattle.poly_tiling.specs.Puzzle.{View, has_item, count}
 use Rattle.poly_atom.specs.Hopeless.{base, lacks}
-use Rattle.poly_frame.specs.Open.{asks, lower, ruled_out, open_in, arms_fit}
+use Rattle.poly_frame.specs.Open.{least_at, least_with_base, ruled_out, open_in, arms_fit}
 use Rattle.poly_frame.specs.Walk.{open_count}
 use Rattle.poly_tiling.proofs.Lists.{In, all_from, any_from, mem_in, in_mem}
 use Rattle.poly_tiling.proofs.Counts.{tally_within, tally_fewer}
@@ -19,8 +19,8 @@ use Rattle.poly_frame.proofs.Opens.{open_before}
 named_closed : (v : View) (A B : List Atom) (q : ℕ) → distinct v.live ≡ true → In (Has q) (A ++ B) → open_in v (A ++ B) q ≡ true → ⊥
 named_closed v A B q d i h = both_ways (mem (base v (A ++ B)) q) (not-true _ (and_parts (not (mem (base v (A ++ B)) q)) (not (ruled_out v (A ++ B) q)) h).0) (in_mem _ q (in_base_has v (A ++ B) q i))
 
-lacked : (A : List Atom) (q : ℕ) (clashes full : Bool) → In (Lacks q) A → (list_any (λ a. lacks a q) A || clashes || full) ≡ true
-lacked A q clashes full i = or_left (list_any (λ a. lacks a q) A || clashes) full (or_left (list_any (λ a. lacks a q) A) clashes (any_from (λ a. lacks a q) A (Lacks q) i (eq-eqb q q refl)))
+lacked : (A : List Atom) (q : ℕ) (meeting full : Bool) → In (Lacks q) A → (list_any (λ a. lacks a q) A || meeting || full) ≡ true
+lacked A q meeting full i = or_left (list_any (λ a. lacks a q) A || meeting) full (or_left (list_any (λ a. lacks a q) A) meeting (any_from (λ a. lacks a q) A (Lacks q) i (eq-eqb q q refl)))
 
 left_closed : (v : View) (A B : List Atom) (q : ℕ) → distinct v.live ≡ true → In (Lacks q) (A ++ B) → open_in v (A ++ B) q ≡ true → ⊥
 left_closed v A B q d i h = both_ways (ruled_out v (A ++ B) q) (not-true _ (and_parts (not (mem (base v (A ++ B)) q)) (not (ruled_out v (A ++ B) q)) h).1) (lacked (A ++ B) q _ _ i)
@@ -40,7 +40,7 @@ fewer_lacks v A B q d m h i = fewer_open v A B q d (mem_in _ q m) h (left_closed
 
 -- all options of an item that is due are the arms of a Branch
 pub options_fit : (v : View) (A : List Atom) (i : Item) (ps : List ℕ) → distinct v.live ≡ true → distinct ps ≡ true →
-    ((p : ℕ) → mem ps p ≡ (mem v.live p && (open_in v A p && has_item v p i))) → nat_lt (count v (base v A) i) (asks v A i) ≡ true → arms_fit v A i ps ≡ true
+    ((p : ℕ) → mem ps p ≡ (mem v.live p && (open_in v A p && has_item v p i))) → nat_lt (count v (base v A) i) (least_at v A i) ≡ true → arms_fit v A i ps ≡ true
 options_fit v A i ps d dp m due =
     let loose = λ (p : ℕ). has_item v p i && not (ruled_out v A p) && not (mem ps p) in
     let few = tally_within loose (λ p. has_item v p i) v.live (base v A) d (λ p j e.
@@ -55,4 +55,4 @@ options_fit v A i ps d dp m due =
     let a = ltb-true _ _ due in
     and_from _ _
     (and_from _ _ dp (all_from (λ p. has_item v p i) ps (λ p j. (and_parts (open_in v A p) (has_item v p i) (and_parts (mem v.live p) _ (sym (m p) ∙ in_mem ps p j)).1).1)))
-    (lt-ltb (tally loose v.live) (lower v A i) (omega arith))
+    (lt-ltb (tally loose v.live) (least_with_base v A i) (omega arith))

@@ -12,7 +12,7 @@ use Rattle.poly_tiling.specs.Puzzle.{View, is_tiling, has_item, same_item, count
 use Rattle.poly_atom.specs.Atoms.{meets_all, in_family}
 use Rattle.poly_atom.specs.Hopeless.{base}
 use Rattle.poly_report.specs.Trees.{Finds, Branches, NoArms}
-use Rattle.poly_frame.specs.Open.{asks, open_in}
+use Rattle.poly_frame.specs.Open.{least_at, open_in}
 use Rattle.poly_report.specs.Leaves.{tilings}
 use Rattle.poly_frame.specs.Walk.{open_count, is_due}
 use Rattle.poly_tiling.proofs.Lists.{all_in, all_append, tally_append, in_mem, in_append_right}
@@ -127,12 +127,12 @@ found_swept v A found found' rests rests' h ef er =
     members v A [] h = refl
     members v A (T ∷ Ts) h = let p = and_parts (in_family v A T) (list_all (λ T. in_family v A T) Ts) h in and_from _ _ (and_parts (is_tiling v T) (meets_all v T A) p.0).0 (members v A Ts p.1)
 
-asks_leave : (v : View) (A : List Atom) (p : ℕ) (i : Item) → asks v (A ++ Lacks p ∷ []) i ≡ asks v A i
-asks_leave v [] p i = refl
-asks_leave v (Has q ∷ A) p i = asks_leave v A p i
-asks_leave v (Lacks q ∷ A) p i = asks_leave v A p i
-asks_leave v (AtLeast j n ∷ A) p i = ap (λ u. cond (same_item j i) (max n u) u) (asks_leave v A p i)
-asks_leave v (AtMost j n ∷ A) p i = asks_leave v A p i
+least_leave : (v : View) (A : List Atom) (p : ℕ) (i : Item) → least_at v (A ++ Lacks p ∷ []) i ≡ least_at v A i
+least_leave v [] p i = refl
+least_leave v (Has q ∷ A) p i = least_leave v A p i
+least_leave v (Lacks q ∷ A) p i = least_leave v A p i
+least_leave v (AtLeast j n ∷ A) p i = ap (λ u. cond (same_item j i) (max n u) u) (least_leave v A p i)
+least_leave v (AtMost j n ∷ A) p i = least_leave v A p i
 
 -- the node after some placements are left
 abbrev pub behind : List Atom → List ℕ → List Atom
@@ -141,9 +141,9 @@ behind A ps = A ++ map (λ q. Lacks q) ps
 behind_next : (A : List Atom) (p : ℕ) (ps : List ℕ) → behind A (p ∷ ps) ≡ behind (A ++ Lacks p ∷ []) ps
 behind_next A p ps = sym (append_assoc A (Lacks p ∷ []) (map (λ q. Lacks q) ps))
 
-asks_behind : (v : View) (A : List Atom) (ps : List ℕ) (i : Item) → asks v (behind A ps) i ≡ asks v A i
-asks_behind v A [] i = ap (λ B. asks v B i) (append-nil A)
-asks_behind v A (p ∷ ps) i = ap (λ B. asks v B i) (behind_next A p ps) ∙ asks_behind v (A ++ Lacks p ∷ []) ps i ∙ asks_leave v A p i
+least_behind : (v : View) (A : List Atom) (ps : List ℕ) (i : Item) → least_at v (behind A ps) i ≡ least_at v A i
+least_behind v A [] i = ap (λ B. least_at v B i) (append-nil A)
+least_behind v A (p ∷ ps) i = ap (λ B. least_at v B i) (behind_next A p ps) ∙ least_behind v (A ++ Lacks p ∷ []) ps i ∙ least_leave v A p i
 
 base_behind : (v : View) (A : List Atom) (ps : List ℕ) → base v (behind A ps) ≡ base v A
 base_behind v A [] = ap (base v) (append-nil A)
@@ -177,7 +177,7 @@ pub item_swept : (v : View) (A : List Atom) (i : Item) (ps : List ℕ) (found : 
     ((p : ℕ) → mem ps p ≡ (mem v.live p && (open_in v A p && has_item v p i))) → Swept v (behind A ps) found found rests rests × IsLighter v (behind A ps) rests rests
 item_swept v A i ps found rests d due m =
     let B = behind A ps in
-    let short = subst (λ n. nat_lt (count v (base v B) i) n ≡ true) (sym (asks_behind v A ps i)) (subst (λ xs. nat_lt (count v xs i) (asks v A i) ≡ true) (sym (base_behind v A ps)) due) in
+    let short = subst (λ n. nat_lt (count v (base v B) i) n ≡ true) (sym (least_behind v A ps i)) (subst (λ xs. nat_lt (count v xs i) (least_at v A i) ≡ true) (sym (base_behind v A ps)) due) in
     let none = λ (p : ℕ). no_more (mem v.live p) (open_in v A p) (has_item v p i) (mem ps p) (m p) ∙ ap (λ b. mem v.live p && (b && has_item v p i)) (sym (open_behind v A ps p)) in
     let fit = options_fit v B i [] d refl none short in
     let z = one-le-pow (open_count v B) 3 (omega arith) in (

@@ -228,7 +228,7 @@ fn walk_arms(
     ensures rests { IfOk result (λ a. lists growth.new.leaves.rests.items ≡ lists growth.old.leaves.rests.items ++ (arms_rests frame.old.scene frame.old.atoms [] (arms_list a.arms.items) ++ left_over frame.old.atoms (length options.now) a.arms.items)) }
     ensures why { IfErr result (λ e. e ≡ Refusal.Memory) }
 {
-    let start = frame.mark();
+    let start = frame.level();
     let chained = growth.inner > 0 && options.len() < (depth / 2) as usize;
     let mut arms = Vec::with_capacity(alloc, options.len())?;
     let mut held: u32 = 0;
@@ -242,7 +242,7 @@ fn walk_arms(
                 && j <= (growth.nodes - kept) as usize
             {
                 growth.leaves.push_rest(alloc, frame)?;
-                frame.back_to(start);
+                frame.backtrack_to(start);
                 return Ok(Arms { arms, held });
             }
         }
@@ -253,16 +253,16 @@ fn walk_arms(
         } else {
             depth - 1
         };
-        let mark = frame.mark();
+        let level = frame.level();
         frame.pick(placement);
         let tree = child(alloc, frame, growth, kept + after, deeper)?;
-        frame.back_to(mark);
+        frame.backtrack_to(level);
         if after > 0 {
             frame.leave(placement);
         }
         arms.push(Arm { placement, tree })?;
     }
-    frame.back_to(start);
+    frame.backtrack_to(start);
     Ok(Arms { arms, held })
 }
 
@@ -364,13 +364,13 @@ fn split(
 {
     growth.nodes -= 1;
     growth.inner -= 1;
-    let mark = frame.mark();
+    let level = frame.level();
     frame.pick(placement);
     let taken = child(alloc, frame, growth, kept + 1, depth - 1)?;
-    frame.back_to(mark);
+    frame.backtrack_to(level);
     frame.leave(placement);
     let left = child(alloc, frame, growth, kept, depth - 1)?;
-    frame.back_to(mark);
+    frame.backtrack_to(level);
     let taken = Box::new(alloc, taken)?;
     let left = Box::new(alloc, left)?;
     Ok(Tree::Split {

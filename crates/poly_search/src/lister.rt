@@ -141,19 +141,19 @@ fn sweep_options(
     ensures options { OnOk result (list.new.options.items ≡ list.old.options.items) }
     ensures why { IfErr result (λ e. e ≡ Refusal.Memory) }
 {
-    let mark = frame.mark();
+    let level = frame.level();
     for at in from..list.options.len() {
         let placement = list.options[at];
         let whole = sweep_arm(alloc, frame, list, end, depth, placement)?;
         if !whole {
-            frame.back_to(mark);
+            frame.backtrack_to(level);
             return Ok(false);
         }
         if at + 1 < list.options.len() {
             frame.leave(placement);
         }
     }
-    frame.back_to(mark);
+    frame.backtrack_to(level);
     Ok(true)
 }
 
@@ -178,17 +178,17 @@ fn sweep_open(
     ensures options { OnOk result (list.new.options.items ≡ list.old.options.items) }
     ensures why { IfErr result (λ e. e ≡ Refusal.Memory) }
 {
-    let mark = frame.mark();
+    let level = frame.level();
     while let Some(placement) = frame.first_open() {
         let whole = sweep_arm(alloc, frame, list, end, depth, placement)?;
         if !whole {
-            frame.back_to(mark);
+            frame.backtrack_to(level);
             return Ok(false);
         }
         frame.leave(placement);
     }
     push_found(alloc, frame, list)?;
-    frame.back_to(mark);
+    frame.backtrack_to(level);
     Ok(true)
 }
 
@@ -251,7 +251,7 @@ fn sweep_below(
     ensures options { OnOk result (list.new.options.items ≡ list.old.options.items) }
     ensures why { IfErr result (λ e. e ≡ Refusal.Memory) }
 {
-    if depth == 0 || frame.mark() >= end || list.found.len() > MAX_TILINGS {
+    if depth == 0 || frame.level() >= end || list.found.len() > MAX_TILINGS {
         push_rest(alloc, frame, list)?;
         return Ok(false);
     }
@@ -259,7 +259,7 @@ fn sweep_below(
         None => sweep(alloc, frame, list, end, depth - 1),
         Some(inner) => {
             let mut inner = inner;
-            let end = inner.mark() + STEPS;
+            let end = inner.level() + STEPS;
             sweep(alloc, &mut inner, list, end, depth - 1)
         }
     }

@@ -27,7 +27,7 @@ pub fn search_all(alloc: Global, view: &View, atoms: &[Atom]) -> Result<Vec<Tili
     list.rests.push(Vec::from_slice(alloc, atoms)?)?;
     while let Some(next) = list.rests.pop() {
         let mut frame = Frame::over(alloc, view, &whole, &next)?;
-        let end = frame.mark() + STEPS;
+        let end = frame.level() + STEPS;
         sweep(alloc, &mut frame, &mut list, end, DEPTH)?;
         if list.found.len() > MAX_TILINGS {
             return Err(Refusal::CatalogueFull);

@@ -46,12 +46,12 @@ fn steps_are_taken_back(rt: HostRuntime) {
     let view = nowhere(rt.alloc());
     let mut frame = Frame::new(rt.alloc(), &view, &[Atom::Lacks(2)]).expect(&rt, "memory");
     frame.pick(5);
-    let mark = frame.mark();
+    let level = frame.level();
     frame.leave(3);
     frame.leave(4);
     frame.back();
     expect_atoms(&rt, &frame, &[Atom::Lacks(2), Atom::Has(5), Atom::Lacks(3)]);
-    frame.back_to(mark);
+    frame.backtrack_to(level);
     expect_atoms(&rt, &frame, &[Atom::Lacks(2), Atom::Has(5)]);
 }
 

@@ -6,7 +6,7 @@ use Rattle.std.specs.Result.{OnOk}
 use Rattle.std.specs.List.{filter, find, list_all, list_any}
 use Rattle.poly_tiling.specs.declared.item.Item.{Item}
 use Rattle.poly_tiling.specs.Lists.{ascending, distinct, mem, one, same_list, tally}
-use Rattle.poly_tiling.specs.Puzzle.{View, clash, count, has_item, is_piece, is_tiling, items, least, most, same_item}
+use Rattle.poly_tiling.specs.Puzzle.{View, conflicts, count, has_item, is_piece, is_tiling, items, least, most, same_item}
 use Rattle.poly_tiling.specs.Names.{WellNamed}
 use Rattle.poly_tiling.specs.Lister.{AddsAtMost, AddsLeft, AreApart, fits_beside, is_left, is_option}
 use Rattle.poly_tiling.proofs.Lists.{In, all_from, all_in, any_from, any_in, filter_in, in_append_cases, in_append_left, in_append_right, in_filter, in_mem, mem_in, same_truth}
@@ -134,9 +134,9 @@ fits_members v chosen T q d tiles has i out =
     and_from _ _
     (and_from _ _
     (not_from_false _ (false_from_ne_true (mem chosen q) (λ e. out (mem_in chosen q e))))
-    (not_from_false _ (false_from_ne_true (list_any (λ p. clash v q p) chosen) (λ e.
-    let r = any_in (λ p. clash v q p) chosen e in
-    both_ways (clash v q r.0) (t.apart q r.0 i (has r.0 r.1)) r.2))))
+    (not_from_false _ (false_from_ne_true (list_any (λ p. conflicts v q p) chosen) (λ e.
+    let r = any_in (λ p. conflicts v q p) chosen e in
+    both_ways (conflicts v q r.0) (t.apart q r.0 i (has r.0 r.1)) r.2))))
     (not_from_false _ (false_from_ne_true (list_any (λ i. is_piece i && leb (most v i) (count v chosen i)) (items v q)) (λ e.
     let r = any_in (λ i. is_piece i && leb (most v i) (count v chosen i)) (items v q) e in
     let full = leb-true _ _ (and_parts (is_piece r.0) (leb (most v r.0) (count v chosen r.0)) r.2).1 in
@@ -167,7 +167,7 @@ left_narrowed v chosen free T d = left_same v chosen free chosen (filter (λ q. 
 fits_out : (v : View) (chosen : List ℕ) (q : ℕ) → fits_beside v chosen q ≡ true → not (mem chosen q) ≡ true
 unfolding fits_beside
 fits_out v chosen q h =
-    (and_parts (not (mem chosen q)) (not (list_any (λ p. clash v q p) chosen)) (and_parts (not (mem chosen q) && not (list_any (λ p. clash v q p) chosen)) (not (list_any (λ i. is_piece i && leb (most v i) (count v chosen i)) (items v q))) h).0).0
+    (and_parts (not (mem chosen q)) (not (list_any (λ p. conflicts v q p) chosen)) (and_parts (not (mem chosen q) && not (list_any (λ p. conflicts v q p) chosen)) (not (list_any (λ i. is_piece i && leb (most v i) (count v chosen i)) (items v q))) h).0).0
 
 pub narrowed_apart : (v : View) (chosen free : List ℕ) → distinct chosen ≡ true → AreApart chosen (filter (λ q. fits_beside v chosen q) free)
 narrowed_apart v chosen free d = record {

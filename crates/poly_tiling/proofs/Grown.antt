@@ -3,7 +3,7 @@ use Rattle.std.proofs.Common.{List, [], ap, append_assoc, arith, eqb, not, refl,
 use Rattle.std.proofs.lemmas.List.{append-nil}
 use Rattle.poly_tiling.specs.declared.bound.Bound.{Bound}
 use Rattle.poly_tiling.specs.declared.item.Item.{Item}
-use Rattle.poly_tiling.specs.Puzzle.{View, bound_in, clash, share_cell}
+use Rattle.poly_tiling.specs.Puzzle.{View, bound_in, conflicts, share_cell}
 use Rattle.poly_tiling.specs.Names.{Grown, Names, WellNamed}
 use Rattle.poly_tiling.specs.Laws.{NumbersMayGrow}
 use Rattle.poly_tiling.proofs.Lists.{In, same_truth}
@@ -14,14 +14,14 @@ use Rattle.poly_tiling.proofs.Named.{named, old_count}
 pub grown_bound : (v w : View) → Grown v w → (i : Item) (f : Bound → ℕ) → bound_in w.bounds i f ≡ bound_in v.bounds i f
 grown_bound v w g i f = ap (λ bs. bound_in bs i f) g.2
 
-clash_same : (v w : View) → WellNamed v → Names v w → (p q : ℕ) → In p v.live → In q v.live → clash w p q ≡ clash v p q
-clash_same v w wn n p q i j = ap (λ o. not (eqb p q) && share_cell o (slice_get w.placements q)) (named v w wn n p i) ∙ ap (λ o. not (eqb p q) && share_cell (slice_get v.placements p) o) (named v w wn n q j)
+conflict_same : (v w : View) → WellNamed v → Names v w → (p q : ℕ) → In p v.live → In q v.live → conflicts w p q ≡ conflicts v p q
+conflict_same v w wn n p q i j = ap (λ o. not (eqb p q) && share_cell o (slice_get w.placements q)) (named v w wn n p i) ∙ ap (λ o. not (eqb p q) && share_cell (slice_get v.placements p) o) (named v w wn n q j)
 
 up : (v w : View) (T : List ℕ) → WellNamed v → Grown v w → IsTiling v T → IsTiling w T
 up v w T wn g t = record {
   up = t.up;
   placed = λ p i. subst (λ xs. In p xs) (sym g.1) (t.placed p i);
-  apart = λ p q i j. clash_same v w wn g.0 p q (t.placed p i) (t.placed q j) ∙ t.apart p q i j;
+  apart = λ p q i j. conflict_same v w wn g.0 p q (t.placed p i) (t.placed q j) ∙ t.apart p q i j;
   enough = λ i. omega (arith, grown_bound v w g i (λ b. b.least), old_count v w T wn g.0 t.placed i, t.enough i);
   few = λ i. omega (arith, grown_bound v w g i (λ b. b.most), old_count v w T wn g.0 t.placed i, t.few i);
   pinned = λ p i. t.pinned p (subst (λ xs. In p xs) g.3 i);
@@ -33,7 +33,7 @@ down v w T wn g t =
     record {
       up = t.up;
       placed = placed;
-      apart = λ p q i j. sym (clash_same v w wn g.0 p q (placed p i) (placed q j)) ∙ t.apart p q i j;
+      apart = λ p q i j. sym (conflict_same v w wn g.0 p q (placed p i) (placed q j)) ∙ t.apart p q i j;
       enough = λ i. omega (arith, grown_bound v w g i (λ b. b.least), old_count v w T wn g.0 placed i, t.enough i);
       few = λ i. omega (arith, grown_bound v w g i (λ b. b.most), old_count v w T wn g.0 placed i, t.few i);
       pinned = λ p i. t.pinned p (subst (λ xs. In p xs) (sym g.3) i);

@@ -4,7 +4,7 @@ use Rattle.std.proofs.lemmas.Bool.{and_from, and_parts, ltb-true}
 use Rattle.std.specs.List.{list_all, list_any}
 use Rattle.poly_tiling.specs.Lists.{one, tally}
 use Rattle.poly_tiling.specs.declared.item.Item.{Item}
-use Rattle.poly_tiling.specs.Puzzle.{View, clash, count, has_item, items, items_of, same_item, share_cell}
+use Rattle.poly_tiling.specs.Puzzle.{View, conflicts, count, has_item, items, items_of, same_item, share_cell}
 use Rattle.poly_tiling.specs.Names.{Names, WellNamed}
 use Rattle.poly_design.specs.declared.placement.Placement.{Placement}
 use Rattle.poly_tiling.proofs.Lists.{In, all_in, any_in, slice_get_front, slice_get_more}
@@ -40,8 +40,8 @@ share_none : (o : Option Placement) → share_cell o None ≡ false
 share_none None = refl
 share_none (Some x) = refl
 
-pub named_clash : (old new : View) → Names old new → (p q : ℕ) → clash old p q ≡ true → clash new p q ≡ true
-named_clash old new names p q h =
+pub named_conflict : (old new : View) → Names old new → (p q : ℕ) → conflicts old p q ≡ true → conflicts new p q ≡ true
+named_conflict old new names p q h =
     let hs = and_parts (not (eqb p q)) (share_cell (slice_get old.placements p) (slice_get old.placements q)) h in
     let a = slice_get_more (λ o. share_cell o (slice_get old.placements q)) old.placements names.0 p refl hs.1 in
     let b = slice_get_more (λ o. share_cell (slice_get (old.placements ++ names.0) p) o) old.placements names.0 q (share_none _) a in

@@ -6,7 +6,7 @@ use Rattle.poly_design.specs.Layout.{Layout}
 use Rattle.poly_design.specs.declared.placement.Placement.{Placement}
 use Rattle.poly_tiling.specs.declared.item.Item.{Item}
 use Rattle.poly_tiling.specs.Lists.{distinct, one, put_all, tally}
-use Rattle.poly_tiling.specs.Puzzle.{View, clash, count, has_item, items_of, same_item}
+use Rattle.poly_tiling.specs.Puzzle.{View, conflicts, count, has_item, items_of, same_item}
 use Rattle.poly_tiling.specs.Names.{WellNamed}
 use Rattle.poly_tiling.specs.Tilings.{how_many}
 use Rattle.poly_tiling.specs.Shows.{Shows, StandFor, given, names}
@@ -17,7 +17,7 @@ use Rattle.poly_tiling.proofs.Counts.{ascending_distinct, tally_within}
 use Rattle.poly_tiling.proofs.Contained.{contains_in, get_low, in_contains, pairs_head, pairs_rest}
 use Rattle.poly_tiling.proofs.Stands.{at_stands, stands_at}
 use Rattle.poly_tiling.proofs.Tilings.{IsTiling, whole}
-use Rattle.poly_tiling.proofs.Shown.{clash_conflict, in_names, is_given, named_of, names_in, pin_given, same_number, shown_least, shown_most, some_same}
+use Rattle.poly_tiling.proofs.Shown.{conflict_of_numbers, in_names, is_given, named_of, names_in, pin_given, same_number, shown_least, shown_most, some_same}
 
 -- numbers that name placements of the design
 numbers : (v : View) (d : Layout) → Shows v d → (S : List Placement) → ((x : Placement) → In x S → (n : ℕ) × In n v.live × (slice_get v.placements n ≡ Some x)) →
@@ -77,10 +77,10 @@ numbers_reach_lem v d S wn s c =
     let t : IsTiling v T = record {
       up = up;
       placed = λ n i. r.2 n (member n i);
-      apart = λ p q i j. false_from_ne_true (clash v p q) (λ k.
+      apart = λ p q i j. false_from_ne_true (conflicts v p q) (λ k.
           let x = stands_at v.placements N S r.1 p (member p i) in
           let y = stands_at v.placements N S r.1 q (member q j) in
-          c.free x.0 y.0 (in_contains S x.0 x.1) (in_contains S y.0 y.1) (clash_conflict v wn p q x.0 y.0 x.2 y.2 k));
+          c.free x.0 y.0 (in_contains S x.0 x.1) (in_contains S y.0 y.1) (conflict_of_numbers v wn p q x.0 y.0 x.2 y.2 k));
       enough = λ i. omega (arith, counts i, c.least i, shown_least v d s i);
       few = λ i. omega (arith, counts i, c.most i, shown_most v d s i);
       pinned = λ p i.

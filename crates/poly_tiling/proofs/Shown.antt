@@ -8,7 +8,7 @@ use Rattle.poly_design.specs.Layout.{Layout}
 use Rattle.poly_design.specs.declared.placement.Placement.{Placement}
 use Rattle.poly_tiling.specs.declared.item.Item.{Item}
 use Rattle.poly_tiling.specs.Lists.{ascending, one}
-use Rattle.poly_tiling.specs.Puzzle.{View, bound_in, clash, count, has_cell, items_of, least, most, same_item, share_cell}
+use Rattle.poly_tiling.specs.Puzzle.{View, bound_in, conflicts, count, has_cell, items_of, least, most, same_item, share_cell}
 use Rattle.poly_tiling.specs.Names.{WellNamed}
 use Rattle.poly_tiling.specs.Tilings.{Conflict, bounds_of, how_many}
 use Rattle.poly_tiling.specs.Tilings.{IsTiling as IsTilingOf}
@@ -83,13 +83,13 @@ pub names_count : (v : View) (i : Item) (T : List ℕ) → how_many (names v T) 
 names_count v i [] = refl
 names_count v i (q ∷ T) = names_count_at v i T (slice_get v.placements q) (names_count v i T)
 
-pub clash_from : (v : View) (p q : ℕ) (x y : Placement) → slice_get v.placements p ≡ Some x → slice_get v.placements q ≡ Some y → Conflict x y → clash v p q ≡ true
-clash_from v p q x y a b c =
+pub conflicts_from : (v : View) (p q : ℕ) (x y : Placement) → slice_get v.placements p ≡ Some x → slice_get v.placements q ≡ Some y → Conflict x y → conflicts v p q ≡ true
+conflicts_from v p q x y a b c =
     let differ : eqb p q ≡ false = ne_eqb p q (λ e. c.differ (some_same x y (sym a ∙ ap (λ n. slice_get v.placements n) e ∙ b))) in
     and_from _ _ (not_from_false _ differ) (ap (λ o. share_cell o (slice_get v.placements q)) a ∙ ap (λ o. share_cell (Some x) o) b ∙ conflict_shares x y c)
 
-pub clash_conflict : (v : View) → WellNamed v → (p q : ℕ) (x y : Placement) → slice_get v.placements p ≡ Some x → slice_get v.placements q ≡ Some y → clash v p q ≡ true → Conflict x y
-clash_conflict v wn p q x y a b c =
+pub conflict_of_numbers : (v : View) → WellNamed v → (p q : ℕ) (x y : Placement) → slice_get v.placements p ≡ Some x → slice_get v.placements q ≡ Some y → conflicts v p q ≡ true → Conflict x y
+conflict_of_numbers v wn p q x y a b c =
     let cs = and_parts (not (eqb p q)) (share_cell (slice_get v.placements p) (slice_get v.placements q)) c in
     conflict_from x y
     (λ e. both_ways (eqb p q) (not-true _ cs.0) (eq-eqb p q (same_number v wn p q x a (b ∙ ap Some (sym e)))))
@@ -120,7 +120,7 @@ shows_to v d T wn s t = record {
   free = λ x y m n c.
       let p = names_in v T x (contains_in (names v T) x m) in
       let q = names_in v T y (contains_in (names v T) y n) in
-      both_ways (clash v p.0 q.0) (t.apart p.0 q.0 p.1 q.1) (clash_from v p.0 q.0 x y p.2 q.2 c);
+      both_ways (conflicts v p.0 q.0) (t.apart p.0 q.0 p.1 q.1) (conflicts_from v p.0 q.0 x y p.2 q.2 c);
   least = λ i. omega (arith, names_count v i T, t.enough i, shown_least v d s i);
   most = λ i. omega (arith, names_count v i T, t.few i, shown_most v d s i);
   pinned = λ x h.
@@ -137,10 +137,10 @@ shows_from v d T wn s up low c =
           let x = is_given v T low n i in
           let r = (s.places x.0).1 (c.inside x.0 (here n x.0 i x.1)) in
           subst (λ m. In m v.live) (same_number v wn r.number n x.0 r.names x.1) (contains_in v.live r.number r.stands);
-      apart = λ p q i j. false_from_ne_true (clash v p q) (λ k.
+      apart = λ p q i j. false_from_ne_true (conflicts v p q) (λ k.
           let x = is_given v T low p i in
           let y = is_given v T low q j in
-          c.free x.0 y.0 (here p x.0 i x.1) (here q y.0 j y.1) (clash_conflict v wn p q x.0 y.0 x.1 y.1 k));
+          c.free x.0 y.0 (here p x.0 i x.1) (here q y.0 j y.1) (conflict_of_numbers v wn p q x.0 y.0 x.1 y.1 k));
       enough = λ i. omega (arith, names_count v i T, c.least i, shown_least v d s i);
       few = λ i. omega (arith, names_count v i T, c.most i, shown_most v d s i);
       pinned = λ n i.

@@ -9,7 +9,7 @@ use Rattle.poly_tiling.specs.Lists.{ascending, mem}
 use Rattle.poly_tiling.specs.declared.bound.Bound.{Bound}
 use Rattle.poly_tiling.specs.declared.item.Item.{Item}
 use Rattle.poly_tiling.specs.declared.item.Item.TheVariants.{Cell, Piece}
-use Rattle.poly_tiling.specs.Puzzle.{View, bound_in, clash, count, has_item, is_tiling, items, least, most, same_item}
+use Rattle.poly_tiling.specs.Puzzle.{View, bound_in, conflicts, count, has_item, is_tiling, items, least, most, same_item}
 use Rattle.poly_tiling.proofs.Lists.{In, all_from, all_in, any_from, any_in, any_none, in_mem, mem_in, tally_none}
 
 pub same_spot_is : (c d : Spot) → spot_eq c d ≡ true → c ≡ d
@@ -36,7 +36,7 @@ bound_none (b ∷ bs) i f h = let hs = or_parts (same_item b.item i) (list_any (
 pub record IsTiling (v : View) (T : List ℕ) : Type 0 where
   pub up : ascending T ≡ true
   pub placed : (p : ℕ) → In p T → In p v.live
-  pub apart : (p q : ℕ) → In p T → In q T → clash v p q ≡ false
+  pub apart : (p q : ℕ) → In p T → In q T → conflicts v p q ≡ false
   pub enough : (i : Item) → least v i ≤ count v T i
   pub few : (i : Item) → count v T i ≤ most v i
   pub pinned : (p : ℕ) → In p v.pins → In p T
@@ -45,7 +45,7 @@ pub parts : (v : View) (T : List ℕ) → is_tiling v T ≡ true → IsTiling v 
 parts v T h =
     let low = λ (b : Bound). leb (least v b.item) (count v T b.item) in
     let high = λ (p : ℕ). list_all (λ i. leb (count v T i) (most v i)) (items v p) in
-    let far = λ (p : ℕ). not (list_any (λ q. clash v p q) T) in
+    let far = λ (p : ℕ). not (list_any (λ q. conflicts v p q) T) in
     let here = λ (p : ℕ). mem v.live p in
     let h5 = and_parts (ascending T && list_all here T && list_all far T && list_all low v.bounds && list_all high T) (list_all (λ p. mem T p) v.pins) h in
     let h4 = and_parts (ascending T && list_all here T && list_all far T && list_all low v.bounds) (list_all high T) h5.0 in
@@ -55,8 +55,8 @@ parts v T h =
     record {
       up = h1.0;
       placed = λ p i. mem_in v.live p (all_in here T h1.1 p i);
-      apart = λ p q i j. false_from_ne_true (clash v p q) (λ c.
-          both_ways (list_any (λ q. clash v p q) T) (not-true _ (all_in far T h2.1 p i)) (any_from (λ q. clash v p q) T q j c));
+      apart = λ p q i j. false_from_ne_true (conflicts v p q) (λ c.
+          both_ways (list_any (λ q. conflicts v p q) T) (not-true _ (all_in far T h2.1 p i)) (any_from (λ q. conflicts v p q) T q j c));
       enough = λ i. elim (cases_Bool (list_any (λ b. same_item b.item i) v.bounds)) [
         | inl y ↦ let x = any_in (λ b. same_item b.item i) v.bounds y in subst (λ k. least v k ≤ count v T k) (same_item_is x.0.item i x.2) (leb-true _ _ (all_in low v.bounds h3.1 x.0 x.1))
         | inr n ↦ omega (arith, bound_none v.bounds i (λ b. b.least) n)
@@ -78,7 +78,7 @@ whole v T t =
     (and_from _ _
     (and_from _ _
     (and_from _ _ t.up (all_from (λ p. mem v.live p) T (λ p i. in_mem v.live p (t.placed p i))))
-    (all_from (λ p. not (list_any (λ q. clash v p q) T)) T (λ p i. not_from_false _ (any_none (λ q. clash v p q) T (λ q j c. both_ways (clash v p q) (t.apart p q i j) c)))))
+    (all_from (λ p. not (list_any (λ q. conflicts v p q) T)) T (λ p i. not_from_false _ (any_none (λ q. conflicts v p q) T (λ q j c. both_ways (conflicts v p q) (t.apart p q i j) c)))))
     (all_from (λ b. leb (least v b.item) (count v T b.item)) v.bounds (λ b i. le-leb _ _ (t.enough b.item))))
     (all_from (λ p. list_all (λ i. leb (count v T i) (most v i)) (items v p)) T (λ p j. all_from (λ i. leb (count v T i) (most v i)) (items v p) (λ i k. le-leb _ _ (t.few i)))))
     (all_from (λ p. mem T p) v.pins (λ p i. in_mem T p (t.pinned p i)))

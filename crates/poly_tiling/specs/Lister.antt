@@ -3,7 +3,7 @@ use Rattle.std.specs.List.{list_all, list_any}
 use Rattle.std.specs.Prelude.{Bool, List, None, Option, Some, length, nat_le, not, true, ℕ, ◌&&◌, ◌+◌, ◌<◌, ◌||◌, ◌≡◌, ◌≤◌}
 use Rattle.poly_tiling.specs.declared.item.Item.{Item}
 use Rattle.poly_tiling.specs.Lists.{distinct, mem, one, same_list, tally}
-use Rattle.poly_tiling.specs.Puzzle.{View, clash, count, has_item, is_piece, is_tiling, items, most}
+use Rattle.poly_tiling.specs.Puzzle.{View, conflicts, count, has_item, is_piece, is_tiling, items, most}
 
 -- the list has each tiling of the view once, and nothing else
 abbrev pub HasEachOnce : View → List (List ℕ) → Type 0
@@ -31,7 +31,7 @@ AddsAtMost v chosen free old new = (T : List ℕ) → tally (same_list T) new �
 unfoldable pub fits_beside : View → List ℕ → ℕ → Bool
 fits_beside v chosen q =
     not (mem chosen q)
-    && not (list_any (λ p. clash v q p) chosen)
+    && not (list_any (λ p. conflicts v q p) chosen)
     && not (list_any (λ i. is_piece i && nat_le (most v i) (count v chosen i)) (items v q))
 
 -- if an item is given, the number has it

@@ -45,8 +45,8 @@ share_cell (Some p) None = false
 share_cell (Some p) (Some q) = list_any (λ c. has_cell q.cells c) p.cells
 
 -- two placements are in conflict if they are different and share a cell
-abbrev pub clash : View → ℕ → ℕ → Bool
-clash v p q = not (p == q) && share_cell (slice_get v.placements p) (slice_get v.placements q)
+abbrev pub conflicts : View → ℕ → ℕ → Bool
+conflicts v p q = not (p == q) && share_cell (slice_get v.placements p) (slice_get v.placements q)
 
 -- how many members of T have the item
 abbrev pub count : View → List ℕ → Item → ℕ
@@ -68,7 +68,7 @@ abbrev pub is_tiling : View → List ℕ → Bool
 is_tiling v T =
     ascending T
     && list_all (λ p. mem v.live p) T
-    && list_all (λ p. not (list_any (λ q. clash v p q) T)) T
+    && list_all (λ p. not (list_any (λ q. conflicts v p q) T)) T
     && list_all (λ b. nat_le (least v b.item) (count v T b.item)) v.bounds
     && list_all (λ p. list_all (λ i. nat_le (count v T i) (most v i)) (items v p)) T
     && list_all (λ p. mem T p) v.pins

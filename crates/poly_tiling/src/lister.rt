@@ -162,7 +162,7 @@ fn fits_beside(view: &View, chosen: &[u32], q: u32) -> bool
     if has_number(chosen, q) {
         return false;
     }
-    if view.any_clash(q, chosen) {
+    if view.any_conflict(q, chosen) {
         return false;
     }
     !view.is_full(q, chosen)

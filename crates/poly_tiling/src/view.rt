@@ -2,7 +2,7 @@
 ghost use Rattle.std.specs.Prelude.{List, true, length, map, nat_le, ◌&&◌, not, slice_get, ℕ, ◌∷◌, ◌≡◌, ◌≤◌, Some};
 ghost use Rattle.std.specs.List.{list_all, list_any};
 ghost use Rattle.std.specs.Option.{is_some};
-ghost use Rattle.poly_tiling.specs.Puzzle.{bound_in, clash, count, found_or, has_item, is_piece, is_tiling, items, items_of, least, most, same_item};
+ghost use Rattle.poly_tiling.specs.Puzzle.{bound_in, conflicts, count, found_or, has_item, is_piece, is_tiling, items, items_of, least, most, same_item};
 ghost use Rattle.poly_tiling.specs.Names.{WellNamed, items_ascend};
 ghost use Rattle.poly_tiling.specs.declared.item.Item.TheVariants.{Cell as CellItem, Piece as PieceItem};
 
@@ -104,8 +104,8 @@ impl View {
     }
 
     /// Whether the numbers' placements are different and share a cell.
-    pub fn clashes(&self, p: u32, q: u32) -> bool
-        ensures { result ≡ clash self.now p q }
+    pub fn conflicts(&self, p: u32, q: u32) -> bool
+        ensures { result ≡ conflicts self.now p q }
     {
         if p == q {
             return false;
@@ -167,7 +167,7 @@ impl View {
     {
         ascends(numbers)
             && has_all(&self.live, numbers)
-            && self.none_clash(numbers)
+            && self.none_conflict(numbers)
             && self.least_met(numbers)
             && self.most_met(numbers)
             && has_all(numbers, &self.pins)
@@ -217,17 +217,17 @@ impl View {
             .all(|c| self.item_fits(&Item::Cell(*c), numbers))
     }
 
-    fn none_clash(&self, numbers: &[u32]) -> bool
-        ensures { result ≡ list_all (λ p. not (list_any (λ q. clash self.now p q) numbers.now)) numbers.now }
+    fn none_conflict(&self, numbers: &[u32]) -> bool
+        ensures { result ≡ list_all (λ p. not (list_any (λ q. conflicts self.now p q) numbers.now)) numbers.now }
     {
-        numbers.iter().all(|p| !self.any_clash(*p, numbers))
+        numbers.iter().all(|p| !self.any_conflict(*p, numbers))
     }
 
     /// Whether the number's placement is in conflict with one of these.
-    pub fn any_clash(&self, p: u32, numbers: &[u32]) -> bool
-        ensures { result ≡ list_any (λ q. clash self.now p q) numbers.now }
+    pub fn any_conflict(&self, p: u32, numbers: &[u32]) -> bool
+        ensures { result ≡ list_any (λ q. conflicts self.now p q) numbers.now }
     {
-        numbers.iter().any(|q| self.clashes(p, *q))
+        numbers.iter().any(|q| self.conflicts(p, *q))
     }
 }
 

@@ -5,14 +5,14 @@ ghost use Rattle.poly_tiling.specs.Lists.{mem, tally};
 ghost use Rattle.poly_tiling.specs.Puzzle.{has_item, same_item};
 ghost use Rattle.poly_atom.specs.Hopeless.{base};
 ghost use Rattle.poly_frame.specs.Bits.{in_both};
-ghost use Rattle.poly_frame.specs.Open.{lower, ruled_out};
+ghost use Rattle.poly_frame.specs.Open.{least_with_base, ruled_out};
 ghost use Rattle.poly_frame.specs.FrameItems.{item_of};
 ghost use Rattle.poly_frame.specs.FrameSteps.{IsAt};
 
+use crate::frame::consistent::is_right;
 use crate::frame::items::{guess_item, index_of};
 use crate::frame::matrix::Matrix;
 use crate::frame::node::Node;
-use crate::frame::sound::is_right;
 use crate::frame::steps::Steps;
 use crate::{bits, plain};
 use poly_atom::Atom;
@@ -40,14 +40,14 @@ fn count_both(matrix: &Matrix, live: &[u64], at: usize, from: usize) -> usize
 }
 
 // How many members of the base have the item, and are placements of the design that are not ruled out.
-fn count_held(view: &View, path: &[Atom], members: &[u32], item: &Item) -> usize
-    requires { members.now ≡ base view.now path.now }
-    ensures value { result ≡ tally (λ p. has_item view.now p item.now && (mem view.now.live p && not (ruled_out view.now path.now p))) members.now }
+fn count_held(view: &View, trail: &[Atom], members: &[u32], item: &Item) -> usize
+    requires { members.now ≡ base view.now trail.now }
+    ensures value { result ≡ tally (λ p. has_item view.now p item.now && (mem view.now.live p && not (ruled_out view.now trail.now p))) members.now }
     ensures few { result ≤ length members.now }
 {
     let mut n = 0;
     for p in members {
-        if view.covers(*p, *item) && is_right(view, path, members, *p) {
+        if view.covers(*p, *item) && is_right(view, trail, members, *p) {
             n += 1;
         }
     }
@@ -59,19 +59,19 @@ fn count_row(node: &Node<'_>, steps: &Steps, members: &[u32], b: usize, item: &I
     requires kept { IsAt node.now steps.now }
     requires row { b < length node.now.view.now.bounds }
     requires same { same_item (item_of node.now.view.now b) item.now ≡ true }
-    requires members { members.now ≡ base node.now.view.now node.now.path.now }
-    ensures { result ≡ tally (λ p. has_item node.now.view.now p item.now && not (ruled_out node.now.view.now node.now.path.now p)) node.now.view.now.live }
+    requires members { members.now ≡ base node.now.view.now node.now.trail.now }
+    ensures { result ≡ tally (λ p. has_item node.now.view.now p item.now && not (ruled_out node.now.view.now node.now.trail.now p)) node.now.view.now.live }
 {
     let at = steps.live.len() - node.matrix.width;
-    let held = count_held(node.view, node.path, members, item);
+    let held = count_held(node.view, node.trail, members, item);
     held + count_both(node.matrix, &steps.live, at, node.matrix.width * b)
 }
 
 /// How many placements have the item and are not ruled out.
 pub(crate) fn count(node: &Node<'_>, steps: &Steps, members: &[u32], item: &Item) -> usize
     requires kept { IsAt node.now steps.now }
-    requires members { members.now ≡ base node.now.view.now node.now.path.now }
-    ensures { result ≡ tally (λ p. has_item node.now.view.now p item.now && not (ruled_out node.now.view.now node.now.path.now p)) node.now.view.now.live }
+    requires members { members.now ≡ base node.now.view.now node.now.trail.now }
+    ensures { result ≡ tally (λ p. has_item node.now.view.now p item.now && not (ruled_out node.now.view.now node.now.trail.now p)) node.now.view.now.live }
 {
     match index_of(
         node.view.items(),
@@ -79,7 +79,7 @@ pub(crate) fn count(node: &Node<'_>, steps: &Steps, members: &[u32], item: &Item
         *item,
     ) {
         Some(b) => count_row(node, steps, members, b, item),
-        None => plain::count_allowed(node.view, node.path, members, item),
+        None => plain::count_allowed(node.view, node.trail, members, item),
     }
 }
 
@@ -88,16 +88,16 @@ fn least_of_row(node: &Node<'_>, steps: &Steps, b: usize, item: &Item) -> usize
     requires kept { IsAt node.now steps.now }
     requires row { b < length node.now.view.now.bounds }
     requires same { same_item (item_of node.now.view.now b) item.now ≡ true }
-    ensures { result ≡ lower node.now.view.now node.now.path.now item.now }
+    ensures { result ≡ least_with_base node.now.view.now node.now.trail.now item.now }
 {
-    (node.table.asked[b] as usize).max(steps.have[b] as usize)
+    (node.table.leasts[b] as usize).max(steps.have[b] as usize)
 }
 
 /// How many members with the item each tiling of the family has at least.
 pub(crate) fn least(node: &Node<'_>, steps: &Steps, members: &[u32], item: &Item) -> usize
     requires kept { IsAt node.now steps.now }
-    requires members { members.now ≡ base node.now.view.now node.now.path.now }
-    ensures { result ≡ lower node.now.view.now node.now.path.now item.now }
+    requires members { members.now ≡ base node.now.view.now node.now.trail.now }
+    ensures { result ≡ least_with_base node.now.view.now node.now.trail.now item.now }
 {
     match index_of(
         node.view.items(),
@@ -105,6 +105,6 @@ pub(crate) fn least(node: &Node<'_>, steps: &Steps, members: &[u32], item: &Item
         *item,
     ) {
         Some(b) => least_of_row(node, steps, b, item),
-        None => plain::lower_of(node.view, node.path, members, item),
+        None => plain::with_base_of(node.view, node.trail, members, item),
     }
 }

@@ -9,10 +9,10 @@ use poly_grid::Refusal;
 use poly_tiling::View;
 use std::alloc::Global;
 
-/// The path of a frame, its base, the sizes of the base before each step, and a list to answer with.
+/// The trail of a frame, its base, the sizes of the base before each step, and a list to answer with.
 #[derive(Drop)]
 pub(crate) struct Lists {
-    pub(crate) path: Vec<Atom>,
+    pub(crate) trail: Vec<Atom>,
     pub(crate) members: Vec<u32>,
     pub(crate) sizes: Vec<usize>,
     pub(crate) options: Vec<u32>,
@@ -20,21 +20,21 @@ pub(crate) struct Lists {
 
 /// The lists of a frame at the atoms, without steps.
 pub(crate) fn lists_of(alloc: Global, view: &View, atoms: &[Atom]) -> Result<Lists, Refusal>
-    ensures kept { IfOk result (λ l. IsKept view.now l.path (length atoms.now) l.members l.options) }
-    ensures path { IfOk result (λ l. l.path.items ≡ atoms.now) }
+    ensures kept { IfOk result (λ l. IsKept view.now l.trail (length atoms.now) l.members l.options) }
+    ensures trail { IfOk result (λ l. l.trail.items ≡ atoms.now) }
     ensures sizes { IfOk result (λ l. l.sizes.items ≡ []) }
     ensures changes { IfOk result (λ l. STEPS ≤ vec_capacity l.sizes) }
     ensures why { IfErr result (λ e. e ≡ Refusal.Memory) }
 {
     let given = atoms.len();
-    let mut path = Vec::with_capacity(alloc, given.saturating_add(STEPS))?;
-    path.extend_from_slice(atoms)?;
+    let mut trail = Vec::with_capacity(alloc, given.saturating_add(STEPS))?;
+    trail.extend_from_slice(atoms)?;
     let mut members = Vec::with_capacity(alloc, view.pins().len() + given + STEPS)?;
     plain::make_base(view, atoms, &mut members);
     let sizes = Vec::with_capacity(alloc, STEPS)?;
     let options = Vec::with_capacity(alloc, view.live().len())?;
     Ok(Lists {
-        path,
+        trail,
         members,
         sizes,
         options,

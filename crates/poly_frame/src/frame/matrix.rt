@@ -8,8 +8,8 @@ ghost use Rattle.poly_tiling.specs.Puzzle.{View as Scene};
 ghost use Rattle.poly_frame.specs.Bits.{has_bit};
 
 use crate::bits;
-use crate::frame::busy::{Busy, busy_rows, count_bits};
 use crate::frame::items::{PLACEMENT_ITEMS, guess_cells, note_items};
+use crate::frame::occupied::{Occupied, count_bits, occupied_rows};
 use crate::frame::opened::first_row;
 use poly_grid::Refusal;
 use poly_tiling::View;
@@ -31,7 +31,7 @@ pub struct Matrix {
     pub(crate) cells: Vec<usize>,
     pub(crate) width: usize,
     pub(crate) rows: Vec<u64>,
-    pub(crate) busy: Vec<Busy>,
+    pub(crate) occupied: Vec<Occupied>,
 }
 
 ghost use Rattle.poly_frame.specs.Matrices.{IsMatrix, IsWhole, ListsShow, RowOf, RowsShow, StandsShow, list_at, matrix_of, place};
@@ -168,7 +168,7 @@ fn with_columns(
     let width = numbers.len() / 64 + 1;
     let rows = rows_of(alloc, view, &numbers, &lists, width)?;
     let stands = stands_of(alloc, &numbers)?;
-    let busy = busy_rows(alloc, &rows, width, view.items().len())?;
+    let occupied = occupied_rows(alloc, &rows, width, view.items().len())?;
     Ok(Matrix {
         numbers,
         stands,
@@ -176,7 +176,7 @@ fn with_columns(
         cells,
         width,
         rows,
-        busy,
+        occupied,
     })
 }
 

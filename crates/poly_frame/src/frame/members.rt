@@ -33,12 +33,12 @@ fn take_last(numbers: &mut Vec<u32>, atom: &Atom)
 
 /// Takes a number into the base.
 pub(crate) fn pick(node: &Node<'_>, members: &mut Vec<u32>, sizes: &mut Vec<usize>, number: u32)
-    requires base { members.old.items ≡ base node.now.view.now node.now.path.now }
-    requires sizes { SizesShow node.now.view.now node.now.path.now node.now.given sizes.old.items }
-    requires room { length node.now.view.now.pins + length node.now.path.now < vec_capacity members.old }
+    requires base { members.old.items ≡ base node.now.view.now node.now.trail.now }
+    requires sizes { SizesShow node.now.view.now node.now.trail.now node.now.given sizes.old.items }
+    requires room { length node.now.view.now.pins + length node.now.trail.now < vec_capacity members.old }
     requires space { vec_len sizes.old < vec_capacity sizes.old }
-    ensures base { members.new.items ≡ base node.now.view.now (node.now.path.now ++ Atom.Has number ∷ []) }
-    ensures sizes { SizesShow node.now.view.now (node.now.path.now ++ Atom.Has number ∷ []) node.now.given sizes.new.items }
+    ensures base { members.new.items ≡ base node.now.view.now (node.now.trail.now ++ Atom.Has number ∷ []) }
+    ensures sizes { SizesShow node.now.view.now (node.now.trail.now ++ Atom.Has number ∷ []) node.now.given sizes.new.items }
     ensures room { vec_capacity members.old ≤ vec_capacity members.new }
     ensures space { vec_capacity sizes.new ≡ vec_capacity sizes.old }
 {
@@ -48,11 +48,11 @@ pub(crate) fn pick(node: &Node<'_>, members: &mut Vec<u32>, sizes: &mut Vec<usiz
 
 /// Leaves a number: the base stays the same.
 pub(crate) fn leave(node: &Node<'_>, members: &[u32], sizes: &mut Vec<usize>, number: u32)
-    requires base { members.now ≡ base node.now.view.now node.now.path.now }
-    requires sizes { SizesShow node.now.view.now node.now.path.now node.now.given sizes.old.items }
+    requires base { members.now ≡ base node.now.view.now node.now.trail.now }
+    requires sizes { SizesShow node.now.view.now node.now.trail.now node.now.given sizes.old.items }
     requires space { vec_len sizes.old < vec_capacity sizes.old }
-    ensures base { members.now ≡ base node.now.view.now (node.now.path.now ++ Atom.Lacks number ∷ []) }
-    ensures sizes { SizesShow node.now.view.now (node.now.path.now ++ Atom.Lacks number ∷ []) node.now.given sizes.new.items }
+    ensures base { members.now ≡ base node.now.view.now (node.now.trail.now ++ Atom.Lacks number ∷ []) }
+    ensures sizes { SizesShow node.now.view.now (node.now.trail.now ++ Atom.Lacks number ∷ []) node.now.given sizes.new.items }
     ensures space { vec_capacity sizes.new ≡ vec_capacity sizes.old }
 {
     sizes.push_reserved(members.len());
@@ -60,11 +60,11 @@ pub(crate) fn leave(node: &Node<'_>, members: &[u32], sizes: &mut Vec<usize>, nu
 
 /// Undoes the last step.
 pub(crate) fn back(node: &Node<'_>, members: &mut Vec<u32>, sizes: &mut Vec<usize>)
-    requires base { members.old.items ≡ base node.now.view.now node.now.path.now }
-    requires sizes { SizesShow node.now.view.now node.now.path.now node.now.given sizes.old.items }
-    requires some { node.now.given < length node.now.path.now }
-    ensures base { members.new.items ≡ base node.now.view.now (take (length node.now.path.now - 1) node.now.path.now) }
-    ensures sizes { SizesShow node.now.view.now (take (length node.now.path.now - 1) node.now.path.now) node.now.given sizes.new.items }
+    requires base { members.old.items ≡ base node.now.view.now node.now.trail.now }
+    requires sizes { SizesShow node.now.view.now node.now.trail.now node.now.given sizes.old.items }
+    requires some { node.now.given < length node.now.trail.now }
+    ensures base { members.new.items ≡ base node.now.view.now (take (length node.now.trail.now - 1) node.now.trail.now) }
+    ensures sizes { SizesShow node.now.view.now (take (length node.now.trail.now - 1) node.now.trail.now) node.now.given sizes.new.items }
     ensures room { vec_capacity members.new ≡ vec_capacity members.old }
     ensures space { vec_capacity sizes.new ≡ vec_capacity sizes.old }
 {
@@ -74,5 +74,5 @@ pub(crate) fn back(node: &Node<'_>, members: &mut Vec<u32>, sizes: &mut Vec<usiz
     if size == members.len() {
         return;
     }
-    take_last(members, &node.path[node.path.len() - 1]);
+    take_last(members, &node.trail[node.trail.len() - 1]);
 }

@@ -5,12 +5,12 @@ use crate::frame::table::Table;
 use poly_atom::Atom;
 use poly_tiling::View;
 
-/// A node of a search: the view, the atoms on the path to the node, and the matrix and the table that were made for them.
+/// A node of a search: the view, the atoms on the trail to the node, and the matrix and the table that were made for them.
 /// The first `given` atoms are those of the frame, and each later one is a step.
 #[derive(Drop)]
 pub(crate) struct Node<'a> {
     pub(crate) view: &'a View,
-    pub(crate) path: &'a [Atom],
+    pub(crate) trail: &'a [Atom],
     pub(crate) given: usize,
     pub(crate) matrix: &'a Matrix,
     pub(crate) table: &'a Table,

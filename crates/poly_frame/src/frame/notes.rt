@@ -7,14 +7,14 @@ use poly_grid::Refusal;
 use std::alloc::Global;
 
 // Notes whether the base, which has `have` members with the item at `b`, has too few.
-fn note_item(due: &mut Vec<u64>, asked: &[u8], have: u64, b: usize) {
+fn note_item(due: &mut Vec<u64>, leasts: &[u8], have: u64, b: usize) {
     let k = b / 64;
-    if k >= due.len() || b >= asked.len() {
+    if k >= due.len() || b >= leasts.len() {
         return;
     }
     let bit = 1u64 << (b % 64);
     let word = due[k];
-    if have < u64::from(asked[b]) {
+    if have < u64::from(leasts[b]) {
         due[k] = word | bit;
     } else {
         due[k] = word & !bit;
@@ -26,7 +26,7 @@ fn note_item(due: &mut Vec<u64>, asked: &[u8], have: u64, b: usize) {
 pub(crate) fn raise_and_note(
     have: &mut Vec<u64>,
     due: &mut Vec<u64>,
-    asked: &[u8],
+    leasts: &[u8],
     places: &[usize],
 )
     requires low { list_all (λ b. nat_lt b (length have.old.items)) places.now ≡ true }
@@ -36,7 +36,7 @@ pub(crate) fn raise_and_note(
 {
     for b in places {
         have[*b] += 1;
-        note_item(due, asked, have[*b], *b);
+        note_item(due, leasts, have[*b], *b);
     }
 }
 
@@ -44,7 +44,7 @@ pub(crate) fn raise_and_note(
 pub(crate) fn lower_and_note(
     have: &mut Vec<u64>,
     due: &mut Vec<u64>,
-    asked: &[u8],
+    leasts: &[u8],
     places: &[usize],
 )
     requires low { list_all (λ b. nat_lt b (length have.old.items)) places.now ≡ true }
@@ -54,17 +54,17 @@ pub(crate) fn lower_and_note(
 {
     for b in places {
         have[*b] -= 1;
-        note_item(due, asked, have[*b], *b);
+        note_item(due, leasts, have[*b], *b);
     }
 }
 
 /// Notes for all items.
-pub(crate) fn notes_of(alloc: Global, asked: &[u8], have: &[u64]) -> Result<Vec<u64>, Refusal>
+pub(crate) fn notes_of(alloc: Global, leasts: &[u8], have: &[u64]) -> Result<Vec<u64>, Refusal>
     ensures { IfErr result (λ e. e ≡ Refusal.Memory) }
 {
-    let mut due = vec![in alloc; 0u64; asked.len() / 64 + 1]?;
-    for b in 0..asked.len().min(have.len()) {
-        note_item(&mut due, asked, have[b], b);
+    let mut due = vec![in alloc; 0u64; leasts.len() / 64 + 1]?;
+    for b in 0..leasts.len().min(have.len()) {
+        note_item(&mut due, leasts, have[b], b);
     }
     Ok(due)
 }

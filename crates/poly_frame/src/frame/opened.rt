@@ -8,7 +8,7 @@ ghost use Rattle.poly_atom.specs.Hopeless.{base, lacks};
 ghost use Rattle.poly_frame.specs.Bits.{has_bit};
 ghost use Rattle.poly_frame.specs.Open.{open_in};
 ghost use Rattle.poly_frame.specs.FrameItems.{item_at};
-ghost use Rattle.poly_frame.specs.FrameTable.{HaveShows, UppersShow, shut_at};
+ghost use Rattle.poly_frame.specs.FrameTable.{HaveShows, MostsShow, shut_at};
 ghost use Rattle.poly_frame.specs.Matrices.{IsMatrix, RowOf, any_below, place};
 
 use crate::bits;
@@ -77,16 +77,16 @@ pub(crate) fn first_row(alloc: Global, n: usize, width: usize) -> Result<Vec<u64
 }
 
 // Takes out the numbers that have an item that is shut.
-fn take_out_shut(bounds: &[Bound], whole: &Matrix, uppers: &[u8], have: &[u64], row: &mut Vec<u64>)
-    requires uppers { length uppers.now ≡ length bounds.now }
+fn take_out_shut(bounds: &[Bound], whole: &Matrix, mosts: &[u8], have: &[u64], row: &mut Vec<u64>)
+    requires mosts { length mosts.now ≡ length bounds.now }
     requires have { length have.now ≡ length bounds.now }
     requires rows { length whole.now.rows.items ≡ whole.now.width * length bounds.now }
     requires len { length row.old.items ≡ whole.now.width }
     ensures len { length row.new.items ≡ length row.old.items }
-    ensures bits { (j : ℕ) → j < 64 * whole.now.width → has_bit row.new.items j ≡ (has_bit row.old.items j && not (any_below (λ b. shut_at (item_at bounds.now b) (slice_index uppers.now b) (slice_index have.now b) && has_bit whole.now.rows.items (place whole.now.width b j)) (length bounds.now))) }
+    ensures bits { (j : ℕ) → j < 64 * whole.now.width → has_bit row.new.items j ≡ (has_bit row.old.items j && not (any_below (λ b. shut_at (item_at bounds.now b) (slice_index mosts.now b) (slice_index have.now b) && has_bit whole.now.rows.items (place whole.now.width b j)) (length bounds.now))) }
 {
     for b in 0..bounds.len() {
-        if is_shut_at(&bounds[b].item, uppers[b], have[b]) {
+        if is_shut_at(&bounds[b].item, mosts[b], have[b]) {
             bits::take_out_row(row, 0, &whole.rows, whole.width * b, whole.width);
         }
     }
@@ -137,7 +137,7 @@ fn take_out_members(whole: &Matrix, members: &[u32], row: &mut Vec<u64>)
     }
 }
 
-/// A row with a bit for each number of the matrix that is open at the atoms. `members` is their base, `uppers` is how many
+/// A row with a bit for each number of the matrix that is open at the atoms. `members` is their base, `mosts` is how many
 /// members each item may have at most, and `have` how many it has.
 pub(crate) fn open_row(
     alloc: Global,
@@ -145,21 +145,21 @@ pub(crate) fn open_row(
     whole: &Matrix,
     atoms: &[Atom],
     members: &[u32],
-    uppers: &[u8],
+    mosts: &[u8],
     have: &[u64],
 ) -> Result<Vec<u64>, Refusal>
     requires part { IsMatrix view.now whole.now }
     requires base { members.now ≡ base view.now atoms.now }
     requires have_len { length have.now ≡ length view.now.bounds }
     requires have { HaveShows view.now members.now have.now }
-    requires uppers_len { length uppers.now ≡ length view.now.bounds }
-    requires uppers { UppersShow view.now atoms.now uppers.now }
+    requires mosts_len { length mosts.now ≡ length view.now.bounds }
+    requires mosts { MostsShow view.now atoms.now mosts.now }
     ensures len { IfOk result (λ r. length r.items ≡ whole.now.width) }
     ensures value { IfOk result (λ r. RowOf (λ p. open_in view.now atoms.now p) whole.now r.items) }
     ensures why { IfErr result (λ e. e ≡ Refusal.Memory) }
 {
     let mut row = full_row(alloc, whole.width)?;
-    take_out_shut(view.items(), whole, uppers, have, &mut row);
+    take_out_shut(view.items(), whole, mosts, have, &mut row);
     take_out_lacked(whole, atoms, &mut row);
     take_out_members(whole, members, &mut row);
     cut_off(whole.numbers.len(), whole.width, &mut row);

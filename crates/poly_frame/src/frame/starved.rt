@@ -84,11 +84,11 @@ fn is_starved_at(node: &Node<'_>, steps: &Steps, b: usize, j: usize) -> bool
     requires kept { IsAt node.now steps.now }
     requires row { b < length steps.now.have.items }
     requires number { j < length node.now.matrix.now.numbers.items }
-    ensures { result ≡ true → arms_fit node.now.view.now (node.now.path.now ++ Has (slice_index node.now.matrix.now.numbers.items j) ∷ []) (item_of node.now.view.now b) [] ≡ true }
+    ensures { result ≡ true → arms_fit node.now.view.now (node.now.trail.now ++ Has (slice_index node.now.matrix.now.numbers.items j) ∷ []) (item_of node.now.view.now b) [] ≡ true }
 {
     let at = steps.live.len() - node.matrix.width;
     let from = node.matrix.width * b;
-    if steps.have[b] > 0 || node.table.asked[b] == 0 {
+    if steps.have[b] > 0 || node.table.leasts[b] == 0 {
         return false;
     }
     if !bits::has(&steps.live, at, j) || bits::has(&node.matrix.rows, from, j) {
@@ -107,7 +107,7 @@ fn is_starved_at(node: &Node<'_>, steps: &Steps, b: usize, j: usize) -> bool
 /// Whether no placement that has the item is known to stay open once the placement is taken, though some are asked for.
 pub(crate) fn is_starved(node: &Node<'_>, steps: &Steps, number: u32, item: &Item) -> bool
     requires kept { IsAt node.now steps.now }
-    ensures { result ≡ true → arms_fit node.now.view.now (node.now.path.now ++ Has number ∷ []) item.now [] ≡ true }
+    ensures { result ≡ true → arms_fit node.now.view.now (node.now.trail.now ++ Has number ∷ []) item.now [] ≡ true }
 {
     let Some(j) = node.matrix.place_of(number) else {
         return false;

@@ -96,9 +96,9 @@ fn close(
 pub(crate) fn pick(node: &Node<'_>, members: &[u32], steps: &mut Steps, number: u32)
     requires kept { IsAt node.now steps.old }
     requires room { HasRoom node.now.matrix.now steps.old }
-    requires few { length node.now.path.now < node.now.given + STEPS }
-    requires members { members.now ≡ base node.now.view.now node.now.path.now }
-    ensures kept { StepsKeep node.now.view.now (node.now.path.now ++ Atom.Has number ∷ []) node.now.given node.now.matrix.now node.now.table.now steps.new }
+    requires few { length node.now.trail.now < node.now.given + STEPS }
+    requires members { members.now ≡ base node.now.view.now node.now.trail.now }
+    ensures kept { StepsKeep node.now.view.now (node.now.trail.now ++ Atom.Has number ∷ []) node.now.given node.now.matrix.now node.now.table.now steps.new }
     ensures room { HasRoom node.now.matrix.now steps.new }
 {
     let at = steps.live.len();
@@ -113,7 +113,7 @@ pub(crate) fn pick(node: &Node<'_>, members: &[u32], steps: &mut Steps, number: 
     raise_and_note(
         &mut steps.have,
         &mut steps.due,
-        &node.table.asked,
+        &node.table.leasts,
         &steps.raised[mark..],
     );
     close(
@@ -133,8 +133,8 @@ pub(crate) fn pick(node: &Node<'_>, members: &[u32], steps: &mut Steps, number: 
 pub(crate) fn leave(node: &Node<'_>, steps: &mut Steps, number: u32)
     requires kept { IsAt node.now steps.old }
     requires room { HasRoom node.now.matrix.now steps.old }
-    requires few { length node.now.path.now < node.now.given + STEPS }
-    ensures kept { StepsKeep node.now.view.now (node.now.path.now ++ Atom.Lacks number ∷ []) node.now.given node.now.matrix.now node.now.table.now steps.new }
+    requires few { length node.now.trail.now < node.now.given + STEPS }
+    ensures kept { StepsKeep node.now.view.now (node.now.trail.now ++ Atom.Lacks number ∷ []) node.now.given node.now.matrix.now node.now.table.now steps.new }
     ensures room { HasRoom node.now.matrix.now steps.new }
 {
     let at = steps.live.len();
@@ -150,16 +150,16 @@ pub(crate) fn leave(node: &Node<'_>, steps: &mut Steps, number: u32)
 pub(crate) fn back(node: &Node<'_>, steps: &mut Steps)
     requires kept { IsAt node.now steps.old }
     requires room { HasRoom node.now.matrix.now steps.old }
-    requires some { node.now.given < length node.now.path.now }
-    ensures kept { StepsKeep node.now.view.now (take (length node.now.path.now - 1) node.now.path.now) node.now.given node.now.matrix.now node.now.table.now steps.new }
+    requires some { node.now.given < length node.now.trail.now }
+    ensures kept { StepsKeep node.now.view.now (take (length node.now.trail.now - 1) node.now.trail.now) node.now.given node.now.matrix.now node.now.table.now steps.new }
     ensures room { HasRoom node.now.matrix.now steps.new }
 {
-    let n = node.path.len() - 1 - node.given;
+    let n = node.trail.len() - 1 - node.given;
     let mark = steps.marks[n];
     lower_and_note(
         &mut steps.have,
         &mut steps.due,
-        &node.table.asked,
+        &node.table.leasts,
         &steps.raised[mark..],
     );
     steps.raised.truncate(mark);
@@ -186,13 +186,13 @@ pub(crate) fn start(
     have: Vec<u64>,
     raised: Vec<usize>,
 ) -> Result<Steps, Refusal>
-    requires table { TableShows node.now.view.now node.now.path.now node.now.matrix.now node.now.table.now }
+    requires table { TableShows node.now.view.now node.now.trail.now node.now.matrix.now node.now.table.now }
     requires row_len { length row.items ≡ node.now.matrix.now.width }
-    requires row { RowOf (λ p. open_in node.now.view.now node.now.path.now p) node.now.matrix.now row.items }
-    requires have { HaveShows node.now.view.now (base node.now.view.now node.now.path.now) have.items }
+    requires row { RowOf (λ p. open_in node.now.view.now node.now.trail.now p) node.now.matrix.now row.items }
+    requires have { HaveShows node.now.view.now (base node.now.view.now node.now.trail.now) have.items }
     requires len { length have.items ≡ length node.now.view.now.bounds }
     requires room { STEPS * PLACEMENT_ITEMS ≤ vec_capacity raised }
-    ensures kept { IfOk result (λ s. StepsKeep node.now.view.now node.now.path.now (length node.now.path.now) node.now.matrix.now node.now.table.now s) }
+    ensures kept { IfOk result (λ s. StepsKeep node.now.view.now node.now.trail.now (length node.now.trail.now) node.now.matrix.now node.now.table.now s) }
     ensures room { IfOk result (λ s. HasRoom node.now.matrix.now s) }
     ensures why { IfErr result (λ e. e ≡ Refusal.Memory) }
 {
@@ -200,7 +200,7 @@ pub(crate) fn start(
     let marks = Vec::with_capacity(alloc, STEPS)?;
     let mut raised = raised;
     raised.clear();
-    let due = notes_of(alloc, &node.table.asked, &have)?;
+    let due = notes_of(alloc, &node.table.leasts, &have)?;
     Ok(Steps {
         live,
         have,

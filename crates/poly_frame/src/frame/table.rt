@@ -15,17 +15,17 @@ use poly_tiling::{Bound, Item, View};
 use std::alloc::Global;
 
 /// For each item, how many members close its other placements, and how many members the atoms ask for. From index
-/// `asked_end` on they ask for none.
+/// `leasts_end` on they ask for none.
 #[derive(Drop)]
 pub(crate) struct Table {
     pub(crate) limits: Vec<u8>,
-    pub(crate) asked: Vec<u8>,
+    pub(crate) leasts: Vec<u8>,
     pub(crate) listed: bool,
-    pub(crate) asked_end: usize,
+    pub(crate) leasts_end: usize,
 }
 
 ghost use Rattle.poly_frame.specs.Matrices.{IsMatrix};
-ghost use Rattle.poly_frame.specs.FrameTable.{AskedShow, HasOpen, HaveShows, TableShows, UppersShow, limit_at};
+ghost use Rattle.poly_frame.specs.FrameTable.{LeastsShow, HasOpen, HaveShows, TableShows, MostsShow, limit_at};
 ghost use Rattle.poly_frame.specs.declared.frame.items.TheConstants.{PLACEMENT_ITEMS};
 
 /// How many of the members have each item.
@@ -61,15 +61,15 @@ fn limit(item: &Item, most: u8) -> u8
     }
 }
 
-fn limits_of(alloc: Global, bounds: &[Bound], uppers: &[u8]) -> Result<Vec<u8>, Refusal>
-    requires { length uppers.now ≡ length bounds.now }
+fn limits_of(alloc: Global, bounds: &[Bound], mosts: &[u8]) -> Result<Vec<u8>, Refusal>
+    requires { length mosts.now ≡ length bounds.now }
     ensures len { IfOk result (λ l. length l.items ≡ length bounds.now) }
-    ensures value { IfOk result (λ l. (b : ℕ) → b < length bounds.now → slice_index l.items b ≡ limit_at (item_at bounds.now b) (slice_index uppers.now b)) }
+    ensures value { IfOk result (λ l. (b : ℕ) → b < length bounds.now → slice_index l.items b ≡ limit_at (item_at bounds.now b) (slice_index mosts.now b)) }
     ensures why { IfErr result (λ e. e ≡ Refusal.Memory) }
 {
     let mut limits = Vec::new(alloc);
     for b in 0..bounds.len() {
-        limits.push(limit(&bounds[b].item, uppers[b]))?;
+        limits.push(limit(&bounds[b].item, mosts[b]))?;
     }
     Ok(limits)
 }
@@ -97,12 +97,12 @@ fn all_listed(bounds: &[Bound], atoms: &[Atom]) -> bool
 }
 
 // The index after the last item that is asked for.
-fn end_of(asked: &[u8]) -> usize
-    ensures { (b : ℕ) → result ≤ b → b < length asked.now → slice_index asked.now b ≡ 0 }
+fn end_of(leasts: &[u8]) -> usize
+    ensures { (b : ℕ) → result ≤ b → b < length leasts.now → slice_index leasts.now b ≡ 0 }
 {
-    let mut end = asked.len();
+    let mut end = leasts.len();
     while end > 0 {
-        let n = asked[end - 1];
+        let n = leasts[end - 1];
         if n > 0 {
             return end;
         }
@@ -122,22 +122,22 @@ pub(crate) fn table_of(
     requires part { IsMatrix view.now matrix.now }
     requires all { HasOpen view.now atoms.now matrix.now }
     requires few { length (base view.now atoms.now) < 2 ^ 63 }
-    requires uppers_len { length wanted.uppers.items ≡ length view.now.bounds }
-    requires uppers { UppersShow view.now atoms.now wanted.uppers.items }
-    requires asked_len { length wanted.asked.items ≡ length view.now.bounds }
-    requires asked { AskedShow view.now atoms.now wanted.asked.items }
+    requires mosts_len { length wanted.mosts.items ≡ length view.now.bounds }
+    requires mosts { MostsShow view.now atoms.now wanted.mosts.items }
+    requires leasts_len { length wanted.leasts.items ≡ length view.now.bounds }
+    requires leasts { LeastsShow view.now atoms.now wanted.leasts.items }
     ensures value { IfOk result (λ t. TableShows view.now atoms.now matrix.now t) }
     ensures why { IfErr result (λ e. e ≡ Refusal.Memory) }
 {
     let bounds = view.items();
-    let limits = limits_of(alloc, bounds, &wanted.uppers)?;
-    let asked = wanted.asked;
+    let limits = limits_of(alloc, bounds, &wanted.mosts)?;
+    let leasts = wanted.leasts;
     let listed = all_listed(bounds, atoms);
-    let asked_end = end_of(&asked);
+    let leasts_end = end_of(&leasts);
     Ok(Table {
         limits,
-        asked,
+        leasts,
         listed,
-        asked_end,
+        leasts_end,
     })
 }

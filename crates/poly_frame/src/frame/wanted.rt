@@ -1,9 +1,9 @@
 //! How many members may have each item, and how many are asked for: the bounds of a view, narrowed by atoms.
 ghost use Rattle.std.specs.Prelude.{true, IfErr, IfOk, length, map, slice_index, ℕ, ◌<◌, ◌≡◌};
 ghost use Rattle.poly_tiling.specs.Names.{items_ascend};
-ghost use Rattle.poly_frame.specs.Plain.{allowed, needed};
+ghost use Rattle.poly_frame.specs.Plain.{most_by, least_by};
 ghost use Rattle.poly_frame.specs.FrameItems.{item_at};
-ghost use Rattle.poly_frame.specs.FrameTable.{AskedShow, UppersShow};
+ghost use Rattle.poly_frame.specs.FrameTable.{LeastsShow, MostsShow};
 
 use crate::frame::items::{guess_item, index_of};
 use poly_atom::Atom;
@@ -14,34 +14,34 @@ use std::alloc::Global;
 /// For each item, how many members may have it, and how many are asked for.
 #[derive(Drop)]
 pub(crate) struct Wanted {
-    pub(crate) uppers: Vec<u8>,
-    pub(crate) asked: Vec<u8>,
+    pub(crate) mosts: Vec<u8>,
+    pub(crate) leasts: Vec<u8>,
 }
 
 // Lowers the most of the item that an atom names.
-fn allow(bounds: &[Bound], cells: &[usize], atom: &Atom, uppers: &mut Vec<u8>)
+fn lower_most(bounds: &[Bound], cells: &[usize], atom: &Atom, mosts: &mut Vec<u8>)
     requires order { items_ascend bounds.now ≡ true }
-    requires len { length uppers.old.items ≡ length bounds.now }
-    ensures len { length uppers.new.items ≡ length bounds.now }
-    ensures value { (b : ℕ) → b < length bounds.now → slice_index uppers.new.items b ≡ allowed atom.now (item_at bounds.now b) (slice_index uppers.old.items b) }
+    requires len { length mosts.old.items ≡ length bounds.now }
+    ensures len { length mosts.new.items ≡ length bounds.now }
+    ensures value { (b : ℕ) → b < length bounds.now → slice_index mosts.new.items b ≡ most_by atom.now (item_at bounds.now b) (slice_index mosts.old.items b) }
 {
     if let Atom::AtMost(item, n) = atom {
         if let Some(b) = index_of(bounds, guess_item(cells, item), *item) {
-            uppers[b] = (*n).min(uppers[b]);
+            mosts[b] = (*n).min(mosts[b]);
         }
     }
 }
 
 // Raises the least of the item that an atom names.
-fn need(bounds: &[Bound], cells: &[usize], atom: &Atom, asked: &mut Vec<u8>)
+fn raise_least(bounds: &[Bound], cells: &[usize], atom: &Atom, leasts: &mut Vec<u8>)
     requires order { items_ascend bounds.now ≡ true }
-    requires len { length asked.old.items ≡ length bounds.now }
-    ensures len { length asked.new.items ≡ length bounds.now }
-    ensures value { (b : ℕ) → b < length bounds.now → slice_index asked.new.items b ≡ needed atom.now (item_at bounds.now b) (slice_index asked.old.items b) }
+    requires len { length leasts.old.items ≡ length bounds.now }
+    ensures len { length leasts.new.items ≡ length bounds.now }
+    ensures value { (b : ℕ) → b < length bounds.now → slice_index leasts.new.items b ≡ least_by atom.now (item_at bounds.now b) (slice_index leasts.old.items b) }
 {
     if let Atom::AtLeast(item, n) = atom {
         if let Some(b) = index_of(bounds, guess_item(cells, item), *item) {
-            asked[b] = (*n).max(asked[b]);
+            leasts[b] = (*n).max(leasts[b]);
         }
     }
 }
@@ -68,19 +68,19 @@ pub(crate) fn wanted_of(
     atoms: &[Atom],
     cells: &[usize],
 ) -> Result<Wanted, Refusal>
-    ensures uppers_len { IfOk result (λ w. length w.uppers.items ≡ length view.now.bounds) }
-    ensures uppers { IfOk result (λ w. UppersShow view.now atoms.now w.uppers.items) }
-    ensures asked_len { IfOk result (λ w. length w.asked.items ≡ length view.now.bounds) }
-    ensures asked { IfOk result (λ w. AskedShow view.now atoms.now w.asked.items) }
+    ensures mosts_len { IfOk result (λ w. length w.mosts.items ≡ length view.now.bounds) }
+    ensures mosts { IfOk result (λ w. MostsShow view.now atoms.now w.mosts.items) }
+    ensures leasts_len { IfOk result (λ w. length w.leasts.items ≡ length view.now.bounds) }
+    ensures leasts { IfOk result (λ w. LeastsShow view.now atoms.now w.leasts.items) }
     ensures why { IfErr result (λ e. e ≡ Refusal.Memory) }
 {
     let bounds = view.items();
-    let (mut uppers, mut asked) = mosts_and_leasts(alloc, bounds)?;
+    let (mut mosts, mut leasts) = mosts_and_leasts(alloc, bounds)?;
     let mut k = atoms.len();
     while k > 0 {
         k -= 1;
-        allow(bounds, cells, &atoms[k], &mut uppers);
-        need(bounds, cells, &atoms[k], &mut asked);
+        lower_most(bounds, cells, &atoms[k], &mut mosts);
+        raise_least(bounds, cells, &atoms[k], &mut leasts);
     }
-    Ok(Wanted { uppers, asked })
+    Ok(Wanted { mosts, leasts })
 }

@@ -26,5 +26,5 @@ returns-clause-back c = back_items c
 pub returns-clause-small : goal.returns-clause-small
 returns-clause-small c = (
   subst AllSmall (sym (forth_items c)) (guards_small c.args.before.now c.args.after.now c.requires.shown.well),
-  subst AllSmall (sym (back_items c)) (guards_small c.args.after.now c.args.before.now c.requires.turned.well),
+  subst AllSmall (sym (back_items c)) (guards_small c.args.after.now c.args.before.now c.requires.updated.well),
 )

@@ -58,7 +58,7 @@ change_by p x r k is q = record {
   before = p.design;
   after = changed p.design x;
   shown = record { well = k.whole.consistent.well; shows = k.whole.consistent.shows };
-  turned = q.right;
+  updated = q.right;
   first = k.whole.consistent.design;
   second = is;
   names = names_on p.scene p.table (arc_value r.view) k.grown.0 q.names;

@@ -1,5 +1,5 @@
 use Rattle.std.proofs.Common.{drop, length, ◌≡◌, ◌≤◌}
-use Rattle.poly_frame.specs.Open.{upper}
+use Rattle.poly_frame.specs.Open.{most_at}
 use Rattle.poly_frame.proofs.plain.most_of.Given as goal
 
 abbrev pub decreases-loop-k : goal.decreases-loop-k
@@ -8,5 +8,5 @@ decreases-loop-k l = l.k
 abbrev pub invariant-loop-k : goal.invariant-loop-k
 invariant-loop-k l = record {
   within : l.k ≤ length l.atoms;
-  rest : l.most ≡ upper l.view (drop l.k l.atoms) l.item;
+  rest : l.most ≡ most_at l.view (drop l.k l.atoms) l.item;
 }

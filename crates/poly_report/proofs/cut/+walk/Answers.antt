@@ -105,7 +105,7 @@ walk_arms-loop-arm-preserved t c =
     let left = ap arms_total (unwalked_at arms k a lt c.arm-item.is) in
     let some = total_some (plan_of a.tree) in
     record {
-      mark = inv.mark;
+      level = inv.level;
       frame = c.leave.ensures ∙ leave_at v A g arms k a lt c.arm-item.is c.walk_taken.new.frame (c.in_ok-yes.ensures.same passed ∙ inv.frame);
       steps = omega arith;
       says = inv.says ∙ says_at v A g arms k a lt c.arm-item.is c.requires.once c.loop-arm.frame inv.frame true says;

@@ -23,7 +23,7 @@ invariant-walk_arms-loop-arm l =
     let v = l.fn.frame.scene in
     let A = l.fn.frame.atoms in
     record {
-      mark : l.mark ≡ length A;
+      level : l.level ≡ length A;
       frame : l.frame ≡ record { scene = v; atoms = A ++ map (λ q. Lacks q) before; given = l.fn.frame.given };
       steps : l.arm-index + arms_total more ≤ arms_total (arms_list l.arms);
       says : arms_hold v A [] (arms_list l.arms) ≡ arms_hold v A before more;

@@ -32,7 +32,7 @@ split-returns-clause-grown t c =
     let w = c.args.frame.now in
     let p = c.args.placement in
     let r = c.requires in
-    let back = back_is w c.pick.new.self c.child.new.frame c.back_to.new.self (Has p) c.mark-mark.result c.mark-mark.ensures c.pick.ensures c.in_ok-taken.ensures.same c.back_to.ensures in
+    let back = back_is w c.pick.new.self c.child.new.frame c.backtrack_to.new.self (Has p) c.level-level.result c.level-level.ensures c.pick.ensures c.in_ok-taken.ensures.same c.backtrack_to.ensures in
     let left : c.leave.new.self ≡ record w { atoms = w.atoms ++ Lacks p ∷ [] } = c.leave.ensures ∙ ap (λ (x : Walk). record x { atoms = x.atoms ++ Lacks p ∷ [] }) back in
     let a = split_of w c.pick.new.self c.leave.new.self c.args.depth p (plan_of c.in_ok-taken.taken) (plan_of c.in_ok-left.left) r.low r.once r.place r.open c.pick.ensures left c.in_ok-taken.ensures.grown c.in_ok-left.ensures.grown in
     rw (c.in_ok-taken-2.ensures.ok, c.in_ok-left-2.ensures.ok) a
@@ -41,7 +41,7 @@ pub split-returns-clause-opened : goal.split-returns-clause-opened
 split-returns-clause-opened t c =
     let w = c.args.frame.now in
     let r = c.requires in
-    let back = back_is w c.pick.new.self c.child.new.frame c.back_to.new.self (Has c.args.placement) c.mark-mark.result c.mark-mark.ensures c.pick.ensures c.in_ok-taken.ensures.same c.back_to.ensures in
+    let back = back_is w c.pick.new.self c.child.new.frame c.backtrack_to.new.self (Has c.args.placement) c.level-level.result c.level-level.ensures c.pick.ensures c.in_ok-taken.ensures.same c.backtrack_to.ensures in
     let left : c.leave.new.self ≡ record w { atoms = w.atoms ++ Lacks c.args.placement ∷ [] } = c.leave.ensures ∙ ap (λ (x : Walk). record x { atoms = x.atoms ++ Lacks c.args.placement ∷ [] }) back in
     let a = split_opened w c.pick.new.self c.leave.new.self c.args.placement (plan_of c.in_ok-taken.taken) (plan_of c.in_ok-left.left) r.place r.open c.pick.ensures left c.in_ok-taken.ensures.opened c.in_ok-left.ensures.opened in
     rw (c.in_ok-taken-2.ensures.ok, c.in_ok-left-2.ensures.ok) a
@@ -50,7 +50,7 @@ pub split-returns-clause-tilings : goal.split-returns-clause-tilings
 split-returns-clause-tilings t c =
     let w = c.args.frame.now in
     let r = c.requires in
-    let back = back_is w c.pick.new.self c.child.new.frame c.back_to.new.self (Has c.args.placement) c.mark-mark.result c.mark-mark.ensures c.pick.ensures c.in_ok-taken.ensures.same c.back_to.ensures in
+    let back = back_is w c.pick.new.self c.child.new.frame c.backtrack_to.new.self (Has c.args.placement) c.level-level.result c.level-level.ensures c.pick.ensures c.in_ok-taken.ensures.same c.backtrack_to.ensures in
     let left : c.leave.new.self ≡ record w { atoms = w.atoms ++ Lacks c.args.placement ∷ [] } = c.leave.ensures ∙ ap (λ (x : Walk). record x { atoms = x.atoms ++ Lacks c.args.placement ∷ [] }) back in
     let a = split_tilings w c.pick.new.self c.leave.new.self c.args.placement (plan_of c.in_ok-taken.taken) (plan_of c.in_ok-left.left) _ _ _ r.place r.open c.pick.ensures left c.in_ok-taken.ensures.tilings c.in_ok-left.ensures.tilings in
     rw (c.in_ok-taken-2.ensures.ok, c.in_ok-left-2.ensures.ok) a
@@ -59,7 +59,7 @@ pub split-returns-clause-rests : goal.split-returns-clause-rests
 split-returns-clause-rests t c =
     let w = c.args.frame.now in
     let r = c.requires in
-    let back = back_is w c.pick.new.self c.child.new.frame c.back_to.new.self (Has c.args.placement) c.mark-mark.result c.mark-mark.ensures c.pick.ensures c.in_ok-taken.ensures.same c.back_to.ensures in
+    let back = back_is w c.pick.new.self c.child.new.frame c.backtrack_to.new.self (Has c.args.placement) c.level-level.result c.level-level.ensures c.pick.ensures c.in_ok-taken.ensures.same c.backtrack_to.ensures in
     let left : c.leave.new.self ≡ record w { atoms = w.atoms ++ Lacks c.args.placement ∷ [] } = c.leave.ensures ∙ ap (λ (x : Walk). record x { atoms = x.atoms ++ Lacks c.args.placement ∷ [] }) back in
     let a = split_rests w c.pick.new.self c.leave.new.self c.args.placement (plan_of c.in_ok-taken.taken) (plan_of c.in_ok-left.left) _ _ _ r.place r.open c.pick.ensures left c.in_ok-taken.ensures.rests c.in_ok-left.ensures.rests in
     rw (c.in_ok-taken-2.ensures.ok, c.in_ok-left-2.ensures.ok) a
@@ -84,7 +84,7 @@ walk_arms-loop-j-preserved t c =
       | walk_arms-then-chained-2 k ↦ omega (arith, k.deeper-is)
       | walk_arms-else-chained-2 k ↦ omega (arith, k.deeper-is)
     ] in
-    let back = back_is c.loop-j.frame c.pick.new.self c.child.new.frame c.back_to-in-loop-j.new.self (Has p) c.mark-mark.result c.mark-mark.ensures c.pick.ensures c.in_ok-tree.ensures.same c.back_to-in-loop-j.ensures in
+    let back = back_is c.loop-j.frame c.pick.new.self c.child.new.frame c.backtrack_to-in-loop-j.new.self (Has p) c.level-level.result c.level-level.ensures c.pick.ensures c.in_ok-tree.ensures.same c.backtrack_to-in-loop-j.ensures in
     let here = i.path lt in
     let still = back ∙ here in
     let more : c.push.new.self.items ≡ c.loop-j.arms.items ++ a ∷ [] = c.in_ok-push.ensures.items in
@@ -101,11 +101,11 @@ walk_arms-loop-j-preserved t c =
     ] in
     record {
       path = λ h. elim c.if-after-gt0.branch [
-        | walk_arms-then-after-gt0 k ↦ k.frame-is ∙ past_next w c.back_to-in-loop-j.new.self k.leave.new.self ps j lt still k.leave.ensures
+        | walk_arms-then-after-gt0 k ↦ k.frame-is ∙ past_next w c.backtrack_to-in-loop-j.new.self k.leave.new.self ps j lt still k.leave.ensures
         | walk_arms-else-after-gt0 k ↦ absurd (omega (arith, k.if-after-gt0.false))
       ];
       front = elim c.if-after-gt0.branch [
-        | walk_arms-then-after-gt0 k ↦ past_back w c.if-after-gt0.frame (take (j + 1) ps) (k.frame-is ∙ past_next w c.back_to-in-loop-j.new.self k.leave.new.self ps j lt still k.leave.ensures)
+        | walk_arms-then-after-gt0 k ↦ past_back w c.if-after-gt0.frame (take (j + 1) ps) (k.frame-is ∙ past_next w c.backtrack_to-in-loop-j.new.self k.leave.new.self ps j lt still k.leave.ensures)
         | walk_arms-else-after-gt0 k ↦ past_back w c.if-after-gt0.frame (take j ps) (k.frame-is ∙ still)
       ];
       many = omega (arith, ap length more, length-append c.loop-j.arms.items (a ∷ []), i.many);

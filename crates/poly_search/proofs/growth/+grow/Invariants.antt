@@ -1,7 +1,7 @@
 use Rattle.std.proofs.Common.{◌≡◌, ◌+◌, ◌*◌, ◌-◌, ◌<◌, ◌≤◌, ◌++◌, take, map, length, true, []}
 use Rattle.poly_atom.specs.declared.atom.Atom.TheVariants.{Lacks}
 use Rattle.poly_report.specs.Trees.{heads}
-use Rattle.poly_frame.specs.Walk.{back_to}
+use Rattle.poly_frame.specs.Walk.{backtrack_to}
 use Rattle.poly_report.specs.Shapes.{arms_list}
 use Rattle.poly_report.specs.Gather.{lists}
 use Rattle.poly_report.specs.Leaves.{arms_rests, arms_tilings}
@@ -29,7 +29,7 @@ decreases-split l = 4 * l.depth
 abbrev pub invariant-walk_arms-loop-j : goal.invariant-walk_arms-loop-j
 invariant-walk_arms-loop-j l = record {
   path : l.j < length l.options → l.frame ≡ record l.fn.frame { atoms = l.fn.frame.atoms ++ map (λ q. Lacks q) (take l.j l.options) };
-  front : back_to l.frame (length l.fn.frame.atoms) ≡ l.fn.frame;
+  front : backtrack_to l.frame (length l.fn.frame.atoms) ≡ l.fn.frame;
   many : length l.arms.items ≡ l.j;
   names : heads (arms_list l.arms.items) ≡ take l.j l.options;
   nodes : l.growth.nodes + arms_total (arms_list l.arms.items) ≡ l.fn.growth.nodes;

@@ -40,7 +40,7 @@ sweep_below-returns-then-depth-eq0-clause-swept t c = swept_rest c.args.frame.no
 
 pub sweep_below-returns-in-Some-clause-room : goal.sweep_below-returns-in-Some-clause-room
 sweep_below-returns-in-Some-clause-room t c =
-    let room : length c.args.frame.now.atoms < c.args.end = omega (arith, c.mark.ensures, c.if-mark-end.false) in
+    let room : length c.args.frame.now.atoms < c.args.end = omega (arith, c.level.ensures, c.if-level-end.false) in
     IfOk-weaker c.sweep-in-Some.result _ _ (λ whole rests yes. room) c.sweep-in-Some.ensures.whole
 
 pub sweep_open-returns-clause-swept : goal.sweep_open-returns-clause-swept

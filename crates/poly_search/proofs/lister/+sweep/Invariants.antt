@@ -1,6 +1,6 @@
 use Rattle.std.proofs.Common.{◌≡◌, ◌+◌, ◌*◌, ◌-◌, ◌≤◌, ◌<◌, take, drop, length}
 use Rattle.poly_report.specs.Gather.{lists}
-use Rattle.poly_frame.specs.Walk.{back_to}
+use Rattle.poly_frame.specs.Walk.{backtrack_to}
 use Rattle.poly_search.specs.Sweeps.{Partly}
 use Rattle.poly_search.proofs.Swept.{behind}
 use Rattle.poly_search.proofs.lister.+sweep.Given as goal
@@ -28,7 +28,7 @@ abbrev pub invariant-sweep_options-loop-at : goal.invariant-sweep_options-loop-a
 invariant-sweep_options-loop-at l = record {
   low : l.from ≤ l.at;
   path : l.at < length l.fn.list.options.items → l.frame ≡ record l.fn.frame { atoms = behind l.fn.frame.atoms (take (l.at - l.from) (drop l.from l.fn.list.options.items)) };
-  front : back_to l.frame (length l.fn.frame.atoms) ≡ l.fn.frame;
+  front : backtrack_to l.frame (length l.fn.frame.atoms) ≡ l.fn.frame;
   room : l.at < length l.fn.list.options.items → length l.frame.atoms < l.end;
   options : l.list.options.items ≡ l.fn.list.options.items;
   left : lists l.list.rests.items ≡ lists l.fn.list.rests.items;

@@ -6,9 +6,9 @@ pub returns-then-has_number : goal.returns-then-has_number
 unfolding fits_beside
 returns-then-has_number c = search rules
 
-pub returns-then-any_clash : goal.returns-then-any_clash
+pub returns-then-any_conflict : goal.returns-then-any_conflict
 unfolding fits_beside
-returns-then-any_clash c = search rules
+returns-then-any_conflict c = search rules
 
 pub returns : goal.returns
 unfolding fits_beside

@@ -3,8 +3,8 @@ use Rattle.poly_frame.specs.Matrices.{IsMatrix}
 use Rattle.poly_frame.specs.declared.frame.matrix.Matrix.{Matrix}
 use Rattle.poly_frame.proofs.frame.Frame.begin.Goals as goal
 
-pub begin-sound-requires-clause-part : goal.begin-sound-requires-clause-part
-begin-sound-requires-clause-part c = subst (λ (m : Matrix). IsMatrix c.args.view.now m) (sym c.matrix-whole.ensures) c.requires.part
+pub begin-consistent-requires-clause-part : goal.begin-consistent-requires-clause-part
+begin-consistent-requires-clause-part c = subst (λ (m : Matrix). IsMatrix c.args.view.now m) (sym c.matrix-whole.ensures) c.requires.part
 
 pub open_row-requires-clause-part : goal.open_row-requires-clause-part
 open_row-requires-clause-part c = subst (λ (m : Matrix). IsMatrix c.args.view.now m) (sym c.matrix-whole.ensures) c.requires.part

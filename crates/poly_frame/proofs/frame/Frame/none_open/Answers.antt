@@ -1,5 +1,5 @@
 use Rattle.std.proofs.Common.{sym}
-use Rattle.poly_frame.proofs.FrameLooks.{some_open}
+use Rattle.poly_frame.proofs.FrameQueries.{some_open}
 use Rattle.poly_frame.proofs.frame.Frame.none_open.Goals as goal
 
 pub returns-in-Some : goal.returns-in-Some

@@ -7,7 +7,7 @@ use Rattle.poly_atom.specs.declared.atom.Atom.{Atom}
 use Rattle.poly_frame.specs.Matrices.{matrix_of}
 use Rattle.poly_frame.specs.Walk.{Walk, is_option}
 use Rattle.poly_frame.specs.declared.frame.matrix.Matrix.{Matrix}
-use Rattle.poly_frame.proofs.FrameLooks.{options_members, options_once}
+use Rattle.poly_frame.proofs.FrameQueries.{options_members, options_once}
 use Rattle.poly_frame.proofs.frame.Frame.options.Goals as goal
 
 pub list_options-requires-clause-space : goal.list_options-requires-clause-space
@@ -16,7 +16,7 @@ list_options-requires-clause-space c = omega (arith, ap (λ (m : Matrix). length
 pub returns : goal.returns
 returns c =
     let v = c.self.inside.view.now in
-    let A = c.self.inside.path.items in
+    let A = c.self.inside.trail.items in
     let matrix = matrix_of c.self.inside.columns in
     let t = c.self.inside.table in
     let s = c.self.inside.steps in

@@ -6,6 +6,6 @@ use Rattle.poly_frame.proofs.frame.allowed.count_held.Given as goal
 
 abbrev pub invariant-loop-p : goal.invariant-loop-p
 invariant-loop-p l = record {
-  same : l.n + tally (λ p. has_item l.view p l.item && (mem l.view.live p && not (ruled_out l.view l.path p))) (drop l.p-index l.members) ≡ tally (λ p. has_item l.view p l.item && (mem l.view.live p && not (ruled_out l.view l.path p))) l.members;
+  same : l.n + tally (λ p. has_item l.view p l.item && (mem l.view.live p && not (ruled_out l.view l.trail p))) (drop l.p-index l.members) ≡ tally (λ p. has_item l.view p l.item && (mem l.view.live p && not (ruled_out l.view l.trail p))) l.members;
   few : l.n ≤ l.p-index;
 }

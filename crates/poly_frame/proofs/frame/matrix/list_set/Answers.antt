@@ -1,6 +1,6 @@
 use Rattle.std.proofs.Common.{Bool, List, ap, arith, false, length, sym, ◌++◌, ◌+◌, ◌*◌, ◌<◌, ◌∙◌, ◌∷◌, ℕ, ◌≡◌, ◌≤◌, get_or, [], rules}
 use Rattle.poly_frame.specs.Bits.{NoneIn, has_bit, in_both}
-use Rattle.poly_frame.proofs.FrameLooks.{filter_gap, filter_rest, filter_yes, in_row}
+use Rattle.poly_frame.proofs.FrameQueries.{filter_gap, filter_rest, filter_yes, in_row}
 use Rattle.poly_frame.proofs.frame.matrix.list_set.Goals as goal
 
 single : (row : List ℕ) (x : ℕ) → has_bit row x ≡ in_both row 0 row 0 x

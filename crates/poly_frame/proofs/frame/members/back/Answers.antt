@@ -7,7 +7,7 @@ use Rattle.poly_frame.proofs.frame.members.back.Goals as goal
 pub returns-then-size-len-clause-base : goal.returns-then-size-len-clause-base
 returns-then-size-len-clause-base c =
     let sizes = c.args.sizes.now.items in
-    let A = c.args.node.now.path.now in
+    let A = c.args.node.now.trail.now in
     let last : c.len-last.result ≡ length sizes = c.len-last.ensures ∙ c.args.sizes.now.ok.0 in
     let low : c.len-last.result - 1 < length sizes = omega (arith, last, c.requires.sizes.steps, c.requires.some) in
     let read = get_or_read sizes (c.len-last.result - 1) c.index-size.result.now low c.index-size.ensures 0 in
@@ -18,20 +18,20 @@ pub returns-then-size-len-clause-sizes : goal.returns-then-size-len-clause-sizes
 returns-then-size-len-clause-sizes c =
     let sizes = c.args.sizes.now.items in
     let last : c.len-last.result ≡ length sizes = c.len-last.ensures ∙ c.args.sizes.now.ok.0 in
-    subst (λ (xs : List ℕ). SizesShow c.args.node.now.view.now (take (length c.args.node.now.path.now - 1) c.args.node.now.path.now) c.args.node.now.given xs) (sym (c.truncate.ensures.items ∙ ap (λ n. take (n - 1) sizes) last))
-    (back_sizes c.args.node.now.view.now c.args.node.now.path.now c.args.node.now.given sizes c.requires.sizes c.requires.some)
+    subst (λ (xs : List ℕ). SizesShow c.args.node.now.view.now (take (length c.args.node.now.trail.now - 1) c.args.node.now.trail.now) c.args.node.now.given xs) (sym (c.truncate.ensures.items ∙ ap (λ n. take (n - 1) sizes) last))
+    (back_sizes c.args.node.now.view.now c.args.node.now.trail.now c.args.node.now.given sizes c.requires.sizes c.requires.some)
 
 pub returns-clause-sizes : goal.returns-clause-sizes
 returns-clause-sizes c =
     let sizes = c.args.sizes.now.items in
     let last : c.len-last.result ≡ length sizes = c.len-last.ensures ∙ c.args.sizes.now.ok.0 in
-    subst (λ (xs : List ℕ). SizesShow c.args.node.now.view.now (take (length c.args.node.now.path.now - 1) c.args.node.now.path.now) c.args.node.now.given xs) (sym (c.truncate.ensures.items ∙ ap (λ n. take (n - 1) sizes) last))
-    (back_sizes c.args.node.now.view.now c.args.node.now.path.now c.args.node.now.given sizes c.requires.sizes c.requires.some)
+    subst (λ (xs : List ℕ). SizesShow c.args.node.now.view.now (take (length c.args.node.now.trail.now - 1) c.args.node.now.trail.now) c.args.node.now.given xs) (sym (c.truncate.ensures.items ∙ ap (λ n. take (n - 1) sizes) last))
+    (back_sizes c.args.node.now.view.now c.args.node.now.trail.now c.args.node.now.given sizes c.requires.sizes c.requires.some)
 
 pub returns-clause-base : goal.returns-clause-base
 returns-clause-base c =
     let sizes = c.args.sizes.now.items in
-    let A = c.args.node.now.path.now in
+    let A = c.args.node.now.trail.now in
     let last : c.len-last.result ≡ length sizes = c.len-last.ensures ∙ c.args.sizes.now.ok.0 in
     let low : c.len-last.result - 1 < length sizes = omega (arith, last, c.requires.sizes.steps, c.requires.some) in
     let read = get_or_read sizes (c.len-last.result - 1) c.index-size.result.now low c.index-size.ensures 0 in

@@ -2,7 +2,7 @@ use Rattle.std.proofs.Common.{arith, length, get_or, subst, sym, take, ℕ, ◌+
 use Rattle.std.proofs.Math.ListN.{set}
 use Rattle.std.proofs.lemmas.List.{get_or_read, length-set}
 use Rattle.poly_frame.specs.FrameItems.{times}
-use Rattle.poly_frame.proofs.FrameItems.{at_low, lower_fits, lower_step}
+use Rattle.poly_frame.proofs.FrameItems.{at_low, with_base_fits, with_base_step}
 use Rattle.poly_frame.proofs.frame.notes.lower_and_note.Goals as goal
 
 pub overflow_sub-index_mut : goal.overflow_sub-index_mut
@@ -12,7 +12,7 @@ overflow_sub-index_mut c =
     let xs = c.args.places.now in
     let k = c.loop-b.b-index in
     let low : get_or xs k 0 < length have = omega (arith, at_low old have xs k c.loop-b-test.true c.loop-b.invariant.len c.requires.low) in
-    omega (arith, get_or_read have (get_or xs k 0) c.index_mut.result.now low c.index_mut.ensures.value 0, lower_fits old have xs k c.loop-b-test.true c.loop-b.invariant.len c.requires.low c.requires.enough c.loop-b.invariant.less)
+    omega (arith, get_or_read have (get_or xs k 0) c.index_mut.result.now low c.index_mut.ensures.value 0, with_base_fits old have xs k c.loop-b-test.true c.loop-b.invariant.len c.requires.low c.requires.enough c.loop-b.invariant.less)
 
 pub loop-b-preserved : goal.loop-b-preserved
 loop-b-preserved c =
@@ -25,5 +25,5 @@ loop-b-preserved c =
     record {
       len = length-set have (get_or xs k 0) (c.index_mut.result.now - 1) ∙ c.loop-b.invariant.len;
       less = λ b h. subst (λ (w : ℕ). get_or (set have (get_or xs k 0) (w - 1)) b 0 + times (take (k + 1) xs) b ≡ get_or old b 0) (sym read)
-          (lower_step old have xs k c.loop-b-test.true c.loop-b.invariant.len c.requires.low (lower_fits old have xs k c.loop-b-test.true c.loop-b.invariant.len c.requires.low c.requires.enough c.loop-b.invariant.less) c.loop-b.invariant.less b h);
+          (with_base_step old have xs k c.loop-b-test.true c.loop-b.invariant.len c.requires.low (with_base_fits old have xs k c.loop-b-test.true c.loop-b.invariant.len c.requires.low c.requires.enough c.loop-b.invariant.less) c.loop-b.invariant.less b h);
     }

@@ -8,5 +8,5 @@ use Rattle.poly_frame.proofs.frame.opened.take_out_shut.Given as goal
 abbrev pub invariant-loop-b : goal.invariant-loop-b
 invariant-loop-b l = record {
   len : length l.row.items ≡ length l.fn.row.items;
-  bits : (j : ℕ) → j < 64 * l.whole.width → has_bit l.row.items j ≡ (has_bit l.fn.row.items j && not (any_below (λ b. shut_at (item_at l.bounds b) (get_or l.uppers b 0) (get_or l.have b 0) && has_bit l.whole.rows.items (place l.whole.width b j)) l.b));
+  bits : (j : ℕ) → j < 64 * l.whole.width → has_bit l.row.items j ≡ (has_bit l.fn.row.items j && not (any_below (λ b. shut_at (item_at l.bounds b) (get_or l.mosts b 0) (get_or l.have b 0) && has_bit l.whole.rows.items (place l.whole.width b j)) l.b));
 }

@@ -9,7 +9,7 @@ use Rattle.poly_frame.proofs.frame.starved.is_starved_at.Goals as goal
 pub returns : goal.returns
 returns c = λ y.
     let v = c.args.node.now.view.now in
-    let A = c.args.node.now.path.now in
+    let A = c.args.node.now.trail.now in
     let first = c.args.node.now.given in
     let K = c.requires.kept in
     let s = c.args.steps.now in
@@ -20,9 +20,9 @@ returns c = λ y.
     let at = c.len.result - matrix.width in
     let have = get_or_read s.have.items b c.index.result.now c.requires.row c.index.ensures 0 in
     let none : get_or s.have.items b 0 ≡ 0 = omega (arith, have, c.if-index-gt0.false) in
-    let low : b < length t.asked.items = omega (arith, c.requires.row, K.have_len, K.table.asked_len) in
-    let asked = get_or_read t.asked.items b c.index-else-index-gt0.result.now low c.index-else-index-gt0.ensures 0 in
-    let some : 0 < get_or t.asked.items b 0 = omega (arith, asked, c.if-index-eq0.false) in
+    let low : b < length t.leasts.items = omega (arith, c.requires.row, K.have_len, K.table.leasts_len) in
+    let least_there = get_or_read t.leasts.items b c.index-else-index-gt0.result.now low c.index-else-index-gt0.ensures 0 in
+    let some : 0 < get_or t.leasts.items b 0 = omega (arith, least_there, c.if-index-eq0.false) in
     let opened : has_bit s.live.items (64 * at + j) ≡ true = ap (λ ws. has_bit ws (64 * at + j)) (sym c.deref.ensures.value) ∙ sym c.has.ensures ∙ c.if-not-has.false in
     let without : has_bit matrix.rows.items (64 * (matrix.width * b) + j) ≡ false = ap (λ ws. has_bit ws (64 * (matrix.width * b) + j)) (sym c.deref-else-not-has.ensures.value) ∙ sym c.has-else-not-has.ensures ∙ c.if-has.false in
     starved_fits v A first matrix t s.live.items s.have.items s.raised.items s.marks.items K b j at (ap (λ n. n - matrix.width) (c.len.ensures ∙ s.live.ok.0)) (omega (arith, c.requires.row, K.have_len)) c.requires.number opened without none

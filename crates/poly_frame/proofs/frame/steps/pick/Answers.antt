@@ -8,7 +8,7 @@ pub note_number-requires-clause-room : goal.note_number-requires-clause-room
 note_number-requires-clause-room c =
     let s = c.args.steps.now in
     let K = c.requires.kept in
-    omega (arith, s.raised.ok.0, raised_few c.args.node.now.view.now c.args.node.now.path.now c.args.node.now.given c.args.node.now.matrix.now c.args.node.now.table.now s.live.items s.have.items s.raised.items s.marks.items K, K.steps, c.requires.few, c.requires.room.raised)
+    omega (arith, s.raised.ok.0, raised_few c.args.node.now.view.now c.args.node.now.trail.now c.args.node.now.given c.args.node.now.matrix.now c.args.node.now.table.now s.live.items s.have.items s.raised.items s.marks.items K, K.steps, c.requires.few, c.requires.room.raised)
 
 pub raise_and_note-requires-clause-small : goal.raise_and_note-requires-clause-small
 raise_and_note-requires-clause-small c = λ b h.
@@ -18,7 +18,7 @@ raise_and_note-requires-clause-small c = λ b h.
     let mk : c.len-mark.result ≡ length s.raised.items = c.len-mark.ensures ∙ s.raised.ok.0 in
     let all : c.deref-2.result.now ≡ s.raised.items ++ places.0 = c.deref-2.ensures.value ∙ places.1 in
     let few : length places.0 ≤ 17 = omega (arith, c.note_number.ensures.len, s.raised.ok.0, c.note_number.new.noted.ok.0, ap length places.1, length-append s.raised.items places.0) in
-    omega (arith, ap length (added s.raised.items places.0 c.deref-2.result.now c.len-mark.result all mk), few, have_small c.args.node.now.view.now c.args.node.now.path.now c.args.node.now.given c.args.node.now.matrix.now c.args.node.now.table.now s.live.items s.have.items s.raised.items s.marks.items K b (omega (arith, K.have_len)), K.steps, c.requires.few)
+    omega (arith, ap length (added s.raised.items places.0 c.deref-2.result.now c.len-mark.result all mk), few, have_small c.args.node.now.view.now c.args.node.now.trail.now c.args.node.now.given c.args.node.now.matrix.now c.args.node.now.table.now s.live.items s.have.items s.raised.items s.marks.items K b (omega (arith, K.have_len)), K.steps, c.requires.few)
 
 pub returns-then-has_number-clause-kept : goal.returns-then-has_number-clause-kept
 returns-then-has_number-clause-kept c =
@@ -26,7 +26,7 @@ returns-then-has_number-clause-kept c =
     let matrix = c.args.node.now.matrix.now in
     let t = c.args.node.now.table.now in
     let v = c.args.node.now.view.now in
-    let A = c.args.node.now.path.now in
+    let A = c.args.node.now.trail.now in
     let K = c.requires.kept in
     let live1 = c.copy_last.new.words.items in
     let C = copied_from matrix.width (vec_len s.live) s.live.items live1 s.live.ok.0 (sym c.copy_last.new.words.ok.0 ∙ c.copy_last.ensures.len) c.copy_last.ensures.before c.copy_last.ensures.row in
@@ -41,7 +41,7 @@ returns-in-Some-clause-kept c =
     let matrix = c.args.node.now.matrix.now in
     let t = c.args.node.now.table.now in
     let v = c.args.node.now.view.now in
-    let A = c.args.node.now.path.now in
+    let A = c.args.node.now.trail.now in
     let K = c.requires.kept in
     let live1 = c.copy_last.new.words.items in
     let C = copied_from matrix.width (vec_len s.live) s.live.items live1 s.live.ok.0 (sym c.copy_last.new.words.ok.0 ∙ c.copy_last.ensures.len) c.copy_last.ensures.before c.copy_last.ensures.row in
@@ -63,7 +63,7 @@ returns-in_default-clause-kept c =
     let matrix = c.args.node.now.matrix.now in
     let t = c.args.node.now.table.now in
     let v = c.args.node.now.view.now in
-    let A = c.args.node.now.path.now in
+    let A = c.args.node.now.trail.now in
     let K = c.requires.kept in
     let live1 = c.copy_last.new.words.items in
     let C = copied_from matrix.width (vec_len s.live) s.live.items live1 s.live.ok.0 (sym c.copy_last.new.words.ok.0 ∙ c.copy_last.ensures.len) c.copy_last.ensures.before c.copy_last.ensures.row in

@@ -7,7 +7,7 @@ use Rattle.poly_frame.proofs.frame.steps.start.Goals as goal
 pub returns-clause-kept : goal.returns-clause-kept
 returns-clause-kept c =
     let v = c.args.node.now.view.now in
-    let A = c.args.node.now.path.now in
+    let A = c.args.node.now.trail.now in
     let matrix = c.args.node.now.matrix.now in
     let same = c.in_ok-live.ensures.items in
     kept_start v A matrix c.args.node.now.table.now c.in_ok-live.live.items c.args.have.items c.clear.new.self.items c.in_ok-marks.marks.items c.requires.table c.requires.have c.requires.len (ap length same ∙ c.requires.row_len) c.clear.ensures.items c.in_ok-marks.ensures.items

@@ -18,5 +18,5 @@ returns c = λ b l h. c.loop-end.invariant.quiet b (omega (arith, c.loop-end-tes
 pub loop-end-preserved : goal.loop-end-preserved
 loop-end-preserved c = record {
   low = omega (arith, c.loop-end.invariant.low);
-  quiet = quiet_more c.args.asked.now c.loop-end.end (omega (arith, c.if-n-gt0.false)) c.loop-end.invariant.quiet;
+  quiet = quiet_more c.args.leasts.now c.loop-end.end (omega (arith, c.if-n-gt0.false)) c.loop-end.invariant.quiet;
 }

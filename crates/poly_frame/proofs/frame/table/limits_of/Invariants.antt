@@ -6,5 +6,5 @@ use Rattle.poly_frame.proofs.frame.table.limits_of.Given as goal
 abbrev pub invariant-loop-b : goal.invariant-loop-b
 invariant-loop-b l = record {
   len : length l.limits.items ≡ l.b;
-  done : (b : ℕ) → b < l.b → get_or l.limits.items b 0 ≡ limit_at (item_at l.bounds b) (get_or l.uppers b 0);
+  done : (b : ℕ) → b < l.b → get_or l.limits.items b 0 ≡ limit_at (item_at l.bounds b) (get_or l.mosts b 0);
 }

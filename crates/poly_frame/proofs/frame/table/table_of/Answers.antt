@@ -19,11 +19,11 @@ returns-clause-value c =
       limits = λ b h. c.in_ok-limits.ensures.value b (omega (arith, ap length c.items-bounds.ensures.value))
           ∙ ap (λ (bs : List Bound). limit_at (item_at bs b) (get_or c.deref.result.now b 0)) c.items-bounds.ensures.value
           ∙ ap (λ xs. limit_at (item_of v b) (get_or xs b 0)) c.deref.ensures.value
-          ∙ ap (λ n. limit_at (item_of v b) n) (c.requires.uppers b h);
+          ∙ ap (λ n. limit_at (item_of v b) n) (c.requires.mosts b h);
       limits_len = c.in_ok-limits.ensures.len ∙ ap length c.items-bounds.ensures.value;
-      asked = c.requires.asked;
-      asked_len = c.requires.asked_len;
+      leasts = c.requires.leasts;
+      leasts_len = c.requires.leasts_len;
       listed = λ y. subst (λ (bs : List Bound). list_all (of_asked (λ i. list_any (λ b. same_item b.item i) bs)) A ≡ true) c.items-bounds.ensures.value (sym c.all_listed-listed.ensures ∙ y);
-      quiet = λ b l h. ap (λ xs. get_or xs b 0) (sym c.deref-2.ensures.value) ∙ c.end_of-asked_end.ensures b l (omega (arith, h, ap length c.deref-2.ensures.value, c.requires.asked_len));
+      quiet = λ b l h. ap (λ xs. get_or xs b 0) (sym c.deref-2.ensures.value) ∙ c.end_of-leasts_end.ensures b l (omega (arith, h, ap length c.deref-2.ensures.value, c.requires.leasts_len));
       small = λ i. omega (arith, count_le v (base v A) i, c.requires.few);
     }

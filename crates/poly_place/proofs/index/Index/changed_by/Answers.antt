@@ -3,15 +3,15 @@ use Rattle.std.specs.Prelude.{slice_index_or}
 use Rattle.poly_tiling.specs.declared.bound.Bound.{Bound}
 use Rattle.poly_tiling.specs.Puzzle.{View}
 use Rattle.poly_place.specs.Index.{AreRows, IsIndex, Row, has_of, rows_without, with_numbers}
-use Rattle.poly_place.specs.Sides.{by_sides}
-use Rattle.poly_place.proofs.Indexed.{turned_index}
+use Rattle.poly_place.specs.Numbered.{numbered_view}
+use Rattle.poly_place.proofs.Indexed.{updated_index}
 use Rattle.poly_place.proofs.Rows.{items_without, rows_up, written_back}
 use Rattle.poly_place.proofs.index.Index.changed_by.Goals as goal
 
 pub scatter-requires : goal.scatter-requires
 scatter-requires c =
     let old : List Row = c.args.self.now.rows.items in
-    let bounds : List Bound = c.args.turn.now.sides.bounds.items in
+    let bounds : List Bound = c.args.update.now.numbered.bounds.items in
     let marked : ℕ → Bool = λ n. slice_index_or c.args.marks.now n false in
     let e : c.in_ok-rows.rows.items ≡ rows_without marked old bounds =
     c.in_ok-rows.ensures.ok
@@ -21,9 +21,9 @@ scatter-requires c =
 
 pub returns-clause-ok : goal.returns-clause-ok
 returns-clause-ok c = λ v d x same w s index are shows come.
-    let u : View = by_sides c.args.names.now c.args.turn.now.sides in
+    let u : View = numbered_view c.args.names.now c.args.update.now.numbered in
     let old : List Row = c.args.self.now.rows.items in
-    let bounds : List Bound = c.args.turn.now.sides.bounds.items in
+    let bounds : List Bound = c.args.update.now.numbered.bounds.items in
     let marked : ℕ → Bool = λ n. slice_index_or c.args.marks.now n false in
     let has = has_of c.args.names.now in
     let e : c.in_ok-rows.rows.items ≡ rows_without marked old bounds =
@@ -31,8 +31,8 @@ returns-clause-ok c = λ v d x same w s index are shows come.
     ∙ ap (λ (rs : List Row). rows_without marked rs c.deref-2.result.now) c.deref.ensures.value
     ∙ ap (λ (bs : List Bound). rows_without marked old bs) c.deref-2.ensures.value in
     let back = written_back has c.deref-3.result.now c.deref_mut.result.now c.scatter.new.rows (drop (length c.scatter.new.rows) c.in_ok-rows.rows.items) c.in_ok-rows.rows.len c.in_ok-scatter.ensures.ok c.deref_mut.ensures.len in
-    subst (λ (rs : List Row). IsIndex u rs) (sym back) (turned_index v u d x old c.args.marks.now c.args.turn.now.found.items same w s index c.requires.well shows are come c.scatter.new.rows (
+    subst (λ (rs : List Row). IsIndex u rs) (sym back) (updated_index v u d x old c.args.marks.now c.args.update.now.found.items same w s index c.requires.well shows are come c.scatter.new.rows (
     c.in_ok-scatter.ensures.ok
     ∙ ap (λ (l : List ℕ). with_numbers has l c.deref_mut.result.now) c.deref-3.ensures.value
-    ∙ ap (λ (rs : List Row). with_numbers has c.args.turn.now.found.items rs) (c.deref_mut.ensures.value ∙ e)
+    ∙ ap (λ (rs : List Row). with_numbers has c.args.update.now.found.items rs) (c.deref_mut.ensures.value ∙ e)
     ))

@@ -5,7 +5,7 @@ use Rattle.poly_place.proofs.Rows.{rows_up}
 use Rattle.poly_place.proofs.table.Table.numbers.Goals as goal
 
 pub numbers-requires : goal.numbers-requires
-numbers-requires c = rows_up c.self.inside.index.rows.items c.self.inside.sides.bounds.items c.self.invariant.index.items c.self.invariant.well.items_up
+numbers-requires c = rows_up c.self.inside.index.rows.items c.self.inside.numbered.bounds.items c.self.invariant.index.items c.self.invariant.well.items_up
 
 pub returns : goal.returns
 returns c =

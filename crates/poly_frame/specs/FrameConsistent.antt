@@ -1,0 +1,27 @@
+-- When only missing members can keep the base of a frame's atoms from being a tiling that meets them.
+use Rattle.std.specs.Prelude.{Bool, List, length, nat_le, not, slice_index, take, true, ℕ, ◌&&◌, ◌+◌, ◌<◌, ◌||◌, ◌≡◌, ◌≤◌}
+use Rattle.std.specs.List.{list_all}
+use Rattle.poly_tiling.specs.Lists.{mem}
+use Rattle.poly_tiling.specs.declared.bound.Bound.{Bound}
+use Rattle.poly_tiling.specs.declared.item.Item.{Item}
+use Rattle.poly_tiling.specs.Puzzle.{View, is_piece}
+use Rattle.poly_atom.specs.declared.atom.Atom.{Atom}
+use Rattle.poly_atom.specs.Hopeless.{base}
+use Rattle.poly_frame.specs.FrameItems.{item_at}
+use Rattle.poly_frame.specs.Open.{ruled_out}
+
+-- each member is a placement of the design and is not ruled out
+abbrev pub is_consistent : View → List Atom → Bool
+is_consistent v A = list_all (λ p. mem v.live p && not (ruled_out v A p)) (base v A)
+
+-- the base is consistent at the first `consistent` levels: after the first `first + k` atoms, for each `k` below `consistent`
+pub record ConsistentShows (v : View) (A : List Atom) (first consistent : ℕ) : Type 0 where
+  pub few : consistent + first ≤ length A + 1
+  pub levels : (k : ℕ) → k < consistent → is_consistent v (take (first + k) A) ≡ true
+
+-- an item has at most as many members as it may, and a cell at most one
+abbrev pub fits_at : Item → ℕ → ℕ → Bool
+fits_at i most have = nat_le have most && (is_piece i || nat_le have 1)
+
+abbrev pub AllFit : List Bound → List ℕ → List ℕ → Type 0
+AllFit bounds mosts have = (b : ℕ) → b < length bounds → fits_at (item_at bounds b) (slice_index mosts b) (slice_index have b) ≡ true

@@ -1,0 +1,131 @@
+//! How many steps of a frame left its base consistent: each member a placement of the design that is not ruled out. If all
+//! did, the base is a tiling that meets the atoms as soon as no item is short.
+ghost use Rattle.std.specs.Prelude.{[], ℕ, length, not, take, true, ◌&&◌, ◌++◌, ◌-◌, ◌<◌, ◌∷◌, ◌≡◌, ◌≤◌};
+ghost use Rattle.std.specs.List.{list_all, list_any};
+ghost use Rattle.poly_tiling.specs.Lists.{mem};
+ghost use Rattle.poly_atom.specs.Hopeless.{base, lacks};
+ghost use Rattle.poly_tiling.specs.Puzzle.{is_piece};
+ghost use Rattle.poly_frame.specs.Open.{open_in, ruled_out};
+ghost use Rattle.poly_frame.specs.FrameConsistent.{AllFit, ConsistentShows, fits_at, is_consistent};
+ghost use Rattle.poly_frame.specs.FrameTable.{HaveShows, MostsShow};
+ghost use Rattle.poly_frame.specs.Matrices.{IsMatrix, StandsShow};
+
+use crate::frame::matrix::Matrix;
+use crate::frame::node::Node;
+use crate::plain;
+use poly_atom::Atom;
+use poly_tiling::{Bound, Item, View, has_number};
+
+/// Whether the number is a placement of the design that is not ruled out.
+pub(crate) fn is_right(view: &View, atoms: &[Atom], members: &[u32], number: u32) -> bool
+    requires { members.now ≡ base view.now atoms.now }
+    ensures { result ≡ (mem view.now.live number && not (ruled_out view.now atoms.now number)) }
+{
+    has_number(view.live(), number) && !plain::is_ruled_out(view, atoms, members, number)
+}
+
+fn fits(item: &Item, most: u8, have: u64) -> bool
+    ensures { result ≡ fits_at item.now most have }
+{
+    have <= u64::from(most) && (is_piece(item) || have <= 1)
+}
+
+fn is_piece(item: &Item) -> bool
+    ensures { result ≡ is_piece item.now }
+{
+    match item {
+        Item::Cell(_) => false,
+        Item::Piece(_) => true,
+    }
+}
+
+// Whether no item has more members than it may, a cell at most one.
+fn all_fit(bounds: &[Bound], mosts: &[u8], have: &[u64]) -> bool
+    requires mosts { length mosts.now ≡ length bounds.now }
+    requires have { length have.now ≡ length bounds.now }
+    ensures { result ≡ true → AllFit bounds.now mosts.now have.now }
+{
+    for b in 0..bounds.len() {
+        if !fits(&bounds[b].item, mosts[b], have[b]) {
+            return false;
+        }
+    }
+    true
+}
+
+// Whether the number is in the matrix and no atom lacks it.
+fn is_kept(whole: &Matrix, atoms: &[Atom], number: u32) -> bool
+    requires { StandsShow whole.now.numbers.items whole.now.stands.items }
+    ensures { result ≡ (mem whole.now.numbers.items number && not (list_any (λ a. lacks a number) atoms.now)) }
+{
+    match whole.place_of(number) {
+        None => false,
+        Some(_) => !plain::any_lacks(atoms, number),
+    }
+}
+
+fn are_kept(whole: &Matrix, atoms: &[Atom], members: &[u32]) -> bool
+    requires { StandsShow whole.now.numbers.items whole.now.stands.items }
+    ensures { result ≡ list_all (λ p. mem whole.now.numbers.items p && not (list_any (λ a. lacks a p) atoms.now)) members.now }
+{
+    for p in members {
+        if !is_kept(whole, atoms, *p) {
+            return false;
+        }
+    }
+    true
+}
+
+/// For the given atoms alone: 1 if their base is known to be consistent, else 0. It may be known before. `mosts` is how many
+/// members each item may have at most, and `have` how many have it.
+pub(crate) fn begin(
+    view: &View,
+    part: &Matrix,
+    atoms: &[Atom],
+    members: &[u32],
+    mosts: &[u8],
+    have: &[u64],
+    sure: bool,
+) -> usize
+    requires sure { sure ≡ true → is_consistent view.now atoms.now ≡ true }
+    requires part { IsMatrix view.now part.now }
+    requires base { members.now ≡ base view.now atoms.now }
+    requires mosts_len { length mosts.now ≡ length view.now.bounds }
+    requires have_len { length have.now ≡ length view.now.bounds }
+    requires mosts { MostsShow view.now atoms.now mosts.now }
+    requires have { HaveShows view.now members.now have.now }
+    ensures { ConsistentShows view.now atoms.now (length atoms.now) result }
+{
+    if sure {
+        return 1;
+    }
+    if all_fit(view.items(), mosts, have) && are_kept(part, atoms, members) {
+        1
+    } else {
+        0
+    }
+}
+
+/// After a placement is taken or left. `opened` is whether it is known to have been open.
+pub(crate) fn step(node: &Node<'_>, consistent: usize, number: u32, opened: bool) -> usize
+    requires shows { ConsistentShows node.now.view.now node.now.trail.now node.now.given consistent }
+    requires low { node.now.given ≤ length node.now.trail.now }
+    requires opened { opened ≡ true → (mem node.now.view.now.live number ≡ true) × (open_in node.now.view.now node.now.trail.now number ≡ true) }
+    ensures taken { ConsistentShows node.now.view.now (node.now.trail.now ++ Atom.Has number ∷ []) node.now.given result }
+    ensures left { ConsistentShows node.now.view.now (node.now.trail.now ++ Atom.Lacks number ∷ []) node.now.given result }
+{
+    if opened && consistent > node.trail.len() - node.given {
+        consistent + 1
+    } else {
+        consistent
+    }
+}
+
+/// After the last step is undone.
+pub(crate) fn back(node: &Node<'_>, consistent: usize) -> usize
+    requires shows { ConsistentShows node.now.view.now node.now.trail.now node.now.given consistent }
+    requires some { node.now.given < length node.now.trail.now }
+    ensures { ConsistentShows node.now.view.now (take (length node.now.trail.now - 1) node.now.trail.now) node.now.given result }
+{
+    consistent.min(node.trail.len() - node.given)
+}

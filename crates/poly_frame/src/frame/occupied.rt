@@ -1,0 +1,120 @@
+//! Which words of a row have bits. Counts by them skip the words that are empty; nothing rests on them but time.
+ghost use Rattle.std.specs.Prelude.{IfErr, ◌<◌, ◌≡◌};
+
+use poly_grid::Refusal;
+use std::alloc::Global;
+
+// The most words of a narrow row.
+const NARROW: usize = 16;
+
+/// A bit for each word of a row. A design has at most 20,000 placements, so a row has at most 313 words.
+#[derive(Clone, Copy)]
+pub(crate) struct Occupied([u64; 5]);
+
+impl Occupied {
+    /// All words.
+    pub(crate) fn all() -> Occupied {
+        Occupied([u64::MAX; 5])
+    }
+}
+
+/// Whether a row is so short that a count does best to take it whole.
+pub(crate) fn is_narrow(row: &[u64]) -> bool {
+    row.len() <= NARROW
+}
+
+/// The words of the row that have bits; of a narrow row all.
+pub(crate) fn occupied_words(row: &[u64]) -> Occupied {
+    if is_narrow(row) {
+        return Occupied::all();
+    }
+    let mut occupied = [0u64; 5];
+    for k in 0..row.len().min(320) {
+        if row[k] != 0 {
+            occupied[k / 64] |= 1u64 << (k % 64);
+        }
+    }
+    Occupied(occupied)
+}
+
+/// The words that have bits in each of a number of rows; nothing is noted of narrow ones.
+pub(crate) fn occupied_rows(
+    alloc: Global,
+    rows: &[u64],
+    width: usize,
+    count: usize,
+) -> Result<Vec<Occupied>, Refusal>
+    ensures { IfErr result (λ e. e ≡ Refusal.Memory) }
+{
+    if width <= NARROW {
+        return Ok(Vec::new(alloc));
+    }
+    let mut all = Vec::with_capacity(alloc, count)?;
+    let mut at = 0usize;
+    for _row in 0..count {
+        if rows.len() - at < width {
+            return Ok(all);
+        }
+        all.push(occupied_words(&rows[at..at + width]))?;
+        at += width;
+    }
+    Ok(all)
+}
+
+/// How many bits the words have.
+pub(crate) fn count_bits(row: &[u64]) -> usize {
+    let mut all = 0usize;
+    for word in row {
+        all = all.saturating_add(word.count_ones() as usize);
+    }
+    all
+}
+
+/// How many numbers both rows have.
+pub(crate) fn count_common(some: &[u64], others: &[u64]) -> usize {
+    let mut all = 0usize;
+    for (word, other) in some.iter().zip(others) {
+        all = all.wrapping_add((word & other).count_ones() as usize);
+    }
+    all
+}
+
+// How many numbers both rows have in those of the 64 words from `first` on that are in the mask. Stops at `most`.
+fn count_in(some: &[u64], others: &[u64], first: usize, mask: u64, most: usize) -> usize
+    requires { first < 320 }
+{
+    let mut left = mask;
+    let mut all = 0usize;
+    for _ in 0..64u32 {
+        if left == 0 || most <= all {
+            return all;
+        }
+        let k = first + left.trailing_zeros() as usize;
+        left &= left - 1;
+        if k < some.len() && k < others.len() {
+            all = all.saturating_add((some[k] & others[k]).count_ones() as usize);
+        }
+    }
+    all
+}
+
+/// How many numbers both rows have, or some number that is at least `most` if there are that many.
+pub(crate) fn common(
+    some: &[u64],
+    occupied: &Occupied,
+    others: &[u64],
+    filled: &Occupied,
+    most: usize,
+) -> usize {
+    let mut all = count_in(some, others, 0, occupied.0[0] & filled.0[0], most);
+    if some.len() <= 64 {
+        return all;
+    }
+    for c in 1..5usize {
+        let mask = occupied.0[c] & filled.0[c];
+        if mask != 0 && all < most {
+            all = all.saturating_add(count_in(some, others, 64 * c, mask, most - all));
+        }
+    }
+    all
+}

@@ -1,0 +1,364 @@
+//! What a frame is asked: which placements are open, and which item is due.
+ghost use Rattle.std.specs.Prelude.{Bool, IfErr, IfOk, IfSome, MatchOption, false, length, nat_lt, not, slice_index, true, vec_capacity, vec_len, ℕ, ◌&&◌, ◌*◌, ◌+◌, ◌-◌, ◌<◌, ◌^◌, ◌≡◌, ◌≤◌};
+ghost use Rattle.std.specs.List.{filter, list_all};
+ghost use Rattle.poly_tiling.specs.declared.item.Item.{Item};
+ghost use Rattle.poly_tiling.specs.Lists.{mem};
+ghost use Rattle.poly_tiling.specs.Puzzle.{count, has_item};
+ghost use Rattle.poly_atom.specs.Atoms.{in_family};
+ghost use Rattle.poly_atom.specs.Hopeless.{base};
+ghost use Rattle.poly_frame.specs.Open.{least_at, open_in};
+ghost use Rattle.poly_frame.specs.Bits.{in_both};
+ghost use Rattle.poly_frame.specs.FrameItems.{item_of};
+ghost use Rattle.poly_frame.specs.FrameConsistent.{ConsistentShows};
+ghost use Rattle.poly_frame.specs.FrameSteps.{IsAt};
+ghost use Rattle.poly_frame.specs.FrameTable.{HasOpen};
+ghost use Rattle.poly_frame.specs.Matrices.{IsMatrix};
+
+use crate::frame::items::{guess_item, index_of};
+use crate::frame::matrix::{Matrix, narrowed};
+use crate::frame::node::Node;
+use crate::frame::occupied::{
+    Occupied, common, count_bits, count_common, is_narrow, occupied_words,
+};
+use crate::frame::steps::Steps;
+use crate::frame::table::Table;
+use crate::{bits, plain};
+use poly_grid::Refusal;
+use poly_tiling::Item;
+use std::alloc::Global;
+
+// Lists the numbers that are in both rows.
+fn list_both(matrix: &Matrix, live: &[u64], at: usize, from: usize, into: &mut Vec<u32>)
+    requires wide { length matrix.now.numbers.items ≤ 64 * matrix.now.width }
+    requires narrow { matrix.now.width < 2 ^ 58 }
+    requires live { at + matrix.now.width ≤ length live.now }
+    requires rows { from + matrix.now.width ≤ length matrix.now.rows.items }
+    requires space { length matrix.now.numbers.items ≤ vec_capacity into.old }
+    ensures items { (f : ℕ → Bool) → ((j : ℕ) → j < length matrix.now.numbers.items → f (slice_index matrix.now.numbers.items j) ≡ in_both live.now at matrix.now.rows.items from j) → into.new.items ≡ filter f matrix.now.numbers.items }
+    ensures room { vec_capacity into.new ≡ vec_capacity into.old }
+{
+    into.clear();
+    let mut low = 0;
+    while let Some(j) = bits::next_both(live, at, &matrix.rows, from, matrix.width, low) {
+        if j >= matrix.numbers.len() {
+            return;
+        }
+        into.push_reserved(matrix.numbers[j]);
+        low = j + 1;
+    }
+}
+
+// Lists the open numbers of row `b`.
+fn list_row(node: &Node<'_>, steps: &Steps, b: usize, into: &mut Vec<u32>)
+    requires kept { IsAt node.now steps.now }
+    requires row { b < length node.now.view.now.bounds }
+    requires space { length node.now.matrix.now.numbers.items ≤ vec_capacity into.old }
+    ensures items { into.new.items ≡ filter (λ p. open_in node.now.view.now node.now.trail.now p && has_item node.now.view.now p (item_of node.now.view.now b)) node.now.matrix.now.numbers.items }
+    ensures room { vec_capacity into.new ≡ vec_capacity into.old }
+{
+    let at = steps.live.len() - node.matrix.width;
+    list_both(node.matrix, &steps.live, at, node.matrix.width * b, into);
+}
+
+/// Lists the open placements that have the item.
+pub(crate) fn list_options(node: &Node<'_>, steps: &Steps, item: Item, into: &mut Vec<u32>)
+    requires kept { IsAt node.now steps.now }
+    requires space { length node.now.matrix.now.numbers.items ≤ vec_capacity into.old }
+    ensures items { into.new.items ≡ filter (λ p. open_in node.now.view.now node.now.trail.now p && has_item node.now.view.now p item) node.now.matrix.now.numbers.items }
+    ensures room { vec_capacity into.new ≡ vec_capacity into.old }
+{
+    match index_of(
+        node.view.items(),
+        guess_item(&node.matrix.cells, &item),
+        item,
+    ) {
+        None => into.clear(),
+        Some(b) => list_row(node, steps, b, into),
+    }
+}
+
+/// The number of some open placement.
+pub(crate) fn first_open(node: &Node<'_>, steps: &Steps) -> Option<u32>
+    requires kept { IsAt node.now steps.now }
+    ensures { MatchOption result (list_all (λ p. not (open_in node.now.view.now node.now.trail.now p)) node.now.view.now.live ≡ true) (λ p. (mem node.now.view.now.live p ≡ true) × (open_in node.now.view.now node.now.trail.now p ≡ true)) }
+{
+    let at = steps.live.len() - node.matrix.width;
+    let Some(j) = bits::next_both(&steps.live, at, &steps.live, at, node.matrix.width, 0) else {
+        return None;
+    };
+    if j < node.matrix.numbers.len() {
+        Some(node.matrix.numbers[j])
+    } else {
+        None
+    }
+}
+
+// The fewest open placements for which a smaller frame saves more than it costs to make.
+const WORTH: usize = 32;
+
+/// Whether few of many placements are open, but not so few that little is left to search: a frame that begins here would
+/// be much smaller.
+pub(crate) fn is_sparse(matrix: &Matrix, steps: &Steps) -> bool {
+    let width = matrix.width;
+    if width <= 12 || steps.live.len() < width {
+        return false;
+    }
+    let open = count_bits(&steps.live[steps.live.len() - width..]);
+    WORTH <= open && open < matrix.numbers.len() / 3
+}
+
+/// A matrix of what is open.
+pub(crate) fn narrowed_now(alloc: Global, node: &Node<'_>, steps: &Steps) -> Result<Matrix, Refusal>
+    requires kept { IsAt node.now steps.now }
+    ensures part { IfOk result (λ m. IsMatrix node.now.view.now m) }
+    ensures all { IfOk result (λ m. HasOpen node.now.view.now node.now.trail.now m) }
+    ensures why { IfErr result (λ e. e ≡ Refusal.Memory) }
+{
+    let at = steps.live.len() - node.matrix.width;
+    let narrow = narrowed(alloc, node.view, node.matrix, &steps.live[at..])?;
+    Ok(narrow)
+}
+
+/// Whether the number's placement is known to be open.
+pub(crate) fn stands_open(node: &Node<'_>, steps: &Steps, number: u32) -> bool
+    requires kept { IsAt node.now steps.now }
+    ensures { result ≡ true → (mem node.now.view.now.live number ≡ true) × (open_in node.now.view.now node.now.trail.now number ≡ true) }
+{
+    let at = steps.live.len() - node.matrix.width;
+    match node.matrix.place_of(number) {
+        None => false,
+        Some(j) => bits::has(&steps.live, at, j),
+    }
+}
+
+// Whether the base has too few of the item at a place.
+fn is_below(table: &Table, steps: &Steps, b: usize) -> bool
+    requires have { b < length steps.now.have.items }
+    requires leasts { b < length table.now.leasts.items }
+    ensures { result ≡ nat_lt (slice_index steps.now.have.items b) (slice_index table.now.leasts.items b) }
+{
+    steps.have[b] < u64::from(table.leasts[b])
+}
+
+/// Whether the base is known to have too few of some item of the view.
+pub(crate) fn is_short(node: &Node<'_>, steps: &Steps) -> bool
+    requires kept { IsAt node.now steps.now }
+    ensures short { result ≡ true → in_family node.now.view.now node.now.trail.now (base node.now.view.now node.now.trail.now) ≡ false }
+    ensures enough { result ≡ false → (b : ℕ) → b < length node.now.view.now.bounds → nat_lt (count node.now.view.now (base node.now.view.now node.now.trail.now) (item_of node.now.view.now b)) (least_at node.now.view.now node.now.trail.now (item_of node.now.view.now b)) ≡ false }
+{
+    for b in 0..node.table.leasts_end.min(steps.have.len()) {
+        if is_below(node.table, steps, b) {
+            return true;
+        }
+    }
+    false
+}
+
+/// Whether the base is a tiling that meets the atoms; none if the rows do not tell it.
+pub(crate) fn judge(node: &Node<'_>, steps: &Steps, consistent: usize) -> Option<bool>
+    requires kept { IsAt node.now steps.now }
+    requires consistent { ConsistentShows node.now.view.now node.now.trail.now node.now.given consistent }
+    ensures { IfSome result (λ b. in_family node.now.view.now node.now.trail.now (base node.now.view.now node.now.trail.now) ≡ b) }
+{
+    if is_short(node, steps) {
+        return Some(false);
+    }
+    if node.table.listed && consistent > node.trail.len() - node.given {
+        return Some(true);
+    }
+    None
+}
+
+// How many options the item at a place has beyond what it still needs, plus one: 0 if they are too few; some number
+// that is at least `fewest` if it is not less than that. None if the base has enough. It runs for each item that is due
+// at each node, where a call would cost as much as the count.
+#[inline(always)]
+fn spare(
+    node: &Node<'_>,
+    steps: &Steps,
+    at: usize,
+    occupied: &Occupied,
+    b: usize,
+    fewest: usize,
+) -> Option<usize>
+    requires have { b < length steps.now.have.items }
+    requires leasts { b < length node.now.table.now.leasts.items }
+    requires live { at + node.now.matrix.now.width ≤ length steps.now.live.items }
+    requires rows { node.now.matrix.now.width * b + node.now.matrix.now.width ≤ length node.now.matrix.now.rows.items }
+    ensures { MatchOption result (nat_lt (slice_index steps.now.have.items b) (slice_index node.now.table.now.leasts.items b) ≡ false) (λ _. nat_lt (slice_index steps.now.have.items b) (slice_index node.now.table.now.leasts.items b) ≡ true) }
+{
+    let have = steps.have[b];
+    let least = u64::from(node.table.leasts[b]);
+    if least <= have {
+        return None;
+    }
+    let remaining = (least - have) as usize - 1;
+    let from = node.matrix.width * b;
+    let live = &steps.live[at..at + node.matrix.width];
+    let row = &node.matrix.rows[from..from + node.matrix.width];
+    let n = if is_narrow(live) {
+        count_common(live, row)
+    } else {
+        let most = fewest.saturating_add(remaining);
+        common(live, occupied, row, &filled_words(node.matrix, b), most)
+    };
+    Some(n.saturating_sub(remaining))
+}
+
+fn filled_words(matrix: &Matrix, b: usize) -> Occupied {
+    if b < matrix.occupied.len() {
+        matrix.occupied[b]
+    } else {
+        Occupied::all()
+    }
+}
+
+// How many words note which items are due: room for 8,192 items. A design has at most 320.
+const NOTED: usize = 128;
+
+// Where an item is due, and how many options it has beyond what it still needs, plus one.
+#[derive(Clone, Copy)]
+struct Scarce {
+    place: Option<usize>,
+    spare: usize,
+}
+
+// The item at `b`, if it is due and has fewer options to spare.
+fn scarcer(
+    node: &Node<'_>,
+    steps: &Steps,
+    at: usize,
+    occupied: &Occupied,
+    b: usize,
+    best: Scarce,
+) -> Scarce
+    requires kept { IsAt node.now steps.now }
+    requires at { at ≡ length steps.now.live.items - node.now.matrix.now.width }
+    requires low { b < length steps.now.have.items }
+    requires best { IfSome best.place (λ b. (b < length steps.now.have.items) × (nat_lt (slice_index steps.now.have.items b) (slice_index node.now.table.now.leasts.items b) ≡ true)) }
+    ensures { IfSome result.place (λ b. (b < length steps.now.have.items) × (nat_lt (slice_index steps.now.have.items b) (slice_index node.now.table.now.leasts.items b) ≡ true)) }
+{
+    match spare(node, steps, at, occupied, b, best.spare) {
+        Some(n) => {
+            if n < best.spare {
+                Scarce {
+                    place: Some(b),
+                    spare: n,
+                }
+            } else {
+                best
+            }
+        }
+        None => best,
+    }
+}
+
+// The scarcest of `best` and the due items whose bits are in the word, counted from `first`. Stops at one that has too few
+// options.
+fn scarcest_in(
+    node: &Node<'_>,
+    steps: &Steps,
+    at: usize,
+    occupied: &Occupied,
+    first: usize,
+    word: u64,
+    best: Scarce,
+) -> Scarce
+    requires kept { IsAt node.now steps.now }
+    requires at { at ≡ length steps.now.live.items - node.now.matrix.now.width }
+    requires small { first < 64 * NOTED }
+    requires best { IfSome best.place (λ b. (b < length steps.now.have.items) × (nat_lt (slice_index steps.now.have.items b) (slice_index node.now.table.now.leasts.items b) ≡ true)) }
+    ensures { IfSome result.place (λ b. (b < length steps.now.have.items) × (nat_lt (slice_index steps.now.have.items b) (slice_index node.now.table.now.leasts.items b) ≡ true)) }
+{
+    let mut best = best;
+    let mut left = word;
+    for _turn in 0..64u32 {
+        if left == 0 || best.spare == 0 {
+            return best;
+        }
+        let b = first + left.trailing_zeros() as usize;
+        left &= left - 1;
+        if b < steps.have.len() {
+            best = scarcer(node, steps, at, occupied, b, best);
+        }
+    }
+    best
+}
+
+// The index of an item that is noted as due and of which the base has too few: one with the fewest options beyond what
+// it still needs.
+fn next_noted(node: &Node<'_>, steps: &Steps) -> Option<usize>
+    requires kept { IsAt node.now steps.now }
+    ensures { IfSome result (λ b. (b < length steps.now.have.items) × (nat_lt (slice_index steps.now.have.items b) (slice_index node.now.table.now.leasts.items b) ≡ true)) }
+{
+    let at = steps.live.len() - node.matrix.width;
+    let occupied = occupied_words(&steps.live[at..]);
+    let mut best = Scarce {
+        place: None,
+        spare: usize::MAX,
+    };
+    for k in 0..steps.due.len().min(NOTED) {
+        best = scarcest_in(node, steps, at, &occupied, 64 * k, steps.due[k], best);
+    }
+    best.place
+}
+
+// The index of the item of the view that is due next: a noted one if there is any.
+fn next_listed(node: &Node<'_>, steps: &Steps) -> Option<usize>
+    requires kept { IsAt node.now steps.now }
+    ensures { MatchOption result ((b : ℕ) → b < length node.now.view.now.bounds → nat_lt (count node.now.view.now (base node.now.view.now node.now.trail.now) (item_of node.now.view.now b)) (least_at node.now.view.now node.now.trail.now (item_of node.now.view.now b)) ≡ false) (λ b. (b < length node.now.view.now.bounds) × (nat_lt (count node.now.view.now (base node.now.view.now node.now.trail.now) (item_of node.now.view.now b)) (least_at node.now.view.now node.now.trail.now (item_of node.now.view.now b)) ≡ true)) }
+{
+    match next_noted(node, steps) {
+        Some(b) => Some(b),
+        None => next_unnoted(node, steps),
+    }
+}
+
+// The index of the due item of the view with the fewest options beyond what it still needs, whatever is noted.
+fn next_unnoted(node: &Node<'_>, steps: &Steps) -> Option<usize>
+    requires kept { IsAt node.now steps.now }
+    ensures { MatchOption result ((b : ℕ) → b < length node.now.view.now.bounds → nat_lt (count node.now.view.now (base node.now.view.now node.now.trail.now) (item_of node.now.view.now b)) (least_at node.now.view.now node.now.trail.now (item_of node.now.view.now b)) ≡ false) (λ b. (b < length node.now.view.now.bounds) × (nat_lt (count node.now.view.now (base node.now.view.now node.now.trail.now) (item_of node.now.view.now b)) (least_at node.now.view.now node.now.trail.now (item_of node.now.view.now b)) ≡ true)) }
+{
+    let at = steps.live.len() - node.matrix.width;
+    let occupied = occupied_words(&steps.live[at..]);
+    let mut best = None;
+    let mut fewest = usize::MAX;
+    for b in 0..node.table.leasts_end.min(steps.have.len()) {
+        if let Some(n) = spare(node, steps, at, &occupied, b, fewest) {
+            if n == 0 {
+                return Some(b);
+            }
+            if best.is_none() || n < fewest {
+                fewest = n;
+                best = Some(b);
+            }
+        }
+    }
+    best
+}
+
+// The item of the view that is due next.
+fn listed_due(node: &Node<'_>, steps: &Steps) -> Option<Item>
+    requires kept { IsAt node.now steps.now }
+    ensures { MatchOption result ((b : ℕ) → b < length node.now.view.now.bounds → nat_lt (count node.now.view.now (base node.now.view.now node.now.trail.now) (item_of node.now.view.now b)) (least_at node.now.view.now node.now.trail.now (item_of node.now.view.now b)) ≡ false) (λ i. nat_lt (count node.now.view.now (base node.now.view.now node.now.trail.now) i) (least_at node.now.view.now node.now.trail.now i) ≡ true) }
+{
+    match next_listed(node, steps) {
+        Some(b) => Some(node.view.items()[b].item),
+        None => None,
+    }
+}
+
+/// An item that is due: first one that is not in the view, since it has no option.
+pub(crate) fn next_due(node: &Node<'_>, steps: &Steps, members: &[u32]) -> Option<Item>
+    requires kept { IsAt node.now steps.now }
+    requires members { members.now ≡ base node.now.view.now node.now.trail.now }
+    ensures { MatchOption result ((i : Item) → nat_lt (count node.now.view.now (base node.now.view.now node.now.trail.now) i) (least_at node.now.view.now node.now.trail.now i) ≡ false) (λ i. nat_lt (count node.now.view.now (base node.now.view.now node.now.trail.now) i) (least_at node.now.view.now node.now.trail.now i) ≡ true) }
+{
+    if node.table.listed {
+        return listed_due(node, steps);
+    }
+    if let Some(item) = plain::due_elsewhere(node.view, node.trail, members) {
+        return Some(item);
+    }
+    listed_due(node, steps)
+}

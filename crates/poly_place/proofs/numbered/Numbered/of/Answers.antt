@@ -1,0 +1,48 @@
+use Rattle.std.proofs.Common.{Err, List, ap, subst, ◌≡◌}
+use Rattle.std.proofs.lemmas.Result.{err_from_is_err_and}
+use Rattle.poly_grid.specs.declared.refusal.Refusal.TheVariants.{Spent}
+use Rattle.std.specs.List.{Contains}
+use Rattle.poly_design.specs.declared.placement.Placement.{Placement}
+use Rattle.poly_place.specs.Interned.{AreNumbersOf}
+use Rattle.poly_place.proofs.Numbers.{goes_by, goes_none, goes_twice}
+use Rattle.poly_place.proofs.Righted.{right_from}
+use Rattle.poly_place.proofs.RunOut.{spent_pins, spent_places}
+use Rattle.poly_place.proofs.numbered.Numbered.of.Goals as goal
+
+pub returns-clause-right : goal.returns-clause-right
+returns-clause-right c = λ d parts.
+    right_from d c.args.parts.places.items c.args.parts.pins.items c.args.parts.bounds.items c.give_all.new.self c.in_ok-pins.ensures.gives.more c.give_all-2.new.self c.in_ok-live.live.items c.in_ok-pins.pins.items
+    parts c.in_ok-pins.ensures.numbered
+    (subst (λ (l : List Placement). AreNumbersOf c.give_all.new.self c.in_ok-live.live.items l) c.deref.ensures.value c.in_ok-live.ensures.ok)
+    c.in_ok-pins.ensures.gives.appended
+    (subst (λ (l : List Placement). AreNumbersOf c.give_all-2.new.self c.in_ok-pins.pins.items l) c.deref-2.ensures.value c.in_ok-pins.ensures.ok)
+
+pub returns-in_err-live-clause-grows : goal.returns-in_err-live-clause-grows
+returns-in_err-live-clause-grows c = goes_none c.args.names.now c.give_all.new.self c.in_err-live.ensures.err
+
+pub returns-in_err-pins-clause-grows : goal.returns-in_err-pins-clause-grows
+returns-in_err-pins-clause-grows c =
+    goes_twice c.args.names.now c.give_all.new.self c.give_all-2.new.self (goes_by c.args.names.now c.deref.result.now c.give_all.new.self c.in_ok-live.ensures.gives c.in_ok-live.ensures.numbered)
+    (goes_none c.give_all.new.self c.give_all-2.new.self c.in_err-pins.ensures.err)
+
+pub returns-clause-grows : goal.returns-clause-grows
+returns-clause-grows c =
+    goes_twice c.args.names.now c.give_all.new.self c.give_all-2.new.self (goes_by c.args.names.now c.deref.result.now c.give_all.new.self c.in_ok-live.ensures.gives c.in_ok-live.ensures.numbered)
+    (goes_by c.give_all.new.self c.deref-2.result.now c.give_all-2.new.self c.in_ok-pins.ensures.gives c.in_ok-pins.ensures.numbered)
+
+pub returns-in_err-live-clause-spent : goal.returns-in_err-live-clause-spent
+returns-in_err-live-clause-spent c = λ d parts.
+    let p = err_from_is_err_and c.from_residual.result c.from_residual.ensures.1 in
+    rw (p.1, p.2) (λ e.
+    let same : c.in_err-live.field-0.0 ≡ Spent = cc in
+    spent_places d c.args.names.now c.deref.result.now (λ q h. (parts.places.exact q).0 (subst (λ (l : List Placement). Contains l q) c.deref.ensures.value h)) (c.in_err-live.ensures.spent (ap (λ x. Err x) same)))
+
+pub returns-in_err-pins-clause-spent : goal.returns-in_err-pins-clause-spent
+returns-in_err-pins-clause-spent c = λ d parts.
+    let p = err_from_is_err_and c.from_residual-in_err-pins.result c.from_residual-in_err-pins.ensures.1 in
+    rw (p.1, p.2) (λ e.
+    let same : c.in_err-pins.field-0.0 ≡ Spent = cc in
+    spent_pins d c.args.names.now c.give_all.new.self c.deref.result.now c.deref-2.result.now
+    (λ q h. (parts.places.exact q).0 (subst (λ (l : List Placement). Contains l q) c.deref.ensures.value h))
+    (λ q h. (parts.pins.exact q).0 (subst (λ (l : List Placement). Contains l q) c.deref-2.ensures.value h))
+    c.in_ok-live.ensures.gives (c.in_err-pins.ensures.spent (ap (λ x. Err x) same)))

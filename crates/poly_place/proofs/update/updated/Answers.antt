@@ -1,0 +1,99 @@
+use Rattle.std.proofs.Common.{Err, List, ap, false, subst, sym, ℕ, ◌++◌, ◌∙◌, ◌≡◌}
+use Rattle.std.specs.List.{Contains}
+use Rattle.std.specs.List.Sorted.{IsPermutation}
+use Rattle.std.specs.Prelude.{filter, not, slice_index_or}
+use Rattle.std.proofs.lemmas.Result.{err_from_is_err_and}
+use Rattle.poly_grid.specs.declared.refusal.Refusal.TheVariants.{Spent}
+use Rattle.poly_design.specs.declared.placement.Placement.{Placement}
+use Rattle.poly_place.specs.Interned.{AreNumbersOf, GoesOnWith}
+use Rattle.poly_place.specs.Numbered.{numbered_view}
+use Rattle.poly_place.proofs.Found.{found_numbers}
+use Rattle.poly_place.proofs.Righted.{right_from}
+use Rattle.poly_place.proofs.RunOut.{spent_pins, spent_places}
+use Rattle.poly_place.specs.Touched.{AreInOrder}
+use Rattle.poly_place.proofs.Updated.{kept_up, numbers_up, updated_order, updated_places, unmarked_in}
+use Rattle.poly_place.proofs.update.updated.Goals as goal
+
+pub returns-in_err-fresh-clause-spent : goal.returns-in_err-fresh-clause-spent
+returns-in_err-fresh-clause-spent c =
+    let p = err_from_is_err_and c.from_residual-in_err-fresh.result c.from_residual-in_err-fresh.ensures.1 in
+    rw (p.1, p.2) (λ e.
+    let same : c.in_err-fresh.field-0.0 ≡ Spent = cc in
+    spent_places c.args.after.now c.args.names.now c.deref-2.result.now
+    (λ q h. ((c.in_ok-found.ensures.ok.exact q).0 (subst (λ (l : List Placement). Contains l q) c.deref-2.ensures.value h)).0)
+    (c.in_err-fresh.ensures.spent (ap (λ x. Err x) same)))
+
+pub returns-in_err-pins-clause-spent : goal.returns-in_err-pins-clause-spent
+returns-in_err-pins-clause-spent c =
+    let p = err_from_is_err_and c.from_residual-in_err-pins.result c.from_residual-in_err-pins.ensures.1 in
+    rw (p.1, p.2) (λ e.
+    let same : c.in_err-pins.field-0.0 ≡ Spent = cc in
+    spent_pins c.args.after.now c.args.names.now c.give_all.new.self c.deref-2.result.now c.deref-5.result.now
+    (λ q h. ((c.in_ok-found.ensures.ok.exact q).0 (subst (λ (l : List Placement). Contains l q) c.deref-2.ensures.value h)).0)
+    (λ q h. (c.in_ok-pinned.ensures.ok.exact q).0 (subst (λ (l : List Placement). Contains l q) c.deref-5.ensures.value h))
+    c.in_ok-fresh.ensures.gives (c.in_err-pins.ensures.spent (ap (λ x. Err x) same)))
+
+pub returns-clause-gives : goal.returns-clause-gives
+returns-clause-gives c =
+    updated_order c.args.after.now c.args.change.now c.in_ok-found.found.items c.in_ok-pinned.pinned.items c.args.names.now c.give_all.new.self c.give_all-2.new.self c.in_ok-found.ensures.ok c.in_ok-pinned.ensures.ok
+    (subst (λ (l : List Placement). GoesOnWith c.args.names.now l c.give_all.new.self) c.deref-2.ensures.value c.in_ok-fresh.ensures.gives)
+    (subst (λ (l : List Placement). GoesOnWith c.give_all.new.self l c.give_all-2.new.self) c.deref-5.ensures.value c.in_ok-pins.ensures.gives)
+
+pub merged-requires-clause-kept_up : goal.merged-requires-clause-kept_up
+merged-requires-clause-kept_up c =
+    let v = numbered_view c.args.names.now c.args.numbered.now in
+    let marks = c.args.marks.now in
+    let between = c.give_all.new.self in
+    let kept : c.deref-3.result.now ≡ unmarked_in v marks =
+    c.deref-3.ensures.value ∙ c.in_ok-kept.ensures ∙ ap (λ (l : List ℕ). filter (λ n. not (slice_index_or marks n false)) l) c.deref.ensures.value in
+    subst (λ (l : List ℕ). AreInOrder between l) (sym kept) (kept_up v between c.deref-2.result.now marks c.requires c.in_ok-fresh.ensures.gives)
+
+pub merged-requires-clause-fresh_up : goal.merged-requires-clause-fresh_up
+merged-requires-clause-fresh_up c =
+    let between = c.give_all.new.self in
+    subst (λ (l : List ℕ). AreInOrder between l) (sym c.deref-4.ensures.value)
+    (numbers_up between c.in_ok-fresh.fresh.items c.in_ok-found.found.items (subst (λ (l : List Placement). AreNumbersOf between c.in_ok-fresh.fresh.items l) c.deref-2.ensures.value c.in_ok-fresh.ensures.ok) c.in_ok-found.ensures.ok.ascending)
+
+pub returns-clause-right : goal.returns-clause-right
+returns-clause-right c = λ d s m is.
+    let w = c.requires in
+    let v = numbered_view c.args.names.now c.args.numbered.now in
+    let x = c.args.change.now in
+    let after = c.args.after.now in
+    let between = c.give_all.new.self in
+    let marks = c.args.marks.now in
+    let t = updated_places v d after x marks between c.in_ok-kept.kept.items c.in_ok-fresh.fresh.items c.in_ok-live.live.items c.in_ok-found.found.items w s m is
+    (c.in_ok-kept.ensures ∙ ap (λ (l : List ℕ). filter (λ n. not (slice_index_or marks n false)) l) c.deref.ensures.value)
+    (subst (λ (l : List Placement). GoesOnWith c.args.names.now l between) c.deref-2.ensures.value c.in_ok-fresh.ensures.gives)
+    (subst (λ (l : List Placement). AreNumbersOf between c.in_ok-fresh.fresh.items l) c.deref-2.ensures.value c.in_ok-fresh.ensures.ok)
+    c.in_ok-found.ensures.ok c.in_ok-fresh.ensures.numbered.apart
+    (subst (λ (l : List ℕ). IsPermutation (l ++ c.in_ok-fresh.fresh.items) c.in_ok-live.live.items) c.deref-3.ensures.value
+    (subst (λ (l : List ℕ). IsPermutation (c.deref-3.result.now ++ l) c.in_ok-live.live.items) c.deref-4.ensures.value c.in_ok-live.ensures.same))
+    c.in_ok-live.ensures.sorted in
+    right_from after t.0 c.in_ok-pinned.pinned.items c.in_ok-bounds.bounds.items between c.in_ok-pins.ensures.gives.more c.give_all-2.new.self c.in_ok-live.live.items c.in_ok-pins.pins.items
+    (record {
+      design = c.in_ok-pinned.ensures.design;
+      places = t.2;
+      pins = c.in_ok-pinned.ensures.ok;
+      bounds = c.in_ok-bounds.ensures.ok;
+      small = c.in_ok-bounds.ensures.small;
+      few = c.in_ok-pinned.ensures.design.few_placements t.0 t.2.ascending (λ p h. (t.2.exact p).0 h);
+      few_pins = c.in_ok-pinned.ensures.few;
+    })
+    c.in_ok-pins.ensures.numbered t.1 c.in_ok-pins.ensures.gives.appended
+    (subst (λ (l : List Placement). AreNumbersOf c.give_all-2.new.self c.in_ok-pins.pins.items l) c.deref-5.ensures.value c.in_ok-pins.ensures.ok)
+
+pub returns-clause-found : goal.returns-clause-found
+returns-clause-found c = λ m.
+    let w = c.requires in
+    let v = numbered_view c.args.names.now c.args.numbered.now in
+    let marks = c.args.marks.now in
+    let between = c.give_all.new.self in
+    found_numbers v (record { placements = c.give_all-2.new.self; live = c.in_ok-live.live.items; bounds = c.in_ok-bounds.bounds.items; pins = c.in_ok-pins.pins.items }) c.args.change.now marks between c.in_ok-pins.ensures.gives.more c.in_ok-kept.kept.items c.in_ok-fresh.fresh.items c.in_ok-found.found.items w m
+    (c.in_ok-kept.ensures ∙ ap (λ (l : List ℕ). filter (λ n. not (slice_index_or marks n false)) l) c.deref.ensures.value)
+    (subst (λ (l : List Placement). GoesOnWith c.args.names.now l between) c.deref-2.ensures.value c.in_ok-fresh.ensures.gives)
+    c.in_ok-pins.ensures.gives.appended
+    (subst (λ (l : List Placement). AreNumbersOf between c.in_ok-fresh.fresh.items l) c.deref-2.ensures.value c.in_ok-fresh.ensures.ok)
+    c.in_ok-found.ensures.ok
+    (subst (λ (l : List ℕ). IsPermutation (l ++ c.in_ok-fresh.fresh.items) c.in_ok-live.live.items) c.deref-3.ensures.value
+    (subst (λ (l : List ℕ). IsPermutation (c.deref-3.result.now ++ l) c.in_ok-live.live.items) c.deref-4.ensures.value c.in_ok-live.ensures.same))

@@ -1,0 +1,44 @@
+//! A design by numbers.
+ghost use Rattle.std.specs.Prelude.{◌≡◌, ◌⊎◌, ◌+◌, ◌<◌, ◌^◌, Err, OnOk, IfOk, IfErr, List, length};
+ghost use Rattle.poly_design.specs.Layout.{Layout};
+ghost use Rattle.poly_design.specs.declared.placement.Placement.{Placement as Place};
+ghost use Rattle.poly_place.specs.Interned.{GoesOn, GoesOnWith};
+ghost use Rattle.poly_place.specs.Parts.{ArePartsOf};
+ghost use Rattle.poly_place.specs.Right.{IsRight};
+ghost use Rattle.poly_place.specs.Spent.{IsSpent};
+
+use crate::interner::Interner;
+use crate::parts::Parts;
+use poly_grid::Refusal;
+use poly_tiling::Bound;
+
+/// A design's placements and pins by their numbers, both in placement order, and its items with their bounds, in item
+/// order.
+#[derive(Drop)]
+pub(crate) struct Numbered {
+    pub(crate) live: Vec<u32>,
+    pub(crate) bounds: Vec<Bound>,
+    pub(crate) pins: Vec<u32>,
+}
+
+impl Numbered {
+    /// The parts by numbers. New numbers go to placements first, then to pins.
+    ///
+    /// Fails with `Spent` if there are more placements than numbers, and otherwise only with `Memory`.
+    pub(crate) fn of(names: &mut Interner, parts: Parts) -> Result<Numbered, Refusal>
+        ensures right { (d : Layout) → ArePartsOf d parts.places.items parts.pins.items parts.bounds.items → IfOk result (λ s. IsRight (record { placements = names.new; live = s.live.items; bounds = s.bounds.items; pins = s.pins.items }) d) }
+        ensures grows { GoesOn names.old names.new }
+        ensures gives { OnOk result ((between : List Place) × GoesOnWith names.old parts.places.items between × GoesOnWith between parts.pins.items names.new) }
+        ensures spent { (d : Layout) → ArePartsOf d parts.places.items parts.pins.items parts.bounds.items → result ≡ Err Refusal.Spent → IsSpent names.old d }
+        ensures many { result ≡ Err Refusal.Spent → 2 ^ 32 < length names.old + length parts.places.items + length parts.pins.items }
+        ensures why { IfErr result (λ e. (e ≡ Refusal.Spent) ⊎ (e ≡ Refusal.Memory)) }
+    {
+        let live = names.give_all(&parts.places)?;
+        let pins = names.give_all(&parts.pins)?;
+        Ok(Numbered {
+            live,
+            bounds: parts.bounds,
+            pins,
+        })
+    }
+}
