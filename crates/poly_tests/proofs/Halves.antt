@@ -45,11 +45,11 @@ family_once v a found n h T = let o = each_once (λ U. is_tiling v U && meets v 
 
 not_both : (T U : List ℕ) (p : ℕ) (b : Bool) → same_list T U ≡ b → mem T p ≡ true → not (mem U p) ≡ true → b ≡ false
 not_both T U p false e h k = refl
-not_both T U p true e h k = let s = same_list_is T U e in absurd (conflicts (mem T p) h (ap (λ z. not (mem z p)) s ∙ k))
+not_both T U p true e h k = let s = same_list_is T U e in absurd (contradiction (mem T p) h (ap (λ z. not (mem z p)) s ∙ k))
   where
-    conflicts : (b : Bool) → b ≡ true → not b ≡ true → ⊥
-    conflicts true h k = cc
-    conflicts false h k = cc
+    contradiction : (b : Bool) → b ≡ true → not b ≡ true → ⊥
+    contradiction true h k = cc
+    contradiction false h k = cc
 
 pub halves_once : (a b : List (List ℕ)) (p : ℕ) → AreOnce a → AreOnce b → list_all (λ T. mem T p) a ≡ true → list_all (λ T. not (mem T p)) b ≡ true → AreOnce (a ++ b)
 halves_once a b p x y has lacks T = elim (cases_eq (tally (same_list T) a) 0) [

@@ -9,8 +9,8 @@ pub mark-requires : goal.mark-requires
 mark-requires c = omega (arith, low_at c.args.count c.args.numbers.now c.loop-number.number-index c.requires c.loop-number-test.true, c.loop-number.invariant.len)
 
 pub loop-number-preserved : goal.loop-number-preserved
-loop-number-preserved c = marks_more c.args.numbers.now c.loop-number.number-index c.loop-number.marks.items c.level.new.marks.items c.args.count c.loop-number.invariant c.loop-number-test.true
-    (low_at c.args.count c.args.numbers.now c.loop-number.number-index c.requires c.loop-number-test.true) c.level.ensures
+loop-number-preserved c = marks_more c.args.numbers.now c.loop-number.number-index c.loop-number.marks.items c.mark.new.marks.items c.args.count c.loop-number.invariant c.loop-number-test.true
+    (low_at c.args.count c.args.numbers.now c.loop-number.number-index c.requires c.loop-number-test.true) c.mark.ensures
 
 pub returns-clause-ok : goal.returns-clause-ok
 returns-clause-ok c = marks_all c.args.numbers.now c.loop-number.number-index c.loop-number.marks.items c.args.count c.loop-number.invariant c.loop-number-test.false
