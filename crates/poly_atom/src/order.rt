@@ -71,7 +71,7 @@ pub fn past(numbers: &[u32], at: usize, number: u32) -> usize
     at
 }
 
-/// Whether the list has the number at the place.
+/// Whether the list has the number at the index.
 pub fn stands_at(numbers: &[u32], at: usize, number: u32) -> bool
     ensures { result ≡ is_some (front (λ p. p == number) (drop at numbers.now)) }
 {
@@ -92,7 +92,7 @@ pub fn skip_items(bounds: &[Bound], from: usize, item: &Item) -> usize
     bounds.len()
 }
 
-/// The least and the most of the item at the place; 0 and 0 if another item is there.
+/// The least and the most of the item at the index; 0 and 0 if another item is there.
 pub fn bounds_at(bounds: &[Bound], at: usize, item: &Item) -> (u8, u8)
     ensures least { result.0 ≡ found_or (λ b. b.least) (front (λ b. same_item b.item item.now) (drop at bounds.now)) }
     ensures most { result.1 ≡ found_or (λ b. b.most) (front (λ b. same_item b.item item.now) (drop at bounds.now)) }

@@ -15,7 +15,7 @@ use std::alloc::{AllocError, Global};
 pub struct Stair {
     /// The edition that the change led from.
     pub edition: u64,
-    /// The place of the negated guard among the change's guards, from 0 on.
+    /// The index of the negated guard among the change's guards, from 0 on.
     pub index: usize,
 }
 

@@ -10,7 +10,7 @@ use Rattle.poly_book.specs.declared.task.Pending.{Pending}
 use Rattle.poly_book.specs.Meaning.{tasks_of}
 use Rattle.poly_book.specs.Nexts.{number_from}
 use Rattle.poly_book.specs.Tasks.{Rising}
-use Rattle.poly_book.proofs.Places.{behind}
+use Rattle.poly_book.proofs.Indices.{behind}
 
 pub numbers_rise : (m n : ℕ) (log : List (List Atom)) (ps : List Pending) → Rising m (tasks_of log ps) n → IsNonDecreasingBy (λ (p : Pending). p.number) ps
 numbers_rise m n log [] r i j d h l = absurd (omega (arith, l))

@@ -157,28 +157,28 @@ opening_over log next n w all rest A ps h o number high =
       ap length k,
     )
 
--- the stairs from a place on
-abbrev pub from_place : List Atom → ℕ → List (List Atom)
-from_place gs j = drop j (stairs gs)
+-- the stairs from an index on
+abbrev pub stairs_from : List Atom → ℕ → List (List Atom)
+stairs_from gs j = drop j (stairs gs)
 
-pub place_next : (gs : List Atom) (j : ℕ) (d : Atom) → j < length gs → from_place gs j ≡ (take j gs ++ negated (get_or gs j d) ∷ []) ∷ from_place gs (j + 1)
-place_next gs j d h = drop_more (stairs gs) j [] (omega (arith, length-stairs gs)) ∙ ap (λ A. A ∷ drop (j + 1) (stairs gs)) (stairs_at gs j d h)
+pub stairs_next : (gs : List Atom) (j : ℕ) (d : Atom) → j < length gs → stairs_from gs j ≡ (take j gs ++ negated (get_or gs j d) ∷ []) ∷ stairs_from gs (j + 1)
+stairs_next gs j d h = drop_more (stairs gs) j [] (omega (arith, length-stairs gs)) ∙ ap (λ A. A ∷ drop (j + 1) (stairs gs)) (stairs_at gs j d h)
 
-pub place_end : (gs : List Atom) (j : ℕ) → length gs ≤ j → from_place gs j ≡ []
-place_end gs j h = drop_all j (stairs gs) (omega (arith, length-stairs gs))
+pub stairs_end : (gs : List Atom) (j : ℕ) → length gs ≤ j → stairs_from gs j ≡ []
+stairs_end gs j h = drop_all j (stairs gs) (omega (arith, length-stairs gs))
 
 log_last : (log : List (List Atom)) (g : List Atom) (e : ℕ) → length log ≡ e → get_or (log ++ g ∷ []) e [] ≡ g
 log_last log g e h = get_or_push log g [] e h
 
 pub stairs_skip : (log : List (List Atom)) (g : List Atom) (next n : ℕ) (w : View) (j : ℕ) (d : Atom) (A : List Atom) (ps : List Pending) → j < length g → A ≡ take j g ++ negated (get_or g j d) ∷ [] → hopeless w A ≡ true →
-    Opening (log ++ g ∷ []) next n w (stairs g) (from_place g j) ps → Opening (log ++ g ∷ []) next n w (stairs g) (from_place g (j + 1)) ps
+    Opening (log ++ g ∷ []) next n w (stairs g) (stairs_from g j) ps → Opening (log ++ g ∷ []) next n w (stairs g) (stairs_from g (j + 1)) ps
 stairs_skip log g next n w j d A ps l e h o =
-    opening_skip (log ++ g ∷ []) next n w (stairs g) (from_place g (j + 1)) A ps h
-    (subst (λ r. Opening (log ++ g ∷ []) next n w (stairs g) r ps) (place_next g j d l ∙ ap (λ B. B ∷ from_place g (j + 1)) (sym e)) o)
+    opening_skip (log ++ g ∷ []) next n w (stairs g) (stairs_from g (j + 1)) A ps h
+    (subst (λ r. Opening (log ++ g ∷ []) next n w (stairs g) r ps) (stairs_next g j d l ∙ ap (λ B. B ∷ stairs_from g (j + 1)) (sym e)) o)
 
 pub stairs_more : (log : List (List Atom)) (g : List Atom) (next n : ℕ) (w : View) (j e : ℕ) (d : Atom) (A : List Atom) (ps : List Pending) → length log ≡ e → j < length g → A ≡ take j g ++ negated (get_or g j d) ∷ [] → hopeless w A ≡ false →
-    Opening (log ++ g ∷ []) next n w (stairs g) (from_place g j) ps →
-    Opening (log ++ g ∷ []) next (n + 1) w (stairs g) (from_place g (j + 1)) (ps ++ record { number = n; own = OfStair (record { edition = e; index = j }); made = e + 1 } ∷ [])
+    Opening (log ++ g ∷ []) next n w (stairs g) (stairs_from g j) ps →
+    Opening (log ++ g ∷ []) next (n + 1) w (stairs g) (stairs_from g (j + 1)) (ps ++ record { number = n; own = OfStair (record { edition = e; index = j }); made = e + 1 } ∷ [])
 stairs_more log g next n w j e d A ps le l is h o =
     let s : Stair = record { edition = e; index = j } in
     let last = log_last log g e le in
@@ -188,8 +188,8 @@ stairs_more log g next n w j e d A ps le l is h o =
       edition_in = omega (arith, length_push log g, le);
       index_in = subst (λ x. j < length x) (sym last) l;
     } in
-    opening_more (log ++ g ∷ []) next n w (stairs g) (from_place g (j + 1)) A ps p h refl own there (omega (arith, length_push log g, le))
-    (subst (λ r. Opening (log ++ g ∷ []) next n w (stairs g) r ps) (place_next g j d l ∙ ap (λ B. B ∷ from_place g (j + 1)) (sym is)) o)
+    opening_more (log ++ g ∷ []) next n w (stairs g) (stairs_from g (j + 1)) A ps p h refl own there (omega (arith, length_push log g, le))
+    (subst (λ r. Opening (log ++ g ∷ []) next n w (stairs g) r ps) (stairs_next g j d l ∙ ap (λ B. B ∷ stairs_from g (j + 1)) (sym is)) o)
 
 crossed_append : (F G S : List (List Atom)) → crossed (F ++ G) S ≡ crossed F S ++ crossed G S
 crossed_append [] G S = refl

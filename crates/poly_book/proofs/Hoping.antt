@@ -21,7 +21,7 @@ use Rattle.poly_book.specs.Settled.{AreHopefulFrom}
 use Rattle.poly_book.specs.States.{State}
 use Rattle.poly_book.specs.Tasks.{AreHopeful, Task, atoms_of, drop_task, hopeful, tasks_from}
 use Rattle.poly_book.proofs.Held.{length_of}
-use Rattle.poly_book.proofs.Places.{at_drop, first_at}
+use Rattle.poly_book.proofs.Indices.{at_drop, first_at}
 use Rattle.poly_book.proofs.Taking.{step_cut}
 
 -- the rests of a tree that takes and leaves only open placements
@@ -42,7 +42,7 @@ all_at f log (p ∷ ps) zero (suc i) d l k h = all_at f log ps zero i d (omega a
 all_at f log (p ∷ ps) (suc n) zero d l k h = absurd (omega (arith, l))
 all_at f log (p ∷ ps) (suc n) (suc i) d l k h = all_at f log ps n i d (omega (arith, l)) (omega (arith, k)) h
 
--- the task at a place
+-- the task at a index
 pub hopeful_at : (p : Parts) (x : Pending) (i n : ℕ) → n ≤ i → i < length p.tasks.items → x ≡ get_or p.tasks.items i x → AreHopefulFrom n (state_of p) → hopeless p.scene (atoms_of (task_of p.log x)) ≡ false
 hopeful_at p x i n l k is from = not-true _ (ap (λ y. hoped p.scene (task_of p.log y)) is ∙ all_at (hoped p.scene) p.log p.tasks.items n i x l k from)
 
@@ -85,7 +85,7 @@ fresh_hopeful : (v : View) (n : ℕ) (As : List (List Atom)) → list_all (hoped
 fresh_hopeful v n [] = refl
 fresh_hopeful v n (A ∷ As) = fresh_one v n A As (hopeless v A) refl (λ m. fresh_hopeful v m As)
 
--- A turn ends the last task and opens others: from its place on none is hopeless.
+-- A turn ends the last task and opens others: from its index on none is hopeless.
 pub hopeful_on : (p : Parts) (t : State) (k made : ℕ) (tree : Plan) (a : Applied) (at n : ℕ) (ts : List (List ℕ)) (rs : List (List Atom)) → AreLeaves p k at tree ts rs → length p.tasks.items ≤ at + 1 → IsApplied k made tree (state_of p) t a →
     AreHopefulFrom n (state_of p) → AreHopefulFrom (min n at) t
 hopeful_on p t k made tree a at n ts rs l long done from =

@@ -20,7 +20,7 @@ pub mod Touched
 pub mod Reached
 pub mod Applying
 pub mod Tops
-pub mod Places
+pub mod Indices
 pub mod Halving
 pub mod Taking
 pub mod Running

@@ -106,10 +106,10 @@ stair_noted m log s n a d g is own last h k =
     ap (list_all f) (stairs_at all s.index d own.index_in) ∙ all_append f (take s.index all) (b ∷ [])
     ∙ and_from (list_all f (take s.index all)) (f b && true) h (and_from (f b) true same refl)
 
-place_in : {X : Type 0} (xs : List X) (x d : X) → In x xs → (k : ℕ) × (k < length xs) × (get_or xs k d ≡ x)
-place_in [] x d i = absurd i
-place_in (y ∷ ys) x d (inl e) = (zero, omega arith, e)
-place_in (y ∷ ys) x d (inr i) = let r = place_in ys x d i in let low = r.1 in (suc r.0, omega (arith, low), r.2)
+indexed_in : {X : Type 0} (xs : List X) (x d : X) → In x xs → (k : ℕ) × (k < length xs) × (get_or xs k d ≡ x)
+indexed_in [] x d i = absurd i
+indexed_in (y ∷ ys) x d (inl e) = (zero, omega arith, e)
+indexed_in (y ∷ ys) x d (inr i) = let r = indexed_in ys x d i in let low = r.1 in (suc r.0, omega (arith, low), r.2)
 
 -- the first of the rising numbers that isn't below the span decides whether one is in it
 pub has_here : (s : Span) (ps : List Pending) (i : ℕ) (d : Pending) → IsNonDecreasingBy (λ (p : Pending). p.number) ps → AllWithin (λ (p : Pending). nat_lt p.number s.from ≡ true) ps 0 i → AllWithin (λ (p : Pending). nat_lt p.number s.from ≡ false) ps i (length ps) → i < length ps → nat_le (get_or ps i d).number s.to ≡ has_pending ps s
@@ -118,7 +118,7 @@ has_here s ps i d rises below above low =
     let f : Pending → Bool = λ p. in_span s p.number in
     elim (leb_tells x.number s.to) [
       | inl p ↦ p.0 ∙ sym (any_from f ps x (at_in ps i d low) (within s x.number (ltb-false x.number s.from (above i d (omega arith) low)) p.1))
-      | inr p ↦ p.0 ∙ sym (any_none f ps (λ q j e. has_other s ps i d q rises below p.1 (place_in ps q d j) (bounds_of s q.number e)))
+      | inr p ↦ p.0 ∙ sym (any_none f ps (λ q j e. has_other s ps i d q rises below p.1 (indexed_in ps q d j) (bounds_of s q.number e)))
     ]
   where
     has_other : (s : Span) (ps : List Pending) (i : ℕ) (d q : Pending) → IsNonDecreasingBy (λ (p : Pending). p.number) ps → AllWithin (λ (p : Pending). nat_lt p.number s.from ≡ true) ps 0 i → s.to < (get_or ps i d).number → (k : ℕ) × (k < length ps) × (get_or ps k d ≡ q) → (s.from ≤ q.number) × (q.number ≤ s.to) → ⊥
@@ -133,7 +133,7 @@ has_here s ps i d rises below above low =
         ]
 
 pub has_none : (s : Span) (ps : List Pending) (i : ℕ) → AllWithin (λ (p : Pending). nat_lt p.number s.from ≡ true) ps 0 i → length ps ≤ i → false ≡ has_pending ps s
-has_none s ps i below past = sym (any_none (λ (p : Pending). in_span s p.number) ps (λ q j e. has_not s ps i q below past (place_in ps q q j) (bounds_of s q.number e)))
+has_none s ps i below past = sym (any_none (λ (p : Pending). in_span s p.number) ps (λ q j e. has_not s ps i q below past (indexed_in ps q q j) (bounds_of s q.number e)))
   where
     has_not : (s : Span) (ps : List Pending) (i : ℕ) (q : Pending) → AllWithin (λ (p : Pending). nat_lt p.number s.from ≡ true) ps 0 i → length ps ≤ i → (k : ℕ) × (k < length ps) × (get_or ps k q ≡ q) → (s.from ≤ q.number) × (q.number ≤ s.to) → ⊥
     has_not s ps i q below past at b =

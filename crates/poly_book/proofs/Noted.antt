@@ -53,7 +53,7 @@ has_below b m log p = nat_le b p.number || has_all m log p
 pub below_append : (b : ℕ) (m : Maps) (log : List (List Atom)) (ps qs : List Pending) → AreNotedBelow b m log ps → AreNotedBelow b m log qs → AreNotedBelow b m log (ps ++ qs)
 below_append b m log ps qs h k = all_append (has_below b m log) ps qs ∙ and_from (list_all (has_below b m log) ps) (list_all (has_below b m log) qs) h k
 
--- those that are left without the one at a place
+-- those that are left without the one at a index
 pub below_left : (b : ℕ) (m : Maps) (log : List (List Atom)) (i : ℕ) (ps : List Pending) → AreNotedBelow b m log ps → AreNotedBelow b m log (take i ps ++ drop (suc i) ps)
 below_left b m log i ps h = below_append b m log (take i ps) (drop (suc i) ps) (all_take (has_below b m log) i ps h) (all_drop (has_below b m log) (suc i) ps h)
 

@@ -92,7 +92,7 @@ ends_reached t w m log ps reach ev noted touched all i d l h =
     let hit = any_in (touches t) A (touched_at t log ps i d touched l (ap (λ z. hopeless z A) ev ∙ h)) in
     all hit.0 hit.2 i d l (all_in (λ a. under m a p.number) A (noted_at m log ps i d noted l) hit.0 hit.1)
 
--- the farthest of the first places
+-- the farthest of the first entries
 pub far_more : (reach : List ℕ) (i far far2 : ℕ) → ((j : ℕ) → j < i → get_or reach j 0 ≤ far) → far ≤ far2 → get_or reach i 0 ≤ far2 → (j : ℕ) → j < i + 1 → get_or reach j 0 ≤ far2
 far_more reach i far far2 h w k j l = elim (cases_lt j i) [
   | inl low ↦ let b = h j low in omega (arith, b, w)

@@ -34,7 +34,7 @@ use Rattle.poly_book.proofs.Alive.{becomes_lives}
 use Rattle.poly_book.proofs.Held.{are_append, opened_length, tasks_append}
 use Rattle.poly_book.proofs.Noted.{below_append, below_fresh, below_left}
 use Rattle.poly_book.proofs.Numbered.{found_in}
-use Rattle.poly_book.proofs.Places.{At, at_left, at_drop, at_find, at_tasks, find_where, first_at, found_where}
+use Rattle.poly_book.proofs.Indices.{At, at_left, at_drop, at_find, at_tasks, find_where, first_at, found_where}
 use Rattle.poly_book.proofs.Proved.{steps_keep_whole_lem}
 
 -- the event of a report whose task is pending and whose tree fits and holds
@@ -55,29 +55,29 @@ some_same : {X : Type 0} (x y : X) → Some x ≡ Some y → x ≡ y
 some_same x y e = cc
 
 -- what the code did to the fields
-pub record Took (v : View) (ls ls2 : List (List ℕ)) (log : List (List Atom)) (ps ps2 fresh : List Pending) (n n2 : ℕ) (es es2 : List Ending) (k place : ℕ) (x : Pending) (tree : Plan) : Type 0 where
-  pub there : At k ps place
-  pub is : x ≡ get_or ps place x
+pub record Took (v : View) (ls ls2 : List (List ℕ)) (log : List (List Atom)) (ps ps2 fresh : List Pending) (n n2 : ℕ) (es es2 : List Ending) (k index : ℕ) (x : Pending) (tree : Plan) : Type 0 where
+  pub there : At k ps index
+  pub is : x ≡ get_or ps index x
   pub right : (fits tree && holds v (atoms_of (task_of log x)) tree) ≡ true
   pub listed_is : (f : List ℕ → Bool) → tally f ls2 ≡ tally f (ls ++ tilings v (atoms_of (task_of log x)) tree)
-  pub tasks_are : ps2 ≡ (take place ps ++ drop (suc place) ps) ++ fresh
+  pub tasks_are : ps2 ≡ (take index ps ++ drop (suc index) ps) ++ fresh
   pub fresh_are : Opens log n v (rests v (atoms_of (task_of log x)) tree) fresh
   pub next_is : n2 ≡ n + length fresh
   pub few_tasks : n2 ≤ 4294967296
   pub ended_are : es2 ≡ es ++ Cut k ∷ []
 
-module _ {m : Register} {o d : Layout} {v t : View} {ls ls2 : List (List ℕ)} {log : List (List Atom)} {ps ps2 fresh : List Pending} {n n2 : ℕ} {h : Steps Change Kept} {ss : List Step} {es es2 : List Ending} {k place : ℕ} {x : Pending} {tree : Plan} (keeps : KeepsOf m o d v t ls log ps n h ss es) (c : Took v ls ls2 log ps ps2 fresh n n2 es es2 k place x tree) where
+module _ {m : Register} {o d : Layout} {v t : View} {ls ls2 : List (List ℕ)} {log : List (List Atom)} {ps ps2 fresh : List Pending} {n n2 : ℕ} {h : Steps Change Kept} {ss : List Step} {es es2 : List Ending} {k index : ℕ} {x : Pending} {tree : Plan} (keeps : KeepsOf m o d v t ls log ps n h ss es) (c : Took v ls ls2 log ps ps2 fresh n n2 es es2 k index x tree) where
   pub took_found : find_task k (tasks_of log ps) ≡ Some (task_of log x)
-  took_found = at_find k log ps place x c.there ∙ ap (λ y. Some (task_of log y)) (sym c.is)
+  took_found = at_find k log ps index x c.there ∙ ap (λ y. Some (task_of log y)) (sym c.is)
 
   pub took_becomes : Becomes (step (shown o d v ls log ps n h ss es) (Report k tree)) (shown o d v ls2 log ps2 n2 h ss es2)
   took_becomes =
       let s = shown o d v ls log ps n h ss es in
       let u = task_of log x in
-      let left = take place ps ++ drop (suc place) ps in
+      let left = take index ps ++ drop (suc index) ps in
       let opened = hopeful v (rests v (atoms_of u) tree) in
       let p1 = ap (λ y. tasks_of log y) c.tasks_are ∙ tasks_append log left fresh in
-      let p2 = at_drop k log ps place c.there in
+      let p2 = at_drop k log ps index c.there in
       let p3 = c.fresh_are.tasks in
       let pending : tasks_of log ps2 ≡ drop_task k (tasks_of log ps) ++ tasks_from n opened = p1 ∙ (λ i. sym p2 i ++ p3 i) in
       let next : n2 ≡ n + length opened = omega (arith, c.next_is, opened_length log n v (rests v (atoms_of u) tree) fresh c.fresh_are) in
@@ -90,14 +90,14 @@ module _ {m : Register} {o d : Layout} {v t : View} {ls ls2 : List (List ℕ)} {
 
   pub took_keeps : KeepsOf m o d v t ls2 log ps2 n2 h ss es2
   took_keeps =
-      let left = take place ps ++ drop (suc place) ps in
+      let left = take index ps ++ drop (suc index) ps in
       record {
         whole = steps_keep_whole_lem (shown o d v ls log ps n h ss es) (shown o d v ls2 log ps2 n2 h ss es2) (Report k tree) keeps.whole tt took_becomes;
         right = keeps.right;
         grown = keeps.grown;
-        tasks = subst (λ y. AreTasks log y) (sym c.tasks_are) (are_append log left fresh (at_tasks log k ps place c.there keeps.tasks) c.fresh_are.are);
+        tasks = subst (λ y. AreTasks log y) (sym c.tasks_are) (are_append log left fresh (at_tasks log k ps index c.there keeps.tasks) c.fresh_are.are);
         alive = becomes_lives (shown o d v ls log ps n h ss es) (shown o d v ls2 log ps2 n2 h ss es2) (Report k tree) took_becomes keeps.alive;
-        mapped = subst (λ y. AreNotedBelow m.below m.maps log y) (sym c.tasks_are) (below_append m.below m.maps log left fresh (below_left m.below m.maps log place ps keeps.mapped)
+        mapped = subst (λ y. AreNotedBelow m.below m.maps log y) (sym c.tasks_are) (below_append m.below m.maps log left fresh (below_left m.below m.maps log index ps keeps.mapped)
             (below_fresh m.below n m.maps log fresh (hopeful v (rests v (atoms_of (task_of log x)) tree)) keeps.below c.fresh_are.tasks));
         below = (let low = keeps.below in omega (arith, low, c.next_is));
         log_length = keeps.log_length;
@@ -112,21 +112,21 @@ module _ {m : Register} {o d : Layout} {v t : View} {ls ls2 : List (List ℕ)} {
           length_push es (Cut k),
           ap length c.tasks_are,
           length-append left fresh,
-          at_left k ps place c.there,
+          at_left k ps index c.there,
         );
       }
 
 -- what applying the leaves of a tree does to the fields
-pub took_from : (a : Parts) (k place : ℕ) (tree : Plan) (ts : List (List ℕ)) (rs : List (List Atom)) (x : Pending) (ls2 : List (List ℕ)) (ps2 fresh : List Pending) (more : ℕ) (es2 : List Ending) →
-    AreLeaves a k place tree ts rs → x ≡ get_or a.tasks.items place x → ls2 ≡ a.listed ++ ts → ps2 ≡ (take place a.tasks.items ++ drop (place + 1) a.tasks.items) ++ fresh → Opens a.log a.next a.scene rs fresh →
+pub took_from : (a : Parts) (k index : ℕ) (tree : Plan) (ts : List (List ℕ)) (rs : List (List Atom)) (x : Pending) (ls2 : List (List ℕ)) (ps2 fresh : List Pending) (more : ℕ) (es2 : List Ending) →
+    AreLeaves a k index tree ts rs → x ≡ get_or a.tasks.items index x → ls2 ≡ a.listed ++ ts → ps2 ≡ (take index a.tasks.items ++ drop (index + 1) a.tasks.items) ++ fresh → Opens a.log a.next a.scene rs fresh →
     more ≡ length fresh → a.next + length fresh ≤ 4294967296 → es2 ≡ a.endings.items ++ Cut x.number ∷ [] →
-    Took a.scene a.listed ls2 a.log a.tasks.items ps2 fresh a.next (a.next + more) a.endings.items es2 k place x tree
-took_from a k place tree ts rs x ls2 ps2 fresh more es2 l is listed tasks opens count few ended =
-    let there = first_at k a.tasks.items place l.first in
-    let found : find_task k (tasks_of a.log a.tasks.items) ≡ Some (task_of a.log x) = at_find k a.log a.tasks.items place x there ∙ ap (λ y. Some (task_of a.log y)) (sym is) in
+    Took a.scene a.listed ls2 a.log a.tasks.items ps2 fresh a.next (a.next + more) a.endings.items es2 k index x tree
+took_from a k index tree ts rs x ls2 ps2 fresh more es2 l is listed tasks opens count few ended =
+    let there = first_at k a.tasks.items index l.first in
+    let found : find_task k (tasks_of a.log a.tasks.items) ≡ Some (task_of a.log x) = at_find k a.log a.tasks.items index x there ∙ ap (λ y. Some (task_of a.log y)) (sym is) in
     let number : x.number ≡ k = (found_in k (tasks_of a.log a.tasks.items) (task_of a.log x) found).1 in
     let same : l.task ≡ task_of a.log x = some_same l.task (task_of a.log x) (sym l.there ∙ found) in
-    let next : place + 1 ≡ suc place = omega arith in
+    let next : index + 1 ≡ suc index = omega arith in
     let tilings_are : ts ≡ tilings a.scene (atoms_of (task_of a.log x)) tree = l.cut.tilings ∙ ap (λ u. tilings a.scene (atoms_of u) tree) same in
     let rests_are : rs ≡ rests a.scene (atoms_of (task_of a.log x)) tree = l.cut.rests ∙ ap (λ u. rests a.scene (atoms_of u) tree) same in
     record {
@@ -134,14 +134,14 @@ took_from a k place tree ts rs x ls2 ps2 fresh more es2 l is listed tasks opens 
       is = is;
       right = and_from (fits tree) (holds a.scene (atoms_of (task_of a.log x)) tree) l.small (ap (λ u. holds a.scene (atoms_of u) tree) (sym same) ∙ l.cut.right);
       listed_is = λ f. ap (λ L. tally f L) (listed ∙ ap (λ L. a.listed ++ L) tilings_are);
-      tasks_are = tasks ∙ ap (λ m. (take place a.tasks.items ++ drop m a.tasks.items) ++ fresh) next;
+      tasks_are = tasks ∙ ap (λ m. (take index a.tasks.items ++ drop m a.tasks.items) ++ fresh) next;
       fresh_are = subst (λ R. Opens a.log a.next a.scene R fresh) rests_are opens;
       next_is = ap (λ m. a.next + m) count;
       few_tasks = omega (arith, few, count);
       ended_are = ended ∙ ap (λ m. a.endings.items ++ Cut m ∷ []) number;
     }
 
--- the leaves of a tree for the task at a place
+-- the leaves of a tree for the task at a index
 pub leaves_at : (p : Parts) (x : Pending) (i : ℕ) (tree : Plan) (ts : List (List ℕ)) (rs : List (List Atom)) → Keeps p → i < length p.tasks.items → x ≡ get_or p.tasks.items i x → fits tree ≡ true → holds p.scene (atoms_of (task_of p.log x)) tree ≡ true →
     ts ≡ tilings p.scene (atoms_of (task_of p.log x)) tree → rs ≡ rests p.scene (atoms_of (task_of p.log x)) tree → AreLeaves p x.number i tree ts rs
 leaves_at p x i tree ts rs keeps low is small right tilings_are rests_are =

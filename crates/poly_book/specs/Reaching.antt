@@ -6,7 +6,7 @@ use Rattle.poly_atom.specs.Hopeless.{hopeless}
 use Rattle.poly_book.specs.declared.task.Pending.{Pending}
 use Rattle.poly_book.specs.Meaning.{own_of}
 
--- a place that isn't behind it reaches the number
+-- an entry that isn't behind it reaches the number
 abbrev pub Reaches : List ℕ → ℕ → ℕ → Type 0
 Reaches reach i n = (j : ℕ) × (j ≤ i) × (n ≤ slice_index_or reach j 0)
 
@@ -14,7 +14,7 @@ Reaches reach i n = (j : ℕ) × (j ≤ i) × (n ≤ slice_index_or reach j 0)
 abbrev pub IsReached : List ℕ → List Pending → (ℕ → Bool) → Type 0
 IsReached reach ps f = (i : ℕ) (d : Pending) → i < length ps → f (slice_index_or ps i d).number ≡ true → Reaches reach i (slice_index_or ps i d).number
 
--- each place reaches at least as far as before
+-- each entry reaches at least as far as before
 pub record IsFarther (old new : List ℕ) : Type 0 where
   pub len : length new ≡ length old
   pub far : (j n : ℕ) → n ≤ slice_index_or old j 0 → n ≤ slice_index_or new j 0

@@ -29,10 +29,10 @@ pub record IsApplied (k made : ℕ) (tree : Plan) (s t : State) (a : Applied) : 
   pub late : a.late ≡ nat_lt made (length s.steps)
 
 -- The tilings and the lists are the leaves of a tree. It fits, and it holds for the pending task with the number k, whose
--- index among the pending tasks is `place`.
-pub record AreLeaves (p : Parts) (k place : ℕ) (tree : Plan) (found : List (List ℕ)) (left : List (List Atom)) : Type 0 where
+-- index among the pending tasks is `index`.
+pub record AreLeaves (p : Parts) (k index : ℕ) (tree : Plan) (found : List (List ℕ)) (left : List (List Atom)) : Type 0 where
   pub task : Task
-  pub first : position_from (λ q. q.number == k) 0 p.tasks.items ≡ Some place
+  pub first : position_from (λ q. q.number == k) 0 p.tasks.items ≡ Some index
   pub there : find_task k (state_of p).pending ≡ Some task
   pub small : fits tree ≡ true
   pub cut : IsCutUp (state_of p).view (atoms_of task) tree found left

@@ -40,6 +40,6 @@ pub record IsSettled (s t : State) (n : ℕ) : Type 0 where
 abbrev pub IsNotSettled : ℕ → State → State → Refusal → Type 0
 IsNotSettled turns s t e = ((e ≡ Unfinished) × Cuts s t turns × (0 < length t.pending)) ⊎ ((n : ℕ) × (n < turns) × Cuts s t n × IsNotTurned t e)
 
--- no task from that place on is hopeless
+-- no task from that index on is hopeless
 abbrev pub AreHopefulFrom : ℕ → State → Type 0
 AreHopefulFrom n s = list_all (λ t. not (hopeless s.view (atoms_of t))) (drop n s.pending) ≡ true

@@ -16,7 +16,7 @@ ghost use Rattle.poly_tiling.specs.declared.lister.TheConstants.{MAX_TILINGS};
 ghost use Rattle.poly_report.specs.declared.size.TheConstants.{NODES};
 
 use crate::book::Book;
-use crate::hand_in::{apply_leaves, apply_report, place_of};
+use crate::hand_in::{apply_leaves, apply_report, index_of};
 use crate::parts::Parts;
 use crate::step::Applied;
 use crate::take::Job;
@@ -114,7 +114,7 @@ fn apply_found(parts: &mut Parts, found: Found) -> Result<Applied, Refusal>
         view: _,
         leaves,
     } = found;
-    let Some(at) = place_of(&parts.tasks, report.task) else {
+    let Some(at) = index_of(&parts.tasks, report.task) else {
         return Err(Refusal::Gone);
     };
     if has_atoms(parts, at, report.task, &atoms)? {
@@ -126,7 +126,7 @@ fn apply_found(parts: &mut Parts, found: Found) -> Result<Applied, Refusal>
 // Whether the task with this number has exactly these atoms. `at` is its index among the pending tasks.
 fn has_atoms(parts: &Parts, at: usize, number: u32, atoms: &[Atom]) -> Result<bool, Refusal>
     requires keeps { Keeps parts.now }
-    requires place { position_from (λ q. q.number == number) 0 parts.now.tasks.items ≡ Some at }
+    requires index { position_from (λ q. q.number == number) 0 parts.now.tasks.items ≡ Some at }
     ensures same { IfOk result (λ yes. IsTrue yes ↔ HasAtoms (state_of parts.now).pending number atoms.now) }
     ensures why { IfErr result (λ e. e ≡ Refusal.Memory) }
 {

@@ -46,7 +46,7 @@ pub(crate) fn apply_report(parts: &mut Parts, report: &Report) -> Result<Applied
     ensures err { OnErr result (state_of parts.new ≡ state_of parts.old) }
     ensures why { IfErr result (λ e. IsNotApplied report.now.task (plan_of report.now.tree) (state_of parts.old) e) }
 {
-    let Some(at) = place_of(&parts.tasks, report.task) else {
+    let Some(at) = index_of(&parts.tasks, report.task) else {
         return Err(Refusal::Gone);
     };
     if !fits(&report.tree) {
@@ -56,10 +56,10 @@ pub(crate) fn apply_report(parts: &mut Parts, report: &Report) -> Result<Applied
     apply_leaves(parts, at, report.edition, leaves, false)
 }
 
-// The leaves of the report's tree, if it holds for the task at the place.
+// The leaves of the report's tree, if it holds for the task at the index.
 fn checked_leaves(parts: &mut Parts, at: usize, report: &Report) -> Result<Leaves, Refusal>
     requires keeps { Keeps parts.old }
-    requires place { position_from (λ q. q.number == report.now.task) 0 parts.old.tasks.items ≡ Some at }
+    requires index { position_from (λ q. q.number == report.now.task) 0 parts.old.tasks.items ≡ Some at }
     requires small { fits (plan_of report.now.tree) ≡ true }
     ensures stays { parts.new ≡ parts.old }
     ensures leaves { IfOk result (λ l. AreLeaves parts.old report.now.task at (plan_of report.now.tree) l.tilings.items (lists l.rests.items)) }
@@ -72,7 +72,7 @@ fn checked_leaves(parts: &mut Parts, at: usize, report: &Report) -> Result<Leave
     Ok(leaves)
 }
 
-/// Ends the task at the place, lists the tilings and opens the rests: the leaves of a tree that fits and holds for it. If
+/// Ends the task at the index, lists the tilings and opens the rests: the leaves of a tree that fits and holds for it. If
 /// `sure`, no rest is hopeless.
 pub(crate) fn apply_leaves(
     parts: &mut Parts,
@@ -114,8 +114,8 @@ pub(crate) fn apply_leaves(
     })
 }
 
-/// The first place of the number.
-pub(crate) fn place_of(tasks: &[Pending], number: u32) -> Option<usize>
+/// The first index of the number.
+pub(crate) fn index_of(tasks: &[Pending], number: u32) -> Option<usize>
     ensures { result ≡ position_from (λ p. p.number == number) 0 tasks.now }
 {
     for (i, task) in tasks.iter().enumerate() {

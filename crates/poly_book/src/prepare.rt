@@ -148,8 +148,8 @@ fn going_on(
     Ok(flags)
 }
 
-// Which tasks go on. Only those are asked that are reached: their number is at most what their place or an earlier one
-// reaches.
+// Which tasks go on. Only those are asked that are reached: their number is at most what the entry at their index, or an
+// earlier entry, reaches.
 fn surviving(
     alloc: Global,
     view: &View,

@@ -126,16 +126,16 @@ fn reach_span(reach: &mut Vec<u32>, tasks: &[Pending], span: &Span)
     ensures reached { IsReached reach.new.items tasks.now (λ n. in_span span.now n) }
 {
     let from = span.from;
-    let place = tasks.partition_point(|task| task.number < from);
-    raise(reach, place, span.to);
+    let index = tasks.partition_point(|task| task.number < from);
+    raise(reach, index, span.to);
 }
 
-// Raises the entry at `place` to at least `to`, if there is such an entry.
-fn raise(reach: &mut Vec<u32>, place: usize, to: u32)
+// Raises the entry at `index` to at least `to`, if there is such an entry.
+fn raise(reach: &mut Vec<u32>, index: usize, to: u32)
     ensures farther { IsFarther reach.old.items reach.new.items }
-    ensures reached { place < length reach.old.items → to ≤ slice_index_or reach.new.items place 0 }
+    ensures reached { index < length reach.old.items → to ≤ slice_index_or reach.new.items index 0 }
 {
-    if place < reach.len() && reach[place] < to {
-        reach[place] = to;
+    if index < reach.len() && reach[index] < to {
+        reach[index] = to;
     }
 }

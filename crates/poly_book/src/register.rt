@@ -70,7 +70,7 @@ impl Register {
     }
 }
 
-// The first place of a number that isn't below. The numbers rise.
+// The first index of a number that isn't below. The numbers rise.
 fn first_from(pending: &[Pending], below: u64) -> usize
     requires { IsNonDecreasingBy (λ p. p.number) pending.now }
     ensures low { result ≤ length pending.now }

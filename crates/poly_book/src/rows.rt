@@ -127,9 +127,9 @@ fn has_pending(pending: &[Pending], span: &Span) -> bool
     ensures { result ≡ has_pending pending.now span.now }
 {
     let from = span.from;
-    let place = pending.partition_point(|task| task.number < from);
-    if place < pending.len() {
-        return pending[place].number <= span.to;
+    let index = pending.partition_point(|task| task.number < from);
+    if index < pending.len() {
+        return pending[index].number <= span.to;
     }
     false
 }

@@ -86,12 +86,12 @@ fn settle_one(parts: &mut Parts, nodes: u32, unsure: &mut usize) -> Result<bool,
     }
 }
 
-// The leaves of a tree that fits and holds for the task at the place. If the task isn't hopeless, no rest is.
+// The leaves of a tree that fits and holds for the task at the index. If the task isn't hopeless, no rest is.
 fn explored_leaves(parts: &mut Parts, at: usize, nodes: u32) -> Result<Leaves, Refusal>
     requires some { 1 ≤ nodes }
     requires few { nodes ≤ NODES }
     requires keeps { Keeps parts.old }
-    requires place { at < length parts.old.tasks.items }
+    requires index { at < length parts.old.tasks.items }
     ensures stays { parts.new ≡ parts.old }
     ensures leaves { IfOk result (λ l. (k : ℕ) × (tree : Plan) × AreLeaves parts.old k at tree l.tilings.items (lists l.rests.items)) }
     ensures sure { IfOk result (λ l. (n : ℕ) → n ≤ at → AreHopefulFrom n (state_of parts.old) → AreHopeful parts.old.scene (lists l.rests.items)) }

@@ -9,7 +9,7 @@ ghost use Rattle.poly_book.specs.Nexts.{IsLeastFrom, NoneFrom, number_from};
 ghost use Rattle.poly_book.specs.Tasks.{atoms_of};
 
 use crate::book::Book;
-use crate::hand_in::place_of;
+use crate::hand_in::index_of;
 use crate::parts::Parts;
 use crate::task::{Pending, all_atoms};
 use poly_atom::Atom;
@@ -66,7 +66,7 @@ fn take_number(parts: &Parts, number: u32) -> Result<Option<Job>, Refusal>
     ensures ok { IfOk result (λ o. MatchOption o (IsMissing (state_of parts.now) (Which.Task number)) (λ j. IsTaken (state_of parts.now) (Which.Task number) j)) }
     ensures why { IfErr result (λ e. e ≡ Refusal.Memory) }
 {
-    let Some(at) = place_of(&parts.tasks, number) else {
+    let Some(at) = index_of(&parts.tasks, number) else {
         return Ok(None);
     };
     let taken = make_job(parts, &parts.tasks[at])?;
@@ -110,9 +110,9 @@ fn first_from(tasks: &[Pending], from: u32) -> Option<u32>
     requires { IsNonDecreasingBy (λ p. p.number) tasks.now }
     ensures { result ≡ number_from from tasks.now }
 {
-    let place = tasks.partition_point(|task| task.number < from);
-    if place < tasks.len() {
-        return Some(tasks[place].number);
+    let index = tasks.partition_point(|task| task.number < from);
+    if index < tasks.len() {
+        return Some(tasks[index].number);
     }
     None
 }

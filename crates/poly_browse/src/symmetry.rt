@@ -82,13 +82,13 @@ pub(crate) fn symmetries(
     ensures why { IfErr result (λ e. e ≡ Refusal.Memory) }
 {
     let board = board_of(alloc, design)?;
-    let places = named(alloc, view, view.live())?;
+    let placements = named(alloc, view, view.live())?;
     let mut list = Vec::new(alloc);
     if board.is_empty() {
         return Ok(list);
     }
     for turn in 0..design.grid().turns(true) {
-        add_turn(alloc, &mut list, design, view, &board, &places, turn)?;
+        add_turn(alloc, &mut list, design, view, &board, &placements, turn)?;
     }
     Ok(list)
 }
@@ -108,14 +108,14 @@ fn add_turn(
     design: &Design,
     view: &View,
     board: &[(Cell, Mode)],
-    places: &[Placement],
+    placements: &[Placement],
     turn: u8,
 ) -> Result<(), Refusal>
     requires shows { Shows view.now design.now }
     requires pinned { list_all (λ n. mem view.now.live n) view.now.pins ≡ true }
     requires board { board.now ≡ design.now.cells }
     requires small { All (λ e. IsSmall e.0) board.now }
-    requires places { places.now ≡ names view.now view.now.live }
+    requires placements { placements.now ≡ names view.now view.now.live }
     requires some { 0 < length board.now }
     requires known { turn < turn_count design.now.grid true }
     ensures sound { OnOk result (All (IsSound view.now design.now) list.old.items → All (IsSound view.now design.now) list.new.items) }
@@ -127,7 +127,7 @@ fn add_turn(
     let first = first_cell(board);
     for entry in board {
         let motion = Motion::between(grid, turn, first, entry.0);
-        if let Some(symmetry) = symmetry_by(alloc, design, view, board, places, motion)? {
+        if let Some(symmetry) = symmetry_by(alloc, design, view, board, placements, motion)? {
             list.push(symmetry)?;
         }
     }
@@ -140,14 +140,14 @@ fn symmetry_by(
     design: &Design,
     view: &View,
     board: &[(Cell, Mode)],
-    places: &[Placement],
+    placements: &[Placement],
     motion: Motion,
 ) -> Result<Option<Symmetry>, Refusal>
     requires shows { Shows view.now design.now }
     requires pinned { list_all (λ n. mem view.now.live n) view.now.pins ≡ true }
     requires board { board.now ≡ design.now.cells }
     requires small { All (λ e. IsSmall e.0) board.now }
-    requires places { places.now ≡ names view.now view.now.live }
+    requires placements { placements.now ≡ names view.now view.now.live }
     requires known { motion.turn < turn_count design.now.grid true }
     requires near { IsNear motion.shift }
     ensures some { IfOk result (λ found. IfSome found (λ f. IsSymmetry design.now motion × IsMapOf view.now design.now.grid motion f)) }
@@ -158,7 +158,7 @@ fn symmetry_by(
     if !keeps_modes(design, board, motion) {
         return Ok(None);
     }
-    match map_of(alloc, grid, view, places, motion)? {
+    match map_of(alloc, grid, view, placements, motion)? {
         None => Ok(None),
         Some(symmetry) => {
             if symmetry.keeps(view.pins()) {
@@ -202,21 +202,21 @@ fn map_of(
     alloc: Global,
     grid: Grid,
     view: &View,
-    places: &[Placement],
+    placements: &[Placement],
     motion: Motion,
 ) -> Result<Option<Symmetry>, Refusal>
-    requires places { places.now ≡ names view.now view.now.live }
-    requires sets { AreSets places.now }
+    requires placements { placements.now ≡ names view.now view.now.live }
+    requires sets { AreSets placements.now }
     requires known { motion.turn < turn_count grid true }
     requires near { IsNear motion.shift }
     ensures some { IfOk result (λ found. IfSome found (IsMapOf view.now grid motion)) }
-    ensures none { IfOk result (λ found. IfNone found ((p : Placement) × Contains places.now p × ((q : Placement) → Contains places.now q → ¬ TakesPlacement grid motion p q))) }
+    ensures none { IfOk result (λ found. IfNone found ((p : Placement) × Contains placements.now p × ((q : Placement) → Contains placements.now q → ¬ TakesPlacement grid motion p q))) }
     ensures why { IfErr result (λ e. e ≡ Refusal.Memory) }
 {
     let live = view.live();
     let mut images = Vec::from_elem(alloc, 0, view.number_count())?;
     for at in 0..live.len() {
-        let Some(to) = index_of_image(grid, motion, places, &places[at]) else {
+        let Some(to) = index_of_image(grid, motion, placements, &placements[at]) else {
             return Ok(None);
         };
         images[live[at] as usize] = live[to];
@@ -228,23 +228,23 @@ fn map_of(
 fn index_of_image(
     grid: Grid,
     motion: Motion,
-    places: &[Placement],
-    place: &Placement,
+    placements: &[Placement],
+    placement: &Placement,
 ) -> Option<usize>
-    requires ascend { IsAscending placement_cmp places.now }
-    requires sets { AreSets places.now }
+    requires ascend { IsAscending placement_cmp placements.now }
+    requires sets { AreSets placements.now }
     requires known { motion.turn < turn_count grid true }
     requires near { IsNear motion.shift }
-    ensures within { IfSome result (λ to. to < length places.now) }
-    ensures some { IfSome result (λ to. TakesPlacement grid motion place.now (slice_index_or places.now to place.now)) }
-    ensures none { IfNone result ((q : Placement) → Contains places.now q → ¬ TakesPlacement grid motion place.now q) }
+    ensures within { IfSome result (λ to. to < length placements.now) }
+    ensures some { IfSome result (λ to. TakesPlacement grid motion placement.now (slice_index_or placements.now to placement.now)) }
+    ensures none { IfNone result ((q : Placement) → Contains placements.now q → ¬ TakesPlacement grid motion placement.now q) }
 {
-    let cells = motion.moved_all(grid, place.cells.as_slice())?;
+    let cells = motion.moved_all(grid, placement.cells.as_slice())?;
     let image = Placement {
-        name: place.name,
+        name: placement.name,
         cells,
     };
-    match places.binary_search(&image) {
+    match placements.binary_search(&image) {
         Ok(to) => Some(to),
         Err(_) => None,
     }

@@ -7,7 +7,7 @@ use Rattle.poly_atom.specs.Hopeless.{base}
 use Rattle.poly_frame.specs.Laws.{StepsComeBack}
 use Rattle.poly_frame.specs.Walk.{Walk, backtrack_to, is_option, step_back, with_step}
 
--- back to the mark before the step
+-- back to the level before the step
 pub back_to_level : (w : Walk) (a : Atom) → backtrack_to (with_step w a) (length w.atoms) ≡ w
 back_to_level w a = ap (λ (A : List Atom). let x : Walk = record { scene = w.scene; atoms = A; given = w.given } in x) (take-append_seam w.atoms (a ∷ []))
 
@@ -23,7 +23,7 @@ steps_come_back_lem w a =
     let same = step_undone w a in
     record {
       trail = same;
-      mark = back_to_level w a;
+      level = back_to_level w a;
       base = ap (λ (x : Walk). base w.scene x.atoms) same;
       options = λ i p. ap (λ (x : Walk). is_option x i p) same;
       sizes = λ i. ap (λ (x : Walk). tally (is_option x i) w.scene.live) same;

@@ -25,7 +25,7 @@ use Rattle.poly_frame.specs.FrameTable.{HaveShows, MostsShow}
 use Rattle.poly_frame.proofs.Steps.{any_put, base_pick, lacks_leave, lacks_pick, others_put, tally_put, most_leave, most_pick}
 use Rattle.poly_frame.proofs.Later.{most_le_atom, most_le_most}
 use Rattle.poly_frame.proofs.FrameMembers.{base_stays}
-use Rattle.poly_frame.proofs.FramePicks.{has_in, in_has, open_base, others_all, place_of, shared, sharing}
+use Rattle.poly_frame.proofs.FramePicks.{has_in, in_has, open_base, others_all, column_of, shared, sharing}
 
 -- a number that is not ruled out
 record Free (v : View) (A : List Atom) (q : ℕ) : Type 0 where
@@ -237,7 +237,7 @@ two_have f xs p q i j h k n = omega (arith, tally_fewer f xs p i h, some_have (�
 module _ (v : View) (A : List Atom) (us hs : List ℕ) (well : WellNamed v) (mosts : MostsShow v A us) (have : HaveShows v (base v A) hs) (fit : AllFit v.bounds us hs) where
   fit_item : (q : ℕ) → In q v.live → (i : Item) → In i (items v q) → (count v (base v A) i ≤ most_at v A i) × (is_piece i ≡ false → count v (base v A) i ≤ 1)
   fit_item q l i k =
-      let w = place_of v.bounds i (listed_item v well q l i (in_has v q i k)) in
+      let w = column_of v.bounds i (listed_item v well q l i (in_has v q i k)) in
       let two = and_parts (leb (get_or hs w.0 0) (get_or us w.0 0)) _ (fit w.0 w.1) in
       let counted : get_or hs w.0 0 ≡ count v (base v A) i = have w.0 w.1 ∙ ap (λ j. count v (base v A) j) w.2 in
       let most : get_or us w.0 0 ≡ most_at v A i = mosts w.0 w.1 ∙ ap (λ j. most_at v A j) w.2 in (

@@ -74,7 +74,7 @@ one_or false b n = omega arith
 pub noted_nothing : (bs : List Bound) → Noted bs [] []
 noted_nothing bs = record { few = omega arith; low = refl; once = λ b h. refl }
 
--- the places of two lists that share no item
+-- the indices of two lists that share no item
 pub noted_join : (bs : List Bound) (is js : List Item) (xs ys : List ℕ) → Noted bs is xs → Noted bs js ys →
     ((b : ℕ) → b < length bs → list_any (λ i. same_item i (item_at bs b)) is ≡ true → list_any (λ i. same_item i (item_at bs b)) js ≡ true → ⊥) → Noted bs (is ++ js) (xs ++ ys)
 noted_join bs is js xs ys p q apart = record {
@@ -83,7 +83,7 @@ noted_join bs is js xs ys p q apart = record {
   once = λ b h. tally_append (λ x. eqb x b) xs ys ∙ omega (arith, p.once b h, q.once b h, one_or _ _ (apart b h)) ∙ sym (ap one (any_append (λ i. same_item i (item_at bs b)) is js));
 }
 
--- more places of a list
+-- more indices of a list
 pub times_more : (xs : List ℕ) (k b : ℕ) → k < length xs → times (take (k + 1) xs) b ≡ times (take k xs) b + one (eqb (get_or xs k 0) b)
 times_more xs k b h = ap (λ ys. times ys b) (take_more xs k 0 h) ∙ tally_append (λ x. eqb x b) (take k xs) (get_or xs k 0 ∷ []) ∙ omega arith
 
@@ -108,7 +108,7 @@ changed_same xs a x b h e = ap (λ m. get_or (set xs a x) m 0) (sym e) ∙ rw ge
 changed_other : (xs : List ℕ) (a x b : ℕ) → (b ≡ a → ⊥) → get_or (set xs a x) b 0 ≡ get_or xs b 0
 changed_other xs a x b n = rw get_or-set_other refl
 
--- a count of one place changes
+-- a count of one index changes
 pub change_at : (xs : List ℕ) (a x b : ℕ) → a < length xs → get_or (set xs a (get_or xs a 0 + 1)) b 0 ≡ get_or xs b 0 + one (eqb a b)
 change_at xs a x b h = elim (cases_eq a b) [
   | inl e ↦ changed_same xs a (get_or xs a 0 + 1) b h e ∙ omega (arith, ap (λ m. get_or xs m 0) e, ap one (eq-eqb a b e))
@@ -132,12 +132,12 @@ module _ (old have xs : List ℕ) (k : ℕ) (h : k < length xs) (same : length h
       (b : ℕ) → b < length old → get_or (set have (get_or xs k 0) (get_or have (get_or xs k 0) 0 + 1)) b 0 ≡ get_or old b 0 + times (take (k + 1) xs) b
   raise_step inv b l = omega (arith, change_at have (get_or xs k 0) 0 b (omega (arith, at_low, same)), inv b l, times_more xs k b h)
 
-  pub with_base_fits : ((b : ℕ) → b < length old → times xs b ≤ get_or old b 0) → ((b : ℕ) → b < length old → get_or have b 0 + times (take k xs) b ≡ get_or old b 0) → 1 ≤ get_or have (get_or xs k 0) 0
-  with_base_fits enough inv = omega (arith, inv (get_or xs k 0) at_low, enough (get_or xs k 0) at_low, times_front xs (k + 1) (get_or xs k 0), times_more xs k (get_or xs k 0) h, ap one (eq-eqb (get_or xs k 0) (get_or xs k 0) refl))
+  pub lowered_fits : ((b : ℕ) → b < length old → times xs b ≤ get_or old b 0) → ((b : ℕ) → b < length old → get_or have b 0 + times (take k xs) b ≡ get_or old b 0) → 1 ≤ get_or have (get_or xs k 0) 0
+  lowered_fits enough inv = omega (arith, inv (get_or xs k 0) at_low, enough (get_or xs k 0) at_low, times_front xs (k + 1) (get_or xs k 0), times_more xs k (get_or xs k 0) h, ap one (eq-eqb (get_or xs k 0) (get_or xs k 0) refl))
 
-  pub with_base_step : 1 ≤ get_or have (get_or xs k 0) 0 → ((b : ℕ) → b < length old → get_or have b 0 + times (take k xs) b ≡ get_or old b 0) →
+  pub lowered_step : 1 ≤ get_or have (get_or xs k 0) 0 → ((b : ℕ) → b < length old → get_or have b 0 + times (take k xs) b ≡ get_or old b 0) →
       (b : ℕ) → b < length old → get_or (set have (get_or xs k 0) (get_or have (get_or xs k 0) 0 - 1)) b 0 + times (take (k + 1) xs) b ≡ get_or old b 0
-  with_base_step some inv b l = omega (arith, change_back have (get_or xs k 0) 0 b (omega (arith, at_low, same)) some, inv b l, times_more xs k b h)
+  lowered_step some inv b l = omega (arith, change_back have (get_or xs k 0) 0 b (omega (arith, at_low, same)) some, inv b l, times_more xs k b h)
 
 in_take : {X : Type 0} (xs : List X) (k : ℕ) (y d : X) → In y (take k xs) → (i : ℕ) × (i < k) × (get_or xs i d ≡ y)
 in_take xs zero y d i = absurd i

@@ -11,7 +11,7 @@ use Rattle.poly_frame.specs.FrameMembers.{SizesShow, without}
 use Rattle.poly_frame.proofs.Steps.{base_leave, base_pick}
 use Rattle.poly_frame.proofs.FramePicks.{base_again}
 
--- the first place of a number
+-- the first index of a number
 where_it_stands : (p : ℕ) (xs : List ℕ) (k : ℕ) → k < length xs → ((j : ℕ) → j < k → eqb p (get_or xs j 0) ≡ false) → eqb p (get_or xs k 0) ≡ true → without p xs ≡ take k xs ++ drop (suc k) xs
 where_it_stands p [] k h out e = absurd (omega arith)
 where_it_stands p (x ∷ xs) zero h out e = ap (λ b. cond b xs (x ∷ without p xs)) e

@@ -10,14 +10,14 @@ use Rattle.poly_tiling.specs.Puzzle.{View, has_item, items}
 use Rattle.poly_tiling.proofs.Lists.{all_append, any_from, any_in, same_truth}
 use Rattle.poly_frame.specs.Bits.{has_bit}
 use Rattle.poly_frame.specs.FrameItems.{Noted, item_of, times}
-use Rattle.poly_frame.specs.Matrices.{RowsShow, place}
+use Rattle.poly_frame.specs.Matrices.{RowsShow, bit_index}
 use Rattle.poly_frame.proofs.Words.{no_bits}
 use Rattle.poly_frame.proofs.FramePicks.{one_true, some_times, times_some}
 use Rattle.poly_frame.proofs.FrameSteps.{distinct_at, none_and, own_gone, own_spared}
 
--- a place says which row and which number
-pub place_once : (w a b i j : ℕ) → i < 64 * w → j < 64 * w → place w a i ≡ place w b j → (a ≡ b) × (i ≡ j)
-place_once w a b i j h l e = elim (cases_eq a b) [
+-- a bit's index says which row and which number
+pub bit_index_once : (w a b i j : ℕ) → i < 64 * w → j < 64 * w → bit_index w a i ≡ bit_index w b j → (a ≡ b) × (i ≡ j)
+bit_index_once w a b i j h l e = elim (cases_eq a b) [
   | inl s ↦ (s, let t = ap (λ n. w * n) s in omega arith)
   | inr n ↦ elim (cases_lt a b) [
     | inl x ↦ absurd (let t = mul-le-mul_left {m = a + 1} {n = b} w (omega arith) in omega arith)
@@ -26,21 +26,21 @@ place_once w a b i j h l e = elim (cases_eq a b) [
 ]
 
 module _ (v : View) (ns : List ℕ) (w k : ℕ) (rows new rs : List ℕ) (h : k < length ns) (wide : length ns ≤ 64 * w) (noted : Noted v.bounds (items v (get_or ns k 0)) rs)
-    (inv : (b i : ℕ) → b < length v.bounds → i < 64 * w → has_bit rows (place w b i) ≡ (ltb i k && has_item v (get_or ns i 0) (item_of v b)))
-    (bits : (x : ℕ) → has_bit new x ≡ (has_bit rows x || list_any (λ b. eqb (place w b k) x) rs)) where
-  put_says : (b i : ℕ) → b < length v.bounds → i < 64 * w → list_any (λ c. eqb (place w c k) (place w b i)) rs ≡ (eqb k i && has_item v (get_or ns k 0) (item_of v b))
+    (inv : (b i : ℕ) → b < length v.bounds → i < 64 * w → has_bit rows (bit_index w b i) ≡ (ltb i k && has_item v (get_or ns i 0) (item_of v b)))
+    (bits : (x : ℕ) → has_bit new x ≡ (has_bit rows x || list_any (λ b. eqb (bit_index w b k) x) rs)) where
+  put_says : (b i : ℕ) → b < length v.bounds → i < 64 * w → list_any (λ c. eqb (bit_index w c k) (bit_index w b i)) rs ≡ (eqb k i && has_item v (get_or ns k 0) (item_of v b))
   put_says b i l g = same_truth _ _
       (λ t.
-      let r = any_in (λ c. eqb (place w c k) (place w b i)) rs t in
-      let s = place_once w r.0 b k i (omega arith) g (eqb-true _ _ r.2) in
+      let r = any_in (λ c. eqb (bit_index w c k) (bit_index w b i)) rs t in
+      let s = bit_index_once w r.0 b k i (omega arith) g (eqb-true _ _ r.2) in
       let c : 1 ≤ times rs b = subst (λ n. 1 ≤ times rs n) s.0 (times_some rs r.0 r.1) in
       and_from _ _ (eq-eqb k i s.1) (one_true _ (omega (arith, c, noted.once b l))))
       (λ t.
       let ts = and_parts (eqb k i) _ t in
-      any_from (λ c. eqb (place w c k) (place w b i)) rs b (some_times rs b (omega (arith, noted.once b l, ap one ts.1))) (eq-eqb _ _ (ap (λ n. place w b n) (eqb-true k i ts.0))))
+      any_from (λ c. eqb (bit_index w c k) (bit_index w b i)) rs b (some_times rs b (omega (arith, noted.once b l, ap one ts.1))) (eq-eqb _ _ (ap (λ n. bit_index w b n) (eqb-true k i ts.0))))
 
-  pub rows_step : (b i : ℕ) → b < length v.bounds → i < 64 * w → has_bit new (place w b i) ≡ (ltb i (k + 1) && has_item v (get_or ns i 0) (item_of v b))
-  rows_step b i l g = bits (place w b i) ∙ ap (λ x. x || list_any (λ c. eqb (place w c k) (place w b i)) rs) (inv b i l g) ∙ ap (λ x. (ltb i k && has_item v (get_or ns i 0) (item_of v b)) || x) (put_says b i l g)
+  pub rows_step : (b i : ℕ) → b < length v.bounds → i < 64 * w → has_bit new (bit_index w b i) ≡ (ltb i (k + 1) && has_item v (get_or ns i 0) (item_of v b))
+  rows_step b i l g = bits (bit_index w b i) ∙ ap (λ x. x || list_any (λ c. eqb (bit_index w c k) (bit_index w b i)) rs) (inv b i l g) ∙ ap (λ x. (ltb i k && has_item v (get_or ns i 0) (item_of v b)) || x) (put_says b i l g)
       ∙ (elim (cases_eq k i) [
         | inl e ↦ at_here (ltb i k) (eqb k i) (ltb i (k + 1)) _ _ (false_from_ne_true _ (λ t. let u = ltb-true i k t in absurd (omega arith))) (eq-eqb k i e) (lt-ltb i (k + 1) (omega arith)) (ap (λ n. has_item v (get_or ns n 0) (item_of v b)) e)
         | inr n ↦ at_other (ltb i k) (eqb k i) (ltb i (k + 1)) _ _ (ne_eqb k i n) (same_truth _ _ (λ t. let u = ltb-true i k t in lt-ltb i (k + 1) (omega arith)) (λ t. let u = ltb-true i (k + 1) t in lt-ltb i k (omega arith)))
@@ -58,7 +58,7 @@ module _ (v : View) (ns : List ℕ) (w k : ℕ) (rows new rs : List ℕ) (h : k 
           or_none true = refl
           or_none false = refl
 
-pub rows_done : (v : View) (ns : List ℕ) (w n : ℕ) (rows : List ℕ) → n ≡ length ns → length ns ≤ 64 * w → ((b i : ℕ) → b < length v.bounds → i < 64 * w → has_bit rows (place w b i) ≡ (ltb i n && has_item v (get_or ns i 0) (item_of v b))) → RowsShow v ns w rows
+pub rows_done : (v : View) (ns : List ℕ) (w n : ℕ) (rows : List ℕ) → n ≡ length ns → length ns ≤ 64 * w → ((b i : ℕ) → b < length v.bounds → i < 64 * w → has_bit rows (bit_index w b i) ≡ (ltb i n && has_item v (get_or ns i 0) (item_of v b))) → RowsShow v ns w rows
 rows_done v ns w n rows e wide inv b j l h = inv b j l (omega arith) ∙ ap (λ x. x && has_item v (get_or ns j 0) (item_of v b)) (lt-ltb j n (omega arith))
 
 pub stands_step : (ns stands : List ℕ) (k : ℕ) → distinct ns ≡ true → k < length ns → get_or ns k 0 < length stands → ((i : ℕ) → i < k → get_or stands (get_or ns i 0) 0 ≡ i) → (i : ℕ) → i < k + 1 → get_or (set stands (get_or ns k 0) k) (get_or ns i 0) 0 ≡ i

@@ -22,7 +22,7 @@ use Rattle.poly_atom.proofs.Bases.{base_up}
 use Rattle.poly_frame.specs.Open.{open_in, others, ruled_out, most_at}
 use Rattle.poly_frame.specs.Bits.{has_bit}
 use Rattle.poly_frame.specs.FrameItems.{Noted, item_at, item_of, times}
-use Rattle.poly_frame.specs.Matrices.{RowsShow, place}
+use Rattle.poly_frame.specs.Matrices.{RowsShow, bit_index}
 use Rattle.poly_frame.specs.FrameTable.{limit_at, shut_at}
 use Rattle.poly_frame.proofs.Steps.{base_leave, base_pick, open_pick, tally_put, most_pick}
 
@@ -146,11 +146,11 @@ count_pick v A p i m = ap (λ xs. count v xs i) (base_pick v A p) ∙ tally_put 
 pub count_leave : (v : View) (A : List Atom) (p : ℕ) (i : Item) → count v (base v (A ++ Lacks p ∷ [])) i ≡ count v (base v A) i
 count_leave v A p i = ap (λ xs. count v (put_all xs (put_all v.pins [])) i) (base_leave v A p)
 
-pub place_of : (bs : List Bound) (i : Item) → list_any (λ b. same_item b.item i) bs ≡ true → (b : ℕ) × (b < length bs) × (item_at bs b ≡ i)
-place_of [] i h = absurd (true≢false (sym h))
-place_of (x ∷ bs) i h = elim (or_cases (same_item x.item i) (list_any (λ b. same_item b.item i) bs) h) [
+pub column_of : (bs : List Bound) (i : Item) → list_any (λ b. same_item b.item i) bs ≡ true → (b : ℕ) × (b < length bs) × (item_at bs b ≡ i)
+column_of [] i h = absurd (true≢false (sym h))
+column_of (x ∷ bs) i h = elim (or_cases (same_item x.item i) (list_any (λ b. same_item b.item i) bs) h) [
   | inl e ↦ (zero, omega arith, same_item_is x.item i e)
-  | inr e ↦ let r = place_of bs i e in let l : suc r.0 < length (x ∷ bs) = omega (arith, r.1) in (suc r.0, l, r.2)
+  | inr e ↦ let r = column_of bs i e in let l : suc r.0 < length (x ∷ bs) = omega (arith, r.1) in (suc r.0, l, r.2)
 ]
 
 pub times_some : (xs : List ℕ) (b : ℕ) → In b xs → 1 ≤ times xs b
@@ -175,14 +175,14 @@ pub one_true : (b : Bool) → 1 ≤ one b → b ≡ true
 one_true true h = refl
 one_true false h = absurd (omega arith)
 
--- the places say the same as the items
-pub places_say : (v : View) (A : List Atom) (p q j w : ℕ) (ns rows limits have2 rs : List ℕ) → WellNamed v → In q v.live → Noted v.bounds (items v p) rs → RowsShow v ns w rows → j < length ns → get_or ns j 0 ≡ q →
+-- the indices say the same as the items
+pub indices_say : (v : View) (A : List Atom) (p q j w : ℕ) (ns rows limits have2 rs : List ℕ) → WellNamed v → In q v.live → Noted v.bounds (items v p) rs → RowsShow v ns w rows → j < length ns → get_or ns j 0 ≡ q →
     ((b : ℕ) → b < length v.bounds → get_or limits b 0 ≡ limit_at (item_of v b) (most_at v A (item_of v b))) →
     ((b : ℕ) → b < length v.bounds → get_or have2 b 0 ≡ count v (base v A) (item_of v b) + times rs b) →
-    list_any (λ b. leb (get_or limits b 0) (get_or have2 b 0) && has_bit rows (place w b j)) rs ≡ list_any (λ i. has_item v q i && shuts v A i) (items v p)
-places_say v A p q j w ns rows limits have2 rs well live noted shown h e lim counts = same_truth _ _
+    list_any (λ b. leb (get_or limits b 0) (get_or have2 b 0) && has_bit rows (bit_index w b j)) rs ≡ list_any (λ i. has_item v q i && shuts v A i) (items v p)
+indices_say v A p q j w ns rows limits have2 rs well live noted shown h e lim counts = same_truth _ _
     (λ t.
-    let r = any_in (λ b. leb (get_or limits b 0) (get_or have2 b 0) && has_bit rows (place w b j)) rs t in
+    let r = any_in (λ b. leb (get_or limits b 0) (get_or have2 b 0) && has_bit rows (bit_index w b j)) rs t in
     let b = r.0 in
     let l = low_in (length v.bounds) rs r.0 noted.low r.1 in
     let rs2 = and_parts (leb (get_or limits r.0 0) (get_or have2 r.0 0)) _ r.2 in
@@ -195,10 +195,10 @@ places_say v A p q j w ns rows limits have2 rs well live noted shown h e lim cou
     (λ t.
     let r = any_in (λ i. has_item v q i && shuts v A i) (items v p) t in
     let rs2 = and_parts (has_item v q r.0) (shuts v A r.0) r.2 in
-    let b = place_of v.bounds r.0 (listed_item v well q live r.0 rs2.0) in
+    let b = column_of v.bounds r.0 (listed_item v well q live r.0 rs2.0) in
     let has : has_item v p (item_of v b.0) ≡ true = ap (λ i. has_item v p i) b.2 ∙ in_has v p r.0 r.1 in
     let one : times rs b.0 ≡ 1 = noted.once b.0 b.1 ∙ ap one has in
-    any_from (λ b. leb (get_or limits b 0) (get_or have2 b 0) && has_bit rows (place w b j)) rs b.0 (some_times rs b.0 (omega (arith, one)))
+    any_from (λ b. leb (get_or limits b 0) (get_or have2 b 0) && has_bit rows (bit_index w b j)) rs b.0 (some_times rs b.0 (omega (arith, one)))
     (and_from _ _
     (ap (λ n. leb n (get_or have2 b.0 0)) (lim b.0 b.1) ∙ ap (λ n. leb (limit_at (item_of v b.0) (most_at v A (item_of v b.0))) n) (counts b.0 b.1 ∙ ap (λ n. count v (base v A) (item_of v b.0) + n) one)
     ∙ limit_cases (item_of v b.0) (most_at v A (item_of v b.0)) (count v (base v A) (item_of v b.0) + 1) ∙ ap (λ i. shuts v A i) b.2 ∙ rs2.1)

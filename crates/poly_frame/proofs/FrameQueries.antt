@@ -26,7 +26,7 @@ use Rattle.poly_frame.proofs.Due.{none_due}
 use Rattle.poly_frame.proofs.Opens.{open_before}
 use Rattle.poly_frame.proofs.Walks.{distinct_filter, mem_filter}
 use Rattle.poly_frame.proofs.Words.{drop_bits}
-use Rattle.poly_frame.proofs.FramePicks.{place_of}
+use Rattle.poly_frame.proofs.FramePicks.{column_of}
 use Rattle.poly_frame.proofs.FrameSteps.{index_in, listed_at, top_have, top_level}
 
 all_bounds : (bs : List Bound) (f : Bound → Bool) → ((b : ℕ) → b < length bs → f (get_or bs b no_bound) ≡ true) → list_all f bs ≡ true
@@ -45,7 +45,7 @@ none_elsewhere v A T (AtLeast i k ∷ X) n h =
     let free = not (nat_lt (count v T i) (least_at v A i)) in
     let hs = and_parts (here || free) (list_all (of_asked (λ j. list_any (λ b. same_item b.item j) v.bounds || not (nat_lt (count v T j) (least_at v A j)))) X) h in
     let yes : free ≡ true = elim (or_cases here free hs.0) [
-      | inl y ↦ let w = place_of v.bounds i y in not_from_false _ (subst (λ j. nat_lt (count v T j) (least_at v A j) ≡ false) w.2 (n w.0 w.1))
+      | inl y ↦ let w = column_of v.bounds i y in not_from_false _ (subst (λ j. nat_lt (count v T j) (least_at v A j) ≡ false) w.2 (n w.0 w.1))
       | inr e ↦ e
     ] in
     and_from free (list_all (of_asked (λ j. not (nat_lt (count v T j) (least_at v A j)))) X) yes (none_elsewhere v A T X n hs.1)
@@ -67,7 +67,7 @@ due_atoms : (v : View) (f : Item → Bool) (A : List Atom) → list_all (of_aske
 due_atoms v f [] h g = refl
 due_atoms v f (Has p ∷ A) h g = due_atoms v f A h g
 due_atoms v f (Lacks p ∷ A) h g = due_atoms v f A h g
-due_atoms v f (AtLeast i n ∷ A) h g = let hs = and_parts (list_any (λ b. same_item b.item i) v.bounds) (list_all (of_asked (λ i. list_any (λ b. same_item b.item i) v.bounds)) A) h in and_from (f i) (list_all (of_asked f) A) (g i (place_of v.bounds i hs.0)) (due_atoms v f A hs.1 g)
+due_atoms v f (AtLeast i n ∷ A) h g = let hs = and_parts (list_any (λ b. same_item b.item i) v.bounds) (list_all (of_asked (λ i. list_any (λ b. same_item b.item i) v.bounds)) A) h in and_from (f i) (list_all (of_asked f) A) (g i (column_of v.bounds i hs.0)) (due_atoms v f A hs.1 g)
 due_atoms v f (AtMost i n ∷ A) h g = due_atoms v f A h g
 
 filter_append : (f : ℕ → Bool) (xs ys : List ℕ) → filter f (xs ++ ys) ≡ filter f xs ++ filter f ys
@@ -84,7 +84,7 @@ filter_yes f xs k h y = ap (λ ys. filter f ys) (take_more xs k 0 h) ∙ filter_
 pub filter_no : (f : ℕ → Bool) (xs : List ℕ) (k : ℕ) → k < length xs → f (get_or xs k 0) ≡ false → filter f (take (k + 1) xs) ≡ filter f (take k xs)
 filter_no f xs k h n = ap (λ ys. filter f ys) (take_more xs k 0 h) ∙ filter_append f (take k xs) (get_or xs k 0 ∷ []) ∙ ap (λ b. filter f (take k xs) ++ cond b (get_or xs k 0 ∷ []) []) n ∙ nothing_more (filter f (take k xs))
 
--- numbers that fail between two places are not listed
+-- numbers that fail between two indices are not listed
 gap : (f : ℕ → Bool) (xs : List ℕ) (low d : ℕ) → low + d ≤ length xs → ((x : ℕ) → low ≤ x → x < low + d → f (get_or xs x 0) ≡ false) → filter f (take (low + d) xs) ≡ filter f (take low xs)
 gap f xs low zero h out = ap (λ n. filter f (take n xs)) (omega arith)
 gap f xs low (suc d) h out =
@@ -143,7 +143,7 @@ module _ (v : View) (A : List Atom) (first : ℕ) (matrix : Matrix) (t : Table) 
   none_in : (i : Item) → ((b : ℕ) → b < length v.bounds → same_item (item_of v b) i ≡ false) → (xs : List ℕ) → ((x : ℕ) → In x xs → In x v.live) → filter (λ p. open_in v A p && has_item v p i) xs ≡ []
   none_in i n [] h = refl
   none_in i n (x ∷ xs) h =
-      let no : has_item v x i ≡ false = false_from_ne_true _ (λ y. let w = place_of v.bounds i (listed_item v K.table.matrix.well x (h x (inl refl)) i y) in both_ways _ (n w.0 w.1) (ap (λ k. same_item k i) w.2 ∙ same_item_self i)) in
+      let no : has_item v x i ≡ false = false_from_ne_true _ (λ y. let w = column_of v.bounds i (listed_item v K.table.matrix.well x (h x (inl refl)) i y) in both_ways _ (n w.0 w.1) (ap (λ k. same_item k i) w.2 ∙ same_item_self i)) in
       ap (λ b. cond (open_in v A x && b) (x ∷ filter (λ p. open_in v A p && has_item v p i) xs) (filter (λ p. open_in v A p && has_item v p i) xs)) no ∙ never (open_in v A x) _ _ ∙ none_in i n xs (λ y k. h y (inr k))
     where
       never : (b : Bool) (xs ys : List ℕ) → cond (b && false) xs ys ≡ ys
@@ -172,11 +172,11 @@ module _ (v : View) (A : List Atom) (first : ℕ) (matrix : Matrix) (t : Table) 
     pub one_at : (j p : ℕ) → j < length matrix.numbers.items → in_both ws at rs at j ≡ true → p ≡ get_or matrix.numbers.items j 0 → (mem v.live p ≡ true) × (open_in v A p ≡ true)
     one_at j p h is at' = subst (λ (q : ℕ). (mem v.live q ≡ true) × (open_in v A q ≡ true)) (sym at') (open_one j h (row_alone j h ∙ is))
 
-  -- too few of the item at a place
+  -- too few of the item at an index
   pub due_says : (b : ℕ) → b < length v.bounds → nat_lt (count v (base v A) (item_of v b)) (least_at v A (item_of v b)) ≡ nat_lt (get_or have b 0) (get_or t.leasts.items b 0)
   due_says b h = ap (λ n. nat_lt n (least_at v A (item_of v b))) (sym (top_have v A first matrix t live have raised marks K b h)) ∙ ap (λ n. nat_lt (get_or have b 0) n) ((top_level v A first matrix t live have raised marks K).leasts (item_of v b) ∙ sym (K.table.leasts b h))
 
-  -- none is due from the place on where none is asked for
+  -- none is due from the index on where none is asked for
   pub none_short : (n : ℕ) → min t.leasts_end (length have) ≤ n → ((b : ℕ) → b < n → nat_lt (get_or have b 0) (get_or t.leasts.items b 0) ≡ false) → (b : ℕ) → b < length v.bounds → nat_lt (count v (base v A) (item_of v b)) (least_at v A (item_of v b)) ≡ false
   none_short n l h b m = due_says b m ∙ elim (cases_lt b t.leasts_end) [
     | inl i ↦ h b (omega (arith, l, i, m, K.have_len))

@@ -16,14 +16,14 @@ use Rattle.poly_atom.specs.Hopeless.{base}
 use Rattle.poly_frame.specs.Open.{least_at, open_in, most_at}
 use Rattle.poly_frame.specs.Bits.{has_bit}
 use Rattle.poly_frame.specs.FrameItems.{Noted, item_of, times}
-use Rattle.poly_frame.specs.Matrices.{RowOf, StandsShow, place}
+use Rattle.poly_frame.specs.Matrices.{RowOf, StandsShow, bit_index}
 use Rattle.poly_frame.specs.FrameTable.{HaveShows, TableShows, limit_at}
 use Rattle.poly_frame.specs.FrameSteps.{Kept, LevelShows, RowShows, mark_of}
 use Rattle.poly_frame.specs.declared.frame.matrix.Matrix.{Matrix}
 use Rattle.poly_frame.specs.declared.frame.table.Table.{Table}
 use Rattle.poly_frame.proofs.Steps.{open_leave, most_leave, most_pick}
 use Rattle.poly_frame.proofs.Words.{take_bits}
-use Rattle.poly_frame.proofs.FramePicks.{base_again, open_again, count_leave, count_pick, pick_open, pick_self, places_say}
+use Rattle.poly_frame.proofs.FramePicks.{base_again, open_again, count_leave, count_pick, pick_open, pick_self, indices_say}
 
 yes_and : (b : Bool) → (b && true) ≡ b
 yes_and true = refl
@@ -60,7 +60,7 @@ least_leave v (AtLeast k n ∷ A) p i = ap (λ u. cond (same_item k i) (max n u)
 least_leave v (AtMost k n ∷ A) p i = least_leave v A p i
 
 -- the columns of a row's numbers
-pub row_below : (w k m j : ℕ) → k < m → j < 64 * w → place w k j < 64 * (w * m)
+pub row_below : (w k m j : ℕ) → k < m → j < 64 * w → bit_index w k j < 64 * (w * m)
 row_below w k m j h l = let a = mul-le-mul_left {m = k + 1} {n = m} w (omega arith) in omega (arith, a)
 
 get_at : (xs : List ℕ) (k d e : ℕ) → k < length xs → get_or xs k d ≡ get_or xs k e
@@ -130,7 +130,7 @@ module _ (v : View) (A : List Atom) (first : ℕ) (matrix : Matrix) (t : Table) 
         steps = omega (arith, longer, length-append A (a ∷ []), K.steps);
         have_len = S.have_len ∙ K.have_len;
         live_len = omega (arith, S.live_len, K.live_len, ap (λ n. matrix.width * (n + 1)) longer);
-        places = all_append (λ b. ltb b (length v.bounds)) raised rs ∙ and_from _ _ K.places S.low;
+        indices = all_append (λ b. ltb b (length v.bounds)) raised rs ∙ and_from _ _ K.indices S.low;
         up = λ k l h g. elim (cases_lt (length marks) l) [
           | inl y ↦
               let top : l ≡ length marks + 1 = omega (arith, longer) in
@@ -157,7 +157,7 @@ module _ (v : View) (A : List Atom) (first : ℕ) (matrix : Matrix) (t : Table) 
               let L = K.levels k y in
               let mark = mark_kept marks raised rs k y in
               let same : take (first + k) (A ++ a ∷ []) ≡ take (first + k) A = take-append-le (first + k) A (a ∷ []) (omega (arith, K.steps)) in
-              let inside : (j : ℕ) → j < 64 * matrix.width → has_bit live2 (place matrix.width k j) ≡ has_bit live (place matrix.width k j) = λ j l. S.before (place matrix.width k j) (omega (arith, row_below matrix.width k (length marks + 1) j (omega arith) l, K.live_len)) in
+              let inside : (j : ℕ) → j < 64 * matrix.width → has_bit live2 (bit_index matrix.width k j) ≡ has_bit live (bit_index matrix.width k j) = λ j l. S.before (bit_index matrix.width k j) (omega (arith, row_below matrix.width k (length marks + 1) j (omega arith) l, K.live_len)) in
               subst (λ (B : List Atom). LevelShows v (take first A) B matrix t live2 have2 (raised ++ rs) (marks ++ length raised ∷ []) k) (sym same) (record {
                 row = record {
                   opened = λ j l. inside j (omega (arith, K.table.matrix.wide)) ∙ L.row.opened j l;
@@ -211,17 +211,17 @@ same_in_row : (at i j : ℕ) → eqb (64 * at + i) (64 * at + j) ≡ eqb i j
 same_in_row at i j = same_truth _ _ (λ e. let f = eqb-true (64 * at + i) (64 * at + j) e in eq-eqb i j (omega arith)) (λ e. eq-eqb _ _ (ap (λ n. 64 * at + n) (eqb-true i j e)))
 
 module _ (v : View) (A : List Atom) (first : ℕ) (matrix : Matrix) (t : Table) (live have raised marks live1 : List ℕ) (K : Kept v A first matrix t live have raised marks) (C : Copied matrix.width live live1) where
-  top_place : (j : ℕ) → place matrix.width (length marks + 1) j ≡ 64 * length live + j
-  top_place j = omega (arith, K.live_len)
+  top_index : (j : ℕ) → bit_index matrix.width (length marks + 1) j ≡ 64 * length live + j
+  top_index j = omega (arith, K.live_len)
 
-  old_place : (j : ℕ) → place matrix.width (length marks) j ≡ 64 * (length live - matrix.width) + j
-  old_place j = omega (arith, K.live_len)
+  old_index : (j : ℕ) → bit_index matrix.width (length marks) j ≡ 64 * (length live - matrix.width) + j
+  old_index j = omega (arith, K.live_len)
 
   copied_open : (j : ℕ) → j < length matrix.numbers.items → has_bit live1 (64 * length live + j) ≡ open_in v A (get_or matrix.numbers.items j 0)
-  copied_open j h = C.row j (omega (arith, K.table.matrix.wide)) ∙ ap (λ x. has_bit live x) (sym (old_place j)) ∙ (top_level v A first matrix t live have raised marks K).row.opened j h
+  copied_open j h = C.row j (omega (arith, K.table.matrix.wide)) ∙ ap (λ x. has_bit live x) (sym (old_index j)) ∙ (top_level v A first matrix t live have raised marks K).row.opened j h
 
   copied_past : (j : ℕ) → length matrix.numbers.items ≤ j → j < 64 * matrix.width → has_bit live1 (64 * length live + j) ≡ false
-  copied_past j h l = C.row j l ∙ ap (λ x. has_bit live x) (sym (old_place j)) ∙ (top_level v A first matrix t live have raised marks K).row.past j h l
+  copied_past j h l = C.row j l ∙ ap (λ x. has_bit live x) (sym (old_index j)) ∙ (top_level v A first matrix t live have raised marks K).row.past j h l
 
   none_raised : (b : ℕ) → b < length v.bounds → get_or have b 0 ≡ get_or have b 0 + times [] b
   none_raised b h = omega arith
@@ -242,8 +242,8 @@ module _ (v : View) (A : List Atom) (first : ℕ) (matrix : Matrix) (t : Table) 
         few = omega arith;
         low = refl;
         row = record {
-          opened = λ j h. ap (λ x. has_bit live2 x) (top_place j) ∙ opened j h;
-          past = λ j h l. ap (λ x. has_bit live2 x) (top_place j) ∙ past j h l;
+          opened = λ j h. ap (λ x. has_bit live2 x) (top_index j) ∙ opened j h;
+          past = λ j h l. ap (λ x. has_bit live2 x) (top_index j) ∙ past j h l;
         };
         counts = λ b h. top_have v A first matrix t live have raised marks K b h ∙ sym (counts (item_of v b));
         mosts = mosts;
@@ -288,7 +288,7 @@ module _ (v : View) (A : List Atom) (first : ℕ) (matrix : Matrix) (t : Table) 
   pub pick_new : (p : ℕ) (live2 live3 have2 rs : List ℕ) → mem (base v A) p ≡ false → Noted v.bounds (items v p) rs → length rs ≤ 17 → length have2 ≡ length have →
       ((b : ℕ) → b < length v.bounds → get_or have2 b 0 ≡ get_or have b 0 + times rs b) →
       length live2 ≡ length live1 → ((x : ℕ) → x < 64 * length live → has_bit live2 x ≡ has_bit live1 x) →
-      ((j : ℕ) → j < 64 * matrix.width → has_bit live2 (64 * length live + j) ≡ (has_bit live1 (64 * length live + j) && not (list_any (λ b. leb (get_or t.limits.items b 0) (get_or have2 b 0) && has_bit matrix.rows.items (place matrix.width b j)) rs))) →
+      ((j : ℕ) → j < 64 * matrix.width → has_bit live2 (64 * length live + j) ≡ (has_bit live1 (64 * length live + j) && not (list_any (λ b. leb (get_or t.limits.items b 0) (get_or have2 b 0) && has_bit matrix.rows.items (bit_index matrix.width b j)) rs))) →
       length live3 ≡ length live2 → ((x : ℕ) → x < 64 * length live → has_bit live3 x ≡ has_bit live2 x) →
       ((j : ℕ) → j < length matrix.numbers.items → has_bit live3 (64 * length live + j) ≡ (has_bit live2 (64 * length live + j) && not (is_own matrix.numbers.items p j))) →
       ((j : ℕ) → has_bit live2 (64 * length live + j) ≡ false → has_bit live3 (64 * length live + j) ≡ false) →
@@ -298,7 +298,7 @@ module _ (v : View) (A : List Atom) (first : ℕ) (matrix : Matrix) (t : Table) 
       let lims : (b : ℕ) → b < length v.bounds → get_or t.limits.items b 0 ≡ limit_at (item_of v b) (most_at v A (item_of v b)) =
       λ b h. K.table.limits b h ∙ ap (λ n. limit_at (item_of v b) n) (sym ((top_level v A first matrix t live have raised marks K).mosts (item_of v b))) in
       let counts : (b : ℕ) → b < length v.bounds → get_or have2 b 0 ≡ count v (base v A) (item_of v b) + times rs b = λ b h. more b h ∙ ap (λ n. n + times rs b) (top b h) in
-      let bit : (j : ℕ) → j < length matrix.numbers.items → has_bit live3 (64 * length live + j) ≡ ((has_bit live1 (64 * length live + j) && not (list_any (λ b. leb (get_or t.limits.items b 0) (get_or have2 b 0) && has_bit matrix.rows.items (place matrix.width b j)) rs)) && not (is_own matrix.numbers.items p j)) =
+      let bit : (j : ℕ) → j < length matrix.numbers.items → has_bit live3 (64 * length live + j) ≡ ((has_bit live1 (64 * length live + j) && not (list_any (λ b. leb (get_or t.limits.items b 0) (get_or have2 b 0) && has_bit matrix.rows.items (bit_index matrix.width b j)) rs)) && not (is_own matrix.numbers.items p j)) =
       λ j h. own j h ∙ ap (λ b. b && not (is_own matrix.numbers.items p j)) (closed j (omega (arith, K.table.matrix.wide))) in
       kept_step v A first matrix t live have raised marks K (Has p) live3 have2 rs (record {
         live_len = len3 ∙ len ∙ C.len;
@@ -310,15 +310,15 @@ module _ (v : View) (A : List Atom) (first : ℕ) (matrix : Matrix) (t : Table) 
         row = record {
           opened = λ j h.
               let live_q = mem_in v.live _ (K.table.matrix.live _ (listed_at matrix.numbers.items j h)) in
-              ap (λ x. has_bit live3 x) (top_place j) ∙ bit j h ∙ (elim (cases_eq p (get_or matrix.numbers.items j 0)) [
+              ap (λ x. has_bit live3 x) (top_index j) ∙ bit j h ∙ (elim (cases_eq p (get_or matrix.numbers.items j 0)) [
                 | inl e ↦ own_gone _ _ (eq-eqb p _ e) ∙ sym (pick_self v A p) ∙ ap (λ n. open_in v (A ++ Has p ∷ []) n) e
                 | inr n ↦
                     own_spared _ _ (ne_eqb p _ n)
-                    ∙ ap (λ b. b && not (list_any (λ b. leb (get_or t.limits.items b 0) (get_or have2 b 0) && has_bit matrix.rows.items (place matrix.width b j)) rs)) (copied_open j h)
-                    ∙ ap (λ b. open_in v A (get_or matrix.numbers.items j 0) && not b) (places_say v A p (get_or matrix.numbers.items j 0) j matrix.width matrix.numbers.items matrix.rows.items t.limits.items have2 rs K.table.matrix.well live_q noted K.table.matrix.rows h refl lims counts)
+                    ∙ ap (λ b. b && not (list_any (λ b. leb (get_or t.limits.items b 0) (get_or have2 b 0) && has_bit matrix.rows.items (bit_index matrix.width b j)) rs)) (copied_open j h)
+                    ∙ ap (λ b. open_in v A (get_or matrix.numbers.items j 0) && not b) (indices_say v A p (get_or matrix.numbers.items j 0) j matrix.width matrix.numbers.items matrix.rows.items t.limits.items have2 rs K.table.matrix.well live_q noted K.table.matrix.rows h refl lims counts)
                     ∙ sym (pick_open v A p (get_or matrix.numbers.items j 0) m (ne_eqb p _ n))
               ]);
-          past = λ j h l. ap (λ x. has_bit live3 x) (top_place j) ∙ past3 j (closed j l ∙ none_and _ _ (copied_past j h l));
+          past = λ j h l. ap (λ x. has_bit live3 x) (top_index j) ∙ past3 j (closed j l ∙ none_and _ _ (copied_past j h l));
         };
         counts = λ b h. counts b h ∙ omega (arith, noted.once b h, count_pick v A p (item_of v b) m);
         mosts = λ i. most_pick v A p i;
@@ -340,7 +340,7 @@ module _ (v : View) (A : List Atom) (first : ℕ) (matrix : Matrix) (t : Table) 
   ]
 
   pub back_low : (m : ℕ) → list_all (λ b. ltb b (length have)) (drop m raised) ≡ true
-  back_low m = ap (λ k. list_all (λ b. ltb b k) (drop m raised)) K.have_len ∙ (and_parts (list_all (λ b. ltb b (length v.bounds)) (take m raised)) _ (sym (all_append (λ b. ltb b (length v.bounds)) (take m raised) (drop m raised)) ∙ ap (λ xs. list_all (λ b. ltb b (length v.bounds)) xs) (take-append-drop m raised) ∙ K.places)).1
+  back_low m = ap (λ k. list_all (λ b. ltb b k) (drop m raised)) K.have_len ∙ (and_parts (list_all (λ b. ltb b (length v.bounds)) (take m raised)) _ (sym (all_append (λ b. ltb b (length v.bounds)) (take m raised) (drop m raised)) ∙ ap (λ xs. list_all (λ b. ltb b (length v.bounds)) xs) (take-append-drop m raised) ∙ K.indices)).1
 
   pub back_enough : (m : ℕ) → m ≡ mark_of marks raised n → (b : ℕ) → b < length have → times (drop m raised) b ≤ get_or have b 0
   back_enough m e b l = omega (arith, (K.levels n (omega arith)).counted b (omega (arith, K.have_len)), ap (λ k. times (drop k raised) b) e)
@@ -359,7 +359,7 @@ module _ (v : View) (A : List Atom) (first : ℕ) (matrix : Matrix) (t : Table) 
         steps = omega (arith, marks_len, length-take (first + n) A, K.steps);
         have_len = len ∙ K.have_len;
         live_len = length-take (matrix.width * (n + 1)) live ∙ omega (arith, room, K.live_len, ap (λ k. matrix.width * (k + 1)) marks_len);
-        places = (and_parts _ (list_all (λ b. ltb b (length v.bounds)) (drop m raised)) (sym (all_append (λ b. ltb b (length v.bounds)) (take m raised) (drop m raised)) ∙ ap (λ xs. list_all (λ b. ltb b (length v.bounds)) xs) (take-append-drop m raised) ∙ K.places)).0;
+        indices = (and_parts _ (list_all (λ b. ltb b (length v.bounds)) (drop m raised)) (sym (all_append (λ b. ltb b (length v.bounds)) (take m raised) (drop m raised)) ∙ ap (λ xs. list_all (λ b. ltb b (length v.bounds)) xs) (take-append-drop m raised) ∙ K.indices)).0;
         up = λ k l g i. omega (arith, front_mark m e k (omega (arith, marks_len)), front_mark m e l (omega (arith, marks_len)), K.up k l g (omega (arith, marks_len)));
         levels = λ k g.
             let l : k ≤ n = omega (arith, marks_len) in
@@ -367,7 +367,7 @@ module _ (v : View) (A : List Atom) (first : ℕ) (matrix : Matrix) (t : Table) 
             let mark = front_mark m e k l in
             let low : mark_of marks raised k ≤ m = omega (arith, e, K.up k n l (omega arith)) in
             let same : take (first + k) (take (first + n) A) ≡ take (first + k) A = take_take (first + k) (first + n) A (omega arith) in
-            let inside : (j : ℕ) → j < 64 * matrix.width → has_bit (take (matrix.width * (n + 1)) live) (place matrix.width k j) ≡ has_bit live (place matrix.width k j) = λ j i. take_bits live (matrix.width * (n + 1)) (place matrix.width k j) (row_below matrix.width k (n + 1) j (omega arith) i) in
+            let inside : (j : ℕ) → j < 64 * matrix.width → has_bit (take (matrix.width * (n + 1)) live) (bit_index matrix.width k j) ≡ has_bit live (bit_index matrix.width k j) = λ j i. take_bits live (matrix.width * (n + 1)) (bit_index matrix.width k j) (row_below matrix.width k (n + 1) j (omega arith) i) in
             let split : drop (mark_of marks raised k) raised ≡ drop (mark_of marks raised k) (take m raised) ++ drop m raised = ap (λ xs. drop (mark_of marks raised k) xs) (sym (take-append-drop m raised)) ∙ drop-append-le (mark_of marks raised k) (take m raised) (drop m raised) (omega (arith, raised_len)) in
             subst (λ (B : List Atom). LevelShows v B (take (first + k) (take (first + n) A)) matrix t (take (matrix.width * (n + 1)) live) have2 (take m raised) (take n marks) k) (sym given)
             (subst (λ (B : List Atom). LevelShows v (take first A) B matrix t (take (matrix.width * (n + 1)) live) have2 (take m raised) (take n marks) k) (sym same) (record {
@@ -414,7 +414,7 @@ not_listed ns stands p s n = false_from_ne_true _ (λ m.
 
 -- what the code closes, with its own names for where the row begins and for the lists
 abbrev pub Closes : Matrix → Table → List ℕ → List ℕ → ℕ → List ℕ → List ℕ → Type 0
-Closes matrix t hs rs at live1 live2 = (j : ℕ) → j < 64 * matrix.width → has_bit live2 (64 * at + j) ≡ (has_bit live1 (64 * at + j) && not (list_any (λ b. leb (get_or t.limits.items b 0) (get_or hs b 0) && has_bit matrix.rows.items (place matrix.width b j)) rs))
+Closes matrix t hs rs at live1 live2 = (j : ℕ) → j < 64 * matrix.width → has_bit live2 (64 * at + j) ≡ (has_bit live1 (64 * at + j) && not (list_any (λ b. leb (get_or t.limits.items b 0) (get_or hs b 0) && has_bit matrix.rows.items (bit_index matrix.width b j)) rs))
 
 pub pick_made : (v : View) (A : List Atom) (first : ℕ) (matrix : Matrix) (t : Table) (live have raised marks live1 : List ℕ) → Kept v A first matrix t live have raised marks → Copied matrix.width live live1 →
     (p at mk : ℕ) (T live2 live3 have2 hs raised2 marks2 rs s1 s2 : List ℕ) → at ≡ length live → mk ≡ length raised → T ≡ base v A → mem T p ≡ false →
@@ -460,12 +460,12 @@ kept_start v A matrix t live have raised marks T H len wide er em R =
       steps = omega arith;
       have_len = len;
       live_len = omega (arith, wide);
-      places = refl;
+      indices = refl;
       up = λ k l h g. omega arith;
       levels = λ k h.
           let zero_k : k ≡ 0 = omega arith in
           let all : take (length A + k) A ≡ A = take_all (length A + k) A (omega arith) in
-          let at : (j : ℕ) → place matrix.width k j ≡ j = λ j. ap (λ n. place matrix.width n j) zero_k ∙ omega arith in
+          let at : (j : ℕ) → bit_index matrix.width k j ≡ j = λ j. ap (λ n. bit_index matrix.width n j) zero_k ∙ omega arith in
           subst (λ (B : List Atom). LevelShows v B (take (length A + k) A) matrix t live have [] [] k) (sym whole) (subst (λ (B : List Atom). LevelShows v A B matrix t live have [] [] k) (sym all) (record {
             row = record {
               opened = λ j l. ap (λ x. has_bit live x) (at j) ∙ R.inside j l;

@@ -19,7 +19,7 @@ use Rattle.poly_frame.specs.FrameItems.{Noted, item_at, item_of, no_bound, times
 use Rattle.poly_frame.specs.FrameTable.{LeastsShow, HaveShows, MostsShow}
 use Rattle.poly_frame.proofs.FrameItems.{item_once}
 
--- the bounds of the item at a place
+-- the bounds of the item at an index
 pub bound_at : (bs : List Bound) (b : ℕ) (f : Bound → ℕ) → items_ascend bs ≡ true → b < length bs → bound_in bs (item_at bs b) f ≡ f (get_or bs b no_bound)
 bound_at [] b f up h = absurd (omega arith)
 bound_at (x ∷ bs) zero f up h = ap (λ t. cond t (f x) (bound_in bs x.item f)) (same_item_self x.item)
@@ -61,7 +61,7 @@ mosts_start v A us up e b h = ap (λ xs. get_or xs b 0) e ∙ map_at (λ b. b.mo
 pub leasts_start : (v : View) (A : List Atom) (us : List ℕ) → items_ascend v.bounds ≡ true → us ≡ map (λ b. b.least) v.bounds → LeastsShow v (drop (length A) A) us
 leasts_start v A us up e b h = ap (λ xs. get_or xs b 0) e ∙ map_at (λ b. b.least) v.bounds b h ∙ sym (ap (λ B. least_at v B (item_of v b)) (drop_end A) ∙ bound_at v.bounds b (λ b. b.least) up h)
 
--- a write at the item's own place
+-- a write at the item's own index
 module _ (bs : List Bound) (us : List ℕ) (a x : ℕ) (i : Item) (up : items_ascend bs ≡ true) (len : length us ≡ length bs) (w : (a < length bs) × (same_item (item_at bs a) i ≡ true)) where
   pub written : (f : ℕ → ℕ) → x ≡ f (get_or us a 0) → (b : ℕ) → b < length bs → get_or (set us a x) b 0 ≡ cond (same_item i (item_at bs b)) (f (get_or us b 0)) (get_or us b 0)
   written f e b h = elim (cases_eq a b) [
@@ -91,8 +91,8 @@ pub leasts_more : (v : View) (A : List Atom) (k : ℕ) (a : Atom) (us new : List
 leasts_more v A k a us new h e shown step b l = step b l ∙ ap (λ n. least_by a (item_of v b) n) (shown b l) ∙ sym (ap (λ B. least_at v B (item_of v b)) (drop_more A k a h ∙ ap (λ x. x ∷ drop (k + 1) A) e) ∙ least_by_is v a (drop (k + 1) A) (item_of v b))
 
 -- one more member counted
-pub counted_more : (v : View) (T : List ℕ) (k : ℕ) (have new places : List ℕ) → k < length T → HaveShows v (take k T) have → Noted v.bounds (items v (get_or T k 0)) places → ((b : ℕ) → b < length v.bounds → get_or new b 0 ≡ get_or have b 0 + times places b) → HaveShows v (take (k + 1) T) new
-counted_more v T k have new places h shown noted step b l =
+pub counted_more : (v : View) (T : List ℕ) (k : ℕ) (have new indices : List ℕ) → k < length T → HaveShows v (take k T) have → Noted v.bounds (items v (get_or T k 0)) indices → ((b : ℕ) → b < length v.bounds → get_or new b 0 ≡ get_or have b 0 + times indices b) → HaveShows v (take (k + 1) T) new
+counted_more v T k have new indices h shown noted step b l =
     step b l ∙ omega (arith, shown b l, noted.once b l, tally_append (λ p. has_item v p (item_of v b)) (take k T) (get_or T k 0 ∷ [])) ∙ sym (ap (λ xs. count v xs (item_of v b)) (take_more T k 0 h))
 
 tally_le : {X : Type 0} (f : X → Bool) (xs : List X) → tally f xs ≤ length xs

@@ -19,7 +19,7 @@ use Rattle.poly_frame.specs.Matrices.{ListShows, ListsTo, RowOf, StandsShow, any
 use Rattle.poly_frame.specs.declared.frame.matrix.Matrix.{Matrix}
 use Rattle.poly_frame.proofs.FrameSteps.{index_in, listed_at}
 use Rattle.poly_frame.proofs.Walks.{mem_filter}
-use Rattle.poly_frame.proofs.FramePicks.{has_in, in_has, is_shut, open_is_free, place_of}
+use Rattle.poly_frame.proofs.FramePicks.{has_in, in_has, is_shut, open_is_free, column_of}
 
 -- a part of a list stays as the list grows
 part_kept : (xs ys : List ℕ) (s e : ℕ) → s ≤ e → e ≤ length xs → take (e - s) (drop s (xs ++ ys)) ≡ take (e - s) (drop s xs)
@@ -30,41 +30,41 @@ part_new xs ys s e f g =
     let n : e - s ≡ length ys = omega (arith, length-append xs ys) in
     ap (λ k. take k (drop s (xs ++ ys))) n ∙ ap (λ k. take (length ys) (drop k (xs ++ ys))) f ∙ ap (λ zs. take (length ys) zs) (drop-append_seam xs ys) ∙ take_all (length ys) ys (omega arith)
 
-module _ (v : View) (ns starts places new : List ℕ) (k : ℕ) (L : ListsTo v ns starts places k) (noted : Noted v.bounds (items v (get_or ns k 0)) new) (short : length new ≤ 17) where
+module _ (v : View) (ns starts indices new : List ℕ) (k : ℕ) (L : ListsTo v ns starts indices k) (noted : Noted v.bounds (items v (get_or ns k 0)) new) (short : length new ≤ 17) where
   abbrev pub starts2 : List ℕ
-  starts2 = starts ++ length (places ++ new) ∷ []
+  starts2 = starts ++ length (indices ++ new) ∷ []
 
   old_start : (j : ℕ) → j ≤ k → get_or starts2 j 0 ≡ get_or starts j 0
-  old_start j h = get_or_append_left starts (length (places ++ new) ∷ []) 0 j (omega (arith, L.len))
+  old_start j h = get_or_append_left starts (length (indices ++ new) ∷ []) 0 j (omega (arith, L.len))
 
-  new_start : get_or starts2 (k + 1) 0 ≡ length (places ++ new)
-  new_start = ap (λ n. get_or starts2 n 0) (sym L.len) ∙ get_or-append_seam starts (length (places ++ new)) [] 0
+  new_start : get_or starts2 (k + 1) 0 ≡ length (indices ++ new)
+  new_start = ap (λ n. get_or starts2 n 0) (sym L.len) ∙ get_or-append_seam starts (length (indices ++ new)) [] 0
 
   -- after one more list
-  pub lists_more : ListsTo v ns starts2 (places ++ new) (k + 1)
+  pub lists_more : ListsTo v ns starts2 (indices ++ new) (k + 1)
   lists_more = record {
-    len = omega (arith, length-append starts (length (places ++ new) ∷ []), L.len);
+    len = omega (arith, length-append starts (length (indices ++ new) ∷ []), L.len);
     last = new_start;
     each = λ j h. elim (cases_lt j k) [
       | inl l ↦
           let E = L.each j l in
           let s = old_start j (omega arith) in
           let e = old_start (j + 1) (omega arith) in
-          let same : list_at starts2 (places ++ new) j ≡ list_at starts places j =
-          ap (λ n. take (get_or starts2 (j + 1) 0 - n) (drop n (places ++ new))) s ∙ ap (λ n. take (n - get_or starts j 0) (drop (get_or starts j 0) (places ++ new))) e
-          ∙ part_kept places new (get_or starts j 0) (get_or starts (j + 1) 0) E.up E.end in
+          let same : list_at starts2 (indices ++ new) j ≡ list_at starts indices j =
+          ap (λ n. take (get_or starts2 (j + 1) 0 - n) (drop n (indices ++ new))) s ∙ ap (λ n. take (n - get_or starts j 0) (drop (get_or starts j 0) (indices ++ new))) e
+          ∙ part_kept indices new (get_or starts j 0) (get_or starts (j + 1) 0) E.up E.end in
           record {
             up = omega (arith, s, e, E.up);
-            end = omega (arith, e, E.end, length-append places new);
+            end = omega (arith, e, E.end, length-append indices new);
             noted = subst (λ xs. Noted v.bounds (items v (get_or ns j 0)) xs) (sym same) E.noted;
             short = omega (arith, ap length same, E.short);
           }
       | inr l ↦
           let top : j ≡ k = omega arith in
-          let s : get_or starts2 k 0 ≡ length places = old_start k (omega arith) ∙ L.last in
-          let same : list_at starts2 (places ++ new) k ≡ new = part_new places new (get_or starts2 k 0) (get_or starts2 (k + 1) 0) s new_start in
-          subst (λ n. ListShows v (get_or ns n 0) starts2 (places ++ new) n) (sym top) (record {
-            up = omega (arith, s, new_start, length-append places new);
+          let s : get_or starts2 k 0 ≡ length indices = old_start k (omega arith) ∙ L.last in
+          let same : list_at starts2 (indices ++ new) k ≡ new = part_new indices new (get_or starts2 k 0) (get_or starts2 (k + 1) 0) s new_start in
+          subst (λ n. ListShows v (get_or ns n 0) starts2 (indices ++ new) n) (sym top) (record {
+            up = omega (arith, s, new_start, length-append indices new);
             end = omega (arith, new_start);
             noted = subst (λ xs. Noted v.bounds (items v (get_or ns k 0)) xs) (sym same) noted;
             short = omega (arith, ap length same, short);
@@ -72,8 +72,8 @@ module _ (v : View) (ns starts places new : List ℕ) (k : ℕ) (L : ListsTo v n
     ];
   }
 
-pub lists_none : (v : View) (ns starts places : List ℕ) → starts ≡ 0 ∷ [] → places ≡ [] → ListsTo v ns starts places 0
-lists_none v ns starts places e f = record {
+pub lists_none : (v : View) (ns starts indices : List ℕ) → starts ≡ 0 ∷ [] → indices ≡ [] → ListsTo v ns starts indices 0
+lists_none v ns starts indices e f = record {
   len = ap length e;
   last = ap (λ xs. get_or xs 0 0) e ∙ sym (ap length f);
   each = λ j h. absurd (omega (arith, h));
@@ -153,7 +153,7 @@ shut_says v A q us hs T g well live e mosts have says = same_truth _ _
     any_from (is_shut v A) (items v q) (item_of v r.0) (has_in v q _ two.1) (sym (counts r.0 r.1) ∙ two.0))
     (λ t.
     let r = any_in (is_shut v A) (items v q) t in
-    let w = place_of v.bounds r.0 (listed_item v well q (mem_in v.live q live) r.0 (in_has v q r.0 r.1)) in
+    let w = column_of v.bounds r.0 (listed_item v well q (mem_in v.live q live) r.0 (in_has v q r.0 r.1)) in
     any_from_below g (length v.bounds) w.0 w.1 (says w.0 w.1 ∙ and_from _ _ (counts w.0 w.1 ∙ ap (λ i. is_shut v A i) w.2 ∙ r.2) (ap (λ i. has_item v q i) w.2 ∙ in_has v q r.0 r.1)))
   where
     counts : (b : ℕ) → b < length v.bounds → shut_at (item_of v b) (get_or us b 0) (get_or hs b 0) ≡ is_shut v A (item_of v b)

@@ -49,10 +49,10 @@ none_counted f (x ∷ xs) q e (inr i) h = none_counted f xs q (omega (arith, e))
 
 module _ (v : View) (A : List Atom) (first : ℕ) (matrix : Matrix) (t : Table) (live have raised marks : List ℕ) (K : Kept v A first matrix t live have raised marks) where
   -- an item of p with one more member shuts what has it
-  shut_by : (p q c : ℕ) (places : List ℕ) → Noted v.bounds (items v p) places → In c places → leb (get_or t.limits.items c 0 - 1) (get_or have c 0) ≡ true → has_item v q (item_of v c) ≡ true → list_any (λ i. has_item v q i && shuts v A i) (items v p) ≡ true
-  shut_by p q c places noted k less has =
-      let l = low_in (length v.bounds) places c noted.low k in
-      let mine : has_item v p (item_of v c) ≡ true = one_true _ (omega (arith, times_some places c k, noted.once c l)) in
+  shut_by : (p q c : ℕ) (indices : List ℕ) → Noted v.bounds (items v p) indices → In c indices → leb (get_or t.limits.items c 0 - 1) (get_or have c 0) ≡ true → has_item v q (item_of v c) ≡ true → list_any (λ i. has_item v q i && shuts v A i) (items v p) ≡ true
+  shut_by p q c indices noted k less has =
+      let l = low_in (length v.bounds) indices c noted.low k in
+      let mine : has_item v p (item_of v c) ≡ true = one_true _ (omega (arith, times_some indices c k, noted.once c l)) in
       let most : get_or t.limits.items c 0 ≡ limit_at (item_of v c) (most_at v A (item_of v c)) = K.table.limits c l ∙ ap (λ u. limit_at (item_of v c) u) (sym ((top_level v A first matrix t live have raised marks K).mosts (item_of v c))) in
       let few = leb-true (get_or t.limits.items c 0 - 1) (get_or have c 0) less in
       let full : limit_at (item_of v c) (most_at v A (item_of v c)) ≤ count v (base v A) (item_of v c) + 1 = omega (arith, most, few, top_have v A first matrix t live have raised marks K c l) in
@@ -62,7 +62,7 @@ module _ (v : View) (A : List Atom) (first : ℕ) (matrix : Matrix) (t : Table) 
   module _ (b j at : ℕ) (e : at ≡ length live - matrix.width) (l : b < length v.bounds) (h : j < length matrix.numbers.items)
       (opened : has_bit live (64 * at + j) ≡ true) (without : has_bit matrix.rows.items (64 * (matrix.width * b) + j) ≡ false) (none : get_or have b 0 ≡ 0)
       (shut : (k u : ℕ) → k < matrix.width → u < 64 → eqb (bit_at (get_or live (at + k) 0) u) 1 ≡ true → eqb (bit_at (get_or matrix.rows.items (matrix.width * b + k) 0) u) 1 ≡ true →
-      list_any (λ c. leb (get_or t.limits.items c 0 - 1) (get_or have c 0) && eqb (bit_at (get_or matrix.rows.items (matrix.width * c + k) 0) u) 1) (list_at matrix.lists.starts.items matrix.lists.places.items j) ≡ true) where
+      list_any (λ c. leb (get_or t.limits.items c 0 - 1) (get_or have c 0) && eqb (bit_at (get_or matrix.rows.items (matrix.width * c + k) 0) u) 1) (list_at matrix.lists.starts.items matrix.lists.indices.items j) ≡ true) where
     abbrev p : ℕ
     p = get_or matrix.numbers.items j 0
 
@@ -83,11 +83,11 @@ module _ (v : View) (A : List Atom) (first : ℕ) (matrix : Matrix) (t : Table) 
         let word : x / 64 < w = omega (arith, m, K.table.matrix.wide) in
         let low : x % 64 < 64 = omega arith in
         let noted = (K.table.matrix.lists.each j h).noted in
-        let places = list_at matrix.lists.starts.items matrix.lists.places.items j in
-        let r = any_in (λ c. leb (get_or t.limits.items c 0 - 1) (get_or have c 0) && eqb (bit_at (get_or rows (w * c + x / 64) 0) (x % 64)) 1) places (shut (x / 64) (x % 64) word low up row) in
+        let indices = list_at matrix.lists.starts.items matrix.lists.indices.items j in
+        let r = any_in (λ c. leb (get_or t.limits.items c 0 - 1) (get_or have c 0) && eqb (bit_at (get_or rows (w * c + x / 64) 0) (x % 64)) 1) indices (shut (x / 64) (x % 64) word low up row) in
         let both = and_parts (leb (get_or t.limits.items r.0 0 - 1) (get_or have r.0 0)) _ r.2 in
-        let c = low_in (length v.bounds) places r.0 noted.low r.1 in
-        shut_by p (get_or matrix.numbers.items x 0) r.0 places noted r.1 both.0 (sym (K.table.matrix.rows r.0 x c m) ∙ in_word rows (w * r.0) x ∙ both.1)
+        let c = low_in (length v.bounds) indices r.0 noted.low r.1 in
+        shut_by p (get_or matrix.numbers.items x 0) r.0 indices noted r.1 both.0 (sym (K.table.matrix.rows r.0 x c m) ∙ in_word rows (w * r.0) x ∙ both.1)
 
     -- so none that has it is open once p is taken
     closed : (q : ℕ) → mem v.live q ≡ true → has_item v q (item_of v b) ≡ true → open_in v (A ++ Has p ∷ []) q ≡ false

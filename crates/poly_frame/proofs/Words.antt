@@ -90,27 +90,27 @@ clear_one ws i j h =
 pub row_word : (at j : ℕ) → (64 * at + j) / 64 ≡ at + j / 64
 row_word at j = omega arith
 
-pub row_place : (at j : ℕ) → (64 * at + j) % 64 ≡ j % 64
-row_place at j = omega arith
+pub row_index : (at j : ℕ) → (64 * at + j) % 64 ≡ j % 64
+row_index at j = omega arith
 
 pub put_bit : (ws : List ℕ) (at j x : ℕ) → at + j / 64 < length ws →
     has_bit (set ws (at + j / 64) (bit_or (get_or ws (at + j / 64) 0) (1 * 2 ^ (j % 64) % 2 ^ 64))) x ≡ (has_bit ws x || eqb (64 * at + j) x)
 put_bit ws at j x h =
-    ap (λ t. has_bit (set ws (at + j / 64) (bit_or (get_or ws (at + j / 64) 0) (1 * 2 ^ t % 2 ^ 64))) x) (sym (row_place at j))
+    ap (λ t. has_bit (set ws (at + j / 64) (bit_or (get_or ws (at + j / 64) 0) (1 * 2 ^ t % 2 ^ 64))) x) (sym (row_index at j))
     ∙ ap (λ k. has_bit (set ws k (bit_or (get_or ws k 0) (1 * 2 ^ ((64 * at + j) % 64) % 2 ^ 64))) x) (sym (row_word at j))
     ∙ put_one ws (64 * at + j) x (omega (arith, row_word at j))
 
 pub clear_bit : (ws : List ℕ) (at j x : ℕ) → at + j / 64 < length ws →
     has_bit (set ws (at + j / 64) (bit_and (get_or ws (at + j / 64) 0) (bit_not w64 (1 * 2 ^ (j % 64) % 2 ^ 64)))) x ≡ (has_bit ws x && not (eqb (64 * at + j) x))
 clear_bit ws at j x h =
-    ap (λ t. has_bit (set ws (at + j / 64) (bit_and (get_or ws (at + j / 64) 0) (bit_not w64 (1 * 2 ^ t % 2 ^ 64)))) x) (sym (row_place at j))
+    ap (λ t. has_bit (set ws (at + j / 64) (bit_and (get_or ws (at + j / 64) 0) (bit_not w64 (1 * 2 ^ t % 2 ^ 64)))) x) (sym (row_index at j))
     ∙ ap (λ k. has_bit (set ws k (bit_and (get_or ws k 0) (bit_not w64 (1 * 2 ^ ((64 * at + j) % 64) % 2 ^ 64)))) x) (sym (row_word at j))
     ∙ clear_one ws (64 * at + j) x (omega (arith, row_word at j))
 
--- a bit by its word and its place in it
+-- a bit by its word and its position in it
 pub in_word : (ws : List ℕ) (at j : ℕ) → has_bit ws (64 * at + j) ≡ eqb (bit_at (get_or ws (at + j / 64) 0) (j % 64)) 1
 unfolding has_bit
-in_word ws at j = ap (λ k. eqb (bit_at (get_or ws k 0) ((64 * at + j) % 64)) 1) (row_word at j) ∙ ap (λ t. eqb (bit_at (get_or ws (at + j / 64) 0) t) 1) (row_place at j)
+in_word ws at j = ap (λ k. eqb (bit_at (get_or ws k 0) ((64 * at + j) % 64)) 1) (row_word at j) ∙ ap (λ t. eqb (bit_at (get_or ws (at + j / 64) 0) t) 1) (row_index at j)
 
 pub has_at : (ws : List ℕ) (at j : ℕ) → eqb (bit_and (get_or ws (at + j / 64) 0 / 2 ^ (j % 64)) 1) 1 ≡ has_bit ws (64 * at + j)
 has_at ws at j = ap (λ y. eqb y 1) (shr_and_one (get_or ws (at + j / 64) 0) (j % 64)) ∙ sym (in_word ws at j)
@@ -149,7 +149,7 @@ drop_bits ws n j =
 pub no_bits : (n x : ℕ) → has_bit (replicate n 0) x ≡ false
 no_bits n x = past_none (replicate n 0) x (get_same n (x / 64) 0)
 
--- the bits of a word from a place on
+-- the bits of a word from a position on
 shifted : (w low t : ℕ) → bit_at (w / 2 ^ low) t ≡ bit_at w (low + t)
 shifted w low t = ap (λ x. x % 2) (shr-shr w low t)
 

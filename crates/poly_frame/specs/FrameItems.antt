@@ -21,8 +21,8 @@ item_of v b = item_at v.bounds b
 abbrev pub times : List ℕ → ℕ → ℕ
 times xs b = tally (λ x. x == b) xs
 
--- `places` has the index of each item of `is` that is an item of the view, each once
-pub record Noted (bounds : List Bound) (is : List Item) (places : List ℕ) : Type 0 where
-  pub few : length places ≤ length is
-  pub low : list_all (λ b. nat_lt b (length bounds)) places ≡ true
-  pub once : (b : ℕ) → b < length bounds → times places b ≡ one (list_any (λ i. same_item i (item_at bounds b)) is)
+-- `indices` has the index of each item of `is` that is an item of the view, each once
+pub record Noted (bounds : List Bound) (is : List Item) (indices : List ℕ) : Type 0 where
+  pub few : length indices ≤ length is
+  pub low : list_all (λ b. nat_lt b (length bounds)) indices ≡ true
+  pub once : (b : ℕ) → b < length bounds → times indices b ≡ one (list_any (λ i. same_item i (item_at bounds b)) is)

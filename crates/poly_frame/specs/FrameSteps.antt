@@ -9,7 +9,7 @@ use Rattle.poly_atom.specs.Hopeless.{base}
 use Rattle.poly_frame.specs.Open.{least_at, open_in, most_at}
 use Rattle.poly_frame.specs.Bits.{has_bit}
 use Rattle.poly_frame.specs.FrameItems.{item_of, times}
-use Rattle.poly_frame.specs.Matrices.{place}
+use Rattle.poly_frame.specs.Matrices.{bit_index}
 use Rattle.poly_frame.specs.FrameTable.{TableShows}
 use Rattle.poly_frame.specs.declared.frame.TheConstants.{STEPS}
 use Rattle.poly_frame.specs.declared.frame.items.TheConstants.{PLACEMENT_ITEMS}
@@ -25,8 +25,8 @@ mark_of marks raised k = slice_index_or marks k (length raised)
 -- row k is what is open at the atoms
 abbrev pub RowShows : View → List Atom → List ℕ → ℕ → List ℕ → ℕ → Type 0
 RowShows v A ns w live k = record {
-  opened : (j : ℕ) → j < length ns → has_bit live (place w k j) ≡ open_in v A (slice_index ns j);
-  past : (j : ℕ) → length ns ≤ j → j < 64 * w → has_bit live (place w k j) ≡ false;
+  opened : (j : ℕ) → j < length ns → has_bit live (bit_index w k j) ≡ open_in v A (slice_index ns j);
+  past : (j : ℕ) → length ns ≤ j → j < 64 * w → has_bit live (bit_index w k j) ≡ false;
 }
 
 -- the counts, without what was raised since `mark`, are those of the base of the atoms
@@ -49,7 +49,7 @@ pub record Kept (v : View) (A : List Atom) (first : ℕ) (matrix : Matrix) (t : 
   pub steps : length marks + first ≡ length A
   pub have_len : length have ≡ length v.bounds
   pub live_len : length live ≡ matrix.width * (length marks + 1)
-  pub places : list_all (λ b. nat_lt b (length v.bounds)) raised ≡ true
+  pub indices : list_all (λ b. nat_lt b (length v.bounds)) raised ≡ true
   pub up : (k l : ℕ) → k ≤ l → l ≤ length marks → mark_of marks raised k ≤ mark_of marks raised l
   pub levels : (k : ℕ) → k ≤ length marks → LevelShows v (take first A) (take (first + k) A) matrix t live have raised marks k
 

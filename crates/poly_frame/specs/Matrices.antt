@@ -12,12 +12,12 @@ use Rattle.poly_frame.specs.declared.frame.matrix.Lists.{Lists}
 use Rattle.poly_frame.specs.declared.frame.matrix.Matrix.{Matrix}
 
 -- the bit of number j of row b, if a row has w words
-abbrev pub place : ℕ → ℕ → ℕ → ℕ
-place w b j = 64 * (w * b) + j
+abbrev pub bit_index : ℕ → ℕ → ℕ → ℕ
+bit_index w b j = 64 * (w * b) + j
 
 -- row b has the numbers that have the item at b
 abbrev pub RowsShow : View → List ℕ → ℕ → List ℕ → Type 0
-RowsShow v ns w rows = (b j : ℕ) → b < length v.bounds → j < length ns → has_bit rows (place w b j) ≡ has_item v (slice_index ns j) (item_of v b)
+RowsShow v ns w rows = (b j : ℕ) → b < length v.bounds → j < length ns → has_bit rows (bit_index w b j) ≡ has_item v (slice_index ns j) (item_of v b)
 
 -- each number has the column that the list says
 abbrev pub StandsShow : List ℕ → List ℕ → Type 0
@@ -25,23 +25,23 @@ StandsShow ns stands = (j : ℕ) → j < length ns → (slice_index ns j < lengt
 
 -- list j, from where it starts to where the next one does
 abbrev pub list_at : List ℕ → List ℕ → ℕ → List ℕ
-list_at starts places j = take (slice_index starts (j + 1) - slice_index starts j) (drop (slice_index starts j) places)
+list_at starts indices j = take (slice_index starts (j + 1) - slice_index starts j) (drop (slice_index starts j) indices)
 
--- list j has the places of the items of number j
-pub record ListShows (v : View) (p : ℕ) (starts places : List ℕ) (j : ℕ) : Type 0 where
+-- list j has the indices of the items of number j
+pub record ListShows (v : View) (p : ℕ) (starts indices : List ℕ) (j : ℕ) : Type 0 where
   pub up : slice_index starts j ≤ slice_index starts (j + 1)
-  pub end : slice_index starts (j + 1) ≤ length places
-  pub noted : Noted v.bounds (items v p) (list_at starts places j)
-  pub short : length (list_at starts places j) ≤ PLACEMENT_ITEMS
+  pub end : slice_index starts (j + 1) ≤ length indices
+  pub noted : Noted v.bounds (items v p) (list_at starts indices j)
+  pub short : length (list_at starts indices j) ≤ PLACEMENT_ITEMS
 
 -- the lists of the first k numbers
-pub record ListsTo (v : View) (ns starts places : List ℕ) (k : ℕ) : Type 0 where
+pub record ListsTo (v : View) (ns starts indices : List ℕ) (k : ℕ) : Type 0 where
   pub len : length starts ≡ k + 1
-  pub last : slice_index starts k ≡ length places
-  pub each : (j : ℕ) → j < k → ListShows v (slice_index ns j) starts places j
+  pub last : slice_index starts k ≡ length indices
+  pub each : (j : ℕ) → j < k → ListShows v (slice_index ns j) starts indices j
 
 abbrev pub ListsShow : View → List ℕ → Lists → Type 0
-ListsShow v ns l = ListsTo v ns l.starts.items l.places.items (length ns)
+ListsShow v ns l = ListsTo v ns l.starts.items l.indices.items (length ns)
 
 -- some columns of the cover matrix of a view
 pub record IsMatrix (v : View) (m : Matrix) : Type 0 where

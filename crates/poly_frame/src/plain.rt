@@ -253,7 +253,7 @@ pub(crate) fn count_allowed(view: &View, atoms: &[Atom], members: &[u32], item: 
 }
 
 /// How many members with the item a tiling of the family has at least.
-pub(crate) fn with_base_of(view: &View, atoms: &[Atom], members: &[u32], item: &Item) -> usize
+pub(crate) fn least_with_base(view: &View, atoms: &[Atom], members: &[u32], item: &Item) -> usize
     requires { members.now ≡ base view.now atoms.now }
     ensures { result ≡ least_with_base view.now atoms.now item.now }
 {

@@ -25,7 +25,7 @@ use Rattle.poly_tiling.proofs.Ranks.{lt_less}
 use Rattle.poly_tiling.proofs.Searched.{equal_is, item_total, less_differs, same_item_ties}
 use Rattle.poly_tiling.proofs.Tilings.{same_item_is, same_item_self}
 use Rattle.poly_place.proofs.Marks.{or_false}
-use Rattle.poly_place.specs.Index.{AreNumbersWith, AreRows, Row, place_in, row_in, rows_without, with_numbers}
+use Rattle.poly_place.specs.Index.{AreNumbersWith, AreRows, Row, row_index, row_in, rows_without, with_numbers}
 use Rattle.poly_place.proofs.Numbers.{get_or_any, take_front}
 
 abbrev before : Row → Row → Type 0
@@ -106,20 +106,20 @@ others r rows i up h s j = elim (cases_Bool (same_item s.0 i)) [
 
 -- ---- finding
 
-pub found_place : (rows : List Row) (i : Item) (at : ℕ) (d : Row) → AreRows rows → at < length rows → item_cmp (get_or rows at d).0 i ≡ Equal → Some at ≡ place_in rows i
-found_place [] i at d up l e = absurd (omega arith)
-found_place (r ∷ rows) i zero d up l e = sym (ap (λ b. cond b (Some 0) (option_map suc (place_in rows i))) (same_item_ties r.0 i ∙ ap is_eq e))
-found_place (r ∷ rows) i (suc k) d up l e =
+pub found_index : (rows : List Row) (i : Item) (at : ℕ) (d : Row) → AreRows rows → at < length rows → item_cmp (get_or rows at d).0 i ≡ Equal → Some at ≡ row_index rows i
+found_index [] i at d up l e = absurd (omega arith)
+found_index (r ∷ rows) i zero d up l e = sym (ap (λ b. cond b (Some 0) (option_map suc (row_index rows i))) (same_item_ties r.0 i ∙ ap is_eq e))
+found_index (r ∷ rows) i (suc k) d up l e =
     let low : k < length rows = omega arith in
     let less : is_lt (item_cmp r.0 i) ≡ true = ap is_lt (subst (λ j. item_cmp r.0 j ≡ Less) (equal_is (get_or rows k d).0 i e) (pairs_head before r rows up (get_or rows k d) (at_in rows k d low))) in
-    ap (λ o. option_map suc o) (found_place rows i k d (pairs_rest before r rows up) low e)
-    ∙ sym (ap (λ b. cond b (Some 0) (option_map suc (place_in rows i))) (less_differs r.0 i less))
+    ap (λ o. option_map suc o) (found_index rows i k d (pairs_rest before r rows up) low e)
+    ∙ sym (ap (λ b. cond b (Some 0) (option_map suc (row_index rows i))) (less_differs r.0 i less))
 
-no_place : (rows : List Row) (i : Item) → ((r : Row) → In r rows → same_item r.0 i ≡ false) → None ≡ place_in rows i
-no_place [] i none = refl
-no_place (r ∷ rows) i none =
-    ap (λ o. option_map suc o) (no_place rows i (λ s j. none s (inr j)))
-    ∙ sym (ap (λ b. cond b (Some 0) (option_map suc (place_in rows i))) (none r (inl refl)))
+no_index : (rows : List Row) (i : Item) → ((r : Row) → In r rows → same_item r.0 i ≡ false) → None ≡ row_index rows i
+no_index [] i none = refl
+no_index (r ∷ rows) i none =
+    ap (λ o. option_map suc o) (no_index rows i (λ s j. none s (inr j)))
+    ∙ sym (ap (λ b. cond b (Some 0) (option_map suc (row_index rows i))) (none r (inl refl)))
 
 sorted_at : (rows : List Row) → AreRows rows → (k : ℕ) (d : Row) → k + 1 < length rows → is_lt (item_cmp (get_or rows (suc k) d).0 (get_or rows k d).0) ≡ false
 sorted_at rows up k d l = ap is_lt (item_total.antisymm (get_or rows (suc k) d).0 (get_or rows k d).0 ∙ ap ordering_reverse (up k (suc k) d (omega arith) (omega (arith, l))))
@@ -133,15 +133,15 @@ is_equal Equal e = refl
 is_equal Greater e = cc
 
 pub row_found : (rows : List Row) (i : Item) (ord : Row → Ordering) → ((r : Row) → ord r ≡ item_cmp r.0 i) → AreRows rows → (at : ℕ) → at < length rows → HoldsAt (λ r. ord r ≡ Equal) rows at →
-    Some at ≡ place_in rows i
-row_found rows i ord is up at low here = let d : Row = (i, []) in found_place rows i at d up low (sym (is (get_or rows at d)) ∙ here d)
+    Some at ≡ row_index rows i
+row_found rows i ord is up at low here = let d : Row = (i, []) in found_index rows i at d up low (sym (is (get_or rows at d)) ∙ here d)
 
 pub row_missing : (rows : List Row) (i : Item) (ord : Row → Ordering) → ((r : Row) → ord r ≡ item_cmp r.0 i) → AreRows rows → (at : ℕ) →
-    (IsNonDecreasingBy (λ r. ordering_index (ord r)) rows → IsPartitionPoint (λ r. ord r ≡ Less) (λ r. ord r ≡ Greater) rows at) → None ≡ place_in rows i
+    (IsNonDecreasingBy (λ r. ordering_index (ord r)) rows → IsPartitionPoint (λ r. ord r ≡ Less) (λ r. ord r ≡ Greater) rows at) → None ≡ row_index rows i
 row_missing rows i ord is up at point =
     let rises : IsNonDecreasingBy (λ r. ordering_index (ord r)) rows = λ m n d l h. omega (arith, searchable rows i up m n d l h, ap ordering_index (is (get_or rows m d)), ap ordering_index (is (get_or rows n d))) in
     let numbered = point rises in
-    no_place rows i (λ r j. elim (cases_Bool (same_item r.0 i)) [
+    no_index rows i (λ r j. elim (cases_Bool (same_item r.0 i)) [
       | inl t ↦
           let e : item_cmp r.0 i ≡ Equal = is_equal (item_cmp r.0 i) (sym (same_item_ties r.0 i) ∙ t) in
           let k = in_contains rows r j in
@@ -160,24 +160,24 @@ suc_none : (o : Option ℕ) → option_map suc o ≡ None → o ≡ None
 suc_none None e = refl
 suc_none (Some k) e = cc
 
-row_at_by : (r : Row) (rows : List Row) (i : Item) (at : ℕ) (d : Row) → ((k : ℕ) → place_in rows i ≡ Some k → row_in rows i ≡ (get_or rows k d).1) →
-    (b : Bool) → cond b (Some 0) (option_map suc (place_in rows i)) ≡ Some at → cond b r.1 (row_in rows i) ≡ (get_or (r ∷ rows) at d).1
+row_at_by : (r : Row) (rows : List Row) (i : Item) (at : ℕ) (d : Row) → ((k : ℕ) → row_index rows i ≡ Some k → row_in rows i ≡ (get_or rows k d).1) →
+    (b : Bool) → cond b (Some 0) (option_map suc (row_index rows i)) ≡ Some at → cond b r.1 (row_in rows i) ≡ (get_or (r ∷ rows) at d).1
 row_at_by r rows i zero d ih true e = refl
 row_at_by r rows i (suc k) d ih true e = cc
 row_at_by r rows i at d ih false e =
-    let t = suc_some (place_in rows i) at e in
+    let t = suc_some (row_index rows i) at e in
     subst (λ m. row_in rows i ≡ (get_or (r ∷ rows) m d).1) (sym t.1) (ih t.0 t.2)
 
-pub row_at : (rows : List Row) (i : Item) (at : ℕ) (d : Row) → place_in rows i ≡ Some at → row_in rows i ≡ (get_or rows at d).1
+pub row_at : (rows : List Row) (i : Item) (at : ℕ) (d : Row) → row_index rows i ≡ Some at → row_in rows i ≡ (get_or rows at d).1
 row_at [] i at d e = cc
 row_at (r ∷ rows) i at d e = row_at_by r rows i at d (λ k. row_at rows i k d) (same_item r.0 i) e
 
-row_none_by : (r : Row) (rows : List Row) (i : Item) → (place_in rows i ≡ None → row_in rows i ≡ []) →
-    (b : Bool) → cond b (Some 0) (option_map suc (place_in rows i)) ≡ None → cond b r.1 (row_in rows i) ≡ []
+row_none_by : (r : Row) (rows : List Row) (i : Item) → (row_index rows i ≡ None → row_in rows i ≡ []) →
+    (b : Bool) → cond b (Some 0) (option_map suc (row_index rows i)) ≡ None → cond b r.1 (row_in rows i) ≡ []
 row_none_by r rows i ih true e = cc
-row_none_by r rows i ih false e = ih (suc_none (place_in rows i) e)
+row_none_by r rows i ih false e = ih (suc_none (row_index rows i) e)
 
-pub row_none : (rows : List Row) (i : Item) → place_in rows i ≡ None → row_in rows i ≡ []
+pub row_none : (rows : List Row) (i : Item) → row_index rows i ≡ None → row_in rows i ≡ []
 row_none [] i e = refl
 row_none (r ∷ rows) i e = row_none_by r rows i (row_none rows i) (same_item r.0 i) e
 
@@ -196,33 +196,33 @@ pub all_none : (f : Item → Bool) (n : ℕ) (rows : List Row) → ((r : Row) �
 all_none f n [] none = refl
 all_none f n (r ∷ rows) none = ap (λ s. s ∷ with_numbers (λ m i. f i) (n ∷ []) rows) (given_none f n r (none r (inl refl))) ∙ ap (λ rs. r ∷ rs) (all_none f n rows (λ s j. none s (inr j)))
 
-no_row_by : (r : Row) (rows : List Row) (i : Item) → (place_in rows i ≡ None → (s : Row) → In s rows → same_item s.0 i ≡ false) →
-    (b : Bool) → same_item r.0 i ≡ b → cond b (Some 0) (option_map suc (place_in rows i)) ≡ None → (s : Row) → In s (r ∷ rows) → same_item s.0 i ≡ false
+no_row_by : (r : Row) (rows : List Row) (i : Item) → (row_index rows i ≡ None → (s : Row) → In s rows → same_item s.0 i ≡ false) →
+    (b : Bool) → same_item r.0 i ≡ b → cond b (Some 0) (option_map suc (row_index rows i)) ≡ None → (s : Row) → In s (r ∷ rows) → same_item s.0 i ≡ false
 no_row_by r rows i ih true is e s j = cc
 no_row_by r rows i ih false is e s (inl same) = ap (λ (z : Row). same_item z.0 i) (sym same) ∙ is
-no_row_by r rows i ih false is e s (inr j) = ih (suc_none (place_in rows i) e) s j
+no_row_by r rows i ih false is e s (inr j) = ih (suc_none (row_index rows i) e) s j
 
-no_row : (rows : List Row) (i : Item) → place_in rows i ≡ None → (s : Row) → In s rows → same_item s.0 i ≡ false
+no_row : (rows : List Row) (i : Item) → row_index rows i ≡ None → (s : Row) → In s rows → same_item s.0 i ≡ false
 no_row [] i e s j = absurd j
 no_row (r ∷ rows) i e s j = no_row_by r rows i (no_row rows i) (same_item r.0 i) refl e s j
 
-pub added_none : (rows : List Row) (i : Item) (n : ℕ) → place_in rows i ≡ None → rows ≡ with_numbers (λ m j. same_item i j) (n ∷ []) rows
+pub added_none : (rows : List Row) (i : Item) (n : ℕ) → row_index rows i ≡ None → rows ≡ with_numbers (λ m j. same_item i j) (n ∷ []) rows
 added_none rows i n e = sym (all_none (λ j. same_item i j) n rows (λ s j. flips i s.0 ∙ no_row rows i e s j))
 
 added_by : (r : Row) (rows : List Row) (i : Item) (n at : ℕ) (d : Row) → AreRows (r ∷ rows) →
-    ((k : ℕ) → place_in rows i ≡ Some k → set rows k ((get_or rows k d).0, (get_or rows k d).1 ++ n ∷ []) ≡ with_numbers (λ m j. same_item i j) (n ∷ []) rows) →
-    (b : Bool) → same_item r.0 i ≡ b → cond b (Some 0) (option_map suc (place_in rows i)) ≡ Some at →
+    ((k : ℕ) → row_index rows i ≡ Some k → set rows k ((get_or rows k d).0, (get_or rows k d).1 ++ n ∷ []) ≡ with_numbers (λ m j. same_item i j) (n ∷ []) rows) →
+    (b : Bool) → same_item r.0 i ≡ b → cond b (Some 0) (option_map suc (row_index rows i)) ≡ Some at →
     set (r ∷ rows) at ((get_or (r ∷ rows) at d).0, (get_or (r ∷ rows) at d).1 ++ n ∷ []) ≡ with_numbers (λ m j. same_item i j) (n ∷ []) (r ∷ rows)
 added_by r rows i n zero d up ih true is e =
     sym (ap (λ s. s ∷ with_numbers (λ m j. same_item i j) (n ∷ []) rows) (given_one (λ j. same_item i j) n r (flips i r.0 ∙ is))
     ∙ ap (λ rs. (r.0, r.1 ++ n ∷ []) ∷ rs) (all_none (λ j. same_item i j) n rows (λ s j. flips i s.0 ∙ others r rows i up is s j)))
 added_by r rows i n (suc k) d up ih true is e = cc
 added_by r rows i n at d up ih false is e =
-    let t = suc_some (place_in rows i) at e in
+    let t = suc_some (row_index rows i) at e in
     rw (t.1) (ap (λ rs. r ∷ rs) (ih t.0 t.2)
     ∙ sym (ap (λ s. s ∷ with_numbers (λ m j. same_item i j) (n ∷ []) rows) (given_none (λ j. same_item i j) n r (flips i r.0 ∙ is))))
 
-pub added : (rows : List Row) (i : Item) (n at : ℕ) (d : Row) → AreRows rows → place_in rows i ≡ Some at →
+pub added : (rows : List Row) (i : Item) (n at : ℕ) (d : Row) → AreRows rows → row_index rows i ≡ Some at →
     set rows at ((get_or rows at d).0, (get_or rows at d).1 ++ n ∷ []) ≡ with_numbers (λ m j. same_item i j) (n ∷ []) rows
 added [] i n at d up e = cc
 added (r ∷ rows) i n at d up e = added_by r rows i n at d up (λ k. added rows i n k d (pairs_rest before r rows up)) (same_item r.0 i) refl e

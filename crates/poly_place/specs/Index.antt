@@ -23,9 +23,9 @@ row_in [] i = []
 row_in (r ∷ rs) i = cond (same_item r.0 i) r.1 (row_in rs i)
 
 -- the index of the item's row
-abbrev pub place_in : List Row → Item → Option ℕ
-place_in [] i = None
-place_in (r ∷ rs) i = cond (same_item r.0 i) (Some 0) (option_map suc (place_in rs i))
+abbrev pub row_index : List Row → Item → Option ℕ
+row_index [] i = None
+row_index (r ∷ rs) i = cond (same_item r.0 i) (Some 0) (option_map suc (row_index rs i))
 
 -- the rows are in item order, one for each item
 abbrev pub AreRows : List Row → Type 0

@@ -11,7 +11,7 @@ ghost use Rattle.poly_tiling.specs.Names.{WellNamed, items_ascend};
 ghost use Rattle.poly_tiling.specs.Puzzle.{View, items_of, same_item};
 ghost use Rattle.poly_tiling.specs.Shows.{Shows};
 ghost use Rattle.poly_tiling.specs.declared.item.Item.TheVariants.{Cell as CellItem};
-ghost use Rattle.poly_place.specs.Index.{AreNumbersWith, AreRows, IsIndex, has_of, item_of, place_in, row_in, rows_without, with_numbers};
+ghost use Rattle.poly_place.specs.Index.{AreNumbersWith, AreRows, IsIndex, has_of, item_of, row_index, row_in, rows_without, with_numbers};
 ghost use Rattle.poly_place.specs.Numbered.{numbered_view};
 ghost use Rattle.poly_place.specs.Touched.{AreMarked};
 
@@ -145,7 +145,7 @@ fn changed_item(change: &Change) -> Item
 // The index of the item's row.
 fn find(rows: &[Row], item: &Item) -> Option<usize>
     requires { AreRows rows.now }
-    ensures place { result ≡ place_in rows.now item.now }
+    ensures index { result ≡ row_index rows.now item.now }
     ensures low { IfSome result (λ at. at < length rows.now) }
 {
     match rows.binary_search_by_key(item, |r| r.item()) {

@@ -128,7 +128,7 @@ fn merged(
     let mut live = Vec::with_capacity(alloc, kept.len().saturating_add(fresh.len()))?;
     let mut rest = kept;
     for number in fresh {
-        let (before, after) = rest.split_at(place_in(names, rest, *number));
+        let (before, after) = rest.split_at(count_before(names, rest, *number));
         live.extend_from_slice(before)?;
         live.push(*number)?;
         rest = after;
@@ -138,10 +138,10 @@ fn merged(
 }
 
 // How many of the numbers come before this one.
-fn place_in(names: &Interner, numbers: &[u32], number: u32) -> usize
+fn count_before(names: &Interner, numbers: &[u32], number: u32) -> usize
     requires { AreInOrder names.now numbers.now }
     ensures low { result ≤ length numbers.now }
-    ensures place { IsPartitionPoint (λ n. comes_before names.now n number ≡ true) (λ n. comes_before names.now n number ≡ false) numbers.now result }
+    ensures split { IsPartitionPoint (λ n. comes_before names.now n number ≡ true) (λ n. comes_before names.now n number ≡ false) numbers.now result }
 {
     numbers.partition_point(|n| names.compare(*n, number).is_lt())
 }

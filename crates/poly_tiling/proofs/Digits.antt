@@ -66,9 +66,9 @@ same_digits base xs ys (suc n) p xd yd is i l =
 
 -- the first digit that differs
 record Differ (xs ys : List ℕ) : Type 0 where
-  place : ℕ
-  lower : digit_at xs place < digit_at ys place
-  before : (i : ℕ) → i < place → digit_at xs i ≡ digit_at ys i
+  position : ℕ
+  lower : digit_at xs position < digit_at ys position
+  before : (i : ℕ) → i < position → digit_at xs i ≡ digit_at ys i
 
 differ : (base : ℕ) (xs ys : List ℕ) (n : ℕ) → 0 < base → AreDigits base xs → AreDigits base ys → leading base xs n < leading base ys n → Differ xs ys
 differ base xs ys zero p xd yd l = let none : 0 < 0 = l in absurd (omega (arith, none))
@@ -81,7 +81,7 @@ differ base xs ys (suc n) p xd yd l =
         | inr m ↦
             let same : leading base xs n ≡ leading base ys n = omega (arith, k, m) in
             let moved = ap (λ z. z * base) same in
-            record { place = n; lower = omega (arith, moved, step); before = same_digits base xs ys n p xd yd same }
+            record { position = n; lower = omega (arith, moved, step); before = same_digits base xs ys n p xd yd same }
       ]
     ]
 
@@ -97,7 +97,7 @@ differ_less (suc i) (x ∷ xs) (y ∷ ys) l before =
     ∙ differ_less i xs ys l (λ j k. before (suc j) (omega (arith, k)))
 
 leading_less : (base : ℕ) (xs ys : List ℕ) (n : ℕ) → 0 < base → AreDigits base xs → AreDigits base ys → leading base xs n < leading base ys n → slice_cmp nat_cmp xs ys ≡ Less
-leading_less base xs ys n p xd yd l = let d = differ base xs ys n p xd yd l in differ_less d.place xs ys d.lower d.before
+leading_less base xs ys n p xd yd l = let d = differ base xs ys n p xd yd l in differ_less d.position xs ys d.lower d.before
 
 -- comparing the leading digits first changes nothing
 pub leading_agrees : (base : ℕ) (xs ys : List ℕ) (n : ℕ) → 0 < base → AreDigits base xs → AreDigits base ys → ordering_then (nat_cmp (leading base xs n) (leading base ys n)) (slice_cmp nat_cmp xs ys) ≡ slice_cmp nat_cmp xs ys
@@ -112,7 +112,7 @@ leading_agrees base xs ys n p xd yd = elim (cases_lt (leading base xs n) (leadin
   ]
 ]
 
--- the ranks of a tiling are digits of a base above the number of places
+-- the ranks of a tiling are digits of a base above the number of positions
 pub ranks_digits : (base : ℕ) (live T : List ℕ) → base ≡ length live + 1 → AreDigits base (ranks_from 0 live T)
 ranks_digits base live T is k d l = let high = ranks_high 0 live T (get_or (ranks_from 0 live T) k d) (at_in (ranks_from 0 live T) k d l) in omega (arith, high, is)
 

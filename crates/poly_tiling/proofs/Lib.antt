@@ -18,7 +18,7 @@ pub mod Plain
 pub mod Ranks
 pub mod Below
 pub mod Designs
-pub mod Places
+pub mod Positions
 pub mod Parts
 pub mod Digits
 pub mod Listings

@@ -1,4 +1,4 @@
--- Tilings are compared by the places of their numbers.
+-- Tilings are compared by the positions of their numbers.
 use Rattle.std.proofs.Common.{Bool, List, Some, [], ap, arith, cond, eqb, false, inl, inr, length, ltb, refl, slice_get, sym, true, ℕ, ◌+◌, ◌<◌, ◌∙◌, ◌∷◌, ◌≡◌, ◌≤◌}
 use Rattle.std.proofs.lemmas.Bool.{and_parts, eq-eqb, le-ltb, lt-ltb, ne_eqb}
 use Rattle.std.specs.Cmp.{tied_itself}
@@ -32,7 +32,7 @@ ranks_high_at s n ns T k ih true (inl e) = omega (arith, e)
 ranks_high_at s n ns T k ih true (inr j) = let l = ih j in omega (arith, l)
 ranks_high_at s n ns T k ih false j = let l = ih j in omega (arith, l)
 
--- ranks are below the number of places
+-- ranks are below the number of positions
 pub ranks_high : (s : ℕ) (ns T : List ℕ) (k : ℕ) → In k (ranks_from s ns T) → k < s + length ns
 ranks_high s [] T k i = absurd i
 ranks_high s (n ∷ ns) T k i = ranks_high_at s n ns T k (λ j. ranks_high (s + 1) ns T k j) (mem T n) i

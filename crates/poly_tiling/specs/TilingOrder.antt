@@ -18,18 +18,18 @@ placed v T = names v (filter (λ n. mem T n) v.live)
 abbrev pub tiling_cmp : View → List ℕ → List ℕ → Ordering
 tiling_cmp v A B = slice_cmp placement_cmp (placed v A) (placed v B)
 
--- the places in the list of those of its numbers that T has, counted from a first one
+-- the positions in the list of those of its numbers that T has, counted from a first one
 abbrev pub ranks_from : ℕ → List ℕ → List ℕ → List ℕ
 ranks_from first [] T = []
 ranks_from first (n ∷ numbers) T = cond (mem T n) (first ∷ ranks_from (first + 1) numbers T) (ranks_from (first + 1) numbers T)
 
--- Tilings are in the order of the places that their numbers have among the live ones.
+-- Tilings are in the order of the positions that their numbers have among the live ones.
 abbrev pub RanksCompare : Type 0
 RanksCompare = (v : View) (A B : List ℕ) → WellNamed v → slice_cmp nat_cmp (ranks_from 0 v.live A) (ranks_from 0 v.live B) ≡ tiling_cmp v A B
 
--- the table has the place of each number among the live ones, and no other place
-abbrev pub ArePlaces : List ℕ → List (Option ℕ) → Type 0
-ArePlaces live table = (n k : ℕ) → (slice_get table n ≡ Some (Some k)) ↔ (slice_get live k ≡ Some n)
+-- the table has the position of each number among the live ones, and no other position
+abbrev pub ArePositions : List ℕ → List (Option ℕ) → Type 0
+ArePositions live table = (n k : ℕ) → (slice_get table n ≡ Some (Some k)) ↔ (slice_get live k ≡ Some n)
 
-abbrev pub place_at : List (Option ℕ) → ℕ → Option ℕ
-place_at table n = option_flatten (slice_get table n)
+abbrev pub position_at : List (Option ℕ) → ℕ → Option ℕ
+position_at table n = option_flatten (slice_get table n)

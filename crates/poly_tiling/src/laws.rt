@@ -27,7 +27,7 @@ pub fn numbers_reach()
     ensures { NumbersReach }
 {}
 
-/// Two tilings of a view are in the order of the lists of the places that their numbers have in `View::live`.
+/// Two tilings of a view are in the order of the lists of the positions that their numbers have in `View::live`.
 pub fn ranks_compare()
     ensures { RanksCompare }
 {}

@@ -143,7 +143,7 @@ fn number_of(placements: &mut Vec<Placement>, placement: Placement) -> Result<u3
     ensures ok { IfOk result (λ n. HasNumber placement placements.old.items placements.new.items n) }
     ensures why { IfErr result (λ e. e ≡ Refusal.Memory) }
 {
-    if let Some(at) = place_of(placements, &placement) {
+    if let Some(at) = index_of(placements, &placement) {
         return Ok(at as u32);
     }
     let at = placements.len();
@@ -151,7 +151,7 @@ fn number_of(placements: &mut Vec<Placement>, placement: Placement) -> Result<u3
     Ok(at as u32)
 }
 
-fn place_of(placements: &[Placement], placement: &Placement) -> Option<usize>
+fn index_of(placements: &[Placement], placement: &Placement) -> Option<usize>
     ensures { result ≡ position (λ p. pointwise nat_eq p.name placement.now.name && pointwise spot_eq p.cells placement.now.cells) placements.now }
 {
     placements.iter().position(|p| p == placement)

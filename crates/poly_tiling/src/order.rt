@@ -1,6 +1,6 @@
 //! Tilings in their order: each is its placements in placement order, and tilings are compared as such lists.
 //!
-//! They are compared by their ranks, which are the places of their numbers among the live ones, ascending: the live numbers
+//! They are compared by their ranks, which are the positions of their numbers among the live ones, ascending: the live numbers
 //! are in placement order. Only small keys are sorted, each an index and the leading digits of a tiling's ranks. Then the
 //! tilings are copied in the order of the keys.
 ghost use Rattle.std.specs.Prelude.{[], IfErr, IfOk, OnErr, OnOk, length, map, nat_lt, slice_index_or, true, ℕ, ◌+◌, ◌<◌, ◌≡◌, ◌^◌};
@@ -10,7 +10,7 @@ ghost use Rattle.std.specs.List.Sorted.{IsPermutation, IsSorted};
 ghost use Rattle.std.specs.Ordering.{nat_cmp, ordering_then};
 ghost use Rattle.poly_tiling.specs.Lists.{distinct};
 ghost use Rattle.poly_tiling.specs.Names.{WellNamed};
-ghost use Rattle.poly_tiling.specs.TilingOrder.{ArePlaces, place_at, ranks_from, tiling_cmp};
+ghost use Rattle.poly_tiling.specs.TilingOrder.{ArePositions, position_at, ranks_from, tiling_cmp};
 ghost use Rattle.poly_tiling.specs.Leading.{AreDigits, leading, tiling_at};
 
 use crate::leading::{digit_count, leading};
@@ -63,8 +63,8 @@ fn order_of(alloc: Global, view: &View, tilings: &[Tiling]) -> Result<Vec<Key>, 
     ensures ascends { IfOk result (λ order. IsSorted (tiling_cmp view.now) (map (λ k. tiling_at tilings.now k.index) order.items)) }
     ensures why { IfErr result (λ e. e ≡ Refusal.Memory) }
 {
-    let places = live_places(alloc, view)?;
-    let ranks = ranks_of_each(alloc, view, &places, tilings)?;
+    let positions = live_positions(alloc, view)?;
+    let ranks = ranks_of_each(alloc, view, &positions, tilings)?;
     let base = rank_base(view);
     let mut keys = keys_of(alloc, tilings, &ranks, base, digit_count(base))?;
     keys.sort_unstable_by(|a, b| compare(&ranks, a, b));
@@ -89,44 +89,44 @@ fn compare(rows: &Rows, a: &Key, b: &Key) -> Ordering
     }
 }
 
-// The place of each number among the live ones; none if it is not live.
-fn live_places(alloc: Global, view: &View) -> Result<Vec<Option<u32>>, Refusal>
-    ensures ok { IfOk result (λ places. ArePlaces view.now.live places.items) }
+// The position of each number among the live ones; none if it is not live.
+fn live_positions(alloc: Global, view: &View) -> Result<Vec<Option<u32>>, Refusal>
+    ensures ok { IfOk result (λ positions. ArePositions view.now.live positions.items) }
     ensures well { OnOk result (WellNamed view.now) }
     ensures why { IfErr result (λ e. e ≡ Refusal.Memory) }
 {
-    let places = place_table(alloc, view.live(), view.number_count())?;
-    Ok(places)
+    let positions = position_table(alloc, view.live(), view.number_count())?;
+    Ok(positions)
 }
 
-// The place of each number in the list, for the numbers below the count; none if the list lacks the number.
-fn place_table(alloc: Global, list: &[u32], count: usize) -> Result<Vec<Option<u32>>, Refusal>
+// The position of each number in the list, for the numbers below the count; none if the list lacks the number.
+fn position_table(alloc: Global, list: &[u32], count: usize) -> Result<Vec<Option<u32>>, Refusal>
     requires once { distinct list.now ≡ true }
     requires below { list_all (λ n. nat_lt n count) list.now ≡ true }
-    ensures ok { IfOk result (λ places. ArePlaces list.now places.items) }
+    ensures ok { IfOk result (λ positions. ArePositions list.now positions.items) }
     ensures why { IfErr result (λ e. e ≡ Refusal.Memory) }
 {
-    let mut places = Vec::from_elem(alloc, None, count)?;
-    for (place, number) in list.iter().enumerate() {
-        places[*number as usize] = Some(place as u32);
+    let mut positions = Vec::from_elem(alloc, None, count)?;
+    for (position, number) in list.iter().enumerate() {
+        positions[*number as usize] = Some(position as u32);
     }
-    Ok(places)
+    Ok(positions)
 }
 
 // The ranks of each tiling.
 fn ranks_of_each(
     alloc: Global,
     view: &View,
-    places: &[Option<u32>],
+    positions: &[Option<u32>],
     tilings: &[Tiling],
 ) -> Result<Rows, Refusal>
-    requires places { ArePlaces view.now.live places.now }
+    requires positions { ArePositions view.now.live positions.now }
     ensures ok { IfOk result (λ rows. rows ≡ map (ranks_from 0 view.now.live) tilings.now) }
     ensures why { IfErr result (λ e. e ≡ Refusal.Memory) }
 {
     let mut rows = Rows::with_capacity(alloc, tilings.len(), number_total(tilings))?;
     for tiling in tilings {
-        let ranks = ranks_of(alloc, view, places, tiling)?;
+        let ranks = ranks_of(alloc, view, positions, tiling)?;
         rows.push(&ranks)?;
     }
     Ok(rows)
@@ -145,38 +145,42 @@ fn number_total(tilings: &[Tiling]) -> usize {
 fn ranks_of(
     alloc: Global,
     view: &View,
-    places: &[Option<u32>],
+    positions: &[Option<u32>],
     tiling: &Tiling,
 ) -> Result<Vec<u32>, Refusal>
-    requires places { ArePlaces view.now.live places.now }
+    requires positions { ArePositions view.now.live positions.now }
     ensures ok { IfOk result (λ ranks. ranks.items ≡ ranks_from 0 view.now.live tiling.now) }
     ensures why { IfErr result (λ e. e ≡ Refusal.Memory) }
 {
-    let mut ranks = places_of(alloc, places, tiling.numbers())?;
+    let mut ranks = positions_of(alloc, positions, tiling.numbers())?;
     ranks.sort_unstable();
     ranks.dedup();
     Ok(ranks)
 }
 
-// The places of the numbers that have one.
-fn places_of(alloc: Global, places: &[Option<u32>], numbers: &[u32]) -> Result<Vec<u32>, Refusal>
-    ensures ok { IfOk result (λ list. list.items ≡ filter_map (place_at places.now) numbers.now) }
+// The positions of the numbers that have one.
+fn positions_of(
+    alloc: Global,
+    positions: &[Option<u32>],
+    numbers: &[u32],
+) -> Result<Vec<u32>, Refusal>
+    ensures ok { IfOk result (λ list. list.items ≡ filter_map (position_at positions.now) numbers.now) }
     ensures why { IfErr result (λ e. e ≡ Refusal.Memory) }
 {
     let mut list = Vec::with_capacity(alloc, numbers.len())?;
     for number in numbers {
-        if let Some(place) = place_of(places, *number) {
-            list.push(place)?;
+        if let Some(position) = position_of(positions, *number) {
+            list.push(position)?;
         }
     }
     Ok(list)
 }
 
-fn place_of(places: &[Option<u32>], number: u32) -> Option<u32>
-    ensures { result ≡ place_at places.now number }
+fn position_of(positions: &[Option<u32>], number: u32) -> Option<u32>
+    ensures { result ≡ position_at positions.now number }
 {
-    match places.get(number as usize) {
-        Some(place) => *place,
+    match positions.get(number as usize) {
+        Some(position) => *position,
         None => None,
     }
 }

@@ -105,6 +105,6 @@ pub(crate) fn least(node: &Node<'_>, steps: &Steps, members: &[u32], item: &Item
         *item,
     ) {
         Some(b) => least_of_row(node, steps, b, item),
-        None => plain::with_base_of(node.view, node.trail, members, item),
+        None => plain::least_with_base(node.view, node.trail, members, item),
     }
 }

@@ -58,7 +58,7 @@ fn is_kept(whole: &Matrix, atoms: &[Atom], number: u32) -> bool
     requires { StandsShow whole.now.numbers.items whole.now.stands.items }
     ensures { result ≡ (mem whole.now.numbers.items number && not (list_any (λ a. lacks a number) atoms.now)) }
 {
-    match whole.place_of(number) {
+    match whole.column_of(number) {
         None => false,
         Some(_) => !plain::any_lacks(atoms, number),
     }

@@ -16,7 +16,7 @@ use std::alloc::Global;
 pub(crate) const PLACEMENT_ITEMS: usize = 17;
 
 /// The index of a cell in a list with an entry for each cell that a board can have.
-pub(crate) fn cell_place(cell: Cell) -> usize
+pub(crate) fn cell_index(cell: Cell) -> usize
     ensures value { result ≡ SIDE * cell.y + cell.x }
     ensures column { cell.x < SIDE }
     ensures small { result < SIDE * SIDE }
@@ -29,7 +29,7 @@ fn cells_room(bounds: &[Bound]) -> usize {
     let mut size = 0usize;
     for bound in bounds {
         if let Item::Cell(cell) = bound.item {
-            size = size.max(cell_place(cell) + 1);
+            size = size.max(cell_index(cell) + 1);
         }
     }
     size
@@ -42,7 +42,7 @@ pub(crate) fn guess_cells(alloc: Global, bounds: &[Bound]) -> Result<Vec<usize>,
     let mut guesses = vec![in alloc; 0usize; cells_room(bounds)]?;
     for b in 0..bounds.len() {
         if let Item::Cell(cell) = bounds[b].item {
-            let k = cell_place(cell);
+            let k = cell_index(cell);
             if k < guesses.len() {
                 guesses[k] = b;
             }
@@ -53,7 +53,7 @@ pub(crate) fn guess_cells(alloc: Global, bounds: &[Bound]) -> Result<Vec<usize>,
 
 /// A guess for a cell; 0 if there is none.
 pub(crate) fn guess_of(guesses: &[usize], cell: Cell) -> usize {
-    let k = cell_place(cell);
+    let k = cell_index(cell);
     if k < guesses.len() { guesses[k] } else { 0 }
 }
 
@@ -107,7 +107,7 @@ fn note_cell(bounds: &[Bound], guess: usize, cell: Cell, noted: &mut Vec<usize>)
     requires order { items_ascend bounds.now ≡ true }
     ensures capacity { vec_capacity noted.new ≡ vec_capacity noted.old }
     ensures len { vec_len noted.new ≤ vec_len noted.old + 1 }
-    ensures places { (places : List ℕ) × (noted.new.items ≡ noted.old.items ++ places) × Noted bounds.now (CellItem cell ∷ []) places }
+    ensures indices { (indices : List ℕ) × (noted.new.items ≡ noted.old.items ++ indices) × Noted bounds.now (CellItem cell ∷ []) indices }
 {
     if let Some(b) = cell_at(bounds, guess, cell) {
         noted.push_reserved(b);
@@ -120,7 +120,7 @@ fn note_item(bounds: &[Bound], guess: usize, item: Item, noted: &mut Vec<usize>)
     requires order { items_ascend bounds.now ≡ true }
     ensures capacity { vec_capacity noted.new ≡ vec_capacity noted.old }
     ensures len { vec_len noted.new ≤ vec_len noted.old + 1 }
-    ensures places { (places : List ℕ) × (noted.new.items ≡ noted.old.items ++ places) × Noted bounds.now (item ∷ []) places }
+    ensures indices { (indices : List ℕ) × (noted.new.items ≡ noted.old.items ++ indices) × Noted bounds.now (item ∷ []) indices }
 {
     if let Some(b) = index_of(bounds, guess, item) {
         noted.push_reserved(b);
@@ -133,7 +133,7 @@ fn note_cells(bounds: &[Bound], guesses: &[usize], cells: &[Cell], noted: &mut V
     requires ascending { IsAscending spot_cmp cells.now }
     ensures capacity { vec_capacity noted.new ≡ vec_capacity noted.old }
     ensures len { vec_len noted.new ≤ vec_len noted.old + length cells.now }
-    ensures places { (places : List ℕ) × (noted.new.items ≡ noted.old.items ++ places) × Noted bounds.now (map (λ c. CellItem c) cells.now) places }
+    ensures indices { (indices : List ℕ) × (noted.new.items ≡ noted.old.items ++ indices) × Noted bounds.now (map (λ c. CellItem c) cells.now) indices }
 {
     for cell in cells {
         note_cell(bounds, guess_of(guesses, *cell), *cell, noted);
@@ -151,7 +151,7 @@ pub(crate) fn note_items(
     requires { vec_len noted.old + PLACEMENT_ITEMS ≤ vec_capacity noted.old }
     ensures capacity { vec_capacity noted.new ≡ vec_capacity noted.old }
     ensures len { vec_len noted.new ≤ vec_len noted.old + PLACEMENT_ITEMS }
-    ensures places { (places : List ℕ) × (noted.new.items ≡ noted.old.items ++ places) × Noted view.now.bounds (items view.now number) places }
+    ensures indices { (indices : List ℕ) × (noted.new.items ≡ noted.old.items ++ indices) × Noted view.now.bounds (items view.now number) indices }
 {
     if let Some(placement) = view.placement(number) {
         note_item(view.items(), piece, Item::Piece(placement.name), noted);
@@ -159,14 +159,14 @@ pub(crate) fn note_items(
     }
 }
 
-/// Raises the count at each place by one.
-pub(crate) fn raise(have: &mut Vec<u64>, places: &[usize])
-    requires low { list_all (λ b. nat_lt b (length have.old.items)) places.now ≡ true }
-    requires small { (b : ℕ) → b < length have.old.items → slice_index have.old.items b + length places.now < 2 ^ 64 }
+/// Raises the count at each index by one.
+pub(crate) fn raise(have: &mut Vec<u64>, indices: &[usize])
+    requires low { list_all (λ b. nat_lt b (length have.old.items)) indices.now ≡ true }
+    requires small { (b : ℕ) → b < length have.old.items → slice_index have.old.items b + length indices.now < 2 ^ 64 }
     ensures len { length have.new.items ≡ length have.old.items }
-    ensures more { (b : ℕ) → b < length have.old.items → slice_index have.new.items b ≡ slice_index have.old.items b + times places.now b }
+    ensures more { (b : ℕ) → b < length have.old.items → slice_index have.new.items b ≡ slice_index have.old.items b + times indices.now b }
 {
-    for b in places {
+    for b in indices {
         have[*b] += 1;
     }
 }

@@ -15,11 +15,11 @@ use poly_grid::Refusal;
 use poly_tiling::View;
 use std::alloc::Global;
 
-/// Lists of places, one after another: list `j` begins at entry `j` of `starts` and ends where the next one begins.
+/// Lists of indices, one after another: list `j` begins at entry `j` of `starts` and ends where the next one begins.
 #[derive(Drop)]
 pub(crate) struct Lists {
     pub(crate) starts: Vec<usize>,
-    pub(crate) places: Vec<usize>,
+    pub(crate) indices: Vec<usize>,
 }
 
 /// The exact cover matrix of a view. It is made once for a view, and each frame of that view can use it.
@@ -34,7 +34,7 @@ pub struct Matrix {
     pub(crate) occupied: Vec<Occupied>,
 }
 
-ghost use Rattle.poly_frame.specs.Matrices.{IsMatrix, IsWhole, ListsShow, RowOf, RowsShow, StandsShow, list_at, matrix_of, place};
+ghost use Rattle.poly_frame.specs.Matrices.{IsMatrix, IsWhole, ListsShow, RowOf, RowsShow, StandsShow, list_at, matrix_of, bit_index};
 
 /// The matrix that a frame reads: one of its own, or the one that it was made from.
 #[derive(Drop)]
@@ -60,10 +60,10 @@ impl Lists {
     pub(crate) fn of(&self, j: usize) -> &[usize]
         requires high { j + 1 < length self.now.starts.items }
         requires order { slice_index self.now.starts.items j ≤ slice_index self.now.starts.items (j + 1) }
-        requires end { slice_index self.now.starts.items (j + 1) ≤ length self.now.places.items }
-        ensures { result.now ≡ list_at self.now.starts.items self.now.places.items j }
+        requires end { slice_index self.now.starts.items (j + 1) ≤ length self.now.indices.items }
+        ensures { result.now ≡ list_at self.now.starts.items self.now.indices.items j }
     {
-        &self.places[self.starts[j]..self.starts[j + 1]]
+        &self.indices[self.starts[j]..self.starts[j + 1]]
     }
 }
 
@@ -85,7 +85,7 @@ impl Matrix {
     }
 
     /// The column of the number.
-    pub(crate) fn place_of(&self, number: u32) -> Option<usize>
+    pub(crate) fn column_of(&self, number: u32) -> Option<usize>
         requires { StandsShow self.now.numbers.items self.now.stands.items }
         ensures { MatchOption result (mem self.now.numbers.items number ≡ false) (λ j. (j < length self.now.numbers.items) × (slice_index self.now.numbers.items j ≡ number)) }
     {
@@ -218,18 +218,18 @@ fn list_items(
     ensures why { IfErr result (λ e. e ≡ Refusal.Memory) }
 {
     let mut starts = Vec::with_capacity(alloc, numbers.len())?;
-    let mut places = Vec::new(alloc);
+    let mut indices = Vec::new(alloc);
     let mut piece = 0;
     starts.push(0usize)?;
     for p in numbers {
-        places.reserve(PLACEMENT_ITEMS)?;
-        note_items(view, cells, piece, *p, &mut places);
-        if places.len() > starts[starts.len() - 1] {
-            piece = places[starts[starts.len() - 1]];
+        indices.reserve(PLACEMENT_ITEMS)?;
+        note_items(view, cells, piece, *p, &mut indices);
+        if indices.len() > starts[starts.len() - 1] {
+            piece = indices[starts[starts.len() - 1]];
         }
-        starts.push(places.len())?;
+        starts.push(indices.len())?;
     }
-    Ok(Lists { starts, places })
+    Ok(Lists { starts, indices })
 }
 
 // The items of each of some numbers of a matrix.
@@ -240,14 +240,14 @@ fn copy_lists(alloc: Global, whole: &Matrix, numbers: &[u32]) -> Result<Lists, R
     ensures why { IfErr result (λ e. e ≡ Refusal.Memory) }
 {
     let mut starts = Vec::with_capacity(alloc, numbers.len().saturating_add(1))?;
-    let mut places = Vec::with_capacity(alloc, whole.lists.places.len())?;
+    let mut indices = Vec::with_capacity(alloc, whole.lists.indices.len())?;
     starts.push(0usize)?;
     for p in numbers {
         let j = whole.stands[*p as usize];
-        places.extend_from_slice(whole.lists.of(j))?;
-        starts.push(places.len())?;
+        indices.extend_from_slice(whole.lists.of(j))?;
+        starts.push(indices.len())?;
     }
-    Ok(Lists { starts, places })
+    Ok(Lists { starts, indices })
 }
 
 // The length of a list that has an entry at each of these numbers.
@@ -276,15 +276,15 @@ fn stands_of(alloc: Global, numbers: &[u32]) -> Result<Vec<usize>, Refusal>
     Ok(stands)
 }
 
-// Puts the number j into the rows of these places.
-fn put_each(rows: &mut Vec<u64>, width: usize, places: &[usize], j: usize, items: usize)
-    requires low { list_all (λ b. nat_lt b items) places.now ≡ true }
+// Puts the number j into the rows of these indices.
+fn put_each(rows: &mut Vec<u64>, width: usize, indices: &[usize], j: usize, items: usize)
+    requires low { list_all (λ b. nat_lt b items) indices.now ≡ true }
     requires len { length rows.old.items ≡ width * items }
     requires wide { j < 64 * width }
     ensures len { length rows.new.items ≡ width * items }
-    ensures bits { (x : ℕ) → has_bit rows.new.items x ≡ (has_bit rows.old.items x || list_any (λ b. place width b j == x) places.now) }
+    ensures bits { (x : ℕ) → has_bit rows.new.items x ≡ (has_bit rows.old.items x || list_any (λ b. bit_index width b j == x) indices.now) }
 {
-    for b in places {
+    for b in indices {
         bits::put_in(rows, width * *b, j);
     }
 }

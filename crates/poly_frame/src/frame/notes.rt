@@ -21,38 +21,38 @@ fn note_item(due: &mut Vec<u64>, leasts: &[u8], have: u64, b: usize) {
     }
 }
 
-/// Raises the count at each place by one, and notes whether its item is still due. One loop does both, because each step
+/// Raises the count at each index by one, and notes whether its item is still due. One loop does both, because each step
 /// of a search runs it.
 pub(crate) fn raise_and_note(
     have: &mut Vec<u64>,
     due: &mut Vec<u64>,
     leasts: &[u8],
-    places: &[usize],
+    indices: &[usize],
 )
-    requires low { list_all (λ b. nat_lt b (length have.old.items)) places.now ≡ true }
-    requires small { (b : ℕ) → b < length have.old.items → slice_index have.old.items b + length places.now < 2 ^ 64 }
+    requires low { list_all (λ b. nat_lt b (length have.old.items)) indices.now ≡ true }
+    requires small { (b : ℕ) → b < length have.old.items → slice_index have.old.items b + length indices.now < 2 ^ 64 }
     ensures len { length have.new.items ≡ length have.old.items }
-    ensures more { (b : ℕ) → b < length have.old.items → slice_index have.new.items b ≡ slice_index have.old.items b + times places.now b }
+    ensures more { (b : ℕ) → b < length have.old.items → slice_index have.new.items b ≡ slice_index have.old.items b + times indices.now b }
 {
-    for b in places {
+    for b in indices {
         have[*b] += 1;
         note_item(due, leasts, have[*b], *b);
     }
 }
 
-/// Lowers the count at each place by one, and notes whether its item is due again.
+/// Lowers the count at each index by one, and notes whether its item is due again.
 pub(crate) fn lower_and_note(
     have: &mut Vec<u64>,
     due: &mut Vec<u64>,
     leasts: &[u8],
-    places: &[usize],
+    indices: &[usize],
 )
-    requires low { list_all (λ b. nat_lt b (length have.old.items)) places.now ≡ true }
-    requires enough { (b : ℕ) → b < length have.old.items → times places.now b ≤ slice_index have.old.items b }
+    requires low { list_all (λ b. nat_lt b (length have.old.items)) indices.now ≡ true }
+    requires enough { (b : ℕ) → b < length have.old.items → times indices.now b ≤ slice_index have.old.items b }
     ensures len { length have.new.items ≡ length have.old.items }
-    ensures less { (b : ℕ) → b < length have.old.items → slice_index have.new.items b + times places.now b ≡ slice_index have.old.items b }
+    ensures less { (b : ℕ) → b < length have.old.items → slice_index have.new.items b + times indices.now b ≡ slice_index have.old.items b }
 {
-    for b in places {
+    for b in indices {
         have[*b] -= 1;
         note_item(due, leasts, have[*b], *b);
     }

@@ -9,7 +9,7 @@ ghost use Rattle.poly_frame.specs.Bits.{has_bit};
 ghost use Rattle.poly_frame.specs.Open.{open_in};
 ghost use Rattle.poly_frame.specs.FrameItems.{item_at};
 ghost use Rattle.poly_frame.specs.FrameTable.{HaveShows, MostsShow, shut_at};
-ghost use Rattle.poly_frame.specs.Matrices.{IsMatrix, RowOf, any_below, place};
+ghost use Rattle.poly_frame.specs.Matrices.{IsMatrix, RowOf, any_below, bit_index};
 
 use crate::bits;
 use crate::frame::matrix::Matrix;
@@ -83,7 +83,7 @@ fn take_out_shut(bounds: &[Bound], whole: &Matrix, mosts: &[u8], have: &[u64], r
     requires rows { length whole.now.rows.items ≡ whole.now.width * length bounds.now }
     requires len { length row.old.items ≡ whole.now.width }
     ensures len { length row.new.items ≡ length row.old.items }
-    ensures bits { (j : ℕ) → j < 64 * whole.now.width → has_bit row.new.items j ≡ (has_bit row.old.items j && not (any_below (λ b. shut_at (item_at bounds.now b) (slice_index mosts.now b) (slice_index have.now b) && has_bit whole.now.rows.items (place whole.now.width b j)) (length bounds.now))) }
+    ensures bits { (j : ℕ) → j < 64 * whole.now.width → has_bit row.new.items j ≡ (has_bit row.old.items j && not (any_below (λ b. shut_at (item_at bounds.now b) (slice_index mosts.now b) (slice_index have.now b) && has_bit whole.now.rows.items (bit_index whole.now.width b j)) (length bounds.now))) }
 {
     for b in 0..bounds.len() {
         if is_shut_at(&bounds[b].item, mosts[b], have[b]) {
@@ -99,7 +99,7 @@ fn take_out_number(whole: &Matrix, number: u32, row: &mut Vec<u64>)
     ensures len { length row.new.items ≡ length row.old.items }
     ensures bits { (j : ℕ) → j < length whole.now.numbers.items → has_bit row.new.items j ≡ (has_bit row.old.items j && not (number == slice_index whole.now.numbers.items j)) }
 {
-    if let Some(j) = whole.place_of(number) {
+    if let Some(j) = whole.column_of(number) {
         bits::take_out(row, 0, j);
     }
 }

@@ -125,13 +125,13 @@ pub(crate) fn stands_open(node: &Node<'_>, steps: &Steps, number: u32) -> bool
     ensures { result ≡ true → (mem node.now.view.now.live number ≡ true) × (open_in node.now.view.now node.now.trail.now number ≡ true) }
 {
     let at = steps.live.len() - node.matrix.width;
-    match node.matrix.place_of(number) {
+    match node.matrix.column_of(number) {
         None => false,
         Some(j) => bits::has(&steps.live, at, j),
     }
 }
 
-// Whether the base has too few of the item at a place.
+// Whether the base has too few of the item at an index.
 fn is_below(table: &Table, steps: &Steps, b: usize) -> bool
     requires have { b < length steps.now.have.items }
     requires leasts { b < length table.now.leasts.items }
@@ -169,7 +169,7 @@ pub(crate) fn judge(node: &Node<'_>, steps: &Steps, consistent: usize) -> Option
     None
 }
 
-// How many options the item at a place has beyond what it still needs, plus one: 0 if they are too few; some number
+// How many options the item at an index has beyond what it still needs, plus one: 0 if they are too few; some number
 // that is at least `fewest` if it is not less than that. None if the base has enough. It runs for each item that is due
 // at each node, where a call would cost as much as the count.
 #[inline(always)]
@@ -219,7 +219,7 @@ const NOTED: usize = 128;
 // Where an item is due, and how many options it has beyond what it still needs, plus one.
 #[derive(Clone, Copy)]
 struct Scarce {
-    place: Option<usize>,
+    index: Option<usize>,
     spare: usize,
 }
 
@@ -235,14 +235,14 @@ fn scarcer(
     requires kept { IsAt node.now steps.now }
     requires at { at ≡ length steps.now.live.items - node.now.matrix.now.width }
     requires low { b < length steps.now.have.items }
-    requires best { IfSome best.place (λ b. (b < length steps.now.have.items) × (nat_lt (slice_index steps.now.have.items b) (slice_index node.now.table.now.leasts.items b) ≡ true)) }
-    ensures { IfSome result.place (λ b. (b < length steps.now.have.items) × (nat_lt (slice_index steps.now.have.items b) (slice_index node.now.table.now.leasts.items b) ≡ true)) }
+    requires best { IfSome best.index (λ b. (b < length steps.now.have.items) × (nat_lt (slice_index steps.now.have.items b) (slice_index node.now.table.now.leasts.items b) ≡ true)) }
+    ensures { IfSome result.index (λ b. (b < length steps.now.have.items) × (nat_lt (slice_index steps.now.have.items b) (slice_index node.now.table.now.leasts.items b) ≡ true)) }
 {
     match spare(node, steps, at, occupied, b, best.spare) {
         Some(n) => {
             if n < best.spare {
                 Scarce {
-                    place: Some(b),
+                    index: Some(b),
                     spare: n,
                 }
             } else {
@@ -267,8 +267,8 @@ fn scarcest_in(
     requires kept { IsAt node.now steps.now }
     requires at { at ≡ length steps.now.live.items - node.now.matrix.now.width }
     requires small { first < 64 * NOTED }
-    requires best { IfSome best.place (λ b. (b < length steps.now.have.items) × (nat_lt (slice_index steps.now.have.items b) (slice_index node.now.table.now.leasts.items b) ≡ true)) }
-    ensures { IfSome result.place (λ b. (b < length steps.now.have.items) × (nat_lt (slice_index steps.now.have.items b) (slice_index node.now.table.now.leasts.items b) ≡ true)) }
+    requires best { IfSome best.index (λ b. (b < length steps.now.have.items) × (nat_lt (slice_index steps.now.have.items b) (slice_index node.now.table.now.leasts.items b) ≡ true)) }
+    ensures { IfSome result.index (λ b. (b < length steps.now.have.items) × (nat_lt (slice_index steps.now.have.items b) (slice_index node.now.table.now.leasts.items b) ≡ true)) }
 {
     let mut best = best;
     let mut left = word;
@@ -294,13 +294,13 @@ fn next_noted(node: &Node<'_>, steps: &Steps) -> Option<usize>
     let at = steps.live.len() - node.matrix.width;
     let occupied = occupied_words(&steps.live[at..]);
     let mut best = Scarce {
-        place: None,
+        index: None,
         spare: usize::MAX,
     };
     for k in 0..steps.due.len().min(NOTED) {
         best = scarcest_in(node, steps, at, &occupied, 64 * k, steps.due[k], best);
     }
-    best.place
+    best.index
 }
 
 // The index of the item of the view that is due next: a noted one if there is any.

@@ -31,47 +31,47 @@ fn left_by(matrix: &Matrix, table: &Table, have: &[u64], b: usize, k: usize, wor
     }
 }
 
-// Whether nothing is left of a word of the row, once the items at the places have one more member.
+// Whether nothing is left of a word of the row, once the items at the indices have one more member.
 fn is_shut_word(
     matrix: &Matrix,
     table: &Table,
     have: &[u64],
-    places: &[usize],
+    indices: &[usize],
     k: usize,
     word: u64,
 ) -> bool
-    requires low { list_all (λ b. nat_lt b (length have.now)) places.now ≡ true }
+    requires low { list_all (λ b. nat_lt b (length have.now)) indices.now ≡ true }
     requires limits { length table.now.limits.items ≡ length have.now }
     requires rows { length matrix.now.rows.items ≡ matrix.now.width * length have.now }
     requires inside { k < matrix.now.width }
-    ensures { result ≡ true → (t : ℕ) → t < 64 → (bit_at word t == 1) ≡ true → list_any (λ b. nat_le (slice_index table.now.limits.items b - 1) (slice_index have.now b) && (bit_at (slice_index matrix.now.rows.items (matrix.now.width * b + k)) t == 1)) places.now ≡ true }
+    ensures { result ≡ true → (t : ℕ) → t < 64 → (bit_at word t == 1) ≡ true → list_any (λ b. nat_le (slice_index table.now.limits.items b - 1) (slice_index have.now b) && (bit_at (slice_index matrix.now.rows.items (matrix.now.width * b + k)) t == 1)) indices.now ≡ true }
 {
     let mut left = word;
-    for b in places {
+    for b in indices {
         left = left_by(matrix, table, have, *b, k, left);
     }
     left == 0
 }
 
-// Whether the items at the places shut each number that is both in the row at word `at` and in the one at word `from`.
+// Whether the items at the indices shut each number that is both in the row at word `at` and in the one at word `from`.
 fn are_shut(
     matrix: &Matrix,
     table: &Table,
     steps: &Steps,
-    places: &[usize],
+    indices: &[usize],
     at: usize,
     from: usize,
 ) -> bool
-    requires low { list_all (λ b. nat_lt b (length steps.now.have.items)) places.now ≡ true }
+    requires low { list_all (λ b. nat_lt b (length steps.now.have.items)) indices.now ≡ true }
     requires limits { length table.now.limits.items ≡ length steps.now.have.items }
     requires rows { length matrix.now.rows.items ≡ matrix.now.width * length steps.now.have.items }
     requires live { at + matrix.now.width ≤ length steps.now.live.items }
     requires row { from + matrix.now.width ≤ length matrix.now.rows.items }
-    ensures { result ≡ true → (k t : ℕ) → k < matrix.now.width → t < 64 → (bit_at (slice_index steps.now.live.items (at + k)) t == 1) ≡ true → (bit_at (slice_index matrix.now.rows.items (from + k)) t == 1) ≡ true → list_any (λ b. nat_le (slice_index table.now.limits.items b - 1) (slice_index steps.now.have.items b) && (bit_at (slice_index matrix.now.rows.items (matrix.now.width * b + k)) t == 1)) places.now ≡ true }
+    ensures { result ≡ true → (k t : ℕ) → k < matrix.now.width → t < 64 → (bit_at (slice_index steps.now.live.items (at + k)) t == 1) ≡ true → (bit_at (slice_index matrix.now.rows.items (from + k)) t == 1) ≡ true → list_any (λ b. nat_le (slice_index table.now.limits.items b - 1) (slice_index steps.now.have.items b) && (bit_at (slice_index matrix.now.rows.items (matrix.now.width * b + k)) t == 1)) indices.now ≡ true }
 {
     for k in 0..matrix.width {
         let word = bits::both(steps.live[at + k], matrix.rows[from + k]);
-        if word != 0 && !is_shut_word(matrix, table, &steps.have, places, k, word) {
+        if word != 0 && !is_shut_word(matrix, table, &steps.have, indices, k, word) {
             return false;
         }
     }
@@ -109,7 +109,7 @@ pub(crate) fn is_starved(node: &Node<'_>, steps: &Steps, number: u32, item: &Ite
     requires kept { IsAt node.now steps.now }
     ensures { result ≡ true → arms_fit node.now.view.now (node.now.trail.now ++ Has number ∷ []) item.now [] ≡ true }
 {
-    let Some(j) = node.matrix.place_of(number) else {
+    let Some(j) = node.matrix.column_of(number) else {
         return false;
     };
     match index_of(

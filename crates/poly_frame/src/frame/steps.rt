@@ -20,7 +20,7 @@ use poly_grid::Refusal;
 use poly_tiling::{View, has_number};
 use std::alloc::Global;
 
-/// A row for the given atoms and one for each step, the counts now, the places that were counted up by the steps, how many
+/// A row for the given atoms and one for each step, the counts now, the indices that were counted up by the steps, how many
 /// of these there were before each step, and notes of which items are due.
 #[derive(Drop)]
 pub(crate) struct Steps {
@@ -31,27 +31,27 @@ pub(crate) struct Steps {
     pub(crate) due: Vec<u64>,
 }
 
-ghost use Rattle.poly_frame.specs.Matrices.{IsMatrix, RowOf, place};
+ghost use Rattle.poly_frame.specs.Matrices.{IsMatrix, RowOf, bit_index};
 ghost use Rattle.poly_frame.specs.FrameTable.{HaveShows, TableShows};
 ghost use Rattle.poly_frame.specs.FrameSteps.{HasRoom, IsAt, StepsKeep};
 ghost use Rattle.poly_frame.specs.declared.frame.items.TheConstants.{PLACEMENT_ITEMS};
 
-// Notes the indices of the number's items. `place` is the number's column, if it has one.
+// Notes the indices of the number's items. `column` is the number's column, if it has one.
 fn note_number(
     view: &View,
     matrix: &Matrix,
-    place: Option<usize>,
+    column: Option<usize>,
     number: u32,
     noted: &mut Vec<usize>,
 )
     requires part { IsMatrix view.now matrix.now }
-    requires place { IfSome place (λ j. (j < length matrix.now.numbers.items) × (slice_index matrix.now.numbers.items j ≡ number)) }
+    requires column { IfSome column (λ j. (j < length matrix.now.numbers.items) × (slice_index matrix.now.numbers.items j ≡ number)) }
     requires room { vec_len noted.old + PLACEMENT_ITEMS ≤ vec_capacity noted.old }
     ensures capacity { vec_capacity noted.new ≡ vec_capacity noted.old }
     ensures len { vec_len noted.new ≤ vec_len noted.old + PLACEMENT_ITEMS }
-    ensures places { (places : List ℕ) × (noted.new.items ≡ noted.old.items ++ places) × Noted view.now.bounds (items view.now number) places }
+    ensures indices { (indices : List ℕ) × (noted.new.items ≡ noted.old.items ++ indices) × Noted view.now.bounds (items view.now number) indices }
 {
-    match place {
+    match column {
         Some(j) => note_list(matrix.lists.of(j), noted),
         None => note_items(view, &matrix.cells, 0, number, noted),
     }
@@ -67,25 +67,25 @@ fn note_list(list: &[usize], noted: &mut Vec<usize>)
     }
 }
 
-// Closes the placements that have an item at one of the places, if the item's count says that no more may have it.
+// Closes the placements that have an item at one of the indices, if the item's count says that no more may have it.
 fn close(
     matrix: &Matrix,
     table: &Table,
     have: &[u64],
-    places: &[usize],
+    indices: &[usize],
     live: &mut Vec<u64>,
     at: usize,
 )
-    requires low { list_all (λ b. nat_lt b (length have.now)) places.now ≡ true }
+    requires low { list_all (λ b. nat_lt b (length have.now)) indices.now ≡ true }
     requires limits { length table.now.limits.items ≡ length have.now }
     requires rows { length matrix.now.rows.items ≡ matrix.now.width * length have.now }
     requires live { at + matrix.now.width ≤ length live.old.items }
     ensures len { length live.new.items ≡ length live.old.items }
     ensures capacity { vec_capacity live.new ≡ vec_capacity live.old }
-    ensures row { (j : ℕ) → j < 64 * matrix.now.width → has_bit live.new.items (64 * at + j) ≡ (has_bit live.old.items (64 * at + j) && not (list_any (λ b. nat_le (slice_index table.now.limits.items b) (slice_index have.now b) && has_bit matrix.now.rows.items (place matrix.now.width b j)) places.now)) }
+    ensures row { (j : ℕ) → j < 64 * matrix.now.width → has_bit live.new.items (64 * at + j) ≡ (has_bit live.old.items (64 * at + j) && not (list_any (λ b. nat_le (slice_index table.now.limits.items b) (slice_index have.now b) && has_bit matrix.now.rows.items (bit_index matrix.now.width b j)) indices.now)) }
     ensures before { (x : ℕ) → x < 64 * at → has_bit live.new.items x ≡ has_bit live.old.items x }
 {
-    for b in places {
+    for b in indices {
         if u64::from(table.limits[*b]) <= have[*b] {
             bits::take_out_row(live, at, &matrix.rows, matrix.width * *b, matrix.width);
         }
@@ -108,8 +108,8 @@ pub(crate) fn pick(node: &Node<'_>, members: &[u32], steps: &mut Steps, number: 
     if has_number(members, number) {
         return;
     }
-    let place = node.matrix.place_of(number);
-    note_number(node.view, node.matrix, place, number, &mut steps.raised);
+    let column = node.matrix.column_of(number);
+    note_number(node.view, node.matrix, column, number, &mut steps.raised);
     raise_and_note(
         &mut steps.have,
         &mut steps.due,
@@ -124,7 +124,7 @@ pub(crate) fn pick(node: &Node<'_>, members: &[u32], steps: &mut Steps, number: 
         &mut steps.live,
         at,
     );
-    if let Some(j) = place {
+    if let Some(j) = column {
         bits::take_out(&mut steps.live, at, j);
     }
 }
@@ -141,7 +141,7 @@ pub(crate) fn leave(node: &Node<'_>, steps: &mut Steps, number: u32)
     let mark = steps.raised.len();
     bits::copy_last(&mut steps.live, node.matrix.width);
     steps.marks.push_reserved(mark);
-    if let Some(j) = node.matrix.place_of(number) {
+    if let Some(j) = node.matrix.column_of(number) {
         bits::take_out(&mut steps.live, at, j);
     }
 }

@@ -10,7 +10,7 @@ use Rattle.poly_book.specs.Findings.{HasAtoms}
 use Rattle.poly_book.specs.Keeps.{state_of}
 use Rattle.poly_book.specs.Refused.{IsNotApplied}
 use Rattle.poly_book.specs.Reports.{AreLeaves, IsApplied}
-use Rattle.poly_book.proofs.Places.{nowhere}
+use Rattle.poly_book.proofs.Indices.{nowhere}
 use Rattle.poly_book.proofs.Searched.{found_leaves}
 use Rattle.poly_book.proofs.found.apply_found.Goals as goal
 

@@ -5,15 +5,15 @@ use Rattle.poly_atom.specs.Atoms.{IsSmall, negated}
 use Rattle.poly_atom.specs.Hopeless.{hopeless}
 use Rattle.poly_atom.specs.Stairs.{stairs}
 use Rattle.poly_atom.proofs.Walks.{small_at}
-use Rattle.poly_book.proofs.Held.{Opening, opening_end, opening_over, place_end, place_next, from_place, stairs_more, stairs_skip}
+use Rattle.poly_book.proofs.Held.{Opening, opening_end, opening_over, stairs_end, stairs_next, stairs_from, stairs_more, stairs_skip}
 use Rattle.poly_book.proofs.fresh.opened_stairs.Goals as goal
 
 pub next_stair-requires : goal.next_stair-requires
 next_stair-requires c = subst IsSmall (sym c.index-guards-index.is) (small_at c.args.guards.now c.loop-index.index c.index-guards-index.result c.requires.small c.loop-index-test.true)
 
 pub returns-clause-ok : goal.returns-clause-ok
-returns-clause-ok c = λ log le. opening_end (log ++ c.args.guards.now ∷ []) c.args.next c.loop-index.number c.args.view.now (stairs c.args.guards.now) (from_place c.args.guards.now c.loop-index.index) c.loop-index.tasks.items
-    (place_end c.args.guards.now c.loop-index.index c.loop-index-test.false) (c.loop-index.invariant.same log le)
+returns-clause-ok c = λ log le. opening_end (log ++ c.args.guards.now ∷ []) c.args.next c.loop-index.number c.args.view.now (stairs c.args.guards.now) (stairs_from c.args.guards.now c.loop-index.index) c.loop-index.tasks.items
+    (stairs_end c.args.guards.now c.loop-index.index c.loop-index-test.false) (c.loop-index.invariant.same log le)
 
 pub loop-index-preserved-then-branch : goal.loop-index-preserved-then-branch
 loop-index-preserved-then-branch c =
@@ -58,5 +58,5 @@ returns-then-number-gt-LAST-clause-why c =
     let h : hopeless c.args.view.now A ≡ false = sym c.in_ok-next_stair.ensures.ok ∙ c.if-branch.false in
     let log : List (List Atom) = replicate c.args.edition [] in
     let before = c.loop-index.invariant.same log (length-replicate c.args.edition []) in
-    let next = subst (λ r. Opening (log ++ g ∷ []) c.args.next c.loop-index.number c.args.view.now (stairs g) r c.loop-index.tasks.items) (place_next g j d low ∙ ap (λ B. B ∷ from_place g (j + 1)) (sym is)) before in
-    inl (refl, opening_over (log ++ g ∷ []) c.args.next c.loop-index.number c.args.view.now (stairs g) (from_place g (j + 1)) A c.loop-index.tasks.items h next c.loop-index.invariant.number c.if-number-gt-LAST.true)
+    let next = subst (λ r. Opening (log ++ g ∷ []) c.args.next c.loop-index.number c.args.view.now (stairs g) r c.loop-index.tasks.items) (stairs_next g j d low ∙ ap (λ B. B ∷ stairs_from g (j + 1)) (sym is)) before in
+    inl (refl, opening_over (log ++ g ∷ []) c.args.next c.loop-index.number c.args.view.now (stairs g) (stairs_from g (j + 1)) A c.loop-index.tasks.items h next c.loop-index.invariant.number c.if-number-gt-LAST.true)

@@ -9,7 +9,7 @@ use Rattle.poly_book.specs.declared.step.Ending.TheVariants.{Cut}
 use Rattle.poly_book.specs.Keeps.{state_of}
 use Rattle.poly_book.specs.Opens.{Opens}
 use Rattle.poly_book.proofs.Cataloguing.{cut_enters}
-use Rattle.poly_book.proofs.Places.{at_below, first_at}
+use Rattle.poly_book.proofs.Indices.{at_below, first_at}
 use Rattle.poly_book.proofs.Taking.{took_becomes, took_from, took_keeps}
 use Rattle.poly_book.proofs.hand_in.apply_leaves.Goals as goal
 

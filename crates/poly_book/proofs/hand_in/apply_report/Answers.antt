@@ -13,7 +13,7 @@ use Rattle.poly_book.specs.Keeps.{Keeps, state_of}
 use Rattle.poly_book.specs.Refused.{IsNotApplied}
 use Rattle.poly_book.specs.Reports.{AreLeaves, IsApplied}
 use Rattle.poly_book.proofs.Held.{some_of}
-use Rattle.poly_book.proofs.Places.{at_below, at_find, first_at, nowhere}
+use Rattle.poly_book.proofs.Indices.{at_below, at_find, first_at, nowhere}
 use Rattle.poly_book.proofs.hand_in.apply_report.Goals as goal
 
 pub returns-in_default-clause-why : goal.returns-in_default-clause-why

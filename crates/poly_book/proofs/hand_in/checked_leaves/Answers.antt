@@ -5,16 +5,16 @@ use Rattle.poly_report.specs.Shapes.{plan_of}
 use Rattle.poly_book.specs.Meaning.{IsTask, task_of}
 use Rattle.poly_book.specs.Tasks.{atoms_of}
 use Rattle.poly_book.proofs.Held.{task_at}
-use Rattle.poly_book.proofs.Places.{at_below, at_find, first_at}
+use Rattle.poly_book.proofs.Indices.{at_below, at_find, first_at}
 use Rattle.poly_book.proofs.hand_in.checked_leaves.Goals as goal
 
 pub index-requires : goal.index-requires
-index-requires c = omega (arith, at_below c.args.report.now.task c.args.parts.now.tasks.items c.args.at (first_at c.args.report.now.task c.args.parts.now.tasks.items c.args.at c.requires.place))
+index-requires c = omega (arith, at_below c.args.report.now.task c.args.parts.now.tasks.items c.args.at (first_at c.args.report.now.task c.args.parts.now.tasks.items c.args.at c.requires.index))
 
 pub all_atoms-requires : goal.all_atoms-requires
 all_atoms-requires c =
     let ps = c.args.parts.now.tasks.items in
-    let e = c.requires.place in
+    let e = c.requires.index in
     let x = c.index.result.now in
     let is : x ≡ get_or ps c.args.at x = search rules in
     subst (λ p. IsTask c.args.parts.now.log p) (sym is) (task_at c.args.parts.now.log ps c.args.at x c.requires.keeps.tasks (at_below c.args.report.now.task ps c.args.at (first_at c.args.report.now.task ps c.args.at e)))
@@ -28,7 +28,7 @@ returns-clause-leaves c =
     let v = a.scene in
     let tree = plan_of c.args.report.now.tree in
     let found = c.in-Some.leaves in
-    let e = c.requires.place in
+    let e = c.requires.index in
     let x = c.index.result.now in
     let is : x ≡ get_or ps c.args.at x = search rules in
     let atoms : c.deref.result.now ≡ atoms_of (task_of log x) = c.deref.ensures.value ∙ c.in_ok-atoms.ensures.ok in
@@ -50,7 +50,7 @@ returns-in_default-clause-why c =
     let log = a.log in
     let v = a.scene in
     let tree = plan_of c.args.report.now.tree in
-    let e = c.requires.place in
+    let e = c.requires.index in
     let x = c.index.result.now in
     let is : x ≡ get_or ps c.args.at x = search rules in
     let atoms : c.deref.result.now ≡ atoms_of (task_of log x) = c.deref.ensures.value ∙ c.in_ok-atoms.ensures.ok in

@@ -16,7 +16,7 @@ all_atoms-requires c =
     let ps = c.args.parts.now.tasks.items in
     let x = c.index.result.now in
     let is : x ≡ get_or ps c.args.at x = search rules in
-    subst (λ p. IsTask c.args.parts.now.log p) (sym is) (task_at c.args.parts.now.log ps c.args.at x c.requires.keeps.tasks c.requires.place)
+    subst (λ p. IsTask c.args.parts.now.log p) (sym is) (task_at c.args.parts.now.log ps c.args.at x c.requires.keeps.tasks c.requires.index)
 
 pub returns-clause-leaves : goal.returns-clause-leaves
 returns-clause-leaves c =
@@ -31,7 +31,7 @@ returns-clause-leaves c =
     let right : holds v (atoms_of u) tree ≡ true = sym (ap (λ A. holds v A tree) atoms) ∙ c.in_ok-found.ensures.holds in
     let found : c.in_ok-found.found.leaves.tilings.items ≡ tilings v (atoms_of u) tree = c.in_ok-found.ensures.tilings ∙ ap (λ A. tilings v A tree) atoms in
     let left : lists c.in_ok-found.found.leaves.rests.items ≡ rests v (atoms_of u) tree = c.in_ok-found.ensures.rests ∙ ap (λ A. rests v A tree) atoms in
-    (x.number, tree, leaves_at a x c.args.at tree c.in_ok-found.found.leaves.tilings.items (lists c.in_ok-found.found.leaves.rests.items) c.requires.keeps c.requires.place is c.in_ok-found.ensures.fits right found left)
+    (x.number, tree, leaves_at a x c.args.at tree c.in_ok-found.found.leaves.tilings.items (lists c.in_ok-found.found.leaves.rests.items) c.requires.keeps c.requires.index is c.in_ok-found.ensures.fits right found left)
 
 pub returns-clause-sure : goal.returns-clause-sure
 returns-clause-sure c =
@@ -45,4 +45,4 @@ returns-clause-sure c =
     let atoms : c.deref.result.now ≡ atoms_of u = c.deref.ensures.value ∙ c.in_ok-atoms.ensures.ok in
     let free : opened v (atoms_of u) tree ≡ true = sym (ap (λ A. opened v A tree) atoms) ∙ c.in_ok-found.ensures.opened in
     let left : lists c.in_ok-found.found.leaves.rests.items ≡ rests v (atoms_of u) tree = c.in_ok-found.ensures.rests ∙ ap (λ A. rests v A tree) atoms in
-    λ n low from. subst (λ L. AreHopeful v L) (sym left) (rests_hopeful v (atoms_of u) tree free (hopeful_at a x c.args.at n low c.requires.place is from))
+    λ n low from. subst (λ L. AreHopeful v L) (sym left) (rests_hopeful v (atoms_of u) tree free (hopeful_at a x c.args.at n low c.requires.index is from))

@@ -7,7 +7,7 @@ use Rattle.poly_book.specs.Meaning.{IsTask, task_of, tasks_of}
 use Rattle.poly_book.specs.Tasks.{find_task}
 use Rattle.poly_book.proofs.Held.{task_at}
 use Rattle.poly_book.proofs.Numbered.{found_in}
-use Rattle.poly_book.proofs.Places.{at_below, at_find, first_at, nowhere}
+use Rattle.poly_book.proofs.Indices.{at_below, at_find, first_at, nowhere}
 use Rattle.poly_book.proofs.take.take_number.Goals as goal
 
 pub returns-in_default-clause-ok : goal.returns-in_default-clause-ok

@@ -19,16 +19,16 @@ returns-in_err-cells-clause-none c = if_none_any c.from_residual.result _ (λ q 
 
 pub returns-in-Ok-clause-some : goal.returns-in-Ok-clause-some
 returns-in-Ok-clause-some c =
-    let image : Placement = record { name = c.args.place.now.name; cells = c.in_ok-cells.cells } in
-    let carried : Carries (Takes c.args.grid c.args.motion) (Contains c.args.place.now.cells) (Contains c.in_ok-cells.cells) = subst (λ (l : List Spot). Carries (Takes c.args.grid c.args.motion) (Contains l) (Contains c.in_ok-cells.cells)) c.as_slice.ensures.value c.in_ok-cells.ensures.carried in
-    let is : get_or c.args.places.now c.in-Ok.to c.args.place.now ≡ image = same_placement _ _ (c.in-Ok.ensures.ok c.args.place.now) in
-    subst (TakesPlacement c.args.grid c.args.motion c.args.place.now) (sym is) (record { named = refl; cells = carried })
+    let image : Placement = record { name = c.args.placement.now.name; cells = c.in_ok-cells.cells } in
+    let carried : Carries (Takes c.args.grid c.args.motion) (Contains c.args.placement.now.cells) (Contains c.in_ok-cells.cells) = subst (λ (l : List Spot). Carries (Takes c.args.grid c.args.motion) (Contains l) (Contains c.in_ok-cells.cells)) c.as_slice.ensures.value c.in_ok-cells.ensures.carried in
+    let is : get_or c.args.placements.now c.in-Ok.to c.args.placement.now ≡ image = same_placement _ _ (c.in-Ok.ensures.ok c.args.placement.now) in
+    subst (TakesPlacement c.args.grid c.args.motion c.args.placement.now) (sym is) (record { named = refl; cells = carried })
 
 pub returns-in-Err-clause-none : goal.returns-in-Err-clause-none
 returns-in-Err-clause-none c = λ q here takes.
-    let image : Placement = record { name = c.args.place.now.name; cells = c.in_ok-cells.cells } in
-    let carried : Carries (Takes c.args.grid c.args.motion) (Contains c.args.place.now.cells) (Contains c.in_ok-cells.cells) = subst (λ (l : List Spot). Carries (Takes c.args.grid c.args.motion) (Contains l) (Contains c.in_ok-cells.cells)) c.as_slice.ensures.value c.in_ok-cells.ensures.carried in
-    let taken : TakesPlacement c.args.grid c.args.motion c.args.place.now image = record { named = refl; cells = carried } in
-    let is : image ≡ q = one_taken c.args.grid c.args.motion c.args.place.now image q c.in_ok-cells.ensures.ascending (c.requires.sets q here).0 taken takes in
-    let gap = c.in-Err.ensures.position (searchable placement_total c.args.places.now image c.requires.ascend) in
-    gap_lacks placement_total image c.args.places.now c.in-Err.field-0 (record { within = c.in-Err.ensures.bound; below = gap.0; above = gap.1 }) (subst (Contains c.args.places.now) (sym is) here)
+    let image : Placement = record { name = c.args.placement.now.name; cells = c.in_ok-cells.cells } in
+    let carried : Carries (Takes c.args.grid c.args.motion) (Contains c.args.placement.now.cells) (Contains c.in_ok-cells.cells) = subst (λ (l : List Spot). Carries (Takes c.args.grid c.args.motion) (Contains l) (Contains c.in_ok-cells.cells)) c.as_slice.ensures.value c.in_ok-cells.ensures.carried in
+    let taken : TakesPlacement c.args.grid c.args.motion c.args.placement.now image = record { named = refl; cells = carried } in
+    let is : image ≡ q = one_taken c.args.grid c.args.motion c.args.placement.now image q c.in_ok-cells.ensures.ascending (c.requires.sets q here).0 taken takes in
+    let gap = c.in-Err.ensures.position (searchable placement_total c.args.placements.now image c.requires.ascend) in
+    gap_lacks placement_total image c.args.placements.now c.in-Err.field-0 (record { within = c.in-Err.ensures.bound; below = gap.0; above = gap.1 }) (subst (Contains c.args.placements.now) (sym is) here)

@@ -2,14 +2,14 @@ use Rattle.std.proofs.Common.{[], ap, sym, take, ◌∙◌, ◌++◌, ◌∷◌}
 use Rattle.std.proofs.lemmas.List.{append-nil}
 use Rattle.std.specs.List.{filter_map}
 use Rattle.std.specs.Option.{option_to_list}
-use Rattle.poly_tiling.proofs.Places.{places_more}
+use Rattle.poly_tiling.proofs.Positions.{positions_more}
 use Rattle.poly_place.specs.Falls.{falls}
 use Rattle.poly_place.proofs.delta.fallen.Goals.{in-Some+in_ok-push, in_default}
 use Rattle.poly_place.proofs.delta.fallen.Goals as goal
 
 pub loop-bound-preserved : goal.loop-bound-preserved
 loop-bound-preserved c =
-    let more = places_more (falls c.args.to.now) c.args.from.now c.loop-bound.bound-index c.bound-item.result c.loop-bound-test.true in
+    let more = positions_more (falls c.args.to.now) c.args.from.now c.loop-bound.bound-index c.bound-item.result c.loop-bound-test.true in
     let before = filter_map (falls c.args.to.now) (take c.loop-bound.bound-index c.args.from.now) in
     elim c.match-falls.branch [
       | in-Some+in_ok-push w ↦

@@ -14,14 +14,14 @@ derived (Cell c) (Piece n) = search rules
 derived (Piece m) (Cell d) = search rules
 derived (Piece m) (Piece n) = search rules
 
-pub returns-in-Ok-clause-place : goal.returns-in-Ok-clause-place
-returns-in-Ok-clause-place c =
+pub returns-in-Ok-clause-index : goal.returns-in-Ok-clause-index
+returns-in-Ok-clause-index c =
     let i = c.args.item.now in
     row_found c.args.rows.now i (λ r. ghosts.cmp r.0 i) (λ r. derived r.0 i) c.requires c.in-Ok.at c.in-Ok.ensures.bound
     (c.in-Ok.ensures.position (λ r. r.0) (answers_always _ _ _ (λ f a r g h. search rules)))
 
-pub returns-in-Err-clause-place : goal.returns-in-Err-clause-place
-returns-in-Err-clause-place c =
+pub returns-in-Err-clause-index : goal.returns-in-Err-clause-index
+returns-in-Err-clause-index c =
     let i = c.args.item.now in
     row_missing c.args.rows.now i (λ r. ghosts.cmp r.0 i) (λ r. derived r.0 i) c.requires c.in-Err.field-0
     (c.in-Err.ensures.position (λ r. r.0) (answers_always _ _ _ (λ f a r g h. search rules)))

@@ -11,8 +11,8 @@ use Rattle.poly_place.proofs.update.merged.Goals as goal
 pub loop-number-init : goal.loop-number-init
 loop-number-init c = merging_begins (comes_before c.args.names.now) c.args.kept.now c.args.fresh.now c.in_ok-live.live.items c.in_ok-live.ensures.items c.requires.kept_up c.requires.fresh_up
 
-pub place_in-requires : goal.place_in-requires
-place_in-requires c = pairs_right (λ m n. comes_before c.args.names.now n m ≡ false) c.loop-number.live.items c.loop-number.rest.now c.loop-number.invariant.before_rest
+pub count_before-requires : goal.count_before-requires
+count_before-requires c = pairs_right (λ m n. comes_before c.args.names.now n m ≡ false) c.loop-number.live.items c.loop-number.rest.now c.loop-number.invariant.before_rest
 
 pub loop-number-preserved : goal.loop-number-preserved
 loop-number-preserved c =
@@ -23,13 +23,13 @@ loop-number-preserved c =
     let n = get_or fresh i 0 in
     let rest = c.loop-number.rest.now in
     let live = c.loop-number.live.items in
-    let at = c.place_in.result in
+    let at = c.count_before.result in
     let chunk = c.split_at.result.0.now in
     let after = c.split_at.result.1.now in
     merging_goes_on lt (ranks_by (options_total placement_total) (λ m. slice_get all m)) c.args.kept.now fresh i rest live n chunk after c.push.new.self.items c.loop-number.invariant c.loop-number-test.true
     (get_or_any fresh i 0 n c.loop-number-test.true) c.split_at.ensures.by_index.0
-    (λ x h. taken_are (λ m. lt m n ≡ true) rest at c.place_in.ensures.low c.place_in.ensures.place.0 x (subst (λ (l : List ℕ). In x l) c.split_at.ensures.front h))
-    (λ y h. left_are (λ m. lt m n ≡ false) rest at c.place_in.ensures.place.1 y (subst (λ (l : List ℕ). In y l) c.split_at.ensures.back h))
+    (λ x h. taken_are (λ m. lt m n ≡ true) rest at c.count_before.ensures.low c.count_before.ensures.split.0 x (subst (λ (l : List ℕ). In x l) c.split_at.ensures.front h))
+    (λ y h. left_are (λ m. lt m n ≡ false) rest at c.count_before.ensures.split.1 y (subst (λ (l : List ℕ). In y l) c.split_at.ensures.back h))
     (c.in_ok-push.ensures.items ∙ ap (λ (l : List ℕ). l ++ n ∷ []) c.in_ok-extend_from_slice.ensures.items)
 
 pub returns-clause-same : goal.returns-clause-same

@@ -25,7 +25,7 @@ unfolding is_same
 returns-clause-ok c =
     let p = c.args.placement in
     let old = c.args.placements.now.items in
-    let missing : position (is_same p) old ≡ None = ap (λ l. position (is_same p) l) (sym c.deref.ensures.value) ∙ sym c.place_of.ensures ∙ c.in_default.is in
+    let missing : position (is_same p) old ≡ None = ap (λ l. position (is_same p) l) (sym c.deref.ensures.value) ∙ sym c.index_of.ensures ∙ c.in_default.is in
     let long : length old ≡ c.len-at.result = ap length (sym c.deref.ensures.value) ∙ c.deref.ensures.len ∙ sym c.len-at.ensures in
     subst (λ n. HasNumber p old c.push.new.self.items n) long
     (new_number p old c.push.new.self.items c.requires.apart

@@ -12,7 +12,7 @@ use Rattle.poly_tiling.specs.declared.order.Key.{Key}
 use Rattle.poly_tiling.specs.TilingOrder.{ranks_from}
 use Rattle.poly_tiling.specs.Leading.{AreDigits, leading, tiling_at}
 use Rattle.poly_tiling.proofs.Digits.{keys_sorted, row_digits}
-use Rattle.poly_tiling.proofs.Places.{sorted_by_ranks}
+use Rattle.poly_tiling.proofs.Positions.{sorted_by_ranks}
 use Rattle.poly_tiling.proofs.order.order_of.Goals as goal
 
 pub keys_of-requires-clause-digits : goal.keys_of-requires-clause-digits
@@ -38,7 +38,7 @@ returns-clause-ascends c =
     let moved = c.sort_unstable_by.ensures.permutation in
     let within = All-permutation (λ (k : Key). k.index < length tilings) keys sorted moved c.in_ok-keys.ensures.within in
     let leads = All-permutation (λ (k : Key). k.leading ≡ leading c.rank_base-base.result (get_or rows k.index []) c.digit_count.result) keys sorted moved c.in_ok-keys.ensures.leading in
-    sorted_by_ranks v (λ (k : Key). tiling_at tilings k.index) (λ (k : Key). get_or rows k.index []) sorted c.in_ok-places.ensures.well
+    sorted_by_ranks v (λ (k : Key). tiling_at tilings k.index) (λ (k : Key). get_or rows k.index []) sorted c.in_ok-positions.ensures.well
     (λ k d l. ap (λ r. get_or r (get_or sorted k d).index []) c.in_ok-ranks.ensures.ok ∙ get_or-map (ranks_from 0 v.live) tilings (get_or sorted k d).index [] [] (within k d l))
     (keys_sorted c.rank_base-base.result c.digit_count.result (λ (k : Key). k.leading) (λ (k : Key). get_or rows k.index []) sorted (omega (arith, c.rank_base-base.ensures))
     (λ (k : Key). subst (λ rs. AreDigits c.rank_base-base.result (get_or rs k.index [])) (sym c.in_ok-ranks.ensures.ok) (row_digits c.rank_base-base.result v.live tilings c.rank_base-base.ensures k.index)) leads

@@ -4,8 +4,8 @@ use Rattle.poly_tiling.specs.declared.item.Item.TheVariants.{Cell}
 use Rattle.poly_frame.proofs.FrameItems.{noted_none, noted_one}
 use Rattle.poly_frame.proofs.frame.items.note_cell.Goals as goal
 
-pub returns-in-Some-clause-places : goal.returns-in-Some-clause-places
-returns-in-Some-clause-places c = (c.in-Some.b ∷ [], c.push_reserved.ensures.items, noted_one c.args.bounds.now (Cell c.args.cell) c.in-Some.b c.requires.order c.in-Some.ensures)
+pub returns-in-Some-clause-indices : goal.returns-in-Some-clause-indices
+returns-in-Some-clause-indices c = (c.in-Some.b ∷ [], c.push_reserved.ensures.items, noted_one c.args.bounds.now (Cell c.args.cell) c.in-Some.b c.requires.order c.in-Some.ensures)
 
-pub returns-in_default-clause-places : goal.returns-in_default-clause-places
-returns-in_default-clause-places c = ([], sym (append-nil c.args.noted.now.items), noted_none c.args.bounds.now (Cell c.args.cell) (λ b h. c.in_default.ensures b h))
+pub returns-in_default-clause-indices : goal.returns-in_default-clause-indices
+returns-in_default-clause-indices c = ([], sym (append-nil c.args.noted.now.items), noted_none c.args.bounds.now (Cell c.args.cell) (λ b h. c.in_default.ensures b h))

@@ -9,9 +9,9 @@ loop-cell-preserved c =
     record {
       len = omega arith;
       capacity = more.capacity ∙ inv.capacity;
-      places = (
-        inv.places.0 ++ more.places.0,
-        more.places.1 ∙ ap (λ xs. xs ++ more.places.0) inv.places.1 ∙ append_assoc c.args.noted.now.items inv.places.0 more.places.0,
-        noted_cell c.args.bounds.now c.args.cells.now c.loop-cell.cell-index c.cell-item.result inv.places.0 more.places.0 c.requires.ascending c.loop-cell-test.true c.cell-item.is inv.places.2 more.places.2,
+      indices = (
+        inv.indices.0 ++ more.indices.0,
+        more.indices.1 ∙ ap (λ xs. xs ++ more.indices.0) inv.indices.1 ∙ append_assoc c.args.noted.now.items inv.indices.0 more.indices.0,
+        noted_cell c.args.bounds.now c.args.cells.now c.loop-cell.cell-index c.cell-item.result inv.indices.0 more.indices.0 c.requires.ascending c.loop-cell-test.true c.cell-item.is inv.indices.2 more.indices.2,
       );
     }

@@ -7,5 +7,5 @@ abbrev pub invariant-loop-cell : goal.invariant-loop-cell
 invariant-loop-cell l = record {
   len : vec_len l.noted ≤ vec_len l.fn.noted + l.cell-index;
   capacity : vec_capacity l.noted ≡ vec_capacity l.fn.noted;
-  places : (places : List ℕ) × (l.noted.items ≡ l.fn.noted.items ++ places) × Noted l.bounds (map (λ c. Cell c) (take l.cell-index l.cells)) places;
+  indices : (indices : List ℕ) × (l.noted.items ≡ l.fn.noted.items ++ indices) × Noted l.bounds (map (λ c. Cell c) (take l.cell-index l.cells)) indices;
 }

@@ -8,11 +8,11 @@ use Rattle.poly_frame.specs.FrameItems.{Noted}
 use Rattle.poly_frame.proofs.FrameItems.{noted_piece}
 use Rattle.poly_frame.proofs.frame.items.note_items.Goals as goal
 
-pub returns-in-Some-clause-places : goal.returns-in-Some-clause-places
-returns-in-Some-clause-places c =
+pub returns-in-Some-clause-indices : goal.returns-in-Some-clause-indices
+returns-in-Some-clause-indices c =
     let v = c.args.view.now in
-    let one = c.note_item.ensures.places in
-    let more = c.note_cells.ensures.places in
+    let one = c.note_item.ensures.indices in
+    let more = c.note_cells.ensures.indices in
     let n = c.in-Some.placement.name in
     let first = subst (λ (bs : List Bound). Noted bs (Piece n ∷ []) one.0) c.items.ensures.value one.2 in
     let rest = subst (λ (cs : List Spot). Noted v.bounds (map (λ c. Cell c) cs) more.0) c.as_slice.ensures.value (subst (λ (bs : List Bound). Noted bs (map (λ c. Cell c) c.as_slice.result.now) more.0) c.items-in-Some.ensures.value more.2) in (

@@ -48,11 +48,11 @@ loop-p-preserved c = λ v M.
     let j = c.index-j.result.now in
     let same : get_or m.numbers.items j 0 ≡ p = ap (λ n. get_or m.numbers.items n 0) at ∙ s.2 in
     let E = M.lists.each j (omega (arith, at, s.1)) in
-    let new = list_at m.lists.starts.items m.lists.places.items j in
+    let new = list_at m.lists.starts.items m.lists.indices.items j in
     let noted = subst (λ q. Noted v.bounds (items v q) new) same E.noted in
     let starts = c.loop-p.starts.items in
-    let places = c.loop-p.places.items in
-    let e2 : c.extend_from_slice.new.self.items ≡ places ++ new = c.in_ok-extend_from_slice.ensures.items ∙ ap (λ xs. places ++ xs) c.of.ensures in
-    let n : c.len-in-loop-p.result ≡ length (places ++ new) = omega (arith, c.len-in-loop-p.ensures, c.extend_from_slice.new.self.ok.0, ap length e2) in
+    let indices = c.loop-p.indices.items in
+    let e2 : c.extend_from_slice.new.self.items ≡ indices ++ new = c.in_ok-extend_from_slice.ensures.items ∙ ap (λ xs. indices ++ xs) c.of.ensures in
+    let n : c.len-in-loop-p.result ≡ length (indices ++ new) = omega (arith, c.len-in-loop-p.ensures, c.extend_from_slice.new.self.ok.0, ap length e2) in
     let e1 = c.in_ok-push-2.ensures.items ∙ ap (λ k. starts ++ k ∷ []) n in
-    lists_as v ns _ _ _ _ (k + 1) (sym e1) (sym e2) (lists_more v ns starts places new k (c.loop-p.invariant v M) noted E.short)
+    lists_as v ns _ _ _ _ (k + 1) (sym e1) (sym e2) (lists_more v ns starts indices new k (c.loop-p.invariant v M) noted E.short)

@@ -5,11 +5,11 @@ use Rattle.poly_frame.proofs.frame.matrix.list_items.Goals as goal
 pub loop-p-preserved : goal.loop-p-preserved
 loop-p-preserved c =
     let starts = c.loop-p.starts.items in
-    let places = c.loop-p.places.items in
-    let new = c.note_items.ensures.places in
-    let kept : c.reserve.new.self.items ≡ places = c.reserve.ensures.items in
-    let e2 : c.note_items.new.noted.items ≡ places ++ new.0 = new.1 ∙ ap (λ xs. xs ++ new.0) kept in
+    let indices = c.loop-p.indices.items in
+    let new = c.note_items.ensures.indices in
+    let kept : c.reserve.new.self.items ≡ indices = c.reserve.ensures.items in
+    let e2 : c.note_items.new.noted.items ≡ indices ++ new.0 = new.1 ∙ ap (λ xs. xs ++ new.0) kept in
     let short : length new.0 ≤ 17 = omega (arith, c.note_items.ensures.len, c.reserve.new.self.ok.0, c.note_items.new.noted.ok.0, ap length new.1, length-append c.reserve.new.self.items new.0) in
-    let n : c.len-in-loop-p-2.result ≡ length (places ++ new.0) = omega (arith, c.len-in-loop-p-2.ensures, c.note_items.new.noted.ok.0, ap length e2) in
+    let n : c.len-in-loop-p-2.result ≡ length (indices ++ new.0) = omega (arith, c.len-in-loop-p-2.ensures, c.note_items.new.noted.ok.0, ap length e2) in
     let e1 = c.in_ok-push-2.ensures.items ∙ ap (λ k. starts ++ k ∷ []) n in
-    lists_as c.args.view.now c.args.numbers.now _ _ _ _ (c.loop-p.p-index + 1) (sym e1) (sym e2) (lists_more c.args.view.now c.args.numbers.now starts places new.0 c.loop-p.p-index c.loop-p.invariant new.2 short)
+    lists_as c.args.view.now c.args.numbers.now _ _ _ _ (c.loop-p.p-index + 1) (sym e1) (sym e2) (lists_more c.args.view.now c.args.numbers.now starts indices new.0 c.loop-p.p-index c.loop-p.invariant new.2 short)

@@ -2,4 +2,4 @@ use Rattle.poly_frame.specs.Matrices.{ListsTo}
 use Rattle.poly_frame.proofs.frame.matrix.list_items.Given as goal
 
 abbrev pub invariant-loop-p : goal.invariant-loop-p
-invariant-loop-p l = ListsTo l.view l.numbers l.starts.items l.places.items l.p-index
+invariant-loop-p l = ListsTo l.view l.numbers l.starts.items l.indices.items l.p-index

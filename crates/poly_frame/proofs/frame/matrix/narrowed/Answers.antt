@@ -51,7 +51,7 @@ with_columns-requires-clause-live c =
 pub with_columns-requires-clause-lists : goal.with_columns-requires-clause-lists
 with_columns-requires-clause-lists c =
     let lists = c.in_ok-lists.lists in
-    subst (λ (xs : List ℕ). ListsTo c.args.view.now xs lists.starts.items lists.places.items (length xs)) c.deref-3.ensures.value (c.in_ok-lists.ensures.value c.args.view.now c.requires.whole)
+    subst (λ (xs : List ℕ). ListsTo c.args.view.now xs lists.starts.items lists.indices.items (length xs)) c.deref-3.ensures.value (c.in_ok-lists.ensures.value c.args.view.now c.requires.whole)
 
 pub returns-clause-made : goal.returns-clause-made
 returns-clause-made c =

@@ -1,11 +1,11 @@
 use Rattle.std.proofs.Common.{eqb, length, take, ℕ, ◌*◌, ◌||◌, ◌≡◌}
 use Rattle.std.specs.List.{list_any}
 use Rattle.poly_frame.specs.Bits.{has_bit}
-use Rattle.poly_frame.specs.Matrices.{place}
+use Rattle.poly_frame.specs.Matrices.{bit_index}
 use Rattle.poly_frame.proofs.frame.matrix.put_each.Given as goal
 
 abbrev pub invariant-loop-b : goal.invariant-loop-b
 invariant-loop-b l = record {
   len : length l.rows.items ≡ l.width * l.items;
-  bits : (x : ℕ) → has_bit l.rows.items x ≡ (has_bit l.fn.rows.items x || list_any (λ b. eqb (place l.width b l.j) x) (take l.b-index l.places));
+  bits : (x : ℕ) → has_bit l.rows.items x ≡ (has_bit l.fn.rows.items x || list_any (λ b. eqb (bit_index l.width b l.j) x) (take l.b-index l.indices));
 }

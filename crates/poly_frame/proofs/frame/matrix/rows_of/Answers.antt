@@ -4,7 +4,7 @@ use Rattle.std.specs.List.{list_all, list_any}
 use Rattle.poly_tiling.specs.Puzzle.{has_item}
 use Rattle.poly_frame.specs.Bits.{has_bit}
 use Rattle.poly_frame.specs.FrameItems.{item_of}
-use Rattle.poly_frame.specs.Matrices.{list_at, place}
+use Rattle.poly_frame.specs.Matrices.{list_at, bit_index}
 use Rattle.poly_frame.proofs.FrameOpen.{rows_start, rows_step}
 use Rattle.poly_frame.proofs.frame.matrix.rows_of.Goals as goal
 
@@ -14,7 +14,7 @@ loop-j-init c =
     let items = ap length c.items-items.ensures.value in
     record {
       len = ap length zeros ∙ length-replicate _ 0 ∙ ap (λ n. c.args.width * n) items;
-      bits = λ b i l g. rows_start c.in_ok-rows.rows.items _ (place c.args.width b i) i (has_item c.args.view.now (get_or c.args.numbers.now i 0) (item_of c.args.view.now b)) zeros;
+      bits = λ b i l g. rows_start c.in_ok-rows.rows.items _ (bit_index c.args.width b i) i (has_item c.args.view.now (get_or c.args.numbers.now i 0) (item_of c.args.view.now b)) zeros;
     }
 
 pub of-requires-clause-high : goal.of-requires-clause-high
@@ -29,12 +29,12 @@ of-requires-clause-end c = (c.requires.lists.each c.loop-j.j c.loop-j-test.true)
 pub put_each-requires-clause-low : goal.put_each-requires-clause-low
 put_each-requires-clause-low c =
     let items = ap length c.items-items.ensures.value in
-    ap (λ xs. list_all (λ b. ltb b (length c.items-items.result.now)) xs) c.of.ensures ∙ ap (λ n. list_all (λ b. ltb b n) (list_at c.args.lists.now.starts.items c.args.lists.now.places.items c.loop-j.j)) items ∙ (c.requires.lists.each c.loop-j.j c.loop-j-test.true).noted.low
+    ap (λ xs. list_all (λ b. ltb b (length c.items-items.result.now)) xs) c.of.ensures ∙ ap (λ n. list_all (λ b. ltb b n) (list_at c.args.lists.now.starts.items c.args.lists.now.indices.items c.loop-j.j)) items ∙ (c.requires.lists.each c.loop-j.j c.loop-j-test.true).noted.low
 
 pub loop-j-preserved : goal.loop-j-preserved
 loop-j-preserved c =
     let inv = c.loop-j.invariant in
-    let bits = subst (λ (xs : List ℕ). (x : ℕ) → has_bit c.put_each.new.rows.items x ≡ (has_bit c.loop-j.rows.items x || list_any (λ b. eqb (place c.args.width b c.loop-j.j) x) xs)) c.of.ensures c.put_each.ensures.bits in
+    let bits = subst (λ (xs : List ℕ). (x : ℕ) → has_bit c.put_each.new.rows.items x ≡ (has_bit c.loop-j.rows.items x || list_any (λ b. eqb (bit_index c.args.width b c.loop-j.j) x) xs)) c.of.ensures c.put_each.ensures.bits in
     record {
       len = search rules;
       bits = rows_step c.args.view.now c.args.numbers.now c.args.width c.loop-j.j c.loop-j.rows.items c.put_each.new.rows.items _ c.loop-j-test.true c.requires.wide (c.requires.lists.each c.loop-j.j c.loop-j-test.true).noted inv.bits bits;

@@ -9,7 +9,7 @@ pub overflow_add-index_mut : goal.overflow_add-index_mut
 overflow_add-index_mut c =
     let old = c.args.have.now.items in
     let have = c.loop-b.have.items in
-    let xs = c.args.places.now in
+    let xs = c.args.indices.now in
     let k = c.loop-b.b-index in
     let low : get_or xs k 0 < length have = omega (arith, at_low old have xs k c.loop-b-test.true c.loop-b.invariant.len c.requires.low) in
     omega (arith, get_or_read have (get_or xs k 0) c.index_mut.result.now low c.index_mut.ensures.value 0, raise_fits old have xs k c.loop-b-test.true c.loop-b.invariant.len c.requires.low c.requires.small c.loop-b.invariant.more)
@@ -18,7 +18,7 @@ pub loop-b-preserved : goal.loop-b-preserved
 loop-b-preserved c =
     let old = c.args.have.now.items in
     let have = c.loop-b.have.items in
-    let xs = c.args.places.now in
+    let xs = c.args.indices.now in
     let k = c.loop-b.b-index in
     let low : get_or xs k 0 < length have = omega (arith, at_low old have xs k c.loop-b-test.true c.loop-b.invariant.len c.requires.low) in
     let read = get_or_read have (get_or xs k 0) c.index_mut.result.now low c.index_mut.ensures.value 0 in

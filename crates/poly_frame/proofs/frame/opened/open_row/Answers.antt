@@ -3,7 +3,7 @@ use Rattle.poly_tiling.specs.declared.bound.Bound.{Bound}
 use Rattle.poly_frame.specs.Bits.{has_bit}
 use Rattle.poly_frame.specs.FrameItems.{item_at}
 use Rattle.poly_frame.specs.FrameTable.{shut_at}
-use Rattle.poly_frame.specs.Matrices.{any_below, place}
+use Rattle.poly_frame.specs.Matrices.{any_below, bit_index}
 use Rattle.poly_frame.proofs.FrameSteps.{listed_at}
 use Rattle.poly_frame.proofs.Matrices.{left_open, shut_says}
 use Rattle.poly_frame.proofs.frame.opened.open_row.Goals as goal
@@ -15,7 +15,7 @@ returns-clause-value c =
     let m = c.args.whole.now in
     let M = c.requires.part in
     let n : c.len.result ≡ length m.numbers.items = c.len.ensures ∙ m.numbers.ok.0 in
-    let shut = λ (bs : List Bound) (b j : ℕ). shut_at (item_at bs b) (get_or c.args.mosts.now b 0) (get_or c.args.have.now b 0) && has_bit m.rows.items (place m.width b j) in
+    let shut = λ (bs : List Bound) (b j : ℕ). shut_at (item_at bs b) (get_or c.args.mosts.now b 0) (get_or c.args.have.now b 0) && has_bit m.rows.items (bit_index m.width b j) in
     record {
       inside = λ j h.
           let q = get_or m.numbers.items j 0 in

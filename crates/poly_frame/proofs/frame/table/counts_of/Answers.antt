@@ -10,11 +10,11 @@ raise-requires-clause-small c = λ b h.
 
 pub loop-p-preserved : goal.loop-p-preserved
 loop-p-preserved c =
-    let places = c.note_items.ensures.places in
-    let noted : c.deref.result.now ≡ places.0 = c.deref.ensures.value ∙ places.1 ∙ ap (λ xs. xs ++ places.0) c.clear.ensures.items in
+    let indices = c.note_items.ensures.indices in
+    let noted : c.deref.result.now ≡ indices.0 = c.deref.ensures.value ∙ indices.1 ∙ ap (λ xs. xs ++ indices.0) c.clear.ensures.items in
     record {
       len = c.raise.ensures.len ∙ c.loop-p.invariant.len;
       capacity = c.note_items.ensures.capacity ∙ c.clear.ensures.capacity ∙ c.loop-p.invariant.capacity;
-      shown = counted_more c.args.view.now c.args.members.now c.loop-p.p-index c.loop-p.have.items c.raise.new.have.items places.0 c.loop-p-test.true c.loop-p.invariant.shown places.2
+      shown = counted_more c.args.view.now c.args.members.now c.loop-p.p-index c.loop-p.have.items c.raise.new.have.items indices.0 c.loop-p-test.true c.loop-p.invariant.shown indices.2
           (λ b h. c.raise.ensures.more b (omega (arith, c.loop-p.invariant.len)) ∙ ap (λ xs. get_or c.loop-p.have.items b 0 + times xs b) noted);
     }

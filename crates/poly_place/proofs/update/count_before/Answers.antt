@@ -5,10 +5,10 @@ use Rattle.std.specs.Cmp.Lexicographic.{options_total}
 use Rattle.poly_design.specs.PlacementOrder.{placement_total}
 use Rattle.poly_place.specs.Touched.{comes_before}
 use Rattle.poly_place.proofs.Merging.{parted}
-use Rattle.poly_place.proofs.update.place_in.Goals as goal
+use Rattle.poly_place.proofs.update.count_before.Goals as goal
 
-pub returns-clause-place : goal.returns-clause-place
-returns-clause-place c =
+pub returns-clause-split : goal.returns-clause-split
+returns-clause-split c =
     let all = c.args.names.now in
     let n = c.args.number in
     c.partition_point.ensures.partitioned (λ m. comes_before all m n) (always_returns_same _ _ _ (λ a r f h. (search rules, search rules)))

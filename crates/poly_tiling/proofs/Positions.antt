@@ -1,4 +1,4 @@
--- The places of numbers among the live ones, and the ranks of a tiling from them.
+-- The positions of numbers among the live ones, and the ranks of a tiling from them.
 use Rattle.std.proofs.Common.{Bool, List, None, Option, Some, [], ap, arith, cond, eqb, false, get_or, inl, inr, length, map, nat_lt, refl, set, subst, suc, sym, take, true, zero, ℕ, ◌+◌, ◌++◌, ◌<◌, ◌∙◌, ◌∷◌, ◌≡◌, ◌≢◌, ◌≤◌}
 use Rattle.std.proofs.lemmas.Bool.{cases_eq, eqb-true, ltb-true, ne_eqb}
 use Rattle.std.proofs.lemmas.List.{take_more}
@@ -16,7 +16,7 @@ use Rattle.std.specs.Ordering.{is_lt, nat_cmp}
 use Rattle.poly_tiling.specs.Lists.{ascending, distinct, mem}
 use Rattle.poly_tiling.specs.Puzzle.{View}
 use Rattle.poly_tiling.specs.Names.{WellNamed}
-use Rattle.poly_tiling.specs.TilingOrder.{ArePlaces, place_at, ranks_from, tiling_cmp}
+use Rattle.poly_tiling.specs.TilingOrder.{ArePositions, position_at, ranks_from, tiling_cmp}
 use Rattle.poly_tiling.proofs.Lists.{In, all_in, any_in, in_mem, mem_in}
 use Rattle.poly_tiling.proofs.Ascending.{ascending_from, ascending_same, distinct_rest, not_head}
 use Rattle.poly_tiling.proofs.Contained.{at_in, get_in}
@@ -67,16 +67,16 @@ one_at (x ∷ xs) h zero (suc j) n a b = let e : x ≡ n = cc in absurd (not_hea
 one_at (x ∷ xs) h (suc i) zero n a b = let e : x ≡ n = cc in absurd (not_head x xs h (subst (λ z. In z xs) (sym e) (get_in xs i n a)))
 one_at (x ∷ xs) h (suc i) (suc j) n a b = ap suc (one_at xs (distinct_rest x xs h) i j n a b)
 
-same_place : (i k : ℕ) → Some (Some i) ≡ Some (Some k) → i ≡ k
-same_place i k e = cc
+same_position : (i k : ℕ) → Some (Some i) ≡ Some (Some k) → i ≡ k
+same_position i k e = cc
 
--- one more number gets its place
+-- one more number gets its position
 pub mark_more : (live : List ℕ) (table : List (Option ℕ)) (i d : ℕ) → distinct live ≡ true → i < length live → get_or live i d < length table →
-    ArePlaces (take i live) table → ArePlaces (take (i + 1) live) (set table (get_or live i d) (Some i))
+    ArePositions (take i live) table → ArePositions (take (i + 1) live) (set table (get_or live i d) (Some i))
 mark_more live table i d once low fits marked n k = elim (cases_eq (get_or live i d) n) [
   | inl e ↦ (
     λ h.
-        let is : i ≡ k = same_place i k (sym (set_here table (get_or live i d) (Some i) fits) ∙ ap (λ m. slice_get (set table (get_or live i d) (Some i)) m) e ∙ h) in
+        let is : i ≡ k = same_position i k (sym (set_here table (get_or live i d) (Some i) fits) ∙ ap (λ m. slice_get (set table (get_or live i d) (Some i)) m) e ∙ h) in
         take_get (i + 1) live k (omega arith) ∙ ap (λ m. slice_get live m) (sym is) ∙ get_is live i d low ∙ ap Some e,
     λ h.
         let l = take_low (i + 1) live k n h in
@@ -114,20 +114,20 @@ pub ranks_up : (s : ℕ) (ns T : List ℕ) → ascending (ranks_from s ns T) ≡
 ranks_up s [] T = refl
 ranks_up s (n ∷ ns) T = ranks_up_at s ns T (ranks_up (s + 1) ns T) (mem T n)
 
--- a rank is the place of one of the tiling's numbers
+-- a rank is the position of one of the tiling's numbers
 record IsRank (s : ℕ) (ns T : List ℕ) (k : ℕ) : Type 0 where
-  place : ℕ
-  counted : k ≡ s + place
+  position : ℕ
+  counted : k ≡ s + position
   number : ℕ
-  there : slice_get ns place ≡ Some number
+  there : slice_get ns position ≡ Some number
   has : mem T number ≡ true
 
 later : (s n : ℕ) (ns T : List ℕ) (k : ℕ) → IsRank (s + 1) ns T k → IsRank s (n ∷ ns) T k
-later s n ns T k r = record { place = suc r.place; counted = let e = r.counted in omega (arith, e); number = r.number; there = r.there; has = r.has }
+later s n ns T k r = record { position = suc r.position; counted = let e = r.counted in omega (arith, e); number = r.number; there = r.there; has = r.has }
 
 ranks_is_at : (s n : ℕ) (ns T : List ℕ) (k : ℕ) → (In k (ranks_from (s + 1) ns T) → IsRank (s + 1) ns T k) → (b : Bool) → mem T n ≡ b →
     In k (cond b (s ∷ ranks_from (s + 1) ns T) (ranks_from (s + 1) ns T)) → IsRank s (n ∷ ns) T k
-ranks_is_at s n ns T k ih true e (inl is) = record { place = zero; counted = omega (arith, is); number = n; there = refl; has = e }
+ranks_is_at s n ns T k ih true e (inl is) = record { position = zero; counted = omega (arith, is); number = n; there = refl; has = e }
 ranks_is_at s n ns T k ih true e (inr i) = later s n ns T k (ih i)
 ranks_is_at s n ns T k ih false e i = later s n ns T k (ih i)
 
@@ -148,7 +148,7 @@ is_rank s [] T j n k e h c = cc
 is_rank s (m ∷ ns) T zero n k e h c = let is : m ≡ n = cc in subst (λ z. In z (ranks_from s (m ∷ ns) T)) (omega arith) (rank_here_at s ns T (mem T m) (ap (λ z. mem T z) is ∙ h))
 is_rank s (m ∷ ns) T (suc j) n k e h c = rank_in_at s ns T k (is_rank (s + 1) ns T j n k e h (omega arith)) (mem T m)
 
--- ---- the places of some numbers
+-- ---- the positions of some numbers
 
 some_in : {X Y : Type 0} (f : X → Option Y) (y : Y) (ys : List Y) (o : Option Y) → In y ys → In y (cons_option o ys)
 some_in f y ys None i = i
@@ -169,39 +169,39 @@ filter_map_in : {X Y : Type 0} (f : X → Option Y) (xs : List X) (y : Y) → In
 filter_map_in f [] y i = absurd i
 filter_map_in f (z ∷ xs) y i = filter_map_in_at f z xs y (f z) refl (filter_map_in f xs y) i
 
-place_from_at : (o : Option (Option ℕ)) (k : ℕ) → option_flatten o ≡ Some k → o ≡ Some (Some k)
-place_from_at None k e = cc
-place_from_at (Some o) k e = ap Some e
+position_from_at : (o : Option (Option ℕ)) (k : ℕ) → option_flatten o ≡ Some k → o ≡ Some (Some k)
+position_from_at None k e = cc
+position_from_at (Some o) k e = ap Some e
 
-place_from : (table : List (Option ℕ)) (n k : ℕ) → place_at table n ≡ Some k → slice_get table n ≡ Some (Some k)
-place_from table n k e = place_from_at (slice_get table n) k e
+position_from : (table : List (Option ℕ)) (n k : ℕ) → position_at table n ≡ Some k → slice_get table n ≡ Some (Some k)
+position_from table n k e = position_from_at (slice_get table n) k e
 
-place_to : (table : List (Option ℕ)) (n k : ℕ) → slice_get table n ≡ Some (Some k) → place_at table n ≡ Some k
-place_to table n k e = ap (λ o. option_flatten o) e
+position_to : (table : List (Option ℕ)) (n k : ℕ) → slice_get table n ≡ Some (Some k) → position_at table n ≡ Some k
+position_to table n k e = ap (λ o. option_flatten o) e
 
-place_is : (k j : ℕ) → k ≡ 0 + j → k ≡ j
-place_is k j e = omega arith
+position_is : (k j : ℕ) → k ≡ 0 + j → k ≡ j
+position_is k j e = omega arith
 
--- the places of a tiling's numbers, sorted and each once, are its ranks
-pub ranks_are : (live T : List ℕ) (table : List (Option ℕ)) (sorted out : List ℕ) → ArePlaces live table → IsPermutation (filter_map (place_at table) T) sorted → IsSorted nat_cmp sorted →
+-- the positions of a tiling's numbers, sorted and each once, are its ranks
+pub ranks_are : (live T : List ℕ) (table : List (Option ℕ)) (sorted out : List ℕ) → ArePositions live table → IsPermutation (filter_map (position_at table) T) sorted → IsSorted nat_cmp sorted →
     IsFiltered (DiffersFromLast eqb) [] sorted out → out ≡ ranks_from 0 live T
 ranks_are live T table sorted out marked moved up kept = ascending_same out (ranks_from 0 live T) (sorted_ascend sorted out up kept) (ranks_up 0 live T)
     (λ k i.
-    let r = filter_map_in (place_at table) T k (mem_in _ k (sym (sorted_same (filter_map (place_at table) T) sorted out moved kept k) ∙ in_mem out k i)) in
-    is_rank 0 live T k r.0 k ((marked r.0 k).0 (place_from table r.0 k r.2)) (in_mem T r.0 r.1) (omega arith))
+    let r = filter_map_in (position_at table) T k (mem_in _ k (sym (sorted_same (filter_map (position_at table) T) sorted out moved kept k) ∙ in_mem out k i)) in
+    is_rank 0 live T k r.0 k ((marked r.0 k).0 (position_from table r.0 k r.2)) (in_mem T r.0 r.1) (omega arith))
     (λ k i.
     let r = ranks_is 0 live T k i in
-    let there : slice_get live k ≡ Some r.number = (let e = r.counted in ap (λ m. slice_get live m) (place_is k r.place e) ∙ r.there) in
-    mem_in out k (sorted_same (filter_map (place_at table) T) sorted out moved kept k
-    ∙ in_mem (filter_map (place_at table) T) k (in_filter_map (place_at table) T r.number k (mem_in T r.number r.has) (place_to table r.number k ((marked r.number k).1 there)))))
+    let there : slice_get live k ≡ Some r.number = (let e = r.counted in ap (λ m. slice_get live m) (position_is k r.position e) ∙ r.there) in
+    mem_in out k (sorted_same (filter_map (position_at table) T) sorted out moved kept k
+    ∙ in_mem (filter_map (position_at table) T) k (in_filter_map (position_at table) T r.number k (mem_in T r.number r.has) (position_to table r.number k ((marked r.number k).1 there)))))
 
 one_option : {Y : Type 0} (ys : List Y) (o : Option Y) → ys ++ cons_option o [] ≡ ys ++ option_to_list o
 one_option ys None = refl
 one_option ys (Some y) = refl
 
--- one more number's place
-pub places_more : {X Y : Type 0} (f : X → Option Y) (xs : List X) (i : ℕ) (d : X) → i < length xs → filter_map f (take (i + 1) xs) ≡ filter_map f (take i xs) ++ option_to_list (f (get_or xs i d))
-places_more f xs i d l = rw (take_more xs i d l, filter_map-append f (take i xs) (get_or xs i d ∷ [])) (one_option (filter_map f (take i xs)) (f (get_or xs i d)))
+-- one more number's position
+pub positions_more : {X Y : Type 0} (f : X → Option Y) (xs : List X) (i : ℕ) (d : X) → i < length xs → filter_map f (take (i + 1) xs) ≡ filter_map f (take i xs) ++ option_to_list (f (get_or xs i d))
+positions_more f xs i d l = rw (take_more xs i d l, filter_map-append f (take i xs) (get_or xs i d ∷ [])) (one_option (filter_map f (take i xs)) (f (get_or xs i d)))
 
 -- the next number has a row in the table
 pub number_fits : (list : List ℕ) (count i d : ℕ) → list_all (λ n. nat_lt n count) list ≡ true → i < length list → get_or list i d < count

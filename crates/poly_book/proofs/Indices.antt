@@ -25,17 +25,17 @@ filled (Some n) = true
 no_some : (i : ℕ) → None ≡ Some i → ⊥
 no_some i e = true≢false (sym (ap filled e))
 
-place_one : (k j : ℕ) (p : Pending) (ps : List Pending) (i : ℕ) (b : Bool) → (position_from (λ p. p.number == k) (j + 1) ps ≡ Some i → (m : ℕ) × (i ≡ (j + 1) + m) × At k ps m) → (p.number == k) ≡ b →
+index_one : (k j : ℕ) (p : Pending) (ps : List Pending) (i : ℕ) (b : Bool) → (position_from (λ p. p.number == k) (j + 1) ps ≡ Some i → (m : ℕ) × (i ≡ (j + 1) + m) × At k ps m) → (p.number == k) ≡ b →
     cond b (Some j) (position_from (λ p. p.number == k) (j + 1) ps) ≡ Some i → (m : ℕ) × (i ≡ j + m) × At k (p ∷ ps) m
-place_one k j p ps i true ih h e = (0, omega (arith, ap or_zero e), h)
-place_one k j p ps i false ih h e = let r = ih e in (suc r.0, omega (arith, r.1), (h, r.2))
+index_one k j p ps i true ih h e = (0, omega (arith, ap or_zero e), h)
+index_one k j p ps i false ih h e = let r = ih e in (suc r.0, omega (arith, r.1), (h, r.2))
 
-place_at : (k j : ℕ) (ps : List Pending) (i : ℕ) → position_from (λ p. p.number == k) j ps ≡ Some i → (m : ℕ) × (i ≡ j + m) × At k ps m
-place_at k j [] i e = absurd (no_some i e)
-place_at k j (p ∷ ps) i e = place_one k j p ps i (p.number == k) (place_at k (j + 1) ps i) refl e
+index_at : (k j : ℕ) (ps : List Pending) (i : ℕ) → position_from (λ p. p.number == k) j ps ≡ Some i → (m : ℕ) × (i ≡ j + m) × At k ps m
+index_at k j [] i e = absurd (no_some i e)
+index_at k j (p ∷ ps) i e = index_one k j p ps i (p.number == k) (index_at k (j + 1) ps i) refl e
 
 pub first_at : (k : ℕ) (ps : List Pending) (i : ℕ) → position_from (λ p. p.number == k) 0 ps ≡ Some i → At k ps i
-first_at k ps i e = let r = place_at k 0 ps i e in let h : r.0 ≡ i = omega (arith, r.1) in subst (λ m. At k ps m) h r.2
+first_at k ps i e = let r = index_at k 0 ps i e in let h : r.0 ≡ i = omega (arith, r.1) in subst (λ m. At k ps m) h r.2
 
 pub at_below : (k : ℕ) (ps : List Pending) (m : ℕ) → At k ps m → m < length ps
 at_below k [] m h = absurd h
@@ -77,7 +77,7 @@ behind m n log [] i d r l = absurd (omega (arith, l))
 behind m n log (p ∷ ps) zero d r l = r.0
 behind m n log (p ∷ ps) (suc i) d r l = omega (arith, r.0, behind (p.number + 1) n log ps i d r.1 (omega (arith, l)))
 
--- in a rising list each number is found at its own place
+-- in a rising list each number is found at its own index
 pub found_where : (m n j : ℕ) (log : List (List Atom)) (ps : List Pending) (i : ℕ) (d : Pending) → Rising m (tasks_of log ps) n → i < length ps → position_from (λ p. p.number == (get_or ps i d).number) j ps ≡ Some (j + i)
 found_where m n j log [] i d r l = absurd (omega (arith, l))
 found_where m n j log (p ∷ ps) zero d r l =
@@ -90,7 +90,7 @@ found_where m n j log (p ∷ ps) (suc i) d r l =
     let same : (j + 1) + i ≡ j + suc i = omega arith in
     ap (λ b. cond b (Some j) (position_from (λ q. q.number == k) (j + 1) ps)) (ne_eqb p.number k other) ∙ found_where (p.number + 1) n (j + 1) log ps i d r.1 low ∙ ap (λ x. Some x) same
 
--- the task of the number at a place is the one there
+-- the task of the number at a index is the one there
 pub find_where : (m n : ℕ) (log : List (List Atom)) (ps : List Pending) (i : ℕ) (d : Pending) → Rising m (tasks_of log ps) n → i < length ps → find_task (get_or ps i d).number (tasks_of log ps) ≡ Some (task_of log (get_or ps i d))
 find_where m n log ps i d r l =
     let e : position_from (λ p. p.number == (get_or ps i d).number) 0 ps ≡ Some i = found_where m n 0 log ps i d r l ∙ ap (λ x. Some x) (let z : 0 + i ≡ i = omega arith in z) in

@@ -1,8 +1,8 @@
 use Rattle.std.proofs.Common.{ap, arith, get_or, length, ◌<◌, ◌∙◌, ◌≡◌}
 use Rattle.std.proofs.lemmas.List.{get_or_read}
 use Rattle.poly_frame.proofs.FrameSteps.{not_listed}
-use Rattle.poly_frame.proofs.frame.matrix.Matrix.place_of.Goals as goal
-use Rattle.poly_frame.proofs.frame.matrix.Matrix.place_of.Goals.{else-j-len-via-else-j-len, else-j-len-via-then-j-len+else-index-number}
+use Rattle.poly_frame.proofs.frame.matrix.Matrix.column_of.Goals as goal
+use Rattle.poly_frame.proofs.frame.matrix.Matrix.column_of.Goals.{else-j-len-via-else-j-len, else-j-len-via-then-j-len+else-index-number}
 
 pub returns-else-j-len : goal.returns-else-j-len
 returns-else-j-len c =

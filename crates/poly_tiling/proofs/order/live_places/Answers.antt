@@ -1,7 +1,0 @@
-use Rattle.std.proofs.Common.{subst, sym, true, ◌≡◌}
-use Rattle.poly_tiling.specs.Lists.{distinct}
-use Rattle.poly_tiling.proofs.Orders.{live_once}
-use Rattle.poly_tiling.proofs.order.live_places.Goals as goal
-
-pub place_table-requires-clause-once : goal.place_table-requires-clause-once
-place_table-requires-clause-once c = subst (λ l. distinct l ≡ true) (sym c.live.ensures.value) (live_once c.args.view.now c.live.ensures.well)
