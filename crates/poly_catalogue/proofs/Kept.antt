@@ -15,7 +15,7 @@ use Rattle.poly_catalogue.specs.Rows.{at, moved, row, span}
 use Rattle.poly_catalogue.proofs.Agreed.{respects}
 use Rattle.poly_catalogue.proofs.Sought.{ascending_once, last_greatest}
 use Rattle.poly_catalogue.proofs.Swaps.{last_at, length_swap_remove, swapped_at, swapped_once}
-use Rattle.poly_catalogue.proofs.Written.{empty_row, row_before, row_pushed, some_low}
+use Rattle.poly_catalogue.proofs.Written.{row_before, row_pushed, some_low}
 
 none_some : {X : Type 0} (x : X) (o : Option X) → o ≡ None → o ≡ Some x → ⊥
 none_some x o a b = cc
@@ -47,17 +47,17 @@ span_at ts T a b = elim (cases_eq a (length ts)) [
     other us a b n = grind (arith, nat_tests)
 
 -- room for one more
-pub pushed_agree : (ts bs rs rs1 : List (List ℕ)) (T : List ℕ) (n : ℕ) → n ≡ length ts → Agree (at ts) (at bs) (at rs) → ((a b : ℕ) → at rs1 a b ≡ at rs a b) → Agree (span (at (ts ++ T ∷ [])) n 0 0) (at (bs ++ [] ∷ [])) (at rs1)
-pushed_agree ts bs rs rs1 T n e g same = respects (at ts) (at bs) (at rs) (span (at (ts ++ T ∷ [])) n 0 0) (at (bs ++ [] ∷ [])) (at rs1) g
-    (λ a b. ap (λ z. span (at (ts ++ T ∷ [])) z 0 0 a b) e ∙ span_at ts T a b) (λ a b p h. empty_row bs a b) same
+pub pushed_agree : (ts bs bs1 rs rs1 : List (List ℕ)) (T : List ℕ) (n : ℕ) → n ≡ length ts → Agree (at ts) (at bs) (at rs) → ((a b p : ℕ) → at bs a b ≡ Some p → at bs1 a b ≡ Some p) → ((a b : ℕ) → at rs1 a b ≡ at rs a b) → Agree (span (at (ts ++ T ∷ [])) n 0 0) (at bs1) (at rs1)
+pushed_agree ts bs bs1 rs rs1 T n e g kept same = respects (at ts) (at bs) (at rs) (span (at (ts ++ T ∷ [])) n 0 0) (at bs1) (at rs1) g
+    (λ a b. ap (λ z. span (at (ts ++ T ∷ [])) z 0 0 a b) e ∙ span_at ts T a b) (λ a b p h. let r = g.entered a b p h in kept a b r.0 r.1 ∙ sym r.1) same
 
 -- the index may have more rows, if they are empty
-pub same_index : (ts bs rs rs1 : List (List ℕ)) → IsIndex ts bs rs → ((a b : ℕ) → at rs1 a b ≡ at rs a b) → IsIndex ts bs rs1
-same_index ts bs rs rs1 x same = record {
+pub same_index : (ts bs bs1 rs rs1 : List (List ℕ)) → IsIndex ts bs rs → length bs1 ≡ length bs → ((a b p : ℕ) → at bs a b ≡ Some p → at bs1 a b ≡ Some p) → ((a b : ℕ) → at rs1 a b ≡ at rs a b) → IsIndex ts bs1 rs1
+same_index ts bs bs1 rs rs1 x even kept same = record {
   few = x.few;
-  even = x.even;
+  even = even ∙ x.even;
   once = x.once;
-  agree = respects (at ts) (at bs) (at rs) (at ts) (at bs) (at rs1) x.agree (λ a b. refl) (λ a b p h. refl) same;
+  agree = respects (at ts) (at bs) (at rs) (at ts) (at bs1) (at rs1) x.agree (λ a b. refl) (λ a b p h. let r = x.agree.entered a b p h in kept a b r.0 r.1 ∙ sym r.1) same;
 }
 
 -- after one more tiling
@@ -97,15 +97,16 @@ swap_default : (xs : List (List ℕ)) (t : ℕ) (d e : List ℕ) → t < length 
 swap_default xs t d e l = ap (λ z. take (length xs - 1) (set xs t z)) (get_or_default xs (length xs - 1) d e (omega arith))
 
 -- the last tiling takes the index of another
-pub renamed_index : (ts bs rs : List (List ℕ)) (t : ℕ) (T B : List ℕ) → t < length ts → length ts < 2 ^ 32 → Once (at ts) → length bs ≡ length ts → Agree (at (swap_remove ts t [])) (at (swap_remove bs t [])) (at rs) → IsIndex (swap_remove ts t T) (swap_remove bs t B) rs
-renamed_index ts bs rs t T B l few once even g = record {
+pub renamed_index : (ts bs bs1 rs : List (List ℕ)) (t : ℕ) (T : List ℕ) → t < length ts → length ts < 2 ^ 32 → Once (at ts) → length bs ≡ length ts → length bs1 + 1 ≡ length bs → ((a b : ℕ) → at bs1 a b ≡ at (swap_remove bs t []) a b) →
+    Agree (at (swap_remove ts t [])) (at (swap_remove bs t [])) (at rs) → IsIndex (swap_remove ts t T) bs1 rs
+renamed_index ts bs bs1 rs t T l few once even less same g = record {
   few = omega (arith, length_swap_remove ts t T l);
-  even = omega (arith, length_swap_remove ts t T l, length_swap_remove bs t B (omega arith));
+  even = omega (arith, length_swap_remove ts t T l, even, less);
   once = swapped_once ts t T l once;
   agree =
       let a : swap_remove ts t T ≡ swap_remove ts t [] = swap_default ts t T [] l in
-      let b : swap_remove bs t B ≡ swap_remove bs t [] = swap_default bs t B [] (omega arith) in
-      subst (λ us. Agree (at us) (at (swap_remove bs t B)) (at rs)) (sym a) (subst (λ us. Agree (at (swap_remove ts t [])) (at us) (at rs)) (sym b) g);
+      subst (λ us. Agree (at us) (at bs1) (at rs)) (sym a)
+      (respects (at (swap_remove ts t [])) (at (swap_remove bs t [])) (at rs) (at (swap_remove ts t [])) (at bs1) (at rs) g (λ a b. refl) (λ a b p h. same a b) (λ a b. refl));
 }
 
 pub last_stays : (ts bs rs : List (List ℕ)) (t : ℕ) → t + 1 ≡ length ts → length bs ≡ length ts → Agree (span (at ts) t 0 0) (at bs) (at rs) → Agree (at (swap_remove ts t [])) (at (swap_remove bs t [])) (at rs)

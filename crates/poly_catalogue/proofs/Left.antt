@@ -81,21 +81,20 @@ pub span_next : (f : ℕ → ℕ → Option ℕ) (t n : ℕ) → span f t 0 n t 
 span_next f t n = grind (arith, nat_tests)
 
 -- an entry at the ends of two rows
-pub entered : (ts bs rs bs1 rs1 : List (List ℕ)) (t k p j : ℕ) → at ts t k ≡ Some p → length (row bs t) ≡ k → j ≡ length (row rs p) → Puts bs t (length (row bs t)) (Some j) bs1 → Puts rs p (length (row rs p)) (Some t) rs1 →
+pub entered : (ts bs rs bs1 rs1 : List (List ℕ)) (t k p j : ℕ) → at ts t k ≡ Some p → j ≡ length (row rs p) → Puts bs t k (Some j) bs1 → Puts rs p (length (row rs p)) (Some t) rs1 →
     (numbers : ℕ → ℕ → Option ℕ) → Agree numbers (at bs) (at rs) → numbers t k ≡ None → Agree (but numbers t k (at ts t k)) (at bs1) (at rs1)
-entered ts bs rs bs1 rs1 t k p j has long index told put numbers g lack =
-    let told1 : (a b : ℕ) → at bs1 a b ≡ but (at bs) t k (Some j) a b = λ a b. told a b ∙ ap (λ z. but (at bs) t z (Some j) a b) long in
-    let g1 = respects numbers (at bs) (at rs) numbers (at bs1) (at rs) g (λ a b. refl) (λ a b q h. told1 a b ∙ but_else (at bs) t k (Some j) a b (λ z. none_some q (numbers a b) (let x : numbers a b ≡ numbers t k = λ i. numbers (z.0 i) (z.1 i) in x ∙ lack) h)) (λ a b. refl) in
-    let g2 = given numbers (at bs1) (at rs) g1 t k p j lack (told1 t k ∙ but_here (at bs) t k (Some j) t k refl refl) (slice_get_past (row rs p) j (omega arith)) in
+entered ts bs rs bs1 rs1 t k p j has index told put numbers g lack =
+    let g1 = respects numbers (at bs) (at rs) numbers (at bs1) (at rs) g (λ a b. refl) (λ a b q h. told a b ∙ but_else (at bs) t k (Some j) a b (λ z. none_some q (numbers a b) (let x : numbers a b ≡ numbers t k = λ i. numbers (z.0 i) (z.1 i) in x ∙ lack) h)) (λ a b. refl) in
+    let g2 = given numbers (at bs1) (at rs) g1 t k p j lack (told t k ∙ but_here (at bs) t k (Some j) t k refl refl) (slice_get_past (row rs p) j (omega arith)) in
     respects (but numbers t k (Some p)) (at bs1) (but (at rs) p j (Some t)) (but numbers t k (at ts t k)) (at bs1) (at rs1) g2
     (λ a b. ap (λ o. but numbers t k o a b) has) (λ a b q h. refl) (λ a b. put a b ∙ ap (λ z. but (at rs) p z (Some t) a b) (sym index))
 
 -- positions of a number that has no entry may be anything
-pub told_only : (bs rs bs1 : List (List ℕ)) (t k : ℕ) (o : Option ℕ) → length (row bs t) ≡ k → Puts bs t (length (row bs t)) o bs1 →
+pub told_only : (bs rs bs1 : List (List ℕ)) (t k : ℕ) (o : Option ℕ) → Puts bs t k o bs1 →
     (numbers : ℕ → ℕ → Option ℕ) → Agree numbers (at bs) (at rs) → numbers t k ≡ None → Agree numbers (at bs1) (at rs)
-told_only bs rs bs1 t k o long told numbers g lack =
+told_only bs rs bs1 t k o told numbers g lack =
     respects numbers (at bs) (at rs) numbers (at bs1) (at rs) g (λ a b. refl)
-    (λ a b q h. told a b ∙ ap (λ z. but (at bs) t z o a b) long ∙ but_else (at bs) t k o a b (λ z. none_some q (numbers a b) (let x : numbers a b ≡ numbers t k = λ i. numbers (z.0 i) (z.1 i) in x ∙ lack) h))
+    (λ a b q h. told a b ∙ but_else (at bs) t k o a b (λ z. none_some q (numbers a b) (let x : numbers a b ≡ numbers t k = λ i. numbers (z.0 i) (z.1 i) in x ∙ lack) h))
     (λ a b. refl)
 
 pub entered_more : (f B R : ℕ → ℕ → Option ℕ) (t n : ℕ) → Agree (but (span f t 0 n) t n (f t n)) B R → Agree (span f t 0 (n + 1)) B R

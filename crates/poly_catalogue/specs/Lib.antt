@@ -1,5 +1,6 @@
 pub mod Rows
 pub mod Index
+pub mod Table
 pub mod Flags
 pub mod Leads
 pub mod Listed

@@ -8,6 +8,7 @@ ghost use Rattle.poly_tiling.specs.Lists.{ascending, mem};
 ghost use Rattle.poly_catalogue.specs.Rows.{at, but, half, moved, over, row, span};
 ghost use Rattle.poly_catalogue.specs.Index.{Agree, HasEntry, HasPart, IsPart, Once, TakesOver};
 
+use crate::positions::Positions;
 use crate::row::Row;
 use crate::rows::{append, count, cut, put, read};
 use poly_grid::Refusal;
@@ -44,7 +45,7 @@ fn find(numbers: &[u32], number: u32) -> usize
 // Copies the last entry of a row over another entry, and notes the new position for the tiling of that last entry.
 fn move_last_over(
     tilings: &[Tiling],
-    positions: &mut [Row],
+    positions: &mut Positions,
     rows: &mut [Row],
     number: u32,
     position: u32,
@@ -52,29 +53,31 @@ fn move_last_over(
     requires once { Once (at tilings.now) }
     requires part { HasPart tilings.now positions.old rows.old }
     requires there { IsSome (at rows.old number position) }
-    ensures { TakesOver tilings.now positions.old rows.old number position positions.new rows.new }
+    ensures even { length positions.new ≡ length positions.old }
+    ensures over { TakesOver tilings.now positions.old rows.old number position positions.new rows.new }
 {
     let last = count(rows, number as usize) - 1;
     let tiling = read(rows, number as usize, last);
     put(rows, number as usize, position as usize, tiling);
     let nth = nth_of(tilings, tiling as usize, number);
-    put(positions, tiling as usize, nth, position);
+    positions.set(tiling as usize, nth, position);
 }
 
 // Removes a tiling from the row of one of its numbers.
 fn remove_entry(
     tilings: &[Tiling],
-    positions: &mut [Row],
+    positions: &mut Positions,
     rows: &mut [Row],
     tiling: usize,
     nth: usize,
 )
     requires once { Once (at tilings.now) }
     requires has { HasEntry tilings.now positions.old rows.old tiling nth }
-    ensures { (numbers : ℕ → ℕ → Option ℕ) (p : ℕ) → IsPart numbers (at tilings.now) → Agree numbers (at positions.old) (at rows.old) → numbers tiling nth ≡ Some p → Agree (but numbers tiling nth None) (at positions.new) (at rows.new) }
+    ensures even { length positions.new ≡ length positions.old }
+    ensures gone { (numbers : ℕ → ℕ → Option ℕ) (p : ℕ) → IsPart numbers (at tilings.now) → Agree numbers (at positions.old) (at rows.old) → numbers tiling nth ≡ Some p → Agree (but numbers tiling nth None) (at positions.new) (at rows.new) }
 {
     let number = number_of(tilings, tiling, nth);
-    let position = read(positions, tiling, nth);
+    let position = positions.get(tiling, nth);
     if position as usize + 1 == count(rows, number as usize) {
         cut(rows, number as usize);
         return;
@@ -86,7 +89,7 @@ fn remove_entry(
 /// Removes a tiling from the rows of its first `count` numbers.
 pub(crate) fn remove_entries(
     tilings: &[Tiling],
-    positions: &mut [Row],
+    positions: &mut Positions,
     rows: &mut [Row],
     tiling: usize,
     count: usize,
@@ -94,7 +97,8 @@ pub(crate) fn remove_entries(
     requires once { Once (at tilings.now) }
     requires count { count ≤ length (row tilings.now tiling) }
     requires agree { Agree (span (at tilings.now) tiling 0 count) (at positions.old) (at rows.old) }
-    ensures { Agree (span (at tilings.now) tiling 0 0) (at positions.new) (at rows.new) }
+    ensures even { length positions.new ≡ length positions.old }
+    ensures gone { Agree (span (at tilings.now) tiling 0 0) (at positions.new) (at rows.new) }
 {
     for nth in 0..count {
         remove_entry(tilings, positions, rows, tiling, nth);
@@ -104,42 +108,42 @@ pub(crate) fn remove_entries(
 // Adds a tiling to the row of one of its numbers. Fails only with `Memory`.
 fn add_entry(
     tilings: &[Tiling],
-    positions: &mut [Row],
+    positions: &mut Positions,
     rows: &mut [Row],
     tiling: usize,
     nth: usize,
 ) -> Result<(), Refusal>
     requires here { IsSome (at tilings.now tiling nth) }
-    requires back { tiling < length positions.old }
-    requires next { length (row positions.old tiling) ≡ nth }
+    requires room { IsSome (at positions.old tiling nth) }
     requires there { (p : ℕ) → at tilings.now tiling nth ≡ Some p → p < length rows.old }
     requires short { (p : ℕ) → length (row rows.old p) < 2 ^ 32 }
     requires few { tiling < 2 ^ 32 }
     ensures ok { (numbers : ℕ → ℕ → Option ℕ) → Agree numbers (at positions.old) (at rows.old) → numbers tiling nth ≡ None → OnOk result (Agree (but numbers tiling nth (at tilings.now tiling nth)) (at positions.new) (at rows.new)) }
-    ensures next { OnOk result (length (row positions.new tiling) ≡ nth + 1) }
+    ensures even { length positions.new ≡ length positions.old }
+    ensures wide { (a : ℕ) → length (row positions.new a) ≡ length (row positions.old a) }
     ensures err { (numbers : ℕ → ℕ → Option ℕ) → Agree numbers (at positions.old) (at rows.old) → numbers tiling nth ≡ None → OnErr result (Agree numbers (at positions.new) (at rows.new)) }
     ensures why { IfErr result (λ e. e ≡ Refusal.Memory) }
 {
     let number = number_of(tilings, tiling, nth) as usize;
     let position = count(rows, number) as u32;
-    append(positions, tiling, position)?;
+    positions.set(tiling, nth, position);
     append(rows, number, tiling as u32)
 }
 
 /// Adds a tiling to the rows of its numbers. Fails only with `Memory`, and then the tiling is in none of them.
 pub(crate) fn add_entries(
     tilings: &[Tiling],
-    positions: &mut [Row],
+    positions: &mut Positions,
     rows: &mut [Row],
     tiling: usize,
 ) -> Result<(), Refusal>
     requires once { Once (at tilings.now) }
     requires there { tiling < length tilings.now }
-    requires even { length positions.old ≡ length tilings.now }
-    requires empty { row positions.old tiling ≡ [] }
+    requires room { length (row tilings.now tiling) ≤ length (row positions.old tiling) }
     requires rows { list_all (λ p. nat_lt p (length rows.old)) (row tilings.now tiling) ≡ true }
     requires few { length tilings.now < 2 ^ 32 }
     requires agree { Agree (span (at tilings.now) tiling 0 0) (at positions.old) (at rows.old) }
+    ensures even { length positions.new ≡ length positions.old }
     ensures ok { OnOk result (Agree (at tilings.now) (at positions.new) (at rows.new)) }
     ensures err { OnErr result (Agree (span (at tilings.now) tiling 0 0) (at positions.new) (at rows.new)) }
     ensures why { IfErr result (λ e. e ≡ Refusal.Memory) }
@@ -154,7 +158,12 @@ pub(crate) fn add_entries(
 }
 
 /// Writes the index of a tiling without entries into the entries of the last tiling, which is to move there.
-pub(crate) fn reindex_last(tilings: &[Tiling], positions: &[Row], rows: &mut [Row], index: usize)
+pub(crate) fn reindex_last(
+    tilings: &[Tiling],
+    positions: &Positions,
+    rows: &mut [Row],
+    index: usize,
+)
     requires there { index < length tilings.now }
     requires even { length positions.now ≡ length tilings.now }
     requires once { Once (at tilings.now) }
@@ -170,7 +179,7 @@ pub(crate) fn reindex_last(tilings: &[Tiling], positions: &[Row], rows: &mut [Ro
 }
 
 // Writes the index of a tiling without entries into the entries of another tiling.
-fn reindex(tilings: &[Tiling], positions: &[Row], rows: &mut [Row], from: usize, to: usize)
+fn reindex(tilings: &[Tiling], positions: &Positions, rows: &mut [Row], from: usize, to: usize)
     requires apart { from ≢ to }
     requires once { Once (at tilings.now) }
     requires there { from < length tilings.now }
@@ -185,7 +194,7 @@ fn reindex(tilings: &[Tiling], positions: &[Row], rows: &mut [Row], from: usize,
 
 fn reindex_entry(
     tilings: &[Tiling],
-    positions: &[Row],
+    positions: &Positions,
     rows: &mut [Row],
     from: usize,
     to: usize,
@@ -199,6 +208,6 @@ fn reindex_entry(
     ensures { Agree (half (at tilings.now) from to (nth + 1)) (over (at positions.now) from to) (at rows.new) }
 {
     let number = number_of(tilings, from, nth);
-    let position = read(positions, from, nth);
+    let position = positions.get(from, nth);
     put(rows, number as usize, position as usize, to as u32);
 }

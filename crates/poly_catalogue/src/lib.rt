@@ -15,6 +15,7 @@ mod laws;
 mod leaving;
 mod listing;
 mod marks;
+mod positions;
 mod row;
 mod rows;
 

@@ -6,6 +6,7 @@ ghost use Rattle.poly_catalogue.specs.Listed.{AreIndicesWith};
 ghost use Rattle.poly_catalogue.specs.Rows.{at, row};
 
 use crate::entries::{add_entries, reindex_last, remove_entries};
+use crate::positions::Positions;
 use crate::row::Row;
 use poly_grid::Refusal;
 use poly_tiling::Tiling;
@@ -20,7 +21,7 @@ use std::marker::Model;
 pub(crate) struct Listing {
     alloc: Global,
     tilings: Vec<Tiling>,
-    positions: Vec<Row>,
+    positions: Positions,
     rows: Vec<Row>,
 }
 
@@ -32,7 +33,7 @@ impl Model for Listing {
 
     ghost view = { λ l. l.tilings.items };
 
-    ghost invariant = { λ l. IsIndex l.tilings.items l.positions.items l.rows.items };
+    ghost invariant = { λ l. IsIndex l.tilings.items l.positions l.rows.items };
 }
 
 impl Listing {
@@ -43,7 +44,7 @@ impl Listing {
         Listing {
             alloc,
             tilings: Vec::new(alloc),
-            positions: Vec::new(alloc),
+            positions: Positions::new(alloc),
             rows: Vec::new(alloc),
         }
     }
@@ -79,17 +80,15 @@ impl Listing {
         ensures why { IfErr result (λ e. e ≡ Refusal.Memory) }
     {
         add_rows(self.alloc, &mut self.rows, tiling.numbers())?;
-        let positions = Row::with_capacity(self.alloc, tiling.numbers().len())?;
         self.tilings.reserve(1)?;
-        self.positions.reserve(1)?;
+        self.positions.push(tiling.numbers().len())?;
         let last = self.tilings.len();
         self.tilings.push_reserved(tiling);
-        self.positions.push_reserved(positions);
         match add_entries(&self.tilings, &mut self.positions, &mut self.rows, last) {
             Ok(()) => Ok(()),
             Err(refusal) => {
                 self.tilings.truncate(last);
-                self.positions.truncate(last);
+                self.positions.pop();
                 Err(refusal)
             }
         }
@@ -112,7 +111,7 @@ impl Listing {
         );
         reindex_last(&self.tilings, &self.positions, &mut self.rows, index);
         let _ = self.tilings.swap_remove(index);
-        let _ = self.positions.swap_remove(index);
+        self.positions.swap_remove(index);
     }
 }
 

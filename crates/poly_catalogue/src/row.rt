@@ -1,5 +1,5 @@
 //! Lists of numbers.
-ghost use Rattle.std.specs.Prelude.{◌≡◌, ◌+◌, ◌++◌, ◌-◌, ◌∷◌, ◌<◌, [], IfErr, IfOk, OnErr, OnOk, length, slice_get, slice_index, slice_set, take};
+ghost use Rattle.std.specs.Prelude.{◌≡◌, ◌+◌, ◌++◌, ◌-◌, ◌∷◌, ◌<◌, [], IfErr, OnErr, OnOk, length, slice_get, slice_index, slice_set, take};
 
 use poly_grid::Refusal;
 use std::alloc::Global;
@@ -27,16 +27,6 @@ impl Row {
         Row {
             numbers: Vec::new(alloc),
         }
-    }
-
-    /// A list without numbers, with room for `count` of them. Fails only with `Memory`.
-    pub(crate) fn with_capacity(alloc: Global, count: usize) -> Result<Row, Refusal>
-        ensures ok { IfOk result (λ r. r ≡ []) }
-        ensures why { IfErr result (λ e. e ≡ Refusal.Memory) }
-    {
-        Ok(Row {
-            numbers: Vec::with_capacity(alloc, count)?,
-        })
     }
 
     pub(crate) fn numbers(&self) -> &[u32]

@@ -1,4 +1,4 @@
-use Rattle.std.proofs.Common.{List, ap, arith, length, ◌<◌, ◌≤◌, ◌∙◌, ◌≡◌, ℕ}
+use Rattle.std.proofs.Common.{List, ap, arith, get_or, length, refl, ◌<◌, ◌≤◌, ◌∙◌, ◌≡◌, ℕ}
 use Rattle.std.specs.Prelude.{nat_lt}
 use Rattle.std.proofs.lemmas.Bool.{ltb-true}
 use Rattle.poly_tiling.proofs.Contained.{get_in}
@@ -7,14 +7,18 @@ use Rattle.poly_catalogue.specs.Rows.{at, row, span}
 use Rattle.poly_catalogue.proofs.Agreed.{part_once}
 use Rattle.poly_catalogue.proofs.Left.{entered_all, entered_more, span_next, span_part}
 use Rattle.poly_catalogue.proofs.Swaps.{row_short}
-use Rattle.poly_catalogue.proofs.Written.{row_read, some_low}
+use Rattle.poly_catalogue.proofs.Written.{is_there, read_some, row_read, some_low}
 use Rattle.poly_catalogue.proofs.entries.add_entries.Goals as goal
 
 pub loop-nth-init : goal.loop-nth-init
-loop-nth-init c = record { long = ap length c.requires.empty; agree = c.requires.agree }
+loop-nth-init c = record { even = refl; wide = λ a. refl; agree = c.requires.agree }
 
-pub add_entry-requires-clause-next : goal.add_entry-requires-clause-next
-add_entry-requires-clause-next c = c.loop-nth.invariant.long
+pub add_entry-requires-clause-room : goal.add_entry-requires-clause-room
+add_entry-requires-clause-room c =
+    let bs : List (List ℕ) = c.loop-nth.positions in
+    let is : c.numbers-nth-end.result.now ≡ row c.args.tilings.now c.args.tiling = c.numbers-nth-end.ensures.value ∙ row_read c.args.tilings.now c.args.tiling c.index-tilings-tiling.result c.requires.there c.index-tilings-tiling.is in
+    let low : c.loop-nth.nth < length (row bs c.args.tiling) = omega (arith, ap length is, c.loop-nth-test.true, c.requires.room, c.loop-nth.invariant.wide c.args.tiling) in
+    is_there (at bs c.args.tiling c.loop-nth.nth) (get_or (row bs c.args.tiling) c.loop-nth.nth 0) (read_some bs c.args.tiling c.loop-nth.nth low)
 
 pub add_entry-requires-clause-there : goal.add_entry-requires-clause-there
 add_entry-requires-clause-there c =
@@ -41,7 +45,8 @@ loop-nth-preserved c =
     let t = c.args.tiling in
     let n = c.loop-nth.nth in
     record {
-      long = c.in_default.ensures.next;
+      even = c.add_entry.ensures.even ∙ c.loop-nth.invariant.even;
+      wide = λ a. c.add_entry.ensures.wide a ∙ c.loop-nth.invariant.wide a;
       agree = entered_more (at ts) (at c.add_entry.new.positions) (at c.add_entry.new.rows) t n (c.in_default.ensures.ok (span (at ts) t 0 n) c.loop-nth.invariant.agree (span_next (at ts) t n));
     }
 

@@ -8,15 +8,15 @@ use Rattle.poly_catalogue.proofs.entries.add_entry.Goals as goal
 pub returns-clause-ok : goal.returns-clause-ok
 returns-clause-ok c =
     λ numbers g lack.
-    on_ok_weaker c.append-2.result
-    (λ put. entered c.args.tilings.now c.args.positions.now c.args.rows.now c.append.new.rows c.append-2.new.rows c.args.tiling c.args.nth c.number_of-number.result c.count-position.result
-    c.number_of-number.ensures c.requires.next c.count-position.ensures c.in_ok-append.ensures.ok put numbers g lack)
-    c.append-2.ensures.ok
+    on_ok_weaker c.append.result
+    (λ put. entered c.args.tilings.now c.args.positions.now c.args.rows.now c.set.new.self c.append.new.rows c.args.tiling c.args.nth c.number_of-number.result c.count-position.result
+    c.number_of-number.ensures c.count-position.ensures c.set.ensures.put put numbers g lack)
+    c.append.ensures.ok
 
 pub returns-clause-err : goal.returns-clause-err
 returns-clause-err c =
     λ numbers g lack.
-    on_err_weaker c.append-2.result
-    (λ same. subst (λ (rs : List (List ℕ)). Agree numbers (at c.append.new.rows) (at rs)) (sym same)
-    (told_only c.args.positions.now c.args.rows.now c.append.new.rows c.args.tiling c.args.nth (Some c.count-position.result) c.requires.next c.in_ok-append.ensures.ok numbers g lack))
-    c.append-2.ensures.err
+    on_err_weaker c.append.result
+    (λ same. subst (λ (rs : List (List ℕ)). Agree numbers (at c.set.new.self) (at rs)) (sym same)
+    (told_only c.args.positions.now c.args.rows.now c.set.new.self c.args.tiling c.args.nth (Some c.count-position.result) c.set.ensures.put numbers g lack))
+    c.append.ensures.err

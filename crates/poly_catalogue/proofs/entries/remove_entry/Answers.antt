@@ -12,12 +12,12 @@ count-requires c =
     let low = some_low c.args.rows.now h.number e.0 c.args.tiling e.2 in
     subst (λ z. z < length c.args.rows.now) same low.0
 
-pub returns-then-position-count : goal.returns-then-position-count
-returns-then-position-count c =
-    left_last c.args.tilings.now c.args.positions.now c.args.rows.now c.cut.new.rows c.args.tiling c.args.nth c.number_of-number.result c.read-position.result c.count.result
-    c.requires.once c.number_of-number.ensures c.read-position.ensures c.count.ensures c.if-position-count.true c.cut.ensures
+pub returns-then-position-count-clause-gone : goal.returns-then-position-count-clause-gone
+returns-then-position-count-clause-gone c =
+    left_last c.args.tilings.now c.args.positions.now c.args.rows.now c.cut.new.rows c.args.tiling c.args.nth c.number_of-number.result c.get-position.result c.count.result
+    c.requires.once c.number_of-number.ensures c.get-position.ensures c.count.ensures c.if-position-count.true c.cut.ensures
 
-pub returns : goal.returns
-returns c =
-    left_other c.args.tilings.now c.args.positions.now c.args.rows.now c.move_last_over.new.positions c.move_last_over.new.rows c.cut-2.new.rows c.args.tiling c.args.nth c.number_of-number.result c.read-position.result c.count.result
-    c.requires.once c.number_of-number.ensures c.read-position.ensures c.count.ensures c.if-position-count.false c.move_last_over.ensures c.cut-2.ensures
+pub returns-clause-gone : goal.returns-clause-gone
+returns-clause-gone c =
+    left_other c.args.tilings.now c.args.positions.now c.args.rows.now c.move_last_over.new.positions c.move_last_over.new.rows c.cut-2.new.rows c.args.tiling c.args.nth c.number_of-number.result c.get-position.result c.count.result
+    c.requires.once c.number_of-number.ensures c.get-position.ensures c.count.ensures c.if-position-count.false c.move_last_over.ensures.over c.cut-2.ensures

@@ -1,4 +1,4 @@
-use Rattle.std.proofs.Common.{List, [], ap, arith, length, subst, ◌+◌, ◌<◌, ◌∙◌, ◌≡◌, ℕ}
+use Rattle.std.proofs.Common.{List, [], ap, arith, length, refl, subst, ◌+◌, ◌<◌, ◌∙◌, ◌≡◌, ℕ}
 use Rattle.std.specs.List.{swap_remove}
 use Rattle.poly_tiling.specs.Lists.{one, tally}
 use Rattle.poly_catalogue.specs.Index.{Agree}
@@ -12,12 +12,13 @@ pub remove_entries-requires-clause-agree : goal.remove_entries-requires-clause-a
 remove_entries-requires-clause-agree c =
     let x = c.self.inside in
     let ts : List (List ℕ) = x.tilings.items in
+    let bs : List (List ℕ) = x.positions in
     let t = c.args.index in
     let low : t < length ts = omega (arith, ap length c.self.view_is, c.requires) in
     let n = length c.numbers-count.result.now in
     let is : c.numbers-count.result.now ≡ row ts t = c.numbers-count.ensures.value ∙ row_read ts t c.index.result.now low c.index.ensures in
-    agree_as (λ (us : List (List ℕ)). span (at us) t 0 n) ts c.deref.result.now x.positions.items c.deref_mut.result.now x.rows.items c.deref_mut-2.result.now c.deref.ensures.value c.deref_mut.ensures.value c.deref_mut-2.ensures.value
-    (whole_span ts (at x.positions.items) (at x.rows.items) t n (ap length is) c.self.invariant.agree)
+    agree_as (λ (us : List (List ℕ)). span (at us) t 0 n) ts c.deref.result.now bs bs x.rows.items c.deref_mut.result.now c.deref.ensures.value refl c.deref_mut.ensures.value
+    (whole_span ts (at bs) (at x.rows.items) t n (ap length is) c.self.invariant.agree)
 
 pub invariant_of-self : goal.invariant_of-self
 invariant_of-self c =
@@ -25,18 +26,14 @@ invariant_of-self c =
     let ts : List (List ℕ) = x.tilings.items in
     let t = c.args.index in
     let low : t < length ts = omega (arith, ap length c.self.view_is, c.requires) in
-    let bs1 = c.remove_entries.new.positions in
+    let bs1 : List (List ℕ) = c.remove_entries.new.positions in
+    let bs2 : List (List ℕ) = c.swap_remove-2.new.self in
     let rs2 = c.reindex_last.new.rows in
-    let long : length bs1 ≡ x.positions.len = omega (arith, c.remove_entries.auto.positions, c.deref_mut.ensures.len) in
-    let b = lent bs1 x.positions.items x.positions.len long in
-    let g = c.reindex_last.ensures in
-    let g1 = subst (λ (us : List (List ℕ)). Agree (at (swap_remove us t [])) (at (swap_remove c.deref-3.result.now t [])) (at rs2)) c.deref-2.ensures.value g in
-    let g2 = subst (λ (us : List (List ℕ)). Agree (at (swap_remove ts t [])) (at (swap_remove us t [])) (at rs2)) (c.deref-3.ensures.value ∙ b) g1 in
-    index_as (swap_remove ts t c.swap_remove.result) c.swap_remove.new.self.items (swap_remove bs1 t c.swap_remove-2.result) c.swap_remove-2.new.self.items rs2 _
-    c.swap_remove.ensures.items
-    (c.swap_remove-2.ensures.items ∙ ap (λ (l : List (List ℕ)). swap_remove l t c.swap_remove-2.result) b)
-    (lent rs2 _ x.rows.len (omega (arith, c.reindex_last.auto.rows, c.deref_mut-3.ensures.len)))
-    (renamed_index ts bs1 rs2 t c.swap_remove.result c.swap_remove-2.result low c.self.invariant.few c.self.invariant.once (omega (arith, long, x.positions.ok.0, c.self.invariant.even)) g2)
+    let g = subst (λ (us : List (List ℕ)). Agree (at (swap_remove us t [])) (at (swap_remove bs1 t [])) (at rs2)) c.deref-2.ensures.value c.reindex_last.ensures in
+    index_as (swap_remove ts t c.swap_remove.result) c.swap_remove.new.self.items bs2 bs2 rs2 _
+    c.swap_remove.ensures.items refl
+    (lent rs2 _ x.rows.len (omega (arith, c.reindex_last.auto.rows, c.deref_mut-2.ensures.len)))
+    (renamed_index ts bs1 bs2 rs2 t c.swap_remove.result low c.self.invariant.few c.self.invariant.once (omega (arith, c.remove_entries.ensures.even, c.self.invariant.even)) c.swap_remove-2.ensures.less c.swap_remove-2.ensures.rows g)
 
 pub returns-clause-tally : goal.returns-clause-tally
 returns-clause-tally c =
