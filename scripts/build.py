@@ -3,10 +3,12 @@
 
 usage: scripts/build.py
 
-Standard error says which crate is being proved, how many are done, and the time so far. A crate is proved as soon as
-the crates below it are, so crates that don't use each other are proved at the same time, on all processors. `rt` locks a
-crate together with all crates below it, so each proof runs in a folder of its own, which contains the sources and links
-to the libraries that are proved already. The result goes to crates/NAME/out, where later runs of `rt` find it.
+If the gate, `./check`, has proved the same files on this machine, nothing is proved again: the program is taken from what
+the gate kept. If not, standard error says which crate is being proved, how many are done, and the time so far. A crate is
+proved as soon as the crates below it are, so crates that don't use each other are proved at the same time, on all
+processors. `rt` locks a crate together with all crates below it, so each proof runs in a folder of its own, which contains
+the sources and links to the libraries that are proved already. The result goes to crates/NAME/out, where later runs of `rt`
+find it.
 
 A second start waits until the first has ended. The exit status is 0 if the program is built, else 1. After a failed
 proof, standard error ends with the last lines of its log.
@@ -19,6 +21,8 @@ import sys
 import tempfile
 import time
 from concurrent.futures import FIRST_COMPLETED, ThreadPoolExecutor, wait
+
+import kept
 
 ROOT = os.path.dirname(os.path.dirname(os.path.abspath(__file__)))
 PROGRAM = "polybench"
@@ -158,7 +162,7 @@ def main():
             say("another start is building the program; waiting for it")
             fcntl.flock(lock, fcntl.LOCK_EX)
         is_built = os.access(f"{out}/{PROGRAM}", os.X_OK)
-        return 0 if is_built or build(read_crates()) else 1
+        return 0 if is_built or kept.take() or build(read_crates()) else 1
 
 
 if __name__ == "__main__":

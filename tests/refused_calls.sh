@@ -2,7 +2,7 @@
 # Refuses each allocation of a test in turn, counting up until a run ends in which none was refused.
 #
 # If a call runs out of memory, the tests below assert that it changed nothing, and make it a second time. So a run with a
-# refused allocation must pass like one without. `rt test` proves and builds the tests, unless the gate has left them in out/.
+# refused allocation must pass like one without. `rt test` proves and builds the tests, unless the gate has proved them.
 . "$(dirname "${BASH_SOURCE[0]}")/setup.bash"
 
 # A crate, and the full name of one of its tests.
@@ -24,6 +24,9 @@ fi
 # Runs the test once for each of its allocations, which is refused.
 play() {
     local program=crates/$1/out/$1_tests name=$2 at=0 before=$failed status
+    if [ ! -x "$program" ]; then
+        scripts/kept.py 2>/dev/null
+    fi
     if [ ! -x "$program" ]; then
         (cd "crates/$1" && rt test) >"$room/building" 2>&1
     fi

@@ -1,0 +1,72 @@
+#!/usr/bin/env python3
+"""Takes the program and the test programs from what the gate has proved on this machine, so that nobody proves it again.
+
+usage: scripts/kept.py
+
+`rt ci` leaves no program behind, but it keeps what it proved, under the checksums of everything that the proof read. Its
+next run takes that over instead of proving it again. This script takes it over in the same way, so it takes nothing if any
+file of a crate or of the crates below it has changed since. The results go to crates/NAME/out.
+
+The exit status is 0 if the program was taken, else 1.
+"""
+import os
+import shutil
+import sys
+import tempfile
+
+from rt_once import load_rt
+
+ROOT = os.path.dirname(os.path.dirname(os.path.abspath(__file__)))
+PROGRAM = "polybench"
+# The crates whose test programs the scripts under tests/ run.
+TESTED = ("poly_crew", "poly_tests")
+SOURCES = ("src", "specs", "proofs")
+
+
+def lay_out(room):
+    """Copies to the folder what the gate's checksums are made of."""
+    for name in ("crates.txt", "HANDLES"):
+        shutil.copy(f"{ROOT}/{name}", room)
+    for crate in os.listdir(f"{ROOT}/crates"):
+        for part in SOURCES:
+            if os.path.isdir(f"{ROOT}/crates/{crate}/{part}"):
+                shutil.copytree(f"{ROOT}/crates/{crate}/{part}", f"{room}/crates/{crate}/{part}")
+
+
+def fetch(rt, room):
+    """Has the gate's store fill the out/ folders of the room, lowest crate first. Returns the programs that it made."""
+    rt.Crate.allowed = rt.handles_of(room)
+    crates = rt.crates_of(room)
+    kept = rt.Kept(crates)
+    made, lost = [], set()
+    for crate in crates:
+        if lost & {it.name for it in crate.below()} or not kept.give(crate, False, kept.key(crate)):
+            lost.add(crate.name)
+            continue
+        kept.is_built(crate)
+        if crate.name == PROGRAM:
+            made.append(f"crates/{PROGRAM}/out/{PROGRAM}")
+        if crate.name in TESTED and kept.give(crate, True, kept.key(crate)):
+            made.append(f"crates/{crate.name}/out/{crate.name}_tests")
+    return made
+
+
+def take():
+    """Returns whether the program was taken. What can't be read counts as not kept."""
+    try:
+        # outside the repository, as the gate wants its crates at the top of one
+        with tempfile.TemporaryDirectory(prefix="polybench-") as room:
+            lay_out(room)
+            made = fetch(load_rt(), room)
+            for path in made:
+                os.makedirs(os.path.dirname(f"{ROOT}/{path}"), exist_ok=True)
+                shutil.copy(f"{room}/{path}", f"{ROOT}/{path}.new")
+                os.replace(f"{ROOT}/{path}.new", f"{ROOT}/{path}")
+    except (Exception, SystemExit) as error:  # another version of `rt` may lack what is used here
+        print(f"polybench: nothing is taken from the gate: {error}", file=sys.stderr)
+        return False
+    return f"crates/{PROGRAM}/out/{PROGRAM}" in made
+
+
+if __name__ == "__main__":
+    sys.exit(0 if take() else 1)
