@@ -1,0 +1,99 @@
+#!/usr/bin/env python3
+"""Times sessions of the built program, each next to the yardstick, and prints a table of them.
+
+usage: benches/sessions.py
+
+Each session is a puzzle line and commands on standard input. Before a session that has a rectangle, `dlx` searches the same
+rectangle. The table has the processor time in user mode, what part of the time of `dlx` that is, the elapsed time, and the
+most memory that was resident, which is never less than what this script itself needs. Run it with nothing else running. The
+program has to be built: start `./polybench` once before.
+"""
+import itertools
+import json
+import os
+import subprocess
+import sys
+import tempfile
+import time
+
+HERE = os.path.dirname(os.path.abspath(__file__))
+PROGRAM = os.path.join(HERE, "..", "crates", "polybench", "out", "polybench")
+ROUNDS = 25
+
+
+def first_line(name):
+    with open(f"{HERE}/{name}", encoding="utf-8") as file:
+        return file.readline().strip()
+
+
+def pentominoes(rows):
+    """Returns the puzzle line of the board with all twelve pentominoes."""
+    puzzle = json.loads(first_line("six_by_ten.txt"))
+    puzzle["board"] = rows
+    return json.dumps(puzzle)
+
+
+def seven_singles():
+    """Returns the puzzle line of a row of seven optional cells with seven optional single squares: 130,922 tilings."""
+    single = {"cells": [[0, 0]], "least": 0, "most": 1}
+    return json.dumps({"format": 2, "grid": "square", "board": ["+++++++"], "pieces": [{"name": it, **single} for it in "ABCDEFG"]})
+
+
+def changes():
+    """Returns commands that change the settled 6 by 10 rectangle a hundred times, with a `count` after each change."""
+    with open(f"{HERE}/book_six_by_ten.txt", encoding="utf-8") as file:
+        forbid = next(it.strip() for it in file if it.startswith("forbid"))
+    return ["count", *[line for change in [forbid, "undo", "redo", "undo"] * ROUNDS for line in (change, "count")]]
+
+
+def sessions():
+    """Returns for each session what it is, its lines, and the arguments of `dlx` for the same rectangle, if any."""
+    six, hole = pentominoes(["#" * 10] * 6), pentominoes(["#" * 8] * 3 + ["###..###"] * 2 + ["#" * 8] * 3)
+    million = first_line("million.txt")
+    for name, line, size in (
+        ("6 by 10", six, ["10", "6"]),
+        ("5 by 12", pentominoes(["#" * 12] * 5), ["12", "5"]),
+        ("8 by 8 without its four middle cells", hole, ["8", "8", "2"]),
+        ("3 by 20", pentominoes(["#" * 20] * 3), ["20", "3"]),
+    ):
+        yield f"{name}, `count`", [line, "count"], size
+        yield f"{name}, `list`", [line, "list"], size
+    yield f"6 by 10, `count`, and {4 * ROUNDS} changes with a `count` after each", [six, *changes()], None
+    yield "seven optional cells and single squares, `count`", [seven_singles(), "count"], None
+    yield "982,938 tilings, `count`", [million, "count"], None
+    yield "982,938 tilings, `list`", [million, "list"], None
+    yield "982,938 tilings, `count`, `browse`, `classes`", [million, "count", "browse", "classes"], None
+    yield "the puzzle line of 6 by 10 alone", [six], None
+    yield "999,999 times `status`", itertools.chain([six], itertools.repeat("status", 999_999)), None
+
+
+def run(command, lines=()):
+    """Runs the command. Returns its processor seconds in user mode, the elapsed seconds, and its most memory in MB."""
+    with tempfile.TemporaryFile() as file:
+        file.writelines(f"{line}\n".encode() for line in lines)
+        file.seek(0)
+        begin = time.monotonic()
+        child = subprocess.Popen(command, stdin=file, stdout=subprocess.DEVNULL)
+        _, status, used = os.wait4(child.pid, 0)
+        elapsed = time.monotonic() - begin
+    if status != 0:
+        sys.exit(f"{command} ended with status {status}")
+    return used.ru_utime, elapsed, used.ru_maxrss * 1024 / 1e6
+
+
+def main():
+    if not os.access(PROGRAM, os.X_OK):
+        sys.exit("the program isn't built: start ./polybench once")
+    with tempfile.TemporaryDirectory() as room:
+        dlx = f"{room}/dlx"
+        subprocess.run(["cc", "-O2", "-o", dlx, f"{HERE}/dlx.c"], check=True)
+        print("| Session | `dlx` | Processor time | In parts of `dlx` | Elapsed | Most memory |\n|---|---|---|---|---|---|")
+        for name, lines, size in sessions():
+            yardstick = run([dlx, *size])[0] if size else 0
+            used, elapsed, memory = run([PROGRAM], lines)
+            share = (f"{yardstick:.2f} s", f"{used:.2f} s", f"{used / yardstick:.2f}") if size else ("", f"{used:.2f} s", "")
+            print(f"| {name} | {' | '.join(share)} | {elapsed:.2f} s | {memory:.0f} MB |", flush=True)
+
+
+if __name__ == "__main__":
+    main()
