@@ -1,5 +1,5 @@
 //! The guards of all changes. Those of each change are stored once, for all tasks.
-ghost use Rattle.std.specs.Prelude.{IfErr, List, OnErr, OnOk, [], drop, length, slice_index_or, take, ◌++◌, ◌+◌, ◌<◌, ◌≤◌, ◌∷◌, ◌≡◌};
+ghost use Rattle.std.specs.Prelude.{IfErr, IsTrue, List, OnErr, OnOk, [], drop, length, slice_index_or, take, ◌++◌, ◌+◌, ◌<◌, ◌≤◌, ◌∷◌, ◌≡◌, ◌↔◌};
 ghost use Rattle.poly_atom.specs.Atoms.{AllSmall};
 ghost use Rattle.poly_atom.specs.LogKept.{IsKept, rows};
 ghost use Rattle.poly_atom.specs.Logs.{flat, without_last};
@@ -46,6 +46,13 @@ impl GuardLog {
         ensures { result ≡ length self.now }
     {
         self.starts.len()
+    }
+
+    /// Whether there were no changes.
+    pub fn is_empty(&self) -> bool
+        ensures { IsTrue result ↔ (length self.now ≡ 0) }
+    {
+        self.len() == 0
     }
 
     /// The guards of every change after the edition, in order; none at the last edition and beyond.
