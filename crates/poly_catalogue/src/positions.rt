@@ -11,7 +11,7 @@ use std::alloc::Global;
 use std::marker::Model;
 
 /// A row of positions for each tiling. All rows have the same width, which is at least the length of the longest tiling
-/// so far. What a tiling doesn't need of its row is never read.
+/// so far. The positions past a tiling's last number mean nothing.
 #[derive(Drop)]
 pub(crate) struct Positions {
     alloc: Global,
@@ -44,12 +44,10 @@ impl Positions {
         }
     }
 
-    /// How many positions the row of a tiling has.
-    fn width_of(&self, tiling: usize) -> usize
-        requires { tiling < length self.now }
-        ensures { result ≡ length (row self.now tiling) }
+    /// How many positions each row has.
+    fn row_width(&self) -> usize
+        ensures { (a : ℕ) → a < length self.now → result ≡ length (row self.now a) }
     {
-        let _ = tiling;
         self.width
     }
 
@@ -118,7 +116,7 @@ impl Positions {
         self.cells.truncate(self.count * self.width);
     }
 
-    /// Removes a row. The last row moves to its index. Takes no memory.
+    /// Removes a row. The last row moves to its index. Never allocates.
     pub(crate) fn swap_remove(&mut self, index: usize)
         requires { index < length self.old }
         ensures rows { (a b : ℕ) → at self.new a b ≡ at (swap_remove self.old index []) a b }
@@ -136,14 +134,14 @@ impl Positions {
         ensures over { (a b : ℕ) → at self.new a b ≡ over (at self.old) from to a b }
         ensures even { length self.new ≡ length self.old }
     {
-        for nth in 0..self.width_of(from) {
+        for nth in 0..self.row_width() {
             let position = self.get(from, nth);
             self.set(to, nth, position);
         }
     }
 }
 
-// The cells of the rows, each of which is made wider.
+// Returns the cells of the same rows, each padded with zeros to the new width.
 fn widened(
     alloc: Global,
     cells: &[u32],
