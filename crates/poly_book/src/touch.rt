@@ -1,5 +1,5 @@
 //! What a change touches, made ready for the comparison with many atoms.
-ghost use Rattle.std.specs.Prelude.{◌≡◌, ◌<◌, IfErr, IfOk, false, length, nat_lt, replicate, slice_index_or, slice_set, true, ℕ};
+ghost use Rattle.std.specs.Prelude.{◌≡◌, IfErr, IfOk, false, length, nat_lt, slice_index_or, true, ℕ};
 ghost use Rattle.std.specs.List.{list_all};
 ghost use Rattle.poly_tiling.specs.Lists.{mem};
 ghost use Rattle.poly_place.specs.Index.{item_of};
@@ -19,13 +19,13 @@ pub(crate) struct Touch<'a> {
     pub delta: &'a Delta,
     /// The cell or the piece that changes.
     pub item: Item,
-    /// A mark for each number that is gone. A change may take thousands away, and each atom is compared with them.
+    /// For each number, whether it is gone. A change may take thousands away, and each atom is compared with them.
     pub gone: Vec<bool>,
     ghost marked: { (n : ℕ) → slice_index_or gone.items n false ≡ mem delta.now.gone.items n },
 }
 
 impl<'a> Touch<'a> {
-    /// What the change touches that leads to the view with these differences. Fails only when out of memory.
+    /// What is touched by the change, which leads to the view with these differences. Fails only when out of memory.
     pub(crate) fn new(
         alloc: Global,
         view: &'a View,
@@ -38,7 +38,7 @@ impl<'a> Touch<'a> {
         ensures item { IfOk result (λ t. t.item ≡ item_of change.now) }
         ensures why { IfErr result (λ e. e ≡ Refusal.Memory) }
     {
-        let gone = marks_of(alloc, view.number_count(), &delta.gone)?;
+        let gone = delta.marks_of_gone(alloc, view.number_count())?;
         Ok(Touch {
             view,
             delta,
@@ -56,31 +56,4 @@ fn changed_item(change: &Change) -> Item
         Change::Cell { cell, .. } => Item::Cell(*cell),
         Change::Piece { name, .. } => Item::Piece(*name),
     }
-}
-
-// A mark for each number of the list. All numbers are below the count.
-fn marks_of(alloc: Global, count: usize, numbers: &[u32]) -> Result<Vec<bool>, Refusal>
-    requires { list_all (λ n. nat_lt n count) numbers.now ≡ true }
-    ensures ok { IfOk result (λ marks. (n : ℕ) → slice_index_or marks.items n false ≡ mem numbers.now n) }
-    ensures why { IfErr result (λ e. e ≡ Refusal.Memory) }
-{
-    let mut marks = unset(alloc, count)?;
-    for number in numbers {
-        mark(&mut marks, *number);
-    }
-    Ok(marks)
-}
-
-fn unset(alloc: Global, count: usize) -> Result<Vec<bool>, Refusal>
-    ensures ok { IfOk result (λ marks. marks.items ≡ replicate count false) }
-    ensures why { IfErr result (λ e. e ≡ Refusal.Memory) }
-{
-    Ok(vec![in alloc; false; count]?)
-}
-
-fn mark(marks: &mut Vec<bool>, number: u32)
-    requires { number < length marks.old.items }
-    ensures { marks.new.items ≡ slice_set marks.old.items number true }
-{
-    marks[number as usize] = true;
 }

@@ -14,25 +14,38 @@ use poly_tiling::{Bound, Item, find_bound};
 use std::alloc::{AllocError, Global};
 
 /// What a change does: the differences between the design before and the design after. Numbers are in the order of their
-/// placements, items and names in their own order.
+/// placements, items and names in their own order. An item that a design doesn't have counts as having a least of 0.
 #[derive(Drop)]
 pub struct Delta {
     /// The numbers that are no longer placements.
     pub gone: Vec<u32>,
     /// The numbers that are placements now and weren't before.
     pub fresh: Vec<u32>,
-    /// The items whose least rose.
+    /// The items whose `least` rose.
     pub needed: Vec<Item>,
-    /// The items whose least fell.
+    /// The items whose `least` fell.
     pub unneeded: Vec<Item>,
-    /// The pieces of both designs whose most fell.
+    /// The pieces of both designs whose `most` fell.
     pub narrowed: Vec<Name>,
-    /// The pieces of both designs whose most rose.
+    /// The pieces of both designs whose `most` rose.
     pub widened: Vec<Name>,
     /// The pins that were set.
     pub pinned: Vec<u32>,
     /// The pins that are no longer set.
     pub unpinned: Vec<u32>,
+}
+
+impl Delta {
+    /// For each number below the count, whether it is gone. All numbers that are gone must be below the count. Fails only when
+    /// out of memory.
+    pub fn marks_of_gone(&self, alloc: Global, count: usize) -> Result<Vec<bool>, Refusal>
+        requires { list_all (λ n. nat_lt n count) self.now.gone.items ≡ true }
+        ensures ok { IfOk result (λ marks. (n : ℕ) → slice_index_or marks.items n false ≡ mem self.now.gone.items n) }
+        ensures why { IfErr result (λ e. e ≡ Refusal.Memory) }
+    {
+        let marks = marks_of(alloc, count, &self.gone)?;
+        Ok(marks)
+    }
 }
 
 // The numbers of the first list that are not in the second. All numbers are below the count.
