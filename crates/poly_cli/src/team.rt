@@ -2,7 +2,7 @@
 //!
 //! Between two commands it keeps a book and answers as `Solo` does. A desk lives within one call: the book goes in, the crew works, and
 //! the book comes back. If the desk can't be settled up, the book stays there, and the team has failed until it begins anew.
-ghost use Rattle.std.specs.Prelude.{◌≡◌, ◌≤◌, ◌⊎◌, [], IfErr, IfOk, true};
+ghost use Rattle.std.specs.Prelude.{◌≡◌, ◌≤◌, ◌⊎◌, [], IfErr, IfOk, false, true};
 ghost use Rattle.std.specs.Thread.{IsSync};
 ghost use Rattle.poly_design.specs.Layout.{Layout};
 ghost use Rattle.poly_crew.specs.declared.crewing.TheConstants.{MOST_TURNS, MOST_WORKERS};
@@ -134,23 +134,36 @@ fn crew_on<R: Threads + Wait + Sync>(
     let Kept::Whole(solo) = mem::replace(kept, Kept::Lost(lost)) else {
         unreachable!()
     };
+    let (back, end) = work_with(rt, alloc, crewing, solo);
+    *kept = back;
+    end
+}
+
+// Lets the crew work on the book, for which no question is answered since its last change. Returns the book, or what is left of
+// it, and the answer of `crew_on`.
+fn work_with<R: Threads + Wait + Sync>(
+    rt: &R,
+    alloc: Global,
+    crewing: &Crewing,
+    solo: Solo,
+) -> (Kept, Result<(), Refusal>)
+    requires { solo.settled ≡ false }
+    ensures same { state_of result.0 ≡ solo }
+    ensures why { IfErr result.1 (λ e. (d : Layout) → IsUnanswered d e ⊎ (is_unsettled e ≡ true)) }
+{
     let was = Snapshot::of(&solo);
     let numbers = solo.numbers();
     match work_on(rt, alloc, crewing, solo.into_book()) {
         Ok(worked) => {
             let solo = Solo::of_book(alloc, crewing.turns, worked.book);
-            let pending = solo.is_pending();
-            *kept = Kept::Whole(solo);
-            if pending {
+            let end = if solo.is_pending() {
                 stopped_by(worked.end)
             } else {
                 Ok(())
-            }
+            };
+            (Kept::Whole(solo), end)
         }
-        Err(why) => {
-            *kept = Kept::Lost(LostBook { was, numbers, why });
-            Err(why)
-        }
+        Err(why) => (Kept::Lost(LostBook { was, numbers, why }), Err(why)),
     }
 }
 
