@@ -1,6 +1,7 @@
 //! What a book costs: runs each line of a session on it, and prints how long the call took.
 
 use crate::questions;
+use crate::reports::NODES;
 use poly_book::{Book, Done};
 use poly_design::{Design, Edit};
 use poly_grid::Refusal;
@@ -11,23 +12,20 @@ use std::time::{Duration, Instant};
 /// The most reports of one `count`.
 const TURNS: u64 = 1_000_000_000;
 
-/// The nodes of a report, as a worker asks for them.
-const NODES: u32 = 256;
-
 /// Begins a book of the design, and prints how long that took. Returns `None` if it was refused.
 pub fn begin(rt: &HostRuntime, design: Design) -> io::Result<Option<Book>> {
     let begin = Instant::now(rt)?;
     let book = Book::begin(rt.alloc(), design);
+    print_begun(rt, begin, &book)?;
+    Ok(book.ok())
+}
+
+// Prints how long a book took to begin.
+fn print_begun(rt: &HostRuntime, begin: Instant, book: &Result<Book, Refusal>) -> io::Result<()> {
     let taken = begin.elapsed(rt)?.as_micros();
     match book {
-        Ok(book) => {
-            println!(rt; "a book: {taken} us")?;
-            Ok(Some(book))
-        }
-        Err(refusal) => {
-            println!(rt; "a book was refused: {}", refusal.name())?;
-            Ok(None)
-        }
+        Ok(_) => println!(rt; "a book: {taken} us"),
+        Err(refusal) => println!(rt; "a book was refused: {}", refusal.name()),
     }
 }
 

@@ -1,6 +1,6 @@
 //! What the catalogue costs: memory and time to list all tilings of a design, and the time to keep those that an edit
 //! leaves.
-ghost use Rattle.std.specs.Prelude.{◌≡◌, IfOk, List, true, ℕ};
+ghost use Rattle.std.specs.Prelude.{◌≡◌, ◌++◌, IfOk, List, true, ℕ};
 ghost use Rattle.std.specs.Arc.{arc_value};
 ghost use Rattle.std.specs.List.{list_all};
 ghost use Rattle.poly_tiling.specs.Puzzle.{is_tiling};
@@ -26,26 +26,53 @@ pub fn measure(rt: &HostRuntime, design: &Design, line: &str) -> io::Result<()> 
     let Ok(mut table) = Table::of(rt.alloc(), design) else {
         return println!(rt; "a table was refused");
     };
+    measure_table(rt, design, &mut table, &edit)
+}
+
+fn measure_table(
+    rt: &HostRuntime,
+    design: &Design,
+    table: &mut Table,
+    edit: &Edit,
+) -> io::Result<()>
+    requires { IsRight table.old design.now }
+{
     let before = resident_bytes(rt)?;
-    let Ok((view, tilings)) = all_tilings(rt.alloc(), &table) else {
+    let Ok((view, tilings)) = all_tilings(rt.alloc(), table) else {
         return println!(rt; "a search was refused");
     };
     let mut catalogue = Catalogue::new(rt.alloc());
-    let begin = Instant::now(rt)?;
-    let listed = catalogue.list_all(&view, tilings);
-    let taken = begin.elapsed(rt)?.as_millis();
-    match listed {
-        Ok(()) => {
-            let more = resident_bytes(rt)?.saturating_sub(before);
-            let each = more.checked_div(catalogue.len() as u64).unwrap_or(0);
-            println!(rt;
-                "list_all: {} tilings, {taken} ms, {each} bytes of resident memory a tiling",
-                catalogue.len()
-            )?;
-            measure_edit(rt, design, &mut table, &mut catalogue, &edit)
-        }
-        Err(refusal) => println!(rt; "list_all: {}", refusal.name()),
+    if measure_list(rt, &mut catalogue, &view, tilings, before)? {
+        return measure_edit(rt, design, table, &mut catalogue, edit);
     }
+    Ok(())
+}
+
+// Lists the tilings, and returns whether that was done. `before` is how many bytes were resident before they were found.
+fn measure_list(
+    rt: &HostRuntime,
+    catalogue: &mut Catalogue,
+    view: &View,
+    tilings: Vec<Tiling>,
+    before: u64,
+) -> io::Result<bool>
+    requires tilings { list_all (is_tiling view.now) tilings.items ≡ true }
+    requires once { AreOnce (catalogue.old ++ tilings.items) }
+{
+    let begin = Instant::now(rt)?;
+    let listed = catalogue.list_all(view, tilings);
+    let taken = begin.elapsed(rt)?.as_millis();
+    if let Err(refusal) = listed {
+        println!(rt; "list_all: {}", refusal.name())?;
+        return Ok(false);
+    }
+    let count = catalogue.len();
+    let more = resident_bytes(rt)?.saturating_sub(before);
+    let each = more.checked_div(count as u64).unwrap_or(0);
+    println!(rt;
+        "list_all: {count} tilings, {taken} ms, {each} bytes of resident memory a tiling"
+    )?;
+    Ok(true)
 }
 
 // All tilings of the table's design, with its view.

@@ -5,7 +5,7 @@
 ghost use Rattle.std.specs.Prelude.{◌≡◌};
 ghost use Rattle.poly_desk.specs.Changes.{cut_count};
 
-use crate::reports::inner_nodes;
+use crate::reports::{NODES, inner_nodes};
 use poly_book::{Book, Job, Which};
 use poly_design::Design;
 use poly_desk::{Desk, Opening, PARTS, Pass};
@@ -21,9 +21,6 @@ use std::time::{Clock, Duration, Instant};
 
 /// The most reports that are handed in.
 const REPORTS: u64 = 10_000;
-
-/// The nodes of a report, as a worker asks for them.
-const NODES: u32 = 256;
 
 /// The number of looks.
 const LOOKS: u32 = 1_000_000;
@@ -66,9 +63,13 @@ pub fn measure<R: Clock + Print + Wait>(rt: &R, alloc: Global, design: &Design) 
 
 // Two books of the design.
 fn two_books(alloc: Global, design: &Design) -> Result<(Book, Book), Refusal> {
-    let one = Book::begin(alloc, design.copy()?)?;
-    let other = Book::begin(alloc, design.copy()?)?;
+    let one = book_of(alloc, design)?;
+    let other = book_of(alloc, design)?;
     Ok((one, other))
+}
+
+fn book_of(alloc: Global, design: &Design) -> Result<Book, Refusal> {
+    Book::begin(alloc, design.copy()?)
 }
 
 // Measures the first book, and a desk of the other.
@@ -99,8 +100,16 @@ fn measure_both<C: Ledger, K: Ledger, O: Opening, R: Clock + Print + Wait>(
     sides: Sides<C, K, O>,
 ) -> io::Result<()> {
     let mut sides = sides;
-    measure_looks(rt, &mut sides)?;
-    measure_reports(rt, alloc, &mut sides)
+    measure_calls(rt, alloc, &mut sides)
+}
+
+fn measure_calls<C: Ledger, K: Ledger, O: Opening, R: Clock + Print + Wait>(
+    rt: &R,
+    alloc: Global,
+    sides: &mut Sides<C, K, O>,
+) -> io::Result<()> {
+    measure_looks(rt, sides)?;
+    measure_reports(rt, alloc, sides)
 }
 
 fn measure_looks<C: Ledger, K: Ledger, O: Opening, R: Clock + Print>(

@@ -16,24 +16,49 @@ use std::time::Instant;
 
 /// Measures the edit that the line asks for. The design stays as it is.
 pub fn measure(rt: &HostRuntime, design: &Design, line: &str) -> io::Result<()> {
-    let alloc = rt.alloc();
-    let Some(edit) = edit_of(alloc, design, line) else {
+    let Some(edit) = edit_of(rt.alloc(), design, line) else {
         return println!(rt; "no edit: {line}");
     };
-    let Ok(mut table) = Table::of(alloc, design) else {
-        return println!(rt; "a table was refused");
+    if measure_made(rt, design, &edit, line)? {
+        return measure_planned(rt, design, &edit, line);
+    }
+    Ok(())
+}
+
+// Makes the edit on a new table. Returns whether it was made.
+fn measure_made(rt: &HostRuntime, design: &Design, edit: &Edit, line: &str) -> io::Result<bool> {
+    let Ok(mut table) = Table::of(rt.alloc(), design) else {
+        println!(rt; "a table was refused")?;
+        return Ok(false);
     };
+    measure_make(rt, design, &mut table, edit, line)
+}
+
+fn measure_make(
+    rt: &HostRuntime,
+    design: &Design,
+    table: &mut Table,
+    edit: &Edit,
+    line: &str,
+) -> io::Result<bool>
+    requires { IsRight table.old design.now }
+{
     let begin = Instant::now(rt)?;
-    let answer = made(design, &mut table, &edit);
+    let answer = made(design, table, edit);
     let taken = begin.elapsed(rt)?.as_micros();
     match answer {
         Ok(()) => println!(rt; "{line}: check, plan and make {taken} us")?,
-        Err(refusal) => return println!(rt; "{line}: {} after {taken} us", refusal.name()),
+        Err(refusal) => println!(rt; "{line}: {} after {taken} us", refusal.name())?,
     }
-    let Ok(mut table) = Table::of(alloc, design) else {
+    Ok(answer.is_ok())
+}
+
+// Plans the edit on a new table, and measures the guards.
+fn measure_planned(rt: &HostRuntime, design: &Design, edit: &Edit, line: &str) -> io::Result<()> {
+    let Ok(mut table) = Table::of(rt.alloc(), design) else {
         return println!(rt; "a table was refused");
     };
-    match planned(design, &mut table, &edit) {
+    match planned(design, &mut table, edit) {
         Ok((view, plan)) => measure_guards(rt, &view, &plan.view, &plan.delta),
         Err(refusal) => println!(rt; "{line}: {}", refusal.name()),
     }

@@ -14,7 +14,7 @@ use std::alloc::Global;
 use std::io;
 use std::time::{Duration, Instant};
 
-/// How often the report is handed in, each time to a new book.
+/// How many times the report is handed in, each time to a new book.
 const TIMES: u32 = 100;
 
 /// The most nodes of the report's tree that aren't Rest.
@@ -123,6 +123,15 @@ fn measure_hand_in(
         edition: job.edition,
         tree,
     };
+    hand_in(rt, &mut book, report, totals)
+}
+
+fn hand_in(
+    rt: &HostRuntime,
+    book: &mut Book,
+    report: Report,
+    totals: &mut Totals,
+) -> io::Result<Result<(), Refusal>> {
     let begin = Instant::now(rt)?;
     let applied = book.hand_in(report);
     totals.handed = totals.handed.saturating_add(begin.elapsed(rt)?);
@@ -134,9 +143,15 @@ fn measure_hand_in(
 
 fn begin_round(alloc: Global, design: &Design) -> Result<Round, Refusal> {
     let book = book_with_matrix(alloc, design)?;
-    let job = opening_job(&book)?;
-    let tree = grown_tree(alloc, &job.view, &job.atoms)?;
+    let (job, tree) = job_and_tree(alloc, &book)?;
     Ok(Round { book, job, tree })
+}
+
+// The opening task, and the tree of a worker for it.
+fn job_and_tree(alloc: Global, book: &Book) -> Result<(Job, Tree), Refusal> {
+    let job = opening_job(book)?;
+    let tree = grown_tree(alloc, &job.view, &job.atoms)?;
+    Ok((job, tree))
 }
 
 fn opening_job(book: &Book) -> Result<Job, Refusal> {

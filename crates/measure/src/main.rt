@@ -74,9 +74,13 @@ fn measure_parts(rt: &HostRuntime) -> io::Result<()> {
 // Measures a report on new books, and then each line on one book.
 fn measure_book(rt: &HostRuntime) -> io::Result<()> {
     let mut book: Option<Book> = None;
+    measure_lines(rt, &mut book)
+}
+
+fn measure_lines(rt: &HostRuntime, book: &mut Option<Book>) -> io::Result<()> {
     for line in rt.lines(rt.alloc()) {
         let line = line?;
-        measure_line(rt, &mut book, line.as_str())?;
+        measure_line(rt, book, line.as_str())?;
     }
     Ok(())
 }

@@ -1,6 +1,6 @@
 //! What questions about all tilings cost, once a book is settled.
 
-use poly_book::Book;
+use poly_book::{Book, Quiet};
 use poly_browse::{Query, browse, classes};
 use poly_text::Question;
 use std::io;
@@ -27,13 +27,17 @@ pub fn measure_browse(rt: &HostRuntime, book: &Book, question: Question) -> io::
         lacks: question.lacks,
         covers: question.covers,
     };
+    measure_query(rt, &quiet, &query)
+}
+
+fn measure_query(rt: &HostRuntime, quiet: &Quiet, query: &Query) -> io::Result<()> {
     let begin = Instant::now(rt)?;
     let answer = browse(
         rt.alloc(),
         quiet.design(),
         quiet.tilings(),
         quiet.view(),
-        &query,
+        query,
     );
     let taken = begin.elapsed(rt)?.as_micros();
     match answer {

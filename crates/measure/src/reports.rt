@@ -9,7 +9,7 @@ use std::io;
 use std::time::{Duration, Instant};
 
 // The nodes of a report, as a worker asks for them.
-const NODES: u32 = 256;
+pub(crate) const NODES: u32 = 256;
 
 // The sums over all reports until no task was left.
 #[derive(Drop)]

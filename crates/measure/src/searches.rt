@@ -1,7 +1,7 @@
 //! What placements, a view, a frame and a whole search cost.
 ghost use Rattle.poly_frame.specs.Matrices.{IsWhole};
 
-use crate::reports;
+use crate::reports::{self, NODES};
 use poly_atom::Atom;
 use poly_design::Design;
 use poly_frame::{Frame, Matrix};
@@ -13,10 +13,7 @@ use std::alloc::Global;
 use std::io;
 use std::time::Instant;
 
-// The nodes of the report whose rests are measured, as a worker asks for them.
-const NODES: u32 = 256;
-
-// How often the frames for these rests are made.
+// How many times the frames for these rests are made.
 const ROUNDS: u32 = 100;
 
 /// Measures the design's placements, its view, a frame at the root and for each rest of a report, the solver, and, if the
