@@ -115,15 +115,18 @@ fn hostile_reports(rt: HostRuntime) {
 }
 
 #[test]
-fn reports_on_no_placement_and_of_no_edition(rt: HostRuntime) {
-    let alloc = rt.alloc();
-    let mut book = book_of(&rt, alloc, DOMINOES);
-    let none = report(1, chain(&rt, alloc, 1, 4_294_967_295));
+fn report_on_no_placement(rt: HostRuntime) {
+    let mut book = book_of(&rt, rt.alloc(), DOMINOES);
+    let none = report(1, chain(&rt, rt.alloc(), 1, 4_294_967_295));
     expect_applied(&rt, book.hand_in(none), (0, 1, 2, false));
-    let mut other = book_of(&rt, alloc, DOMINOES);
-    let mut full = report_on(&rt, alloc, &other, (0, 0), 0);
+}
+
+#[test]
+fn report_of_no_edition(rt: HostRuntime) {
+    let mut book = book_of(&rt, rt.alloc(), DOMINOES);
+    let mut full = report_on(&rt, rt.alloc(), &book, (0, 0), 0);
     full.edition = 99;
-    expect_applied(&rt, other.hand_in(full), (0, 4, 2, false));
+    expect_applied(&rt, book.hand_in(full), (0, 4, 2, false));
 }
 
 // The events of the laws test: an edit, the late report, an undo and a redo.
@@ -154,19 +157,22 @@ fn expect_found(rt: &impl Abort, alloc: Global, book: &Book, want: usize) {
     assert!(rt; found.len() == want);
 }
 
+// Runs the events on an opening book.
+fn run_events(rt: &impl Abort, alloc: Global) -> Ran {
+    let book = book_of(rt, alloc, DOMINOES);
+    let all = events(rt, alloc, &book);
+    match run(alloc, book, all) {
+        Ok(ran) => ran,
+        Err(_) => fail(rt, "memory"),
+    }
+}
+
 #[test]
 fn the_laws(rt: HostRuntime) {
-    let alloc = rt.alloc();
-    let book = book_of(&rt, alloc, DOMINOES);
-    let all = events(&rt, alloc, &book);
-    let Ran { book, replies } = match run(alloc, book, all) {
-        Ok(ran) => ran,
-        Err(_) => fail(&rt, "memory"),
-    };
+    let Ran { mut book, replies } = run_events(&rt, rt.alloc());
     assert!(rt; replies.len() == 4 && book.numbers().endings == 2);
     expect_all_done(&rt, &replies);
     expect_status(&rt, &book, (3, 0, 3));
-    let mut book = book;
     expect_quiet(&rt, &mut book, 3);
-    expect_found(&rt, alloc, &book, 3);
+    expect_found(&rt, rt.alloc(), &book, 3);
 }

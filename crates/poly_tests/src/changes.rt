@@ -4,6 +4,7 @@ use crate::designs::DOMINOES;
 use crate::trees::chain;
 use poly_book::{Book, Kind};
 use poly_report::Report;
+use std::alloc::Global;
 use std::process::Abort;
 
 const WIDE: &[u8] =
@@ -16,21 +17,33 @@ fn undo(rt: &impl Abort, book: &mut Book) {
     let _ = book.undo().expect(rt, "a change to undo");
 }
 
+// Forbids a placement that one of the four tilings has.
+fn expect_forbidden(rt: &impl Abort, alloc: Global, book: &mut Book) {
+    let forbid = edit_of(rt, alloc, book, b"forbid A 0,0 1,0");
+    let done = book.edit(forbid).expect(rt, "it is accepted");
+    assert!(rt; done.place == 1 && done.step.kind == Kind::Edit && done.step.shelved);
+    expect_status(rt, book, (1, 3, 0));
+}
+
+fn expect_undone(rt: &impl Abort, book: &mut Book) {
+    let done = book.undo().expect(rt, "there is a change");
+    assert!(rt; done.place == 2 && done.step.kind == Kind::Undo && done.step.pending == 0);
+    expect_status(rt, book, (2, 4, 0));
+}
+
+fn expect_redone(rt: &impl Abort, book: &mut Book) {
+    let done = book.redo().expect(rt, "it was undone");
+    assert!(rt; done.place == 3 && done.step.kind == Kind::Redo && done.step.shelved);
+    expect_status(rt, book, (3, 3, 0));
+}
+
 #[test]
 fn forbids_undoes_and_redoes(rt: HostRuntime) {
-    let alloc = rt.alloc();
-    let mut book = book_of(&rt, alloc, DOMINOES);
+    let mut book = book_of(&rt, rt.alloc(), DOMINOES);
     expect_quiet(&rt, &mut book, 4);
-    let forbid = edit_of(&rt, alloc, &book, b"forbid A 0,0 1,0");
-    let done = book.edit(forbid).expect(&rt, "it is accepted");
-    assert!(rt; done.place == 1 && done.step.kind == Kind::Edit && done.step.shelved);
-    expect_status(&rt, &book, (1, 3, 0));
-    let done = book.undo().expect(&rt, "there is a change");
-    assert!(rt; done.place == 2 && done.step.kind == Kind::Undo && done.step.pending == 0);
-    expect_status(&rt, &book, (2, 4, 0));
-    let done = book.redo().expect(&rt, "it was undone");
-    assert!(rt; done.place == 3 && done.step.kind == Kind::Redo && done.step.shelved);
-    expect_status(&rt, &book, (3, 3, 0));
+    expect_forbidden(&rt, rt.alloc(), &mut book);
+    expect_undone(&rt, &mut book);
+    expect_redone(&rt, &mut book);
 }
 
 // The new piece has four placements, so it opens four stairs. Two of them end with the cell that is blocked.

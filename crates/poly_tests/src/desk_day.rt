@@ -163,34 +163,44 @@ fn fourth<C: Ledger, K: Ledger, O: Opening, R: Wait + Abort>(
     desk.undo(rt, &mut pass).expect(rt, "a step to undo")
 }
 
+// The receipt of a desk of its own.
+fn strange_receipt<R: Wait + Abort>(rt: &R, alloc: Global, forbid: &Edit) -> Receipt {
+    let book = book_of(rt, alloc, DOMINOES);
+    let changes = Blank::new(PARTS);
+    let cuts = Blank::new(PARTS);
+    fourth::<Brand, Brand, Brand, R>(rt, alloc, changes, cuts, book, forbid)
+}
+
+// The book after the day, and all tilings as they were before settling up.
+fn whole_day<R: Wait + Abort>(rt: &R, alloc: Global) -> (Book, Quiet) {
+    let book = book_of(rt, alloc, DOMINOES);
+    let forbid = edit_of(rt, alloc, &book, FORBID);
+    let strange = strange_receipt(rt, alloc, &forbid);
+    let changes = Blank::new(PARTS);
+    let cuts = Blank::new(PARTS);
+    day::<Brand, Brand, Brand, R>(rt, alloc, changes, cuts, book, &forbid, strange)
+}
+
+// All tilings of another book, which made another change.
+fn quiet_of_another(rt: &impl Abort, alloc: Global) -> Quiet {
+    let mut other = book_of(rt, alloc, DOMINOES);
+    edit(rt, alloc, &mut other, b"cell 2,0 optional");
+    let _ = other.settle(1000, 256).expect(rt, "it settles");
+    other.quiet().expect(rt, "nothing is pending")
+}
+
+// Asserts that the book vouches for its own tilings, and for no others.
+fn expect_vouched(rt: &impl Abort, alloc: Global, book: &Book, quiet: &Quiet) {
+    assert!(rt; book.vouch(quiet).expect(rt, "memory"));
+    let unknown = quiet_of_another(rt, alloc);
+    assert!(rt; !book.vouch(&unknown).expect(rt, "memory"));
+}
+
 #[test]
 fn a_day_at_the_desk(rt: HostRuntime) {
-    let alloc = rt.alloc();
-    let mut other = book_of(&rt, alloc, DOMINOES);
-    let forbid = edit_of(&rt, alloc, &other, FORBID);
-    edit(&rt, alloc, &mut other, b"cell 2,0 optional");
-    let _ = other.settle(1000, 256).expect(&rt, "it settles");
-    let strange = fourth::<Brand, Brand, Brand, HostRuntime>(
-        &rt,
-        alloc,
-        Blank::new(PARTS),
-        Blank::new(PARTS),
-        book_of(&rt, alloc, DOMINOES),
-        &forbid,
-    );
-    let (book, quiet) = day::<Brand, Brand, Brand, HostRuntime>(
-        &rt,
-        alloc,
-        Blank::new(PARTS),
-        Blank::new(PARTS),
-        book_of(&rt, alloc, DOMINOES),
-        &forbid,
-        strange,
-    );
+    let (book, quiet) = whole_day(&rt, rt.alloc());
     expect_status(&rt, &book, (3, 3, 0));
     assert!(rt; (quiet.edition(), quiet.tilings().len()) == (3, 3));
     assert!(rt; quiet.design().is_same(&edited(&rt, DOMINOES, &[FORBID])));
-    assert!(rt; book.vouch(&quiet).expect(&rt, "memory"));
-    let unknown = other.quiet().expect(&rt, "nothing is pending");
-    assert!(rt; !book.vouch(&unknown).expect(&rt, "memory"));
+    expect_vouched(&rt, rt.alloc(), &book, &quiet);
 }

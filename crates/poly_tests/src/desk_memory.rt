@@ -159,6 +159,18 @@ fn opening(alloc: Global) -> Result<(Book, Edit), Refusal> {
     Ok((book, forbid))
 }
 
+// The book after a day, and all its tilings.
+fn whole_day<R: Wait + Abort>(
+    rt: &R,
+    alloc: Global,
+    book: Book,
+    forbid: &Edit,
+) -> Result<(Book, Quiet), NotBegun> {
+    let changes = Blank::new(PARTS);
+    let cuts = Blank::new(PARTS);
+    day::<Brand, Brand, Brand, R>(rt, alloc, changes, cuts, book, forbid)
+}
+
 #[test]
 fn a_day_without_memory(rt: HostRuntime) {
     let alloc = rt.alloc();
@@ -166,26 +178,11 @@ fn a_day_without_memory(rt: HostRuntime) {
         Ok(both) => both,
         Err(_) => opening(alloc).expect(&rt, "memory"),
     };
-    let first = day::<Brand, Brand, Brand, HostRuntime>(
-        &rt,
-        alloc,
-        Blank::new(PARTS),
-        Blank::new(PARTS),
-        book,
-        &forbid,
-    );
-    let (after, quiet) = match first {
+    let (after, quiet) = match whole_day(&rt, alloc, book, &forbid) {
         Ok(both) => both,
         Err(not_begun) => {
             assert!(rt; not_begun.why == Refusal::Memory);
-            let second = day::<Brand, Brand, Brand, HostRuntime>(
-                &rt,
-                alloc,
-                Blank::new(PARTS),
-                Blank::new(PARTS),
-                not_begun.book,
-                &forbid,
-            );
+            let second = whole_day(&rt, alloc, not_begun.book, &forbid);
             second.ok().expect(&rt, "memory")
         }
     };

@@ -91,17 +91,17 @@ fn edit_together<
     settled.ok().expect(rt, "it is settled up")
 }
 
+// The book after the edits of two threads.
+fn book_after_edits<R: Threads + Wait + Sync + Abort>(rt: &R, alloc: Global) -> Book {
+    let book = book_of(rt, alloc, DOMINOES);
+    let changes = Blank::new(PARTS);
+    let cuts = Blank::new(PARTS);
+    edit_together::<Brand, Brand, Brand, R>(rt, alloc, changes, cuts, book)
+}
+
 #[test]
 fn two_threads_edit(rt: HostRuntime) {
-    let alloc = rt.alloc();
-    let book = book_of(&rt, alloc, DOMINOES);
-    let after = edit_together::<Brand, Brand, Brand, HostRuntime>(
-        &rt,
-        alloc,
-        Blank::new(PARTS),
-        Blank::new(PARTS),
-        book,
-    );
+    let after = book_after_edits(&rt, rt.alloc());
     assert!(rt; after.numbers().edition == 100);
     assert!(rt; after.design().is_same(&design(&rt, DOMINOES)));
 }

@@ -54,8 +54,16 @@ fn run_beside(
     if !is_held {
         return Ok(None);
     }
+    let ran = run_held(alloc, book, report, events)?;
+    Ok(Some(ran))
+}
+
+// The run of the events.
+fn run_held(alloc: Global, book: Book, report: &Report, events: Vec<Event>) -> Result<Ran, Refusal>
+    requires { HoldsNow book report.now.task (plan_of report.now.tree) }
+{
     match still_holds(alloc, book, report, events) {
-        Ok(ran) => Ok(Some(ran)),
+        Ok(ran) => Ok(ran),
         Err(not_run) => Err(not_run.why),
     }
 }

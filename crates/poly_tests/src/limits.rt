@@ -69,25 +69,39 @@ fn list_part(rt: &impl Abort, alloc: Global, book: &mut Book, number: u32) {
     }
 }
 
-#[test]
-fn shelf_over_the_limit(rt: HostRuntime) {
-    let alloc = rt.alloc();
-    let mut book = book_of(&rt, alloc, EIGHT);
+// Hands in a report that divides the opening task into nine, with the numbers 2 to 10.
+fn divide(rt: &impl Abort, alloc: Global, book: &mut Book) {
     let cut = Report {
         task: 1,
         edition: 0,
-        tree: splits(&rt, alloc, &book),
+        tree: splits(rt, alloc, book),
     };
-    let applied = book.hand_in(cut).expect(&rt, "a report that holds");
+    let applied = book.hand_in(cut).expect(rt, "a report that holds");
     assert!(rt; applied.opened == 9 && applied.first == 2);
+}
+
+// Lists all tilings of seven of the nine tasks.
+fn list_seven_parts(rt: &impl Abort, alloc: Global, book: &mut Book) {
     for number in 2..9u32 {
-        list_part(&rt, alloc, &mut book, number);
+        list_part(rt, alloc, book, number);
     }
-    expect_status(&rt, &book, (0, 916_454, 2));
-    edit(&rt, alloc, &mut book, b"cell 0,0 blocked");
-    expect_status(&rt, &book, (1, 0, 1));
-    let _ = book.settle(100_000, 256).expect(&rt, "it settles");
-    expect_status(&rt, &book, (1, 394_353, 0));
+    expect_status(rt, book, (0, 916_454, 2));
+}
+
+// Blocks a cell, after which no tiling is listed and one task is pending, and settles the book.
+fn block_and_settle(rt: &impl Abort, alloc: Global, book: &mut Book) {
+    edit(rt, alloc, book, b"cell 0,0 blocked");
+    expect_status(rt, book, (1, 0, 1));
+    let _ = book.settle(100_000, 256).expect(rt, "it settles");
+    expect_status(rt, book, (1, 394_353, 0));
+}
+
+#[test]
+fn shelf_over_the_limit(rt: HostRuntime) {
+    let mut book = book_of(&rt, rt.alloc(), EIGHT);
+    divide(&rt, rt.alloc(), &mut book);
+    list_seven_parts(&rt, rt.alloc(), &mut book);
+    block_and_settle(&rt, rt.alloc(), &mut book);
     expect_refused(&rt, book.undo(), Refusal::CatalogueFull);
     expect_status(&rt, &book, (1, 394_353, 0));
 }

@@ -244,14 +244,18 @@ fn expect_whole(rt: &impl Abort, alloc: Global, ran: Ran) {
     assert!(rt; has_all_settled(alloc, &mut book).expect(rt, "memory"));
 }
 
+// Runs the events with ample memory.
+fn expect_all_run(rt: &impl Abort, alloc: Global) {
+    let ran = run_events(rt, alloc);
+    expect_status(rt, &ran.book, (3, 0, 3));
+}
+
 #[test]
 fn runs_without_memory(rt: HostRuntime) {
-    let alloc = rt.alloc();
-    let ran = run_events(&rt, alloc);
+    let ran = run_events(&rt, rt.alloc());
     if has_refusal(&ran.replies) {
-        expect_whole(&rt, alloc, ran);
-        let again = run_events(&rt, alloc);
-        expect_status(&rt, &again.book, (3, 0, 3));
+        expect_whole(&rt, rt.alloc(), ran);
+        expect_all_run(&rt, rt.alloc());
     } else {
         expect_status(&rt, &ran.book, (3, 0, 3));
     }

@@ -241,6 +241,18 @@ impl Script {
         }
         Ok(true)
     }
+
+    // Makes 120 events and settles the book. Returns the tally; none if the book isn't shared out after an event, or doesn't
+    // have all tilings at the end.
+    fn run_to_the_end(&mut self, alloc: Global) -> Result<Option<Tally>, Refusal> {
+        if !self.run(alloc)? {
+            return Ok(None);
+        }
+        if !has_all_settled(alloc, &mut self.book)? {
+            return Ok(None);
+        }
+        Ok(Some(self.tally))
+    }
 }
 
 fn report_on(alloc: Global, job: &Job, nodes: u32) -> Result<Report, Refusal>
@@ -280,7 +292,7 @@ fn with_fewer(item: Item, mut arms: Vec<Arm>) -> Tree {
     }
 }
 
-// The tally after a script; none if the book isn't shared out after an event, or doesn't have all tilings at the end.
+// Runs a script from its beginning to its end.
 fn run_script(
     alloc: Global,
     puzzle: &[u8],
@@ -288,13 +300,7 @@ fn run_script(
     tally: Tally,
 ) -> Result<Option<Tally>, Refusal> {
     let mut script = begin(alloc, puzzle, seed, tally)?;
-    if !script.run(alloc)? {
-        return Ok(None);
-    }
-    if !has_all_settled(alloc, &mut script.book)? {
-        return Ok(None);
-    }
-    Ok(Some(script.tally))
+    script.run_to_the_end(alloc)
 }
 
 // Asserts that the scripts of sixteen seeds go well, and that they had events of each kind.

@@ -3,8 +3,10 @@ ghost use Rattle.std.specs.Prelude.{◌≡◌};
 ghost use Rattle.poly_tiling.specs.declared.item.Item.TheVariants.{Cell as CellItem};
 
 use poly_atom::{Atom, GuardLog, Stair, staircase};
-use poly_grid::Cell;
+use poly_grid::{Cell, Refusal};
 use poly_tiling::Item;
+use std::alloc::Global;
+use std::process::Abort;
 use std::test::Fail;
 
 #[test]
@@ -40,7 +42,7 @@ fn two_stairs(rt: HostRuntime) -> Result<(), Fail> {
 }
 
 #[test]
-fn a_log_of_three_changes(rt: HostRuntime) -> Result<(), Fail> {
+fn the_atoms_of_a_stair(rt: HostRuntime) -> Result<(), Fail> {
     let mut log = GuardLog::new(rt.alloc());
     log.push(vec![in rt.alloc(); Atom::Lacks(4), Atom::Lacks(7)]?)?;
     let stair = Stair {
@@ -51,10 +53,20 @@ fn a_log_of_three_changes(rt: HostRuntime) -> Result<(), Fail> {
         stair.atoms(rt.alloc(), &log)?.as_slice(),
         [Atom::Lacks(4), Atom::Has(7)].as_slice()
     );
-    log.push(Vec::new(rt.alloc()))?;
-    log.push(vec![in rt.alloc(); Atom::Has(1)]?)?;
-    assert_eq!(rt; log.len(), 3);
-    assert_eq!(rt; log.stair_count(0), 2);
+    Ok(())
+}
+
+// A change with two guards, one without guards, and one with one.
+fn three_changes(alloc: Global) -> Result<GuardLog, Refusal> {
+    let mut log = GuardLog::new(alloc);
+    log.push(vec![in alloc; Atom::Lacks(4), Atom::Lacks(7)]?)?;
+    log.push(Vec::new(alloc))?;
+    log.push(vec![in alloc; Atom::Has(1)]?)?;
+    Ok(log)
+}
+
+// Asserts which guards follow each edition of the three changes.
+fn expect_guards_since(rt: &impl Abort, log: &GuardLog) {
     assert_eq!(rt;
         log.since(0),
         [Atom::Lacks(4), Atom::Lacks(7), Atom::Has(1)].as_slice()
@@ -62,12 +74,25 @@ fn a_log_of_three_changes(rt: HostRuntime) -> Result<(), Fail> {
     assert_eq!(rt; log.since(1), [Atom::Has(1)].as_slice());
     assert!(rt; log.since(3).is_empty());
     assert!(rt; log.since(9).is_empty());
+}
+
+// Asserts which guards each of the three changes has.
+fn expect_guards_of_each(rt: &impl Abort, log: &GuardLog) {
     assert_eq!(rt;
         log.guards_of(0),
         [Atom::Lacks(4), Atom::Lacks(7)].as_slice()
     );
     assert!(rt; log.guards_of(1).is_empty());
     assert_eq!(rt; log.guards_of(2), [Atom::Has(1)].as_slice());
+}
+
+#[test]
+fn a_log_of_three_changes(rt: HostRuntime) -> Result<(), Fail> {
+    let mut log = three_changes(rt.alloc())?;
+    assert!(rt; log.len() == 3 && !log.is_empty());
+    assert_eq!(rt; log.stair_count(0), 2);
+    expect_guards_since(&rt, &log);
+    expect_guards_of_each(&rt, &log);
     log.pop();
     assert_eq!(rt; log.len(), 2);
     assert_eq!(rt; log.since(0), [Atom::Lacks(4), Atom::Lacks(7)].as_slice());

@@ -7,7 +7,7 @@ ghost use Rattle.poly_place.specs.Right.{IsRight};
 use crate::designs::{DOMINOES, change_of, design_of};
 use poly_design::{Change, Design, Placement};
 use poly_grid::Refusal;
-use poly_place::Table;
+use poly_place::{Delta, Table};
 use poly_tiling::View;
 use std::alloc::Global;
 use std::test::Fail;
@@ -133,6 +133,29 @@ fn is_as_new_along(
     let later_too = is_as_new_along(alloc, design, table, later)?;
     let back_too = is_as_new_back(alloc, design, table, &change, &back)?;
     Ok(later_too && back_too)
+}
+
+// The numbers 1 and 3 are gone, and nothing else differs.
+fn two_gone(alloc: Global) -> Result<Vec<bool>, Refusal> {
+    let delta = Delta {
+        gone: vec![in alloc; 1, 3]?,
+        fresh: Vec::new(alloc),
+        needed: Vec::new(alloc),
+        unneeded: Vec::new(alloc),
+        narrowed: Vec::new(alloc),
+        widened: Vec::new(alloc),
+        pinned: Vec::new(alloc),
+        unpinned: Vec::new(alloc),
+    };
+    let marks = delta.marks_of_gone(alloc, 5)?;
+    Ok(marks)
+}
+
+#[test]
+fn marks_of_what_is_gone(rt: HostRuntime) -> Result<(), Fail> {
+    let marks = two_gone(rt.alloc())?;
+    assert!(rt; marks.as_slice() == [false, true, false, true, false].as_slice());
+    Ok(())
 }
 
 #[test]

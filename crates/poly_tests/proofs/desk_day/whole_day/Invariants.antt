@@ -1,5 +1,5 @@
 use Rattle.poly_desk.specs.Changes.{cut_count}
-use Rattle.poly_tests.proofs.desk_memory.a_day_without_memory.Given as goal
+use Rattle.poly_tests.proofs.desk_day.whole_day.Given as goal
 
 abbrev pub ghosts-day-C-Ledger : goal.ghosts-day-C-Ledger
 ghosts-day-C-Ledger g a = record { name = a.changes.name; parts = a.changes.parts }

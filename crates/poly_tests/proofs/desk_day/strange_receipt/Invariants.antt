@@ -1,5 +1,5 @@
 use Rattle.poly_desk.specs.Changes.{cut_count}
-use Rattle.poly_tests.proofs.desk_day.a_day_at_the_desk.Given as goal
+use Rattle.poly_tests.proofs.desk_day.strange_receipt.Given as goal
 
 abbrev pub ghosts-fourth-C-Ledger : goal.ghosts-fourth-C-Ledger
 ghosts-fourth-C-Ledger g a = record { name = a.changes.name; parts = a.changes.parts }
@@ -9,12 +9,3 @@ ghosts-fourth-K-Ledger g a = record { name = a.cuts.name; parts = a.cuts.parts }
 
 abbrev pub ghosts-fourth-O-Opening : goal.ghosts-fourth-O-Opening
 ghosts-fourth-O-Opening g a = record { design = a.book.opened; view = a.book.view; steps = a.book.steps; cuts = cut_count a.book.endings }
-
-abbrev pub ghosts-day-C-Ledger : goal.ghosts-day-C-Ledger
-ghosts-day-C-Ledger g a = record { name = a.changes.name; parts = a.changes.parts }
-
-abbrev pub ghosts-day-K-Ledger : goal.ghosts-day-K-Ledger
-ghosts-day-K-Ledger g a = record { name = a.cuts.name; parts = a.cuts.parts }
-
-abbrev pub ghosts-day-O-Opening : goal.ghosts-day-O-Opening
-ghosts-day-O-Opening g a = record { design = a.book.opened; view = a.book.view; steps = a.book.steps; cuts = cut_count a.book.endings }

@@ -1,5 +1,5 @@
 use Rattle.poly_desk.specs.Changes.{cut_count}
-use Rattle.poly_tests.proofs.desk_threads.two_threads_edit.Given as goal
+use Rattle.poly_tests.proofs.desk_threads.book_after_edits.Given as goal
 
 abbrev pub ghosts-edit_together-C-Ledger : goal.ghosts-edit_together-C-Ledger
 ghosts-edit_together-C-Ledger g a = record { name = a.changes.name; parts = a.changes.parts }
