@@ -84,7 +84,7 @@ def prove(uses, name, jobs):
         lay_out(room, uses, name)
         verb = "run" if name == PROGRAM else "lib"
         # `rt run` proves, builds and then runs the program; without input it ends at once. Nobody edits the room, so
-        # the sources need to be summed up only once.
+        # the checksums of the sources are computed only once.
         ran = subprocess.run(
             [sys.executable, f"{ROOT}/scripts/rt_once.py", verb, "--jobs", str(jobs)],
             cwd=f"{room}/crates/{name}",

@@ -1,11 +1,11 @@
 #!/usr/bin/env python3
-"""Runs `rt` in a folder whose sources nobody edits meanwhile: it sums up the sources of each crate once.
+"""Runs `rt` in a folder whose sources nobody edits meanwhile: it computes the checksum of each crate's sources only once.
 
 usage: scripts/rt_once.py ARGUMENT..    (the arguments of `rt`)
 
-To see whether a library is built, `rt` sums up its sources and those of all libraries below it, and it does so once for
-each path in crates.txt that leads to a library. There are about 5,000 such paths from the program, and over two minutes
-go by before its proof begins. The result is the same if each library is summed up once.
+To see whether a library is built, `rt` computes a checksum of its sources and of those of all libraries below it, and it does
+so once for each path in crates.txt that leads to a library. There are about 5,000 such paths from the program, and over two minutes
+go by before its proof begins. The result is the same if each checksum is computed only once.
 """
 import functools
 import importlib.machinery

@@ -28,6 +28,7 @@ meets v T (AtMost i n) = nat_le (count v T i) n
 abbrev pub meets_all : View → List ℕ → List Atom → Bool
 meets_all v T A = list_all (λ a. meets v T a) A
 
+-- T belongs to the family of A: it is a tiling that meets all atoms of A
 abbrev pub in_family : View → List Atom → List ℕ → Bool
 in_family v A T = is_tiling v T && meets_all v T A
 

@@ -20,7 +20,7 @@ guards_most old new = map (λ b. AtMost b.item (most old b.item)) (filter (λ b.
 abbrev pub guards_pins : View → View → List Atom
 guards_pins old new = map (λ p. Has p) (filter (λ p. not (mem new.pins p)) old.pins)
 
--- the atoms that tell the tilings of the old design among those of the new one
+-- the atoms that a tiling of the new design meets exactly if it is a tiling of the old one too
 abbrev pub guards : View → View → List Atom
 guards old new = guards_fresh old new ++ (guards_least old new ++ (guards_most old new ++ guards_pins old new))
 

@@ -1,4 +1,4 @@
--- Lists of atoms that no tiling can meet.
+-- Hopeless lists: those whose atoms alone show that no tiling meets them all.
 use Rattle.std.specs.List.{list_any}
 use Rattle.std.specs.Prelude.{Bool, List, [], false, nat_lt, not, ℕ, ◌&&◌, ◌==◌, ◌||◌, ◌∷◌, ◌≡◌}
 use Rattle.poly_tiling.specs.Lists.{mem, put_all}

@@ -37,7 +37,7 @@ HopelessStays = (v w : View) (A B : List Atom) → Grown v w → hopeless v A �
 abbrev pub SameHasNoGuards : Type 0
 SameHasNoGuards = (v w : View) → Grown v w → guards v w ≡ []
 
--- Assigning new numbers does not change whether a set is a tiling.
+-- Assigning new numbers does not change whether a tiling meets a list of atoms.
 abbrev pub AnswersMayGrow : Type 0
 AnswersMayGrow = (v w : View) (T : List ℕ) (A : List Atom) → WellNamed v → Grown v w → is_tiling v T ≡ true → meets_all w T A ≡ meets_all v T A
 

@@ -1,5 +1,5 @@
-//! The guards of a change and of its inverse, made from what the change does. There are as many as the change has
-//! differences, however many placements stay.
+//! The guards of a change and of its inverse, made from what the change does. Together they are as many as the differences
+//! that the change makes, no matter how many placements stay.
 ghost use Rattle.std.specs.Prelude.{IfErr, IfOk, length, map, ◌≡◌};
 ghost use Rattle.poly_atom.specs.Atoms.{AllSmall};
 ghost use Rattle.poly_atom.specs.Guards.{guards, guards_by};
@@ -19,9 +19,9 @@ use std::alloc::{AllocError, Global};
 /// The guards of a change and those of its inverse.
 #[derive(Debug, Drop)]
 pub struct BothGuards {
-    /// The guards of the change: they tell the tilings of the design before among those of the design after.
+    /// The guards of the change: a tiling of the design after is one of the design before exactly if it meets them.
     pub forth: Vec<Atom>,
-    /// The guards of its inverse: they tell the tilings of the design after among those of the design before.
+    /// The guards of its inverse: a tiling of the design before is one of the design after exactly if it meets them.
     pub back: Vec<Atom>,
 }
 
@@ -72,7 +72,7 @@ pub fn guard_counts(before: &View, after: &View, delta: &Delta) -> (usize, usize
     (forth, back)
 }
 
-// Lacks of the numbers, the least of the items in the view, the most of the pieces in it, and Has of the pins.
+// `Lacks` of the numbers, `AtLeast` of the items and `AtMost` of the pieces with the view's bounds, `Has` of the pins.
 fn guards_by(
     alloc: Global,
     view: &View,

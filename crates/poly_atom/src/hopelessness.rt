@@ -1,5 +1,5 @@
-//! Lists of atoms that no tiling can meet, found without the search. Each tiling of a family has the placements that
-//! the list asks for and the pins. Each of these is counted once.
+//! Hopeless lists of atoms: the atoms alone show, without a search, that no tiling meets them all. A tiling that meets them
+//! all has the pins and each placement that the list asks for. Each of these is counted once.
 //!
 //! A list may be long, and may ask for one placement many times. So the placements that it asks for are gathered first,
 //! each once, and are then compared with one another and with the atoms that rule placements out. A list that asks for
@@ -24,10 +24,10 @@ const MOST_ITEMS: usize = MAX_CELLS + MAX_PIECES;
 // Lists up to this length are compared as they are: gathering first would cost more.
 const FEW_ATOMS: usize = 8;
 
-/// Whether the atoms alone show that no tiling meets all of them. An atom shows it if it rules out a pin; if its bound is
-/// beyond that of its item; or if it asks for a placement that isn't in the design, that another atom rules out, that is
-/// in conflict with a pin or with another placement asked for, or whose piece has too many placements asked for. Never
-/// allocates.
+/// Whether the atoms alone show that no tiling meets all of them. An atom shows this if it rules out a pin; if it is
+/// `AtLeast` above the most of an item of the view, or `AtMost` below the least of one; or if it asks for a placement that
+/// isn't in the design, that another atom rules out, that is in conflict with a pin or with another placement asked for, or
+/// whose piece has more placements asked for or pinned than its most. Never allocates.
 ///
 /// The time is in proportion to the number of atoms.
 pub fn hopeless(view: &View, atoms: &[Atom]) -> bool

@@ -33,7 +33,7 @@ pub fn same_has_no_guards()
     ensures { SameHasNoGuards }
 {}
 
-/// Assigning new numbers does not change whether a set is a tiling.
+/// Assigning new numbers does not change whether a tiling meets a list of atoms.
 pub fn answers_may_grow()
     ensures { AnswersMayGrow }
 {}

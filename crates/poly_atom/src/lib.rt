@@ -1,4 +1,12 @@
 //! Atoms, guards, stairs and hopeless lists: the terms in which search tasks are described.
+//!
+//! - [`Atom`]: a condition on a set of placements. The family of a list of atoms is the tilings that meet them all.
+//! - [`guards`], [`BothGuards`]: the atoms that a tiling of the design after a change meets exactly if it is a tiling of the
+//!   design before it too.
+//! - [`Stair`], [`staircase`]: some guards, then the negation of the next one. A set that breaks a guard meets exactly one
+//!   stair.
+//! - [`GuardLog`]: the guards of all changes.
+//! - [`hopeless`]: whether the atoms alone show that no tiling meets them all.
 #![tactic(auto)]
 
 mod atom;

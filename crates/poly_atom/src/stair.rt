@@ -9,8 +9,8 @@ use crate::log::GuardLog;
 use poly_grid::Refusal;
 use std::alloc::{AllocError, Global};
 
-/// One stair of a change: the guards of the change from the edition, up to the index, and the negation of the guard
-/// there.
+/// One stair of a change: the guards before the index, of the change that led from the edition, and the negation of the
+/// guard at the index.
 #[derive(Clone, Copy, Debug, PartialEq, Eq)]
 pub struct Stair {
     /// The edition that the change led from.

@@ -91,7 +91,7 @@ pub record Leads (s : State) (x : Change) (w : View) : Type 0 where
   pub shows : Shows w (changed s.design x)
   pub names : Names s.view w
 
--- the first of the ways, made by f of its change, leads to the view
+-- f of the first way's change leads to the view; if there is no way, this says nothing
 abbrev pub LeadsBy : State → (Change → Change) → List Way → View → Type 0
 LeadsBy s f [] w = Unit {0}
 LeadsBy s f (b ∷ ways) w = Leads s (f b.change) w

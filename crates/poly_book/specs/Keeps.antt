@@ -23,8 +23,8 @@ use Rattle.poly_book.specs.Whole.{Whole}
 
 -- What the fields show is whole; the table is right for the design and has at least the view's numbers; each task was
 -- made by now, is noted in the maps if it is older than they are, and isn't hopeless by its own atoms; the log has the
--- guards of each step; numbers and editions are within their limits; each task number below the next one is of a task that is pending or has ended; the history has at most
--- 256 steps.
+-- guards of each step; numbers and editions are within their limits; endings and pending tasks together are fewer than the
+-- number of the next task; the history has at most 256 steps.
 pub record KeepsOf (m : Register) (o d : Layout) (v table : View) (ls : List (List ℕ)) (log : List (List Atom)) (ps : List Pending) (n : ℕ) (h : Steps Change Kept) (ss : List Step) (es : List Ending) : Type 0 where
   pub whole : Whole (shown o d v ls log ps n h ss es)
   pub right : IsRight table d

@@ -28,7 +28,7 @@ StepsKeepWhole = (s t : State) (e : Event) → Whole s → Goes s e → Becomes 
 abbrev pub RunsKeepWhole : Type 0
 RunsKeepWhole = (s t : State) (es : List Event) → Whole s → Runs s es t → Whole t
 
--- Whatever happens, a listed tiling that is still one stays listed.
+-- Whatever happens, a listed tiling that is still a tiling stays listed.
 abbrev pub ListedStay : Type 0
 ListedStay = (s : State) (e : Event) (T : List ℕ) →
     list_any (λ U. same_list U T) s.listed ≡ true → is_tiling (step s e).view T ≡ true → list_any (λ U. same_list U T) (step s e).listed ≡ true
@@ -44,7 +44,7 @@ abbrev pub QuietUndo : Type 0
 QuietUndo = (s : State) (w : View) (b : Way) (ways : List Way) → Whole s → Goes s (Undo w) →
     s.back ≡ b ∷ ways → quiet_since b.made s.steps ≡ true → Complete (step s (Undo w))
 
--- The same of an undo that found nothing pending, and its redo.
+-- Redoing a change whose undo found nothing pending leaves nothing pending, if each undo and redo since had a kept shelf.
 abbrev pub QuietRedo : Type 0
 QuietRedo = (s : State) (w : View) (b : Way) (ways : List Way) → Whole s → Goes s (Redo w) →
     s.forth ≡ b ∷ ways → quiet_since b.made s.steps ≡ true → Complete (step s (Redo w))

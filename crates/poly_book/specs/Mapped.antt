@@ -32,7 +32,7 @@ in_span s n = nat_le s.from n && nat_le n s.to
 abbrev pub Rows : Type 0
 Rows = List (ℕ × List Span)
 
--- the row that `get` finds for the key; none is as an empty one
+-- the row that `get` finds for the key, or an empty one if there is none
 abbrev pub row_at : Rows → ℕ → List Span
 row_at rows k = unwrap_or (lookup (is_at (nat_cmp k)) rows) []
 
@@ -58,7 +58,7 @@ IsWider old new = (a : Atom) (n : ℕ) → under old a n ≡ true → under new 
 abbrev pub AreNoted : Maps → List (List Atom) → List Pending → Type 0
 AreNoted m log ps = list_all (λ p. list_all (λ a. under m a p.number) (own_of log p.own)) ps ≡ true
 
--- each task with a lower number is
+-- each task whose number is below b is noted under each of its own atoms
 abbrev pub AreNotedBelow : ℕ → Maps → List (List Atom) → List Pending → Type 0
 AreNotedBelow b m log ps = list_all (λ p. nat_le b p.number || list_all (λ a. under m a p.number) (own_of log p.own)) ps ≡ true
 

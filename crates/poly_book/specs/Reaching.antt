@@ -1,4 +1,4 @@
--- How far the spans reach that a change touches.
+-- How far the spans that a change touches reach.
 use Rattle.std.specs.Prelude.{Bool, List, length, slice_index_or, true, ℕ, ◌<◌, ◌≡◌, ◌≤◌}
 use Rattle.poly_tiling.specs.Puzzle.{View}
 use Rattle.poly_atom.specs.declared.atom.Atom.{Atom}
@@ -6,7 +6,7 @@ use Rattle.poly_atom.specs.Hopeless.{hopeless}
 use Rattle.poly_book.specs.declared.task.Pending.{Pending}
 use Rattle.poly_book.specs.Meaning.{own_of}
 
--- an entry that isn't behind it reaches the number
+-- an entry at or before the index reaches the number
 abbrev pub Reaches : List ℕ → ℕ → ℕ → Type 0
 Reaches reach i n = (j : ℕ) × (j ≤ i) × (n ≤ slice_index_or reach j 0)
 

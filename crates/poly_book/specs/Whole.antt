@@ -8,8 +8,8 @@ use Rattle.poly_book.specs.Replay.{Replay}
 use Rattle.poly_book.specs.Trails.{Consistent, Trail}
 use Rattle.poly_book.specs.Quiet.{StaysQuiet}
 
--- The tilings are shared out; the shelves are right; the steps lead to the design; what was quiet is undone to quiet;
--- the tasks' numbers rise below the next one.
+-- The tilings are shared out; the shelves are right; the steps lead to the design; undoing or redoing a change that found
+-- nothing pending leaves nothing pending, as `StaysQuiet` says; the tasks' numbers rise below the next one.
 pub record Whole (s : State) : Type 0 where
   pub trail : Trail
   pub consistent : Consistent s trail

@@ -13,7 +13,7 @@ use poly_grid::Refusal;
 impl Book {
     /// Makes the change that the edit asks for. Listed tilings that are still tilings stay; what is new becomes tasks.
     ///
-    /// Refused as `Design::check` refuses; then with `TooWide` if the change or its way back has over 20,000 guards, with
+    /// Refused as `Design::check` refuses; then with `TooWide` if the change or its inverse has over 20,000 guards, with
     /// `Spent` if the edition, a task number or a placement number would pass its last value, and with `Memory`. A refused
     /// edit leaves the book as it was.
     pub fn edit(&mut self, edit: Edit) -> Result<Done, Refusal>

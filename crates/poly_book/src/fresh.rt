@@ -56,7 +56,7 @@ pub(crate) fn opened(
     Ok(tasks)
 }
 
-// Whether the list isn't hopeless, which takes no time if that is sure.
+// Whether the list isn't hopeless. If `sure`, it isn't, and nothing is computed.
 fn is_opened(view: &View, own: &[Atom], sure: bool) -> bool
     requires { sure ≡ true → hopeless view.now own.now ≡ false }
     ensures { result ≡ not (hopeless view.now own.now) }
@@ -64,7 +64,7 @@ fn is_opened(view: &View, own: &[Atom], sure: bool) -> bool
     sure || !hopeless(view, own)
 }
 
-/// The stairs of the guards that led from the edition, as tasks under the next numbers.
+/// The stairs of the guards of the change from the edition, as tasks under the next numbers. A hopeless stair gets no task.
 pub(crate) fn opened_stairs(
     alloc: Global,
     view: &View,
@@ -99,7 +99,7 @@ pub(crate) fn opened_stairs(
     Ok(tasks)
 }
 
-// Appends the guard to the atoms. Returns whether the atoms before it and its negation are hopeless.
+// Appends the guard to the atoms. Returns whether the atoms before it, followed by its negation, are hopeless.
 fn next_stair(view: &View, atoms: &mut Vec<Atom>, guard: &Atom) -> Result<bool, Refusal>
     requires { IsSmall guard.now }
     ensures ok { IfOk result (λ yes. yes ≡ hopeless view.now (atoms.old.items ++ negated guard.now ∷ [])) }

@@ -1,5 +1,5 @@
-//! The laws of a book. `run` and `still_holds` carry those of whole runs; the others are laws of the definitions, each the
-//! contract of a function that does nothing.
+//! The laws of a book. The contracts of `run` and `still_holds` state what holds of whole runs. The others are laws of the
+//! definitions, each the contract of a function that does nothing.
 ghost use Rattle.std.specs.Prelude.{◌≡◌, IfErr, IfOk};
 ghost use Rattle.poly_report.specs.Shapes.{plan_of};
 ghost use Rattle.poly_book.specs.Happenings.{AllHappen, Happens, HoldsNow, KeepsHolding};
@@ -148,7 +148,7 @@ pub fn runs_keep_whole()
     ensures { RunsKeepWhole }
 {}
 
-/// Whatever happens, a listed tiling that is still one stays listed.
+/// Whatever happens, a listed tiling that is still a tiling stays listed.
 pub fn listed_stay()
     ensures { ListedStay }
 {}
@@ -158,12 +158,12 @@ pub fn reports_keep_holding()
     ensures { ReportsKeepHolding }
 {}
 
-/// A change that found nothing pending is undone to nothing pending, if each undo and redo since had a kept shelf.
+/// Undoing a change that found nothing pending leaves nothing pending, if each undo and redo since had a kept shelf.
 pub fn quiet_undo()
     ensures { QuietUndo }
 {}
 
-/// An undo that found nothing pending is redone to nothing pending, if each undo and redo since had a kept shelf.
+/// Redoing a change whose undo found nothing pending leaves nothing pending, if each undo and redo since had a kept shelf.
 pub fn quiet_redo()
     ensures { QuietRedo }
 {}

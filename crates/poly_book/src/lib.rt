@@ -8,6 +8,9 @@
 //! - [`Done`], [`Step`], [`Kind`]: a change that was made. [`Applied`], [`Ending`]: how a task ended.
 //! - [`Which`], [`Job`]: a task to be worked on. [`Found`]: what a search found for it.
 //! - [`Quiet`]: all tilings of a design.
+//! - [`Numbers`]: how many changes, endings, listed tilings and pending tasks there are. [`Pending`], [`Own`]: a pending
+//!   task. [`Kept`]: what is kept for an undo or a redo.
+//! - Limits: [`MAX_CHANGES`] of a book, [`MAX_GUARDS`] of a change, and [`MAX_SHELF`] on what is kept for an undo.
 //! - [`laws`]: what holds of whole runs of events.
 #![tactic(auto)]
 

@@ -1,8 +1,8 @@
-//! Maps from placements and items to the pending tasks that have an own atom about them. With them a change finds the
-//! tasks that it may make hopeless without a look at the others.
+//! Maps from placements and items to the pending tasks that have an own atom about them. Through them a change finds the
+//! tasks that it may make hopeless, and needs to check no others.
 //!
 //! Tasks that have ended may still be noted, and a task may be noted where it has no atom. Both cost time and change
-//! nothing: each task that is found is asked.
+//! nothing: each task that is found is checked.
 ghost use Rattle.std.specs.Prelude.{◌≡◌, ◌≤◌, ◌⊎◌, IfErr, OnOk, length, true, ℕ};
 ghost use Rattle.std.specs.List.{list_all};
 ghost use Rattle.std.specs.List.Sorted.{IsNonDecreasingBy};
@@ -69,7 +69,7 @@ impl Maps {
     }
 
     /// Drops the spans without a pending task, so that those of ended tasks don't pile up. What is noted for a pending task
-    /// stays noted. Takes no memory.
+    /// stays noted. Never allocates.
     pub(crate) fn tidy(&mut self, pending: &[Pending])
         requires { IsNonDecreasingBy (λ p. p.number) pending.now }
         ensures { KeepsPending pending.now self.old self.new }
@@ -107,8 +107,8 @@ impl Maps {
         }
     }
 
-    // Notes the stair: those of its guards that are not noted yet for all tasks up to the last one, its last atom for it
-    // alone.
+    // Notes the stair: its guards for all tasks from this one to the last, except the guards that are already noted for all
+    // of these, and its last atom for this task alone.
     fn note_stair(
         &mut self,
         log: &GuardLog,
@@ -196,7 +196,8 @@ fn last_number(tasks: &[Pending]) -> u32 {
 // The first key that isn't a cell's.
 const FIRST_NAME: u32 = 4096;
 
-/// The key of the item. Pieces whose names end alike share one, so a task may be found for the other piece.
+/// The key of the item. Pieces whose names end with the same byte share a key, so a task about one of them may also be found
+/// for another.
 pub(crate) fn key_of(item: &Item) -> u32
     ensures { result ≡ key_of item.now }
 {

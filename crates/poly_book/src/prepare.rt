@@ -36,7 +36,7 @@ use poly_undo::{History, Shelf, Step as Beside};
 use std::alloc::Global;
 use std::sync::Arc;
 
-/// The most guards of a change, and of its way back.
+/// The most guards that an edit's change may have, and the most that its inverse may have.
 pub const MAX_GUARDS: usize = 20_000;
 
 /// The most changes of a book.
@@ -70,7 +70,7 @@ pub(crate) struct Prepared {
     pub room: Vec<Pending>,
 }
 
-/// Prepares the change to the design after, whose plan the table made.
+/// Prepares the change to the design `after`, by the plan that the table made for it.
 pub(crate) fn gather(
     parts: &Parts,
     kind: Kind,
@@ -148,8 +148,8 @@ fn going_on(
     Ok(flags)
 }
 
-// Which tasks go on. Only those are asked that are reached: their number is at most what the entry at their index, or an
-// earlier entry, reaches.
+// Which tasks go on. Checks only the tasks that are reached: those whose number is at most what the entry at their index, or
+// an earlier entry, reaches.
 fn surviving(
     alloc: Global,
     view: &View,

@@ -1,4 +1,4 @@
-//! How far the spans reach that a change touches. A pending task can become hopeless only if such a span has its number.
+//! How far the spans that a change touches reach. A pending task can become hopeless only if such a span has its number.
 ghost use Rattle.std.specs.Prelude.{◌≡◌, ◌≤◌, ◌<◌, IfErr, IfOk, length, slice_index_or, true, ℕ};
 ghost use Rattle.std.specs.List.{list_any};
 ghost use Rattle.std.specs.List.Sorted.{IsNonDecreasingBy};

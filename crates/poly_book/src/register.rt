@@ -14,9 +14,9 @@ use std::alloc::Global;
 #[derive(Drop)]
 pub(crate) struct Register {
     pub maps: Maps,
-    /// The pending tasks with lower numbers are noted.
+    /// The pending tasks whose numbers are less than this are noted.
     pub below: u64,
-    /// How many tasks were noted since what the maps had of ended tasks was last dropped.
+    /// How many tasks were noted since the spans of ended tasks were last dropped.
     pub added: u64,
 }
 
@@ -57,7 +57,7 @@ impl Register {
         Ok(())
     }
 
-    // Drops what is noted for ended tasks, once more tasks were noted than are pending by far.
+    // Drops the spans without a pending task, once far more tasks were noted than are pending.
     fn tidy(&mut self, pending: &[Pending])
         requires { IsNonDecreasingBy (λ p. p.number) pending.now }
         ensures kept { KeepsPending pending.now self.old.maps self.new.maps }
@@ -70,7 +70,7 @@ impl Register {
     }
 }
 
-// The first index of a number that isn't below. The numbers rise.
+// The index of the first task whose number is at least `below`, or the length if there is none. The numbers rise.
 fn first_from(pending: &[Pending], below: u64) -> usize
     requires { IsNonDecreasingBy (λ p. p.number) pending.now }
     ensures low { result ≤ length pending.now }

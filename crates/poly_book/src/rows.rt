@@ -106,7 +106,7 @@ fn add_row(
 }
 
 /// Drops the spans without a pending task, whose numbers rise, and the rows without a span. What is noted for a pending task
-/// stays noted. Takes no memory.
+/// stays noted. Never allocates.
 pub(crate) fn tidy_rows(rows: &mut BTreeMap<u32, Row>, pending: &[Pending])
     requires { IsNonDecreasingBy (λ p. p.number) pending.now }
     ensures { AreKept pending.now rows.old.entries rows.new.entries }
@@ -121,7 +121,8 @@ fn keep_pending(spans: &mut Vec<Span>, pending: &[Pending])
     spans.retain(|span| has_pending(pending, span));
 }
 
-// Whether a pending task has a number in the span, found by halving: the first number that isn't below the span decides.
+// Whether a pending task has a number in the span. A binary search finds the first number that isn't below the span, and
+// that number decides.
 fn has_pending(pending: &[Pending], span: &Span) -> bool
     requires { IsNonDecreasingBy (λ p. p.number) pending.now }
     ensures { result ≡ has_pending pending.now span.now }

@@ -21,9 +21,9 @@ impl Book {
     /// Takes tasks, explores each with at most `nodes` nodes and hands the result in, until nothing is pending. Returns
     /// how many reports were applied. The design and the steps stay. `nodes` is from 1 to 4,096.
     ///
-    /// Refused with `Unfinished` if `turns` reports were applied and a task is pending still, and as `hand_in` is refused
-    /// for a report that holds: with `Spent`, `CatalogueFull` or `Memory`. Reports that were applied before a refusal stay
-    /// applied.
+    /// Refused with `Unfinished` if `turns` reports were applied and a task is still pending. Otherwise refused as `hand_in`
+    /// is for a report that holds: with `Spent`, `CatalogueFull` or `Memory`. Reports that were applied before a refusal
+    /// stay applied.
     pub fn settle(&mut self, turns: u64, nodes: u32) -> Result<u64, Refusal>
         requires some { 1 ≤ nodes }
         requires few { nodes ≤ NODES }
@@ -58,7 +58,7 @@ fn settle_all(parts: &mut Parts, turns: u64, nodes: u32) -> Result<u64, Refusal>
 }
 
 // One turn: whether there was a task. The tree that is found holds, so its leaves are applied without a check. Only the
-// first `unsure` tasks may be hopeless, so the rests of another one are opened without a check.
+// first `unsure` tasks may be hopeless, so the rests of a later task are opened without a check.
 fn settle_one(parts: &mut Parts, nodes: u32, unsure: &mut usize) -> Result<bool, Refusal>
     requires some { 1 ≤ nodes }
     requires few { nodes ≤ NODES }

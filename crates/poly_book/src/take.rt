@@ -40,8 +40,8 @@ pub struct Job {
 }
 
 impl Book {
-    /// A pending task with its atoms: the newest, or that of a number. None only if no task is pending, or that one isn't.
-    /// Fails only when out of memory.
+    /// A pending task with its atoms: the newest, or the one with the given number. `None` only if no task is pending, or if
+    /// that one isn't. Fails only when out of memory.
     pub fn take(&self, which: Which) -> Result<Option<Job>, Refusal>
         ensures ok { IfOk result (λ o. MatchOption o (IsMissing self.now which) (λ j. IsTaken self.now which j)) }
         ensures why { IfErr result (λ e. e ≡ Refusal.Memory) }
@@ -105,7 +105,7 @@ fn make_job(parts: &Parts, task: &Pending) -> Result<Job, Refusal>
     })
 }
 
-// The first number from there on, found by halving.
+// The first number of a task that is at least `from`, found by binary search.
 fn first_from(tasks: &[Pending], from: u32) -> Option<u32>
     requires { IsNonDecreasingBy (λ p. p.number) tasks.now }
     ensures { result ≡ number_from from tasks.now }

@@ -10,7 +10,7 @@ ghost use Rattle.poly_browse.specs.Symmetries.{Carries, Takes};
 use poly_grid::{Cell, Grid, Point};
 use poly_shape::Cells;
 
-/// A turn, and the shift by which the turned points lie past the cells that the translation carries them to.
+/// A turn, and a shift that the translation subtracts from each turned point.
 #[derive(Clone, Copy)]
 pub(crate) struct Motion {
     pub(crate) turn: u8,

@@ -19,7 +19,7 @@ AreSame a b = (f : List ℕ → Bool) → tally f a ≡ tally f b
 abbrev pub Keeps : (List ℕ → Bool) → List (List ℕ) → List (List ℕ) → Type 0
 Keeps p old new = (f : List ℕ → Bool) → tally f new ≡ tally (λ T. f T && p T) old
 
--- each is a tiling of the later view, or of one view before, from which the differences lead to the later one
+-- each is a tiling of the later view or of one and the same earlier view, from which the differences lead to the later one
 pub record AreOfEither (w : View) (x : Delta) (list : List (List ℕ)) : Type 0 where
   pub before : View
   pub leads : Leads before w x

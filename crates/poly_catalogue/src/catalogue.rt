@@ -78,8 +78,8 @@ impl Catalogue {
         self.listing.all()
     }
 
-    /// A mark for each listed tiling, in the order of the list: whether it covers the item. The listed tilings are tilings
-    /// of the view. Fails only with `Memory`.
+    /// A mark for each listed tiling, in the order of the list: whether it covers the item. Requires that all listed tilings
+    /// are tilings of the view. Fails only with `Memory`.
     ///
     /// No index by item is kept: it would take three times the memory, and the tilings that cover an item are those that
     /// have one of its placements.
@@ -91,7 +91,7 @@ impl Catalogue {
         covering(self.alloc, &self.listing, view, item)
     }
 
-    /// Lists these tilings of the view too. Each of them is given once and is not listed yet.
+    /// Adds these tilings of the view to the list. Requires that none is given twice or is listed already.
     ///
     /// Fails with `CatalogueFull` exactly if more than 1,000,000 would be listed, and otherwise only with `Memory`. If it
     /// fails, the list stays as it was.
@@ -110,8 +110,8 @@ impl Catalogue {
         Ok(())
     }
 
-    /// Keeps exactly the listed tilings that are tilings of the view, and takes no memory. Each listed tiling is one of
-    /// the view, or one of the view before it, from which the differences lead to it.
+    /// Keeps exactly the listed tilings that are tilings of the view, and never allocates. Requires that each listed tiling
+    /// is one of the view or of the view before it, from which the differences lead to it.
     pub fn keep_only(&mut self, view: &View, delta: &Delta)
         requires { AreOfEither view.now delta.now self.old }
         ensures { AreSame self.new (filter (is_tiling view.now) self.old) }
@@ -128,10 +128,10 @@ impl Catalogue {
         leaving(self.alloc, &self.listing, self.flags.len(), view, delta)
     }
 
-    /// `keep_only` and then `list_all`, under the conditions of both, all or none.
+    /// Does what `keep_only` and then `list_all` do, or changes nothing. Requires what both require.
     ///
-    /// Fails with `CatalogueFull` only if more than 1,000,000 would be listed at the end, and with `Memory`. If it fails,
-    /// the list stays as it was.
+    /// Fails with `CatalogueFull` only if more than 1,000,000 would be listed at the end, and otherwise only with `Memory`.
+    /// If it fails, the list stays as it was.
     pub fn exchange(
         &mut self,
         view: &View,

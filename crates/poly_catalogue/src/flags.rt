@@ -1,7 +1,8 @@
 //! Flags that say which placements have an item.
 //!
-//! Each placement is checked once for an item, and its number is flagged. Then how many placements of a tiling have the item
-//! is counted by flags alone. The memory of the flags is taken when tilings are listed, so an edit needs none.
+//! Each placement is checked once for an item, and its number is flagged if it has the item. The placements of a tiling that
+//! have the item are then counted by flags alone. The flags are allocated when tilings are listed, so that keeping what is
+//! still a tiling never allocates.
 ghost use Rattle.std.specs.Prelude.{◌≡◌, ◌^◌, ◌<◌, ◌≤◌, IfErr, OnOk, false, length, nat_lt, slice_index_or, slice_set, true};
 ghost use Rattle.std.specs.List.{list_all};
 ghost use Rattle.poly_catalogue.specs.Flags.{AreFlags, flagged, within};

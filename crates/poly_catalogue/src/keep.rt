@@ -16,7 +16,7 @@ use poly_design::Name;
 use poly_place::Delta;
 use poly_tiling::{Item, View, has_all};
 
-/// Removes the tilings that are not tilings of the view. Takes no memory.
+/// Removes the tilings that are not tilings of the view. Never allocates.
 ///
 /// The index finds those with a placement that is gone. The others are looked at only if there are new pins, items whose
 /// least rose or pieces whose most fell. The flags may be set in any way.
@@ -64,7 +64,7 @@ fn one_having(listing: &Listing, number: u32) -> Option<usize>
 
 // Removes the tilings that lack one of the pins.
 //
-// It goes from the end to the front: a tiling that moves to another's index was looked at before.
+// Goes from the end to the front, so a tiling that moves to the index of a removed one was looked at already.
 fn drop_unpinned(listing: &mut Listing, pins: &[u32])
     ensures { Keeps (λ T. list_all (λ p. mem T p) pins.now) listing.old listing.new }
 {

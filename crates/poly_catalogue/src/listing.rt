@@ -94,7 +94,7 @@ impl Listing {
         }
     }
 
-    /// Removes the tiling at an index. The last tiling moves to that index. Takes no memory.
+    /// Removes the tiling at an index. The last tiling moves to that index. Never allocates.
     pub(crate) fn remove(&mut self, index: usize)
         requires { index < length self.old }
         ensures tally { (f : List ℕ → Bool) → tally f self.new + one (f (row self.old index)) ≡ tally f self.old }

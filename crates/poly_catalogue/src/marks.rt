@@ -1,7 +1,7 @@
 //! Marks for listed tilings.
 //!
-//! Each kind of difference marks the tilings that it takes away, in one pass over the list, and keeps the marks that are
-//! set. For an item, each placement is checked once and flagged, and the pass over the tilings looks only at flags.
+//! Each kind of difference marks the tilings that it takes away, and keeps the marks that are set already. For an item, each
+//! placement is checked once and flagged, and a pass over the tilings then looks only at the flags.
 ghost use Rattle.std.specs.Prelude.{◌≡◌, ◌||◌, ◌<◌, IfErr, IfOk, false, length, not, replicate, slice_index_or, slice_set, true, ℕ};
 ghost use Rattle.std.specs.List.{list_all};
 ghost use Rattle.poly_tiling.specs.declared.item.Item.TheVariants.{Piece as PieceItem};

@@ -5,7 +5,7 @@ use poly_grid::Refusal;
 use std::alloc::Global;
 use std::marker::Model;
 
-/// A list of numbers.
+/// A list of numbers: in the index, the indices of the tilings that have one placement number.
 #[derive(Drop)]
 pub(crate) struct Row {
     numbers: Vec<u32>,

@@ -139,7 +139,7 @@ impl Answerer {
     }
 }
 
-/// Writes the refusal. Takes no memory.
+/// Writes the refusal. Never allocates.
 pub(crate) fn refuse<W: Write>(refusal: Refusal, writer: &mut W) -> Result<(), Fault>
     ensures { Writes result (W.contents writer.old) (W.contents writer.new) (refusal_text refusal) }
 {

@@ -9,7 +9,7 @@ use std::alloc::Global;
 const ABOUT: &str =
     "Finds every tiling of a polyomino or polyhex puzzle, and keeps them while the puzzle changes.
 
-Standard input has the puzzle line and then a command to a line; standard output has the replies.";
+Standard input has the puzzle line and then one command per line; standard output has the replies.";
 
 const EXAMPLE: &str = "Example: two dominoes on a board of two by two
   {\"format\":1,\"grid\":\"square\",\"board\":[\"##\",\"##\"],\"pieces\":[{\"name\":\"A\",\"cells\":[[0,0],[1,0]]},{\"name\":\"B\",\"cells\":[[0,0],[1,0]]}]}
@@ -27,10 +27,10 @@ Commands (a CELL is x,y):
   forbid NAME CELL..                         the piece never lies here
   allow NAME CELL..                          it may lie here again
   undo                                       undoes the last change
-  redo                                       makes the change again that was undone last
+  redo                                       makes again the change that was undone last
   count                                      the number of tilings
   list                                       each tiling, and their number
-  browse +NAME=CELL/CELL.. -NAME=.. @CELL @NAME   the tilings with, without and over these
+  browse +NAME=CELL/CELL.. -NAME=.. @CELL @NAME   what the tilings with, without and over these share
   classes                                    the number of tilings up to symmetry
   status                                     the edition, and what is listed and pending
 
@@ -87,7 +87,7 @@ fn command<'a>(alloc: Global) -> Result<Command<'a>, Error> {
         .value_parser(value_parser!(u64).range(1..=MOST_TURNS as i64));
     let workers = Arg::new(alloc, WORKERS)
         .long(WORKERS)
-        .help("How many workers search at the same time: 1 to 16; without it, one thread does")
+        .help("How many workers search at the same time: 1 to 16; by default one thread searches")
         .action(ArgAction::Set)
         .value_parser(value_parser!(u8).range(1..=MOST_WORKERS as i64));
     let command = Command::new(alloc, "polybench")

@@ -47,8 +47,9 @@ pub trait Engine {
 
     /// Undoes the last change that isn't undone, and returns the edition after it.
     ///
-    /// Fails with `NothingToUndo` if there is none; then with `Spent` if a counter is used up, or with `CatalogueFull` if the design that it
-    /// leads to has over 1,000,000 tilings. `Memory` may come in place of any answer. A refused undo leaves the engine as it was.
+    /// Fails with `NothingToUndo` if there is none; then with `Spent` if a counter is used up, or with `CatalogueFull`, only
+    /// if the design after the undo has over 1,000,000 tilings. `Memory` may come in place of any answer. A refused undo
+    /// leaves the engine as it was.
     fn undo(&mut self) -> Result<u64, Refusal>
         requires ready { ready self.old }
         ensures ready { ready self.new }
@@ -57,10 +58,11 @@ pub trait Engine {
         ensures err { OnErr result (state self.new ≡ state self.old) }
         ensures why { IfErr result (λ e. (UndoRefused (state self.old) e ⊎ (e ≡ Refusal.Memory)) ⊎ failures e) };
 
-    /// Makes the change again that was undone last, and returns the edition after it.
+    /// Makes again the change that was undone last, and returns the edition after it.
     ///
-    /// Fails with `NothingToRedo` if there is none; then with `Spent` if a counter is used up, or with `CatalogueFull` if the design that it
-    /// leads to has over 1,000,000 tilings. `Memory` may come in place of any answer. A refused redo leaves the engine as it was.
+    /// Fails with `NothingToRedo` if there is none; then with `Spent` if a counter is used up, or with `CatalogueFull`, only
+    /// if the design after the redo has over 1,000,000 tilings. `Memory` may come in place of any answer. A refused redo
+    /// leaves the engine as it was.
     fn redo(&mut self) -> Result<u64, Refusal>
         requires ready { ready self.old }
         ensures ready { ready self.new }

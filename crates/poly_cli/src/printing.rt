@@ -16,7 +16,7 @@ use poly_tiling::{Item, Tiling, View};
 use std::io::Write;
 
 impl Answerer {
-    /// Writes a line for each tiling, and how many there are. Takes no memory.
+    /// Writes a line for each tiling, and how many there are. Never allocates.
     pub(crate) fn print<W: Write>(
         &mut self,
         view: &View,
@@ -34,7 +34,7 @@ impl Answerer {
         write_whole(writer, self.reply.as_bytes())
     }
 
-    // Makes the reply line the `tiling` line of the tiling.
+    // Sets the reply line to the `tiling` line for the tiling.
     fn make_line(&mut self, view: &View, tiling: &Tiling)
         requires { IsPrintable view.now tiling.now }
         ensures { self.new.reply ≡ tiling_text (placed view.now tiling.now) }
@@ -59,7 +59,7 @@ impl Answerer {
         }
     }
 
-    /// Writes the forced placements, a line for each item, and how many tilings match. Takes no memory.
+    /// Writes the forced placements, a line for each item, and how many tilings match. Never allocates.
     pub(crate) fn print_answer<W: Write>(
         &mut self,
         answer: &Answer,

@@ -13,7 +13,7 @@ pub enum Fault {
     Write,
 }
 
-/// Writes all bytes. If it fails, the writer took only the first of them.
+/// Writes all bytes. If it fails, the writer took only a beginning of them, which may be empty.
 pub fn write_bytes<W: Write>(writer: &mut W, bytes: &[u8]) -> Result<(), Fault>
     ensures { Writes result (W.contents writer.old) (W.contents writer.new) bytes.now }
 {
@@ -28,7 +28,7 @@ pub fn write_bytes<W: Write>(writer: &mut W, bytes: &[u8]) -> Result<(), Fault>
     Ok(())
 }
 
-/// Writes all bytes and flushes. If it fails, the writer took the first of them, perhaps all.
+/// Writes all bytes and flushes. If it fails, the writer took a beginning of them, which may be empty or all of them.
 pub fn write_whole<W: Write>(writer: &mut W, bytes: &[u8]) -> Result<(), Fault>
     ensures { Writes result (W.contents writer.old) (W.contents writer.new) bytes.now }
 {

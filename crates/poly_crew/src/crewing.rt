@@ -23,7 +23,8 @@ pub const MOST_WORKERS: usize = 16;
 pub const MOST_TURNS: u64 = 1_000_000_000;
 
 /// Runs a worker for each pass, each in a thread of its own. A worker takes tasks of the bench, searches them and hands the
-/// results in, until no task is left to take, it has taken `turns` tasks, or a call is refused.
+/// results in, until no task is left to take, it has used up its `turns` turns, or a call is refused. A turn whose hint
+/// names a task that has ended, or whose report is refused with `Gone`, counts but doesn't end the worker.
 ///
 /// A worker first takes the tasks that its own reports opened, those of the latest report before others; then tasks that
 /// other workers' reports opened; then any. Each tree has at most `nodes` nodes that aren't Rest.

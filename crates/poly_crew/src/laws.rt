@@ -7,7 +7,7 @@ use crate::lane::Lane;
 use crate::thief::Thief;
 
 /// Takes back the last thief of a lane and returns how many hints are left. This accounts for each hint: the pushed hints
-/// are those that the lane and its thieves took, each equally often, followed by those that are left.
+/// are, in some order, those that the lane and its thieves took, followed by those that are left.
 pub fn pushed_is_taken_and_left(lane: &mut Lane, last: Thief) -> usize
     requires lane { last.deque ≡ lane.old.deque }
     requires last { lane.old.thieves ≡ 1 }

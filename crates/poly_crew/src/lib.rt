@@ -4,12 +4,12 @@
 //!   passes, the receipts and how the workers ended.
 //! - [`Gate`]: is told before and after each search; [`OpenGate`] lets each worker pass.
 //! - [`Lane`]: a worker's own hints, where it pushes them and pops the oldest one.
-//! - [`Thief`]: another worker's end of a lane, which steals the oldest hint from any thread.
+//! - [`Thief`]: another worker's end of a lane, which steals the oldest hint. Any thread may use it.
 //! - [`laws`]: what holds of a lane and its thieves together.
 //!
 //! A hint is the number of a task that may be pending. The rule of a lane holds at each step and for any number of
 //! thieves: the hints that were pushed are, in their order, those that left the lane and then those that it holds; and
-//! those that left are the hints that the lane and its thieves have taken together, each equally often.
+//! those that left are, in some order, the hints that the lane and its thieves have taken together.
 #![tactic(auto)]
 
 mod crewing;

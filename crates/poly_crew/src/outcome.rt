@@ -13,6 +13,6 @@ pub struct Crew<P: Drop> {
     /// The number of reports that were applied.
     pub applied: u64,
     /// `Ok` if each worker ended because no task was left to take. Otherwise `Memory` if the workers couldn't be set up, or
-    /// the refusal that ended the first worker that met one.
+    /// the refusal of the first worker, in the order of the passes, that was ended by one.
     pub end: Result<(), Refusal>,
 }

@@ -52,7 +52,8 @@ pub(crate) fn run<R: Wait, B: Bench, G: Gate>(
     }
 }
 
-// One turn: takes a task, searches it and hands the result in. Returns false if there was no task to take.
+// One turn: takes a task, searches it and hands the result in. Returns false if no task is left to take. If only the hinted
+// task is gone, the turn does nothing and returns true.
 fn take_turn<R: Wait, B: Bench, G: Gate>(
     rt: &R,
     work: &Work<B, G>,

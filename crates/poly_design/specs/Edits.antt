@@ -88,13 +88,13 @@ abbrev pub NoneHolds : List (Refusal × Type 0) → Type 0
 NoneHolds [] = Unit {0}
 NoneHolds (c ∷ cs) = (¬ c.1) × NoneHolds cs
 
--- the refusals that are found without memory: all but those for which placements are listed
+-- the refusals that are detected without allocating: all but those for which placements are listed
 abbrev pub IsEarly : Refusal → Type 0
 IsEarly TooManyPlacements = ⊥
 IsEarly NotAPlacement = ⊥
 IsEarly _ = Unit {0}
 
--- no cause holds that is found without memory
+-- no cause that is detected without allocating holds
 abbrev pub NoneEarly : List (Refusal × Type 0) → Type 0
 NoneEarly [] = Unit {0}
 NoneEarly (c ∷ cs) = (IsEarly c.0 → ¬ c.1) × NoneEarly cs
@@ -109,6 +109,6 @@ pub record IsAccepted (d : Layout) (e : Edit) (step : Change) : Type 0 where
 abbrev pub IsRefused : Layout → Edit → Refusal → Type 0
 IsRefused d e refusal = IsFirst (causes d e) refusal
 
--- a first cause that is found without memory is the answer, so no other refusal takes its place
+-- if the first cause is one that is detected without allocating, it is the answer, so no other refusal takes its place
 abbrev pub RefusesEarly : Layout → Edit → Result Change Refusal → Type 0
 RefusesEarly d e answer = (refusal : Refusal) → IsEarly refusal → IsRefused d e refusal → answer ≡ Err refusal

@@ -58,7 +58,7 @@ impl Change {
         }
     }
 
-    /// Whether the two changes are equal. Takes no memory.
+    /// Whether the two changes are equal. Never allocates.
     pub fn is_same(&self, other: &Change) -> bool
         ensures { IsTrue result ↔ (self.now ≡ other.now) }
     {

@@ -58,7 +58,7 @@ impl Model for Design {
 }
 
 impl Design {
-    /// The design without cells and pieces. Takes no memory.
+    /// The design without cells and pieces. Never allocates.
     pub fn empty(alloc: Global, grid: Grid) -> Design
         ensures { result ≡ record { grid = grid; cells = []; pieces = [] } }
     {
@@ -190,7 +190,7 @@ impl Design {
         Ok(())
     }
 
-    /// Whether the two designs are equal. Takes no memory.
+    /// Whether the two designs are equal. Never allocates.
     pub fn is_same(&self, other: &Design) -> bool
         ensures { IsTrue result ↔ (self.now ≡ other.now) }
     {

@@ -6,6 +6,7 @@
 //! - [`Change`]: a change of one cell or one piece, which has an inverse.
 //! - [`Placement`]: a piece's name with the cells that it covers. [`Mode`]: what a tiling does with a cell.
 //! - [`Name`], [`Spec`], [`Copies`], [`Need`], [`CellsSet`]: a piece and its parts.
+//! - Limits of a design: [`MAX_CELLS`], [`MAX_PIECES`], [`MAX_PLACEMENTS`]; [`limits_of_designs`] says their numbers.
 #![tactic(auto)]
 
 mod board;

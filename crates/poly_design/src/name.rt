@@ -7,7 +7,7 @@ use std::cmp::Ordering;
 use std::hash::{Hash, Hasher};
 use std::marker::Model;
 
-/// A piece's name: 1 to 16 bytes of `A-Z a-z 0-9 _`. Names are ordered by their bytes; a name that begins another
+/// A piece's name: 1 to 16 bytes of `A-Z a-z 0-9 _`. Names are ordered by their bytes; a name that is a prefix of another
 /// comes first.
 #[derive(Clone, Copy, Debug)]
 pub struct Name {
@@ -33,7 +33,7 @@ impl Model for Name {
 }
 
 impl Name {
-    /// The name of these bytes. Fails with `BadName` if they are not a name. Takes no memory.
+    /// The name of these bytes. Fails with `BadName` if they are not a name. Never allocates.
     pub fn new(bytes: &[u8]) -> Result<Name, Refusal>
         ensures ok { IfOk result (λ name. name ≡ bytes.now) }
         ensures when { IsOk result ↔ IsName bytes.now }

@@ -17,9 +17,9 @@ use poly_grid::Refusal;
 use std::sync::ledger::Ledger;
 
 impl<C: Ledger, K: Ledger, O: Opening> Floor<C, K, O> {
-    /// The book's `hand_in` for a report that a search made. A search of the opening edition must have used the opening view.
-    /// If the book is still at that edition, the tree is applied without a check, unless the task's atoms differ from those
-    /// that were searched. Otherwise it is checked. Fails as `hand_in` does.
+    /// The book's `hand_in` for a report that a search made. A search of the opening edition, at which the desk began, must
+    /// have used the opening view. If the search and the book both have that edition, the tree is applied without a check,
+    /// unless the task's atoms differ from those that were searched. Otherwise it is checked. Fails as `hand_in` does.
     pub fn hand_in_found(
         &mut self,
         pass: &mut Pass<C, K, O>,

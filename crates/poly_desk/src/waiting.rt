@@ -5,7 +5,7 @@ use std::hint::spin_loop;
 use std::sync::{Mutex, MutexGuard, Wait};
 use std::thread;
 
-/// How often a thread tries to lock before it yields its processor, and how many pauses it makes after each try.
+/// How many times a thread tries to lock before it yields its processor, and how many pauses it makes after each try.
 #[derive(Clone, Copy, Debug)]
 pub(crate) struct Tries {
     count: u32,
@@ -25,7 +25,7 @@ pub(crate) const SELDOM: Tries = Tries {
     pauses: 250,
 };
 
-// How often a thread yields before it sleeps.
+// How many times a thread yields before it sleeps.
 const YIELDS: u32 = 32;
 
 /// Locks the mutex.

@@ -1,4 +1,4 @@
--- When only missing members can keep the base of a frame's atoms from being a tiling that meets them.
+-- When the base of a frame's atoms is consistent: it is a tiling that meets them as soon as no item is due.
 use Rattle.std.specs.Prelude.{Bool, List, length, nat_le, not, slice_index, take, true, ℕ, ◌&&◌, ◌+◌, ◌<◌, ◌||◌, ◌≡◌, ◌≤◌}
 use Rattle.std.specs.List.{list_all}
 use Rattle.poly_tiling.specs.Lists.{mem}

@@ -1,4 +1,4 @@
--- What a frame keeps while it moves.
+-- What a frame keeps while it moves. Level `k` is here the node after the first `k` steps.
 use Rattle.std.specs.Prelude.{List, false, length, nat_lt, slice_index, slice_index_or, take, drop, true, ℕ, ◌*◌, ◌+◌, ◌<◌, ◌≡◌, ◌≤◌}
 use Rattle.std.specs.List.{list_all}
 use Rattle.std.specs.Vec.{vec_capacity}

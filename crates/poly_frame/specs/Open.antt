@@ -9,7 +9,7 @@ use Rattle.poly_atom.specs.declared.atom.Atom.{Atom}
 use Rattle.poly_atom.specs.declared.atom.Atom.TheVariants.{Has, Lacks, AtLeast, AtMost}
 use Rattle.poly_atom.specs.Hopeless.{base, lacks}
 
--- the least of `most` and what the atoms allow
+-- how many members may have the item at most: its `most` in the view, lowered by the AtMost atoms
 abbrev pub most_at : View → List Atom → Item → ℕ
 most_at v [] i = most v i
 most_at v (Has p ∷ A) i = most_at v A i
@@ -17,7 +17,7 @@ most_at v (Lacks p ∷ A) i = most_at v A i
 most_at v (AtLeast j n ∷ A) i = most_at v A i
 most_at v (AtMost j n ∷ A) i = cond (same_item j i) (min n (most_at v A i)) (most_at v A i)
 
--- the greatest of `least` and what the atoms ask for
+-- how many members must have the item at least: its `least` in the view, raised by the AtLeast atoms
 abbrev pub least_at : View → List Atom → Item → ℕ
 least_at v [] i = least v i
 least_at v (Has p ∷ A) i = least_at v A i
@@ -25,7 +25,7 @@ least_at v (Lacks p ∷ A) i = least_at v A i
 least_at v (AtLeast j n ∷ A) i = cond (same_item j i) (max n (least_at v A i)) (least_at v A i)
 least_at v (AtMost j n ∷ A) i = least_at v A i
 
--- the greatest of these and what the base has
+-- `least_at`, raised to the number of members of the base that have the item
 abbrev pub least_with_base : View → List Atom → Item → ℕ
 least_with_base v A i = max (least_at v A i) (count v (base v A) i)
 
@@ -33,15 +33,19 @@ least_with_base v A i = max (least_at v A i) (count v (base v A) i)
 abbrev pub others : View → List ℕ → ℕ → Item → ℕ
 others v T p i = tally (λ q. has_item v q i && not (q == p)) T
 
+-- the placement can't be a member: an atom lacks it, it is in conflict with a member of the base, or one of its items has
+-- as many other members as it may have
 abbrev pub ruled_out : View → List Atom → ℕ → Bool
 ruled_out v A p =
     list_any (λ a. lacks a p) A
     || list_any (λ q. conflicts v p q) (base v A)
     || list_any (λ i. nat_le (most_at v A i) (others v (base v A) p i)) (items v p)
 
+-- the placement is neither in the base nor ruled out
 abbrev pub open_in : View → List Atom → ℕ → Bool
 open_in v A p = not (mem (base v A) p) && not (ruled_out v A p)
 
+-- the placement isn't one of the design, or an atom lacks it
 abbrev pub dead : View → List Atom → ℕ → Bool
 dead v A p = not (mem v.live p) || list_any (λ a. lacks a p) A
 

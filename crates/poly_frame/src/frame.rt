@@ -93,9 +93,8 @@ impl<'a> Frame<'a> {
         Ok(frame)
     }
 
-    /// A frame of the view with these atoms and no step, from the view's matrix. Its memory depends only on the items, the
-    /// atoms and the placements that are open at the atoms. If most placements are open, it reads that matrix; otherwise it
-    /// makes a smaller one.
+    /// A frame of the view with these atoms and no step, from the view's matrix. If at least about three quarters of the
+    /// matrix's placements are open at the atoms, the frame reads that matrix; otherwise it makes a smaller one.
     pub fn over(
         alloc: Global,
         view: &'a View,
@@ -204,7 +203,7 @@ impl<'a> Frame<'a> {
         self.trail.as_slice()
     }
 
-    /// Takes the placement: the atoms have one more, that it is in.
+    /// Takes the placement: adds the atom `Has(placement)`.
     pub fn pick(&mut self, placement: u32)
         requires { length self.old.atoms < self.old.given + STEPS }
         ensures { self.new ≡ with_step self.old (Atom.Has placement) }
@@ -223,7 +222,7 @@ impl<'a> Frame<'a> {
         self.trail.push_reserved(Atom::Has(placement));
     }
 
-    /// Leaves the placement: the atoms have one more, that it is out.
+    /// Leaves the placement out: adds the atom `Lacks(placement)`.
     pub fn leave(&mut self, placement: u32)
         requires { length self.old.atoms < self.old.given + STEPS }
         ensures { self.new ≡ with_step self.old (Atom.Lacks placement) }
@@ -346,8 +345,7 @@ impl<'a> Frame<'a> {
         self.view.covers(placement, item)
     }
 
-    /// Whether the placement is one of the design and is not ruled out: it is open, or it is in the base and could be
-    /// taken if it were not.
+    /// Whether the placement is one of the design and is not ruled out. Such a placement is open or in the base.
     #[tactic(auto, using(crate::proofs::FrameArms::open_right))]
     pub fn allows(&self, placement: u32) -> bool
         ensures { result ≡ (mem self.now.scene.live placement && not (ruled_out self.now.scene self.now.atoms placement)) }
@@ -389,8 +387,8 @@ impl<'a> Frame<'a> {
         allowed::least(&node, &self.steps, &self.members, &item)
     }
 
-    /// Whether too few placements that have the item are left once the placement is taken: no tiling that meets the atoms
-    /// has the placement. The frame stays as it was.
+    /// Whether too few placements that have the item are left once the placement is taken. If so, no tiling that meets the
+    /// atoms has the placement. The frame stays as it was.
     pub fn starves(&mut self, placement: u32, item: Item) -> bool
         requires { length self.old.atoms < self.old.given + STEPS }
         ensures same { self.new ≡ self.old }

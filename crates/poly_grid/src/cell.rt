@@ -6,7 +6,7 @@ ghost use Rattle.poly_grid.specs.Spot.{Spot};
 use crate::grid::Point;
 use std::marker::Model;
 
-/// How many columns and how many rows the cells have.
+/// The number of columns, and of rows, in which a cell can lie.
 pub const SIDE: usize = 64;
 
 /// A cell: its column x and its row y, each 0 to 63, of squares or of hexagons in axial coordinates.

@@ -8,7 +8,7 @@ ghost use Rattle.poly_grid.specs.Laws.{FirstTurnStays, TurnsCompose, TurnsAreUnd
 
 use crate::cell::SIDE;
 
-/// The cells of a board are in 64 columns and 64 rows.
+/// A board has at most 64 columns and 64 rows.
 pub fn side_is_64()
     ensures { SIDE ≡ 64 }
 {}

@@ -155,7 +155,7 @@ impl Refusal {
     }
 }
 
-/// `?` turns a refused growth into `Refusal::Memory`.
+/// `?` turns a failed allocation into `Refusal::Memory`.
 impl From<AllocError> for Refusal {
     ghost from_gives = { λ _ e. e ≡ Memory };
 
@@ -164,7 +164,7 @@ impl From<AllocError> for Refusal {
     }
 }
 
-/// `?` turns a refused growth into `Refusal::Memory`, and drops what was to be added.
+/// `?` turns a failed allocation into `Refusal::Memory`, and drops what was to be added.
 impl<T: Drop> From<AllocFailed<T>> for Refusal {
     ghost from_gives = { λ _ e. e ≡ Memory };
 

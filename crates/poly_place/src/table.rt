@@ -130,7 +130,7 @@ impl Table {
         )
     }
 
-    /// Applies the plan, which must be the last one that the table made. Takes no memory.
+    /// Applies the plan, which must be the last one that the table made. Never allocates.
     pub fn make(&mut self, plan: Plan)
         requires { (arc_value plan.view).placements ≡ self.old.placements }
         ensures now { self.new ≡ arc_value plan.view }

@@ -39,8 +39,8 @@ pub(crate) struct Update {
     pub(crate) found: Vec<u32>,
 }
 
-/// The design after the change. The marks tell which numbers of the design before it the change touches. New numbers go to
-/// placements first, then to pins.
+/// The design after the change. The marks tell which numbers of the design before are touched by the change. New numbers go
+/// to placements first, then to pins.
 ///
 /// Fails with `Spent` if there are more placements than numbers, and otherwise only with `Memory`.
 pub(crate) fn updated(
@@ -72,7 +72,7 @@ pub(crate) fn updated(
     })
 }
 
-// The placements after the change that it touches, in ascending order.
+// The placements of the design after the change that the change touches, in ascending order.
 fn found(alloc: Global, change: &Change, after: &Design) -> Result<Vec<Placement>, Refusal>
     ensures ok { IfOk result (λ list. IsListOf placement_cmp (λ p. IsPlacement after.now p × (touches change.now p ≡ true)) list.items) }
     ensures why { IfErr result (λ e. e ≡ Refusal.Memory) }

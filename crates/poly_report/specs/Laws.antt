@@ -12,7 +12,8 @@ use Rattle.poly_report.specs.Holds.{holds}
 use Rattle.poly_report.specs.Leaves.{rests, tilings}
 use Rattle.poly_report.specs.Opened.{as_hopeless, opened}
 
--- Each tiling of the family is one of the tree's tilings, once, or in one rest's family; other tilings are in none.
+-- If a tree holds, each tiling of the family is either one of the tree's tilings, once, or in the family of exactly one
+-- rest. No other tiling of the design is in any of these.
 abbrev pub TreesShareOut : Type 0
 TreesShareOut = (v : View) (A : List Atom) (t : Plan) (T : List ℕ) → is_tiling v T ≡ true → holds v A t ≡ true →
     tally (λ U. same_list U T) (tilings v A t) + tally (λ B. meets_all v T B) (rests v A t) ≡ one (meets_all v T A)

@@ -1,4 +1,4 @@
--- What a tree that holds leaves: tilings, and rests to search.
+-- The leaves of a tree that holds: its tilings, and the rests that are still to be searched.
 use Rattle.std.specs.Prelude.{ℕ, cond, List, [], ◌∷◌, ◌++◌}
 use Rattle.poly_tiling.specs.Puzzle.{View}
 use Rattle.poly_atom.specs.declared.atom.Atom.{Atom}

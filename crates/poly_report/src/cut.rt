@@ -1,4 +1,4 @@
-//! Whether a tree holds, and what it leaves: one walk over a frame finds both.
+//! Whether a tree holds, and what its leaves are: one walk over a frame finds both.
 ghost use Rattle.std.specs.Prelude.{IfErr, IfOk, MatchOption, [], false, length, true, ◌+◌, ◌++◌, ◌<◌, ◌≡◌, ◌≤◌};
 ghost use Rattle.poly_tiling.specs.Lists.{distinct};
 ghost use Rattle.poly_frame.specs.Matrices.{IsWhole};
@@ -165,7 +165,7 @@ pub fn holds(alloc: Global, view: &View, atoms: &[Atom], tree: &Tree) -> Result<
     Ok(yes)
 }
 
-/// The leaves of a tree that holds, in the order of the tree: what is taken before what is left.
+/// The leaves of a tree that holds, in the order of the tree: those of a Split's `taken` before those of its `left`.
 #[tactic(auto, using(crate::proofs::Measures::fits_total))]
 pub fn leaves(alloc: Global, view: &View, atoms: &[Atom], tree: &Tree) -> Result<Leaves, Refusal>
     requires small { fits (plan_of tree.now) ≡ true }

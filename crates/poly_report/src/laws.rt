@@ -11,7 +11,8 @@ pub fn limits_of_trees()
     ensures depth { DEPTH ≡ 512 }
 {}
 
-/// Each tiling of the family is one of the tree's tilings, once, or in exactly one rest's family; no other is in any.
+/// If a tree holds, each tiling of the family is either one of the tree's tilings, once, or in the family of exactly one
+/// rest. No other tiling of the design is in any of these.
 pub fn trees_share_out()
     ensures { TreesShareOut }
 {}
@@ -21,13 +22,13 @@ pub fn tree_tilings_belong()
     ensures { TreeTilingsBelong }
 {}
 
-/// A tree that held holds in the later design for its atoms and the guards of the change.
+/// A tree that holds for some atoms holds in the later design for these atoms followed by the guards of the change.
 pub fn trees_keep_holding()
     ensures { TreesKeepHolding }
 {}
 
-/// A rest of a tree that takes and leaves only open placements is hopeless exactly if the atoms are: opening such a rest
-/// asks nothing more of it.
+/// If a tree takes and leaves only open placements, each of its rests is hopeless exactly if the atoms are. So if the atoms
+/// aren't hopeless, no rest needs a check before it becomes a task.
 pub fn open_paths_add_nothing_hopeless()
     ensures { OpenPathsAddNothingHopeless }
 {}

@@ -1,4 +1,4 @@
-//! What a tree that holds leaves.
+//! The leaves of a tree that holds.
 ghost use Rattle.std.specs.Prelude.{IfErr, OnOk, [], ◌++◌, ◌∷◌, ◌≡◌};
 ghost use Rattle.poly_report.specs.Gather.{lists};
 ghost use Rattle.poly_report.specs.Leaves.{tilings};

@@ -19,7 +19,8 @@ times v T found rests = tally (λ U. same_list U T) found + tally (λ B. meets_a
 abbrev pub all_tilings : View → List (List ℕ) → Type 0
 all_tilings v found = list_all (λ U. is_tiling v U) found ≡ true
 
--- Each tiling of the family was found once more, or it is in one more of the families that are left; no other tiling was.
+-- For each tiling, the number of times that it was found, plus the number of families left that it is in, rose by one if it
+-- is in the family of `A`, and stayed the same otherwise.
 pub record Swept (v : View) (A : List Atom) (found found' : List (List ℕ)) (rests rests' : List (List Atom)) : Type 0 where
   pub shared : (T : List ℕ) → is_tiling v T ≡ true → times v T found' rests' ≡ times v T found rests + one (meets_all v T A)
   pub only : all_tilings v found → all_tilings v found'

@@ -2,8 +2,8 @@
 //! volume 4B, section 7.2.2.1), until the budget of nodes is used up.
 //!
 //! A budget that ends in the middle of a Branch would leave many small tasks. So one node is held back for each arm after
-//! the first; if the budget ends with several arms untouched, the arms that were walked become a chain of Splits whose
-//! one Rest has all the others; and a small subtree that has a Rest becomes that Rest.
+//! the first. If the budget ends with several options not walked yet, the arms so far become a chain of Splits that ends in
+//! one Rest, for the tilings that have none of them. A small subtree that has a Rest is replaced by a single Rest.
 ghost use Rattle.std.specs.Prelude.{◌≡◌, ◌&&◌, ◌^◌, ◌++◌, [], ◌∷◌, ℕ, true, false, ◌+◌, ◌-◌, ◌≤◌, ◌<◌, IfOk, IfErr, OnOk, length, if◌then◌else◌};
 ghost use Rattle.poly_tiling.specs.Lists.{distinct, mem};
 ghost use Rattle.poly_report.specs.Trees.{Branches, NoArms, Rests};
@@ -22,12 +22,12 @@ use poly_report::{Arm, Frame, Leaves, Tree};
 use poly_tiling::Item;
 use std::alloc::Global;
 
-/// A tree as it grows: what may still be made, and the leaves so far.
+/// A tree as it grows: how many nodes may still be made, and the leaves so far.
 #[derive(Drop)]
 pub struct Growth {
-    /// Nodes of any kind.
+    /// How many nodes of any kind may still be made.
     pub nodes: u32,
-    /// Nodes that aren't Rest.
+    /// How many nodes that aren't Rest may still be made.
     pub inner: u32,
     /// How many nodes that aren't Rest there were to begin with.
     pub whole: u32,
@@ -154,7 +154,7 @@ pub fn grow(
     split(alloc, frame, growth, kept, depth, open)
 }
 
-// A tree below the root. If it used little of the budget and has a Rest, it becomes that Rest.
+// Grows a tree below the root. If it has a Rest and used less than an eighth of the budget, a single Rest replaces it.
 #[cycle(grow)]
 fn child(
     alloc: Global,

@@ -25,7 +25,7 @@ pub struct Listing {
     pub found: Vec<Tiling>,
     /// The families that are left, each as atoms.
     pub rests: Vec<Vec<Atom>>,
-    /// The options of the items on the path, one item's after another's.
+    /// The options of the items that are being swept, those of one item after those of another.
     pub options: Vec<u32>,
 }
 
@@ -84,8 +84,8 @@ pub fn sweep(
     }
 }
 
-// Sweeps the options of an item that is due, one after another. Each tiling has one of them, so nothing remains to be swept
-// without the last.
+// Sweeps the options of an item that is due, one after another. Each tiling of the family has one of them, so nothing
+// remains to be swept after the last option.
 #[cycle(sweep)]
 fn sweep_item(
     alloc: Global,
@@ -192,8 +192,8 @@ fn sweep_open(
     Ok(true)
 }
 
-// Sweeps the tilings that have the open placement. If that ended early, those without it are kept too. The frame stays as
-// it was.
+// Sweeps the tilings that have the open placement. If that ends early, those without it are added as a rest too. The frame
+// stays as it was.
 #[cycle(sweep)]
 fn sweep_arm(
     alloc: Global,
@@ -230,8 +230,8 @@ fn sweep_arm(
     Ok(whole)
 }
 
-// Sweeps the node, or keeps it if that would go too far. If little of a wide frame is open, a smaller frame takes over
-// from here.
+// Sweeps the node, or adds it as a rest if a limit is reached. If few placements of a large frame are open, a smaller frame
+// takes over from here.
 #[cycle(sweep)]
 fn sweep_below(
     alloc: Global,

@@ -1,4 +1,4 @@
-//! The plain solver: it lists a whole family, one sweep after the other.
+//! Lists a whole family, one sweep after another.
 ghost use Rattle.std.specs.Prelude.{◌≡◌, ◌⊎◌, ◌≤◌, length, IfOk, IfErr, Err};
 ghost use Rattle.poly_search.specs.Whole.{HasMore, IsFamily};
 

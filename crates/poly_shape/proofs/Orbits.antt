@@ -53,7 +53,7 @@ lies_back g t u composite s a b lies =
     let ey = ap (λ (p : Point). p.y) e in
     same_point _ _ (omega (arith, ints, ex)) (omega (arith, ints, ey))
 
--- cells at their normal place are an image of each of their images
+-- cells at their normal position are an image of each of their images
 image_back : (g : Grid) (t u : ℕ) → IsComposite g t u 0 → (cells image : List Spot) → IsAscending spot_cmp cells → IsNormal cells → IsImage g t cells image → IsImage g u image cells
 image_back g t u composite cells image up normal p = record {
   shift = record { x = neg_ℤ (turned_of g u p.shift).x; y = neg_ℤ (turned_of g u p.shift).y };

@@ -1,4 +1,4 @@
--- The images under the first turns; that a normal place is unique; and the laws of orientations.
+-- The images under the first turns; that a normal position is unique; and the laws of orientations.
 use Rattle.std.proofs.Common.{◌≡◌, ℕ, ◌≤ℤ◌, ◌+◌, ◌<◌, Bool, false, List, refl, ap, sym, subst, inl, inr, ◌∙◌, arith}
 use Rattle.std.proofs.lemmas.Int.{ints}
 use Rattle.std.proofs.lemmas.Bool.{cases_lt}

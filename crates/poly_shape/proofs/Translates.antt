@@ -1,4 +1,4 @@
--- Cells at their normal place and their translates: each determines the other.
+-- Cells at their normal position and their translates: each determines the other.
 use Rattle.std.proofs.Common.{◌≡◌, ℕ, pos, ◌+ℤ◌, ◌<◌, ◌≤◌, List, [], ◌∷◌, length, get_or, refl, ap, sym, subst, ◌∙◌, arith}
 use Rattle.std.proofs.lemmas.Int.{ints}
 use Rattle.std.proofs.lemmas.List.{get_or-map, length-map}
@@ -44,7 +44,7 @@ unmoved right down (x ∷ xs) (y ∷ ys) e =
     let rest = unmoved right down xs ys tail in
     λ i. same i ∷ rest i
 
--- two sets at their normal places with a translate in common are equal, and moved the same way
+-- two sets at their normal positions with a translate in common are equal, and moved the same way
 pub same_translates : TranslatesTellTheNormalPlace
 same_translates a b right down right' down' na nb e =
     let le = moved_no_less a b right down right' down' na nb e in
@@ -57,7 +57,7 @@ lies_at : (g : Grid) (s : Point) (a b : Spot) → pos a.x ≡ pos b.x +ℤ s.x �
 lies_at Square s a b ex ey = same_point _ _ ex ey
 lies_at Hex s a b ex ey = same_point _ _ ex ey
 
--- cells at their normal place are their own normal form
+-- cells at their normal position are their own normal form
 pub image_of_itself : (g : Grid) (cells : List Spot) → IsAscending spot_cmp cells → IsNormal cells → IsImage g 0 cells cells
 image_of_itself g cells up normal = record {
   shift = still;

@@ -31,7 +31,7 @@ image_more g t shift cells n image image' a b from lt at lies adds few up = reco
   ];
 }
 
--- the whole image is at its normal place, since the shift is the corner
+-- the whole image is at its normal position, since the shift is the corner
 pub image_done : (g : Grid) (t : ℕ) (shift : Point) (cells : List Spot) (image : List Spot)
     → IsCorner g t cells shift → ImageFrom g t shift cells (length cells) image → IsImage g t cells image
 image_done g t shift cells image corner from = record {

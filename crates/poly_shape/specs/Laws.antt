@@ -20,7 +20,7 @@ RotationsAreAmongAll = (s : Figure) (rotations all : List (List Spot)) → AreOr
 abbrev pub OrientationsAreOneList : Type 0
 OrientationsAreOneList = (s : Figure) (mirror : Bool) (a b : List (List Spot)) → AreOrientations s mirror a → AreOrientations s mirror b → a ≡ b
 
--- any translate of cells determines the cells at their normal place
+-- any translate of cells determines the cells at their normal position
 abbrev pub TranslatesTellTheNormalPlace : Type 0
 TranslatesTellTheNormalPlace = (a b : List Spot) (right down right' down' : ℕ) → IsNormal a → IsNormal b → moved_by right down a ≡ moved_by right' down' b
     → (a ≡ b) × (right ≡ right') × (down ≡ down')

@@ -1,4 +1,4 @@
--- What a shape is, and its orientations: the images under the turns, each moved to its normal place, as sets of cells.
+-- What a shape is, and its orientations: the images under the turns, each moved to its normal position, as sets of cells.
 use Rattle.std.specs.Prelude.{◌≡◌, ℕ, pos, ◌+ℤ◌, ◌<◌, Bool, List}
 use Rattle.std.specs.List.{Contains}
 use Rattle.poly_grid.specs.declared.grid.Grid.{Grid}
@@ -20,7 +20,7 @@ pub record IsNormal (cells : List Spot) : Type 0 where
 abbrev pub LiesAt : Grid → ℕ → Point → Spot → Spot → Type 0
 LiesAt g t shift a b = turned_of g t (point_of a) ≡ record { x = pos b.x +ℤ shift.x; y = pos b.y +ℤ shift.y }
 
--- image is, as a set of cells in ascending order, what the turn makes of the cells, moved to its normal place
+-- image is, as a set of cells in ascending order, what the turn makes of the cells, moved to its normal position
 pub record IsImage (g : Grid) (t : ℕ) (cells image : List Spot) : Type 0 where
   pub shift : Point
   pub ascending : IsAscending spot_cmp image

@@ -6,7 +6,7 @@ use Rattle.poly_shape.specs.Figure.{Figure}
 use Rattle.poly_shape.specs.Shape.{IsNormal}
 use Rattle.poly_shape.specs.Connected.{IsConnected}
 
--- 1 to 16 distinct cells in cell order, at their normal place, connected on the grid
+-- 1 to 16 distinct cells in cell order, at their normal position, connected on the grid
 pub record IsShape (s : Figure) : Type 0 where
   pub cells : IsCells s.cells
   pub normal : IsNormal s.cells

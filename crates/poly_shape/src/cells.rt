@@ -1,4 +1,4 @@
-//! Sets of 1 to 16 cells, without memory of their own.
+//! Sets of 1 to 16 cells, stored in place, without an allocation.
 
 ghost use Rattle.std.specs.Prelude.{◌≡◌, ◌+◌, ◌<◌, ◌≤◌, ◌≢◌, ◌↔◌, ◌⊎◌, [], ◌∷◌, ◌++◌, length, drop, IsTrue, IsOk, IfOk, IfErr, SomeIff, Contains};
 ghost use Rattle.poly_grid.specs.Spot.{Spot};
@@ -10,9 +10,9 @@ use std::cmp::Ordering;
 use std::hash::{Hash, Hasher};
 use std::marker::Model;
 
-/// A set of 1 to 16 cells, kept in cell order (by row, then by column) and without memory of its own.
+/// A set of 1 to 16 cells, kept in cell order (by row, then by column) and stored in place, without an allocation.
 ///
-/// Two sets are compared as their lists of cells: a list that begins another comes first.
+/// Two sets are compared as their lists of cells: a list that is a prefix of another comes first.
 #[derive(Clone, Copy, Debug)]
 pub struct Cells {
     cells: [Cell; 16],

@@ -17,7 +17,7 @@ pub fn orientations_are_one_list()
     ensures { OrientationsAreOneList }
 {}
 
-/// Every translate of cells determines the cells at their normal place.
+/// Every translate of cells determines the cells at their normal position.
 pub fn translates_tell_the_normal_place()
     ensures { TranslatesTellTheNormalPlace }
 {}

@@ -13,7 +13,7 @@ use poly_grid::{Cell, Grid, Refusal};
 use std::alloc::Global;
 use std::marker::Model;
 
-/// Cells that are connected on a grid, at their normal place: the least column and the least row are 0.
+/// Cells that are connected on a grid, at their normal position: the least column and the least row are 0.
 #[derive(Clone, Copy, Debug, PartialEq, Eq)]
 pub struct Shape {
     grid: Grid,
@@ -34,8 +34,8 @@ impl Model for Shape {
 }
 
 impl Shape {
-    /// The shape of the cells, moved to its normal place. Fails with `BadShape` if `Cells::new` refuses the cells or if they are
-    /// not connected on the grid.
+    /// The shape of the cells, moved to its normal position. Fails with `BadShape` if `Cells::new` refuses the cells or if
+    /// they are not connected on the grid.
     pub fn from_cells(grid: Grid, cells: &[Cell]) -> Result<Shape, Refusal>
         ensures ok { IfOk result (λ s. (s.grid ≡ grid) × IsImage grid 0 cells.now s.cells) }
         ensures shape { IfOk result IsShape }
@@ -60,7 +60,7 @@ impl Shape {
         self.grid
     }
 
-    /// The cells, at their normal place.
+    /// The cells, at their normal position.
     pub fn cells(&self) -> Cells
         ensures value { result ≡ self.now.cells }
         ensures shape { IsShape self.now }
@@ -69,7 +69,7 @@ impl Shape {
     }
 
     /// The images of the shape under the grid's rotations, and with `mirror` under its reflections too: each orientation once,
-    /// at its normal place, in ascending order. Fails only when out of memory.
+    /// at its normal position, in ascending order. Fails only when out of memory.
     pub fn orientations(&self, alloc: Global, mirror: bool) -> Result<Vec<Cells>, Refusal>
         ensures ok { IfOk result (λ list. AreOrientations self.now mirror list.items) }
         ensures shapes { IfOk result (λ list. All (IsOrientation self.now) list.items) }

@@ -42,7 +42,7 @@ cells_from y (row ∷ rows) = row_cells 0 y row ++ cells_from (suc y) rows
 abbrev pub board_cells : List (List ℕ) → List (Spot × Mode)
 board_cells rows = cells_from 0 rows
 
--- each cell comes before the place, which counts the cells of a board by rows of 64
+-- each cell is in columns 0 to 63, and its index, if cells are numbered row by row with 64 to a row, is below `place`
 abbrev pub AreBefore : ℕ → List (Spot × Mode) → Type 0
 AreBefore place [] = Unit {0}
 AreBefore place (e ∷ es) = (SIDE * e.0.y + e.0.x < place) × (e.0.x < SIDE) × AreBefore place es

@@ -11,7 +11,7 @@ use poly_tiling::Item;
 use std::alloc::Global;
 use std::marker::Model;
 
-/// Returns the line `no <code> <name>` of the refusal, with its line feed. Takes no memory.
+/// Returns the line `no <code> <name>` of the refusal, with its line feed. Never allocates.
 pub fn refusal_line(refusal: Refusal) -> &'static str
     ensures { result.now ≡ refusal_text refusal }
 {

@@ -139,11 +139,12 @@ pub fn cell_of(word: &[u8]) -> Result<Cell, Refusal>
     Cell::new(column, row).ok_or(Refusal::BadCell)
 }
 
-/// One more cell than a set can have. A list that fills this room is refused, whatever its other cells are, so they aren't kept.
+/// The length of a buffer for the cells of a list: one more than a set can have. A list that fills the buffer is refused,
+/// so the cells past it need not be kept.
 pub const ROOM: usize = 17;
 
-/// Reads the cells that the words name into the room, as many as fit, and returns how many fit. Words past the room are read too:
-/// fails as `cell_of` does on the leftmost word that names no cell.
+/// Writes the cells that the words name to `room`, as many as fit, and returns how many fit. The words after them are still
+/// checked: fails as `cell_of` does on the leftmost word that names no cell.
 pub fn cells_of(words: &[&[u8]], room: &mut [Cell]) -> Result<usize, Refusal>
     ensures read { IfOk result (λ n. (cells : List Spot) × (cells_of (map (λ w. w.now) words.now) ≡ Ok cells) × (take n room.new ≡ take (length room.old) cells)) }
     ensures within { IfOk result (λ n. n ≤ length room.new) }

@@ -19,7 +19,7 @@ use Rattle.poly_tiling.specs.Tilings.{IsTiling}
 abbrev pub IsTilingInOrder : Layout → List Placement → Type 0
 IsTilingInOrder d T = IsTiling d T × IsAscending placement_cmp T
 
--- the design's tilings, each as its placements in placement order, in the order of such lists, each once, and nothing else
+-- exactly the design's tilings, each once: as the lists of their placements in placement order, in ascending order
 abbrev pub IsListOfTilings : Layout → List (List Placement) → Type 0
 IsListOfTilings d all = IsListOf (slice_cmp placement_cmp) (IsTilingInOrder d) all
 

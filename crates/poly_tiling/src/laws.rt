@@ -27,13 +27,13 @@ pub fn numbers_reach()
     ensures { NumbersReach }
 {}
 
-/// Two tilings of a view are in the order of the lists of the positions that their numbers have in `View::live`.
+/// Two tilings of a view compare as the ascending lists of the positions that their numbers have in `View::live`.
 pub fn ranks_compare()
     ensures { RanksCompare }
 {}
 
-/// If a view shows a design, the view's tilings in their order, each once, are the design's: each as its placements
-/// in placement order, in the order of such lists, each once, and nothing else.
+/// If a view shows a design, then the view's tilings, each once and in order, are exactly the design's tilings, each once
+/// and in order, as lists of their placements in placement order.
 pub fn listings_show()
     ensures { ListingsShow }
 {}

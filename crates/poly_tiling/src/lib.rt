@@ -1,4 +1,10 @@
 //! What a tiling is: an exact cover with primary and secondary items and with multiplicities.
+//!
+//! - [`View`]: an immutable snapshot of a design, in which a placement is a number.
+//! - [`Item`], [`Bound`]: a cell or a piece, and how often a tiling covers it, at least and at most.
+//! - [`Tiling`]: the numbers of a tiling's placements.
+//! - [`list_tilings`]: all tilings of a view, by the plain lister.
+//! - [`sort_tilings`], [`tilings_in_order`]: the order of tilings.
 #![tactic(auto)]
 
 mod bound;

@@ -1,8 +1,8 @@
 //! The plain lister: all tilings of a view, by the plainest search.
 //!
 //! Of the items that still need an option, it takes the one with the fewest, and tries its options in turn; once no item
-//! needs one, it tries each open placement in turn. A placement that was tried is left out from then on, so no tiling
-//! is found twice (Knuth, The Art of Computer Programming, volume 4B, section 7.2.2.1, without its links). Faster
+//! needs one, it tries each free placement in turn. A placement that was tried is left out from then on, so no tiling
+//! is found twice (Knuth, The Art of Computer Programming, volume 4B, section 7.2.2.1, without the dancing links). Faster
 //! searches are compared with this one.
 ghost use Rattle.std.specs.Prelude.{[], Err, IfErr, IfNone, IfOk, IfSome, List, OnOk, Option, length, min, true, false, ◌++◌, ◌<◌, ◌∷◌, ◌≡◌, ◌≤◌, ◌⊎◌, ℕ, ◌==◌, not, nat_le, ◌&&◌};
 ghost use Rattle.std.specs.List.{filter, find};
@@ -190,7 +190,7 @@ fn is_option(view: &View, p: u32, item: &Option<Item>) -> bool
     }
 }
 
-// The item with the fewest options, of the items that fewer chosen numbers have than must.
+// Of the items that the chosen numbers have less often than their least, the one with the fewest free options.
 fn unmet_item(view: &View, chosen: &[u32], free: &[u32]) -> Option<Item>
     ensures { IfSome result (λ i. count view.now chosen.now i < least view.now i) }
 {

@@ -39,7 +39,7 @@ impl Tiling {
         &self.numbers
     }
 
-    /// The list of the numbers itself. Takes no memory.
+    /// The list of the numbers itself. Never allocates.
     pub fn into_numbers(self) -> Vec<u32>
         ensures value { result.items ≡ self }
         ensures ascends { ascending result.items ≡ true }

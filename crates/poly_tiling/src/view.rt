@@ -133,7 +133,7 @@ impl View {
         n
     }
 
-    /// Whether the number's piece is in as many of the numbers as its most, or in more.
+    /// Whether at least as many of the numbers have the piece of `p` as its most allows.
     pub(crate) fn is_full(&self, p: u32, numbers: &[u32]) -> bool
         ensures { result ≡ list_any (λ i. is_piece i && nat_le (most self.now i) (count self.now numbers.now i)) (items self.now p) }
     {

@@ -4,6 +4,7 @@
 //!   is made. It never looks into a change, so it also serves owners that keep something other than a [`Shelf`].
 //! - [`Step`]: a change and what is kept with it.
 //! - [`Shelf`]: what a change of a design took away.
+//! - [`MAX_STEPS`]: the number of steps that are kept; [`most_steps_are_256`] says how many these are.
 #![tactic(auto)]
 
 mod history;

@@ -25,8 +25,8 @@ impl Design {
     ///
     /// Fails with the first cause that holds: for a new piece `NameTaken`, `BadShape`, `TooManyPieces`, `TooManyPlacements`; for
     /// any other edit `NoSuchPiece` if no piece has the name, `NoChange` if the edit would change nothing, and then
-    /// `TooManyCells`, `TooManyPlacements` or `NotAPlacement`. Only `TooManyPlacements` and `NotAPlacement` need memory to be
-    /// found, so `Memory` never takes the place of another cause.
+    /// `TooManyCells`, `TooManyPlacements` or `NotAPlacement`. Detecting `TooManyPlacements` or `NotAPlacement` takes
+    /// memory, so `Memory` may come in place of these two, but never of any other cause.
     pub fn check(&self, edit: &Edit) -> Result<Change, Refusal>
         ensures ok { IfOk result (λ change. IsAccepted self.now edit.now change) }
         ensures why { IfErr result (λ e. (e ≡ Refusal.Memory) ⊎ IsRefused self.now edit.now e) }

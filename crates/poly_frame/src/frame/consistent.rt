@@ -1,5 +1,5 @@
-//! How many steps of a frame left its base consistent: each member a placement of the design that is not ruled out. If all
-//! did, the base is a tiling that meets the atoms as soon as no item is short.
+//! Counts the first levels of a frame at which its base is consistent: each member is a placement of the design that is not
+//! ruled out. If all levels count, the base is a tiling that meets the atoms as soon as no item is due.
 ghost use Rattle.std.specs.Prelude.{[], ℕ, length, not, take, true, ◌&&◌, ◌++◌, ◌-◌, ◌<◌, ◌∷◌, ◌≡◌, ◌≤◌};
 ghost use Rattle.std.specs.List.{list_all, list_any};
 ghost use Rattle.poly_tiling.specs.Lists.{mem};
@@ -76,8 +76,8 @@ fn are_kept(whole: &Matrix, atoms: &[Atom], members: &[u32]) -> bool
     true
 }
 
-/// For the given atoms alone: 1 if their base is known to be consistent, else 0. It may be known before. `mosts` is how many
-/// members each item may have at most, and `have` how many have it.
+/// At the given atoms alone: 1 if their base is known to be consistent, else 0. `sure` says that it is known already.
+/// `mosts` is how many members may have each item at most, and `have` how many have it.
 pub(crate) fn begin(
     view: &View,
     part: &Matrix,
@@ -106,7 +106,7 @@ pub(crate) fn begin(
     }
 }
 
-/// After a placement is taken or left. `opened` is whether it is known to have been open.
+/// The count after a placement is taken or left. `opened` is whether it is known to have been open.
 pub(crate) fn step(node: &Node<'_>, consistent: usize, number: u32, opened: bool) -> usize
     requires shows { ConsistentShows node.now.view.now node.now.trail.now node.now.given consistent }
     requires low { node.now.given ≤ length node.now.trail.now }
@@ -121,7 +121,7 @@ pub(crate) fn step(node: &Node<'_>, consistent: usize, number: u32, opened: bool
     }
 }
 
-/// After the last step is undone.
+/// The count after the last step is undone.
 pub(crate) fn back(node: &Node<'_>, consistent: usize) -> usize
     requires shows { ConsistentShows node.now.view.now node.now.trail.now node.now.given consistent }
     requires some { node.now.given < length node.now.trail.now }

@@ -15,7 +15,8 @@ use poly_grid::Refusal;
 use poly_tiling::View;
 use std::alloc::Global;
 
-/// Lists of indices, one after another: list `j` begins at entry `j` of `starts` and ends where the next one begins.
+/// Lists of indices, one after another: list `j` is the entries `starts[j]` up to but not including `starts[j + 1]` of
+/// `indices`.
 #[derive(Drop)]
 pub(crate) struct Lists {
     pub(crate) starts: Vec<usize>,
@@ -23,6 +24,10 @@ pub(crate) struct Lists {
 }
 
 /// The exact cover matrix of a view. It is made once for a view, and each frame of that view can use it.
+///
+/// `numbers` has the placement of each column, and `stands` the column of each placement. `lists` has the items of each
+/// column. `cells` has a guess for the index of each cell. `rows` has `width` words for each item, with a bit for each
+/// column. Unless the rows are narrow, `occupied` says which of these words have bits set.
 #[derive(Drop)]
 pub struct Matrix {
     pub(crate) numbers: Vec<u32>,
@@ -105,8 +110,8 @@ fn is_dense(matrix: &Matrix, row: &[u64]) -> bool {
     count_bits(row) >= matrix.numbers.len() / 4 * 3
 }
 
-/// The matrix that a frame reads, and the row of what is open there, from a matrix with such a row: the same ones, or a
-/// smaller matrix if much of the given one is closed.
+/// Chooses the matrix that a frame reads, and returns it with its row of open columns: the given matrix and row, or a new
+/// matrix of the open columns alone if many of the given columns are closed.
 pub(crate) fn columns_of<'a>(
     alloc: Global,
     view: &View,

@@ -1,4 +1,4 @@
-//! Which words of a row have bits. Counts by them skip the words that are empty; nothing rests on them but time.
+//! Which words of a row have bits set, so that counts can skip the others. This only saves time: the counts are the same.
 ghost use Rattle.std.specs.Prelude.{IfErr, ◌<◌, ◌≡◌};
 
 use poly_grid::Refusal;
@@ -18,12 +18,12 @@ impl Occupied {
     }
 }
 
-/// Whether a row is so short that a count does best to take it whole.
+/// Whether a row is so short that counting in all of its words is fastest.
 pub(crate) fn is_narrow(row: &[u64]) -> bool {
     row.len() <= NARROW
 }
 
-/// The words of the row that have bits; of a narrow row all.
+/// The words of the row that have bits set; for a narrow row, all words.
 pub(crate) fn occupied_words(row: &[u64]) -> Occupied {
     if is_narrow(row) {
         return Occupied::all();
@@ -37,7 +37,7 @@ pub(crate) fn occupied_words(row: &[u64]) -> Occupied {
     Occupied(occupied)
 }
 
-/// The words that have bits in each of a number of rows; nothing is noted of narrow ones.
+/// The occupied words of each of `count` rows, which are `width` words long; an empty list if they are narrow.
 pub(crate) fn occupied_rows(
     alloc: Global,
     rows: &[u64],
@@ -79,7 +79,8 @@ pub(crate) fn count_common(some: &[u64], others: &[u64]) -> usize {
     all
 }
 
-// How many numbers both rows have in those of the 64 words from `first` on that are in the mask. Stops at `most`.
+// How many numbers both rows have, counting only the words `first + i` for which bit `i` of the mask is set. Stops once the
+// count reaches `most`.
 fn count_in(some: &[u64], others: &[u64], first: usize, mask: u64, most: usize) -> usize
     requires { first < 320 }
 {

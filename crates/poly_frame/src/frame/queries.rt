@@ -140,7 +140,7 @@ fn is_below(table: &Table, steps: &Steps, b: usize) -> bool
     steps.have[b] < u64::from(table.leasts[b])
 }
 
-/// Whether the base is known to have too few of some item of the view.
+/// Whether the base has too few of some item of the view.
 pub(crate) fn is_short(node: &Node<'_>, steps: &Steps) -> bool
     requires kept { IsAt node.now steps.now }
     ensures short { result ≡ true → in_family node.now.view.now node.now.trail.now (base node.now.view.now node.now.trail.now) ≡ false }
@@ -154,7 +154,7 @@ pub(crate) fn is_short(node: &Node<'_>, steps: &Steps) -> bool
     false
 }
 
-/// Whether the base is a tiling that meets the atoms; none if the rows do not tell it.
+/// Whether the base is a tiling that meets the atoms; `None` if the rows do not decide it.
 pub(crate) fn judge(node: &Node<'_>, steps: &Steps, consistent: usize) -> Option<bool>
     requires kept { IsAt node.now steps.now }
     requires consistent { ConsistentShows node.now.view.now node.now.trail.now node.now.given consistent }
@@ -169,9 +169,9 @@ pub(crate) fn judge(node: &Node<'_>, steps: &Steps, consistent: usize) -> Option
     None
 }
 
-// How many options the item at an index has beyond what it still needs, plus one: 0 if they are too few; some number
-// that is at least `fewest` if it is not less than that. None if the base has enough. It runs for each item that is due
-// at each node, where a call would cost as much as the count.
+// How many options the item at an index has to spare: those beyond what it still needs, plus one; 0 if there are too few.
+// If that is at least `fewest`, it may be any number that is at least `fewest`. None if the base has enough. Inlined, since
+// it runs for each due item at each node, where a call would cost as much as the count.
 #[inline(always)]
 fn spare(
     node: &Node<'_>,
@@ -216,14 +216,14 @@ fn filled_words(matrix: &Matrix, b: usize) -> Occupied {
 // How many words note which items are due: room for 8,192 items. A design has at most 320.
 const NOTED: usize = 128;
 
-// Where an item is due, and how many options it has beyond what it still needs, plus one.
+// The index of a due item, if one was found, and how many options it has to spare, as `spare` counts them.
 #[derive(Clone, Copy)]
 struct Scarce {
     index: Option<usize>,
     spare: usize,
 }
 
-// The item at `b`, if it is due and has fewer options to spare.
+// The item at `b` if it is due and has fewer options to spare than `best`, otherwise `best`.
 fn scarcer(
     node: &Node<'_>,
     steps: &Steps,

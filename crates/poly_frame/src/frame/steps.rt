@@ -1,5 +1,5 @@
 //! What changes while a frame moves: for each step a row of what is open after it, and how many members of the base
-//! have each item. A step copies the last row and takes out what it closes, so taking it back drops the row.
+//! have each item. A step copies the last row and removes what it closes, so undoing the step drops the row.
 ghost use Rattle.std.specs.Prelude.{IfErr, IfOk, IfSome, List, false, length, nat_le, nat_lt, not, slice_index, true, vec_capacity, vec_len, ℕ, [], ◌&&◌, ◌*◌, ◌++◌, ◌+◌, ◌-◌, ◌<◌, ◌∷◌, ◌≡◌, ◌≤◌, take};
 ghost use Rattle.std.specs.List.{list_all, list_any};
 ghost use Rattle.poly_atom.specs.Hopeless.{base};
@@ -20,8 +20,9 @@ use poly_grid::Refusal;
 use poly_tiling::{View, has_number};
 use std::alloc::Global;
 
-/// A row for the given atoms and one for each step, the counts now, the indices that were counted up by the steps, how many
-/// of these there were before each step, and notes of which items are due.
+/// `live` has a row of the open columns for the given atoms and one for each step. `have` counts the members of the base
+/// with each item. `raised` has the indices that the steps counted up, and `marks` says how many of these there were before
+/// each step. `due` notes which items are due.
 #[derive(Drop)]
 pub(crate) struct Steps {
     pub(crate) live: Vec<u64>,

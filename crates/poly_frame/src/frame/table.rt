@@ -14,8 +14,9 @@ use poly_grid::Refusal;
 use poly_tiling::{Bound, Item, View};
 use std::alloc::Global;
 
-/// For each item, how many members close its other placements, and how many members the atoms ask for. From index
-/// `leasts_end` on they ask for none.
+/// For each item, `limits` says how many members with it close its other placements (0 for a cell), and `leasts` says how
+/// many members with it the design and the atoms ask for. From index `leasts_end` on they ask for none. `listed` is whether
+/// the atoms ask only for items of the view.
 #[derive(Drop)]
 pub(crate) struct Table {
     pub(crate) limits: Vec<u8>,

@@ -28,7 +28,7 @@ pub enum Command {
     Edit(Edit),
     /// `undo`: undoes the last change that isn't undone.
     Undo,
-    /// `redo`: makes the change again that was undone last.
+    /// `redo`: makes again the change that was undone last.
     Redo,
     /// `count`: asks how many tilings the design has.
     Count,
@@ -46,7 +46,7 @@ pub enum Command {
 ///
 /// Fails with the first of these causes:
 ///
-/// 1. `BadCommand` if the first word is no command, the number of words is wrong, or a keyword is wrong;
+/// 1. `BadCommand` if the first word is not a command, the number of words is wrong, or a keyword is wrong;
 /// 2. word by word from the left: `BadName`, `BadCommand` if the word has another form, or `BadCell` if a coordinate is over 63;
 /// 3. `BadShape` if a list of cells has over 16 cells or a cell twice, or if those of `add` aren't connected on the grid;
 ///    `BadCommand` if the least of `copies` is above the most, or the most is over 16.

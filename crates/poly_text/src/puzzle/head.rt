@@ -89,7 +89,7 @@ fn grid_of(name: &str) -> Option<Grid>
 }
 
 /// Returns the outer object of the value. Fails with the first of `BadField`, `BadFormat`, `BadGrid`, `BadBoard`, `TooManyCells` and
-/// `TooManyPieces`. Takes no memory.
+/// `TooManyPieces`. Never allocates.
 #[tactic(auto, using(crate::proofs::Testing::length_views), unfolding(crate::specs::Head::head_of))]
 pub fn head_of(value: &Value) -> Result<Head<'_>, Refusal>
     ensures head { seen head_view result ≡ head_of (view value.now) }
