@@ -76,7 +76,7 @@ def lay_out(room, uses, name):
         shutil.copytree(f"{ROOT}/{library}", f"{room}/{library}", copy_function=os.link)
 
 
-def prove(uses, name, jobs):
+def prove(uses, name, jobs, niceness):
     """Proves one crate and copies its library or program to its out/. Returns None, or the log if the proof failed."""
     out = f"{ROOT}/crates/{name}/out"
     os.makedirs(out, exist_ok=True)
@@ -86,7 +86,7 @@ def prove(uses, name, jobs):
         # `rt run` proves, builds and then runs the program; without input it ends at once. Nobody edits the room, so
         # the checksums of the sources are computed only once.
         ran = subprocess.run(
-            [sys.executable, f"{ROOT}/scripts/rt_once.py", verb, "--jobs", str(jobs)],
+            ["nice", "-n", str(niceness), sys.executable, f"{ROOT}/scripts/rt_once.py", verb, "--jobs", str(jobs)],
             cwd=f"{room}/crates/{name}",
             stdin=subprocess.DEVNULL,
             stdout=subprocess.PIPE,
@@ -126,14 +126,15 @@ def build(uses):
     failed = False
     with ThreadPoolExecutor(len(names)) as pool:
         while running or waiting and not failed:
-            # everything above waits for the crate with the longest chain: it gets every processor, also if others share them
+            # everything above waits for the crate with the longest chain: it gets every processor, and the others get the
+            # time that it leaves
             leading = max((it for it in names if it not in done), key=lambda it: chain[it])
             for name in [it for it in waiting if not failed and all(lower in done for lower in below(uses, it))]:
                 others = [it for it in running.values() if it != leading]
                 if name == leading or len(others) < max(1, processors - 1):
-                    jobs = processors if name == leading else 1
+                    jobs, niceness = (processors, 0) if name == leading else (1, 10)
                     waiting.remove(name)
-                    running[pool.submit(prove, uses, name, jobs)] = name
+                    running[pool.submit(prove, uses, name, jobs, niceness)] = name
                     say(f"proving {name} ({len(done)} of {len(names)} done, {clock(start)})")
             for it in wait(running, return_when=FIRST_COMPLETED).done:
                 name = running.pop(it)
