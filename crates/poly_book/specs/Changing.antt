@@ -1,11 +1,10 @@
 -- How a change of a book goes: what it prepares, and what it does to the history.
-use Rattle.std.specs.Prelude.{Bool, List, None, Option, Some, [], cond, length, map, nat_le, not, true, vec_capacity, ℕ, ◌*◌, ◌++◌, ◌+◌, ◌<◌, ◌∷◌, ◌≡◌, ◌≤◌, ◌⊎◌}
+use Rattle.std.specs.Prelude.{Bool, List, None, Option, Some, [], cond, length, map, nat_le, not, true, vec_capacity, vec_len, ℕ, ◌*◌, ◌++◌, ◌+◌, ◌<◌, ◌∷◌, ◌≡◌, ◌≤◌, ◌⊎◌}
 use Rattle.std.specs.Arc.{arc_value}
 use Rattle.std.specs.List.{filter}
 use Rattle.poly_grid.specs.declared.refusal.Refusal.{Refusal}
 use Rattle.poly_grid.specs.declared.refusal.Refusal.TheVariants.{Memory, Spent, TooWide}
-use Rattle.poly_design.specs.Changes.{inverse_of}
-use Rattle.poly_design.specs.Layout.{Layout}
+use Rattle.poly_design.specs.Changes.{changed, inverse_of}
 use Rattle.poly_design.specs.declared.change.Change.{Change}
 use Rattle.poly_tiling.specs.Puzzle.{View, is_tiling}
 use Rattle.poly_atom.specs.declared.atom.Atom.{Atom}
@@ -13,17 +12,23 @@ use Rattle.poly_atom.specs.Atoms.{AllSmall}
 use Rattle.poly_atom.specs.Guards.{guards}
 use Rattle.poly_atom.specs.Hopeless.{hopeless}
 use Rattle.poly_atom.specs.Stairs.{stairs}
-use Rattle.poly_place.specs.declared.plan.Plan.{Plan}
+use Rattle.poly_place.specs.Right.{IsRight}
+use Rattle.poly_catalogue.specs.Listed.{AreOfEither}
+use Rattle.poly_undo.specs.declared.shelf.Shelf.{Shelf}
 use Rattle.poly_undo.specs.declared.step.Step.{Step as Beside}
 use Rattle.poly_undo.specs.Steps.{Moves, Steps, newest, next_of}
+use Rattle.poly_book.specs.declared.next_tasks.NextTasks.{NextTasks}
+use Rattle.poly_book.specs.declared.parts.Parts.{Parts}
+use Rattle.poly_book.specs.declared.prepare.Entry.{Entry}
+use Rattle.poly_book.specs.declared.prepare.Prepared.{Prepared}
 use Rattle.poly_book.specs.declared.prepare.TheConstants.{MAX_CHANGES, MAX_GUARDS, MAX_SHELF}
 use Rattle.poly_book.specs.declared.shelf.Kept.{Kept}
 use Rattle.poly_book.specs.declared.step.Kind.{Kind}
 use Rattle.poly_book.specs.declared.step.Kind.TheVariants.{Edit, Redo, Undo}
 use Rattle.poly_book.specs.declared.task.Pending.{Pending}
-use Rattle.poly_book.specs.declared.prepare.Prepared.{Prepared}
-use Rattle.poly_book.specs.Events.{Event, hopeless_endings}
+use Rattle.poly_book.specs.Events.{Event, Leads, hopeless_endings}
 use Rattle.poly_book.specs.Events as event
+use Rattle.poly_book.specs.Keeps.{state_of}
 use Rattle.poly_book.specs.Meaning.{own_of, stored_of, tasks_of, way_of}
 use Rattle.poly_book.specs.Opens.{Opens}
 use Rattle.poly_book.specs.Shelves.{is_kept, openings, returned}
@@ -34,21 +39,22 @@ use Rattle.poly_book.specs.Tasks.{atoms_of, hopeful}
 abbrev pub shelf_by : View → List (List ℕ) → List (List Atom) → List Pending → ℕ → Option Stored
 shelf_by w listed log ps width = cond (nat_le (length ps * width) MAX_SHELF) (Some (record { taken = filter (λ T. not (is_tiling w T)) listed; frozen = map (λ t. atoms_of t) (tasks_of log ps) })) None
 
--- what is prepared for a change from one view to another
-pub record IsGathered (v : View) (listed : List (List ℕ)) (log : List (List Atom)) (ps : List Pending) (stood : Option Stored) (after : Layout) (plan : Plan) (next : ℕ) (r : Prepared) : Type 0 where
-  pub after_is : r.after ≡ after
-  pub plan_is : r.plan ≡ plan
-  pub view_is : arc_value r.view ≡ arc_value plan.view
-  pub guards_are : r.guards.items ≡ guards v (arc_value plan.view)
-  pub guards_small : AllSmall r.guards.items
-  pub fresh_are : Opens (log ++ r.guards.items ∷ []) next (arc_value plan.view) (openings stood (stairs r.guards.items)) r.fresh.items
-  pub few : next + length r.fresh.items ≤ 4294967296
-  pub flags_are : r.flags.items ≡ map (λ p. not (hopeless (arc_value plan.view) (own_of log p.own))) ps
-  pub ended_are : r.ended.items ≡ hopeless_endings (arc_value plan.view) (length log + 1) (tasks_of log ps)
-  pub returned_are : r.returned.items ≡ returned stood
-  pub shelf_is : stored_of r.shelf ≡ shelf_by (arc_value plan.view) listed log ps (length (guards (arc_value plan.view) v))
-  pub room_empty : r.room.items ≡ []
-  pub room : length ps + length r.fresh.items ≤ vec_capacity r.room
+-- how a change with these guards goes on with the tasks
+pub record AreNext (w : View) (log : List (List Atom)) (ps : List Pending) (laid : List Atom) (stood : Option Stored) (next : ℕ) (t : NextTasks) : Type 0 where
+  pub fresh_are : Opens (log ++ laid ∷ []) next w (openings stood (stairs laid)) t.fresh.items
+  pub few : next + length t.fresh.items ≤ 4294967296
+  pub flags_are : t.flags.items ≡ map (λ p. not (hopeless w (own_of log p.own))) ps
+  pub ended_are : t.ended.items ≡ hopeless_endings w (length log + 1) (tasks_of log ps)
+  pub room_empty : t.room.items ≡ []
+  pub room : length ps + length t.fresh.items ≤ vec_capacity t.room
+
+-- what a change from one view to another adds and stores, and how it goes on with the tasks
+pub record IsGathered (v w : View) (listed : List (List ℕ)) (log : List (List Atom)) (ps : List Pending) (stood : Option Stored) (next : ℕ) (e : Entry) (t : NextTasks) (h : Option Shelf) : Type 0 where
+  pub guards_are : e.guards.items ≡ guards v w
+  pub guards_small : AllSmall e.guards.items
+  pub returned_are : e.returned.items ≡ returned stood
+  pub tasks : AreNext w log ps e.guards.items stood next t
+  pub shelf_is : stored_of h ≡ shelf_by w listed log ps (length (guards w v))
 
 -- why a change from one view to another isn't prepared: its guards, or those of its way back, are more than 20,000; or
 -- there were 100,000 changes, or a task number would be over 4,294,967,295
@@ -90,6 +96,19 @@ abbrev pub IsTop : Kind → Steps Change Kept → Change → Type 0
 IsTop Edit h x = Unit {0}
 IsTop Undo h x = (top : Beside Change Kept) × (next_of h.undo ≡ Some top) × (x ≡ inverse_of top.change)
 IsTop Redo h x = (top : Beside Change Kept) × (next_of h.redo ≡ Some top) × (x ≡ top.change)
+
+-- what is prepared for a change of the book
+pub record IsPrepared (k : Kind) (x : Change) (p : Parts) (e : Entry) (r : Prepared) : Type 0 where
+  pub after_is : r.after ≡ changed p.design x
+  pub view_is : arc_value r.view ≡ arc_value r.plan.view
+  pub leads : Leads (state_of p) x (arc_value r.plan.view)
+  pub right : IsRight (arc_value r.plan.view) (changed p.design x)
+  pub last : (arc_value r.plan.view).placements ≡ p.table.placements
+  pub either : AreOfEither (arc_value r.plan.view) r.plan.delta p.listed
+  pub gathered : IsGathered p.scene (arc_value r.plan.view) p.listed p.log p.tasks.items (stood_by k p.history) p.next e r.tasks r.shelf
+  pub few_steps : length p.steps.items < MAX_CHANGES
+  pub room_steps : vec_len p.steps < vec_capacity p.steps
+  pub room_endings : vec_len p.endings + length r.tasks.ended.items ≤ vec_capacity p.endings
 
 abbrev pub event_of : Kind → Change → View → Event
 event_of Edit x w = event.Edit x w

@@ -2,36 +2,33 @@
 //! may be refused comes first; from the exchange of the listed tilings on, nothing allocates.
 ghost use Rattle.std.specs.Prelude.{◌≡◌, ◌≤◌, ◌<◌, ◌+◌, ◌++◌, ◌∷◌, ◌⊎◌, [], IfErr, IfOk, OnErr, OnOk, length, true, vec_capacity, vec_len};
 ghost use Rattle.std.specs.List.{filter, items_where_true, list_all};
+ghost use Rattle.std.specs.Arc.{arc_value};
 ghost use Rattle.poly_design.specs.Changes.{HasBefore, changed};
 ghost use Rattle.poly_design.specs.Limits.{IsDesign};
-ghost use Rattle.std.specs.Arc.{arc_value};
-ghost use Rattle.poly_tiling.specs.Names.{Grown};
 ghost use Rattle.poly_tiling.specs.Puzzle.{is_tiling};
-ghost use Rattle.poly_place.specs.Delta.{IsPlanFor};
-ghost use Rattle.poly_place.specs.Right.{IsRight};
-ghost use Rattle.poly_place.specs.Spent.{IsSpent as NumbersAreSpent};
 ghost use Rattle.poly_atom.specs.Atoms.{AllSmall};
 ghost use Rattle.poly_catalogue.specs.Listed.{AreOfEither, AreOnce, AreSame};
 ghost use Rattle.poly_book.specs.Amounts.{IsNarrow};
-ghost use Rattle.poly_book.specs.Changing.{CanNote, IsTop, Noted, shelved_by};
+ghost use Rattle.poly_book.specs.Changing.{CanNote, IsPrepared, IsTop, Noted, shelved_by};
 ghost use Rattle.poly_book.specs.Keeps.{Keeps, state_of};
 ghost use Rattle.poly_book.specs.Mapped.{AreNoted};
 ghost use Rattle.poly_book.specs.Refused.{IsNotMade};
 ghost use Rattle.poly_book.specs.Steps.{IsDone};
 ghost use Rattle.poly_tiling.specs.declared.lister.TheConstants.{MAX_TILINGS};
 
+use crate::next_tasks::NextTasks;
 use crate::parts::Parts;
-use crate::prepare::{Prepared, gather, is_shelved};
+use crate::prepare::{Entry, Prepared, is_shelved, prepare};
 use crate::scene::Scene;
 use crate::shelf::Kept;
 use crate::step::{Done, Ending, Kind, Step};
 use crate::task::Pending;
-use poly_atom::{Atom, GuardLog};
+use poly_atom::GuardLog;
 use poly_catalogue::Catalogue;
-use poly_design::{Change, Design};
+use poly_design::Change;
 use poly_grid::Refusal;
-use poly_place::{Delta, Plan, Table};
-use poly_tiling::{Tiling, View};
+use poly_place::Delta;
+use poly_tiling::View;
 use poly_undo::History;
 use std::mem;
 
@@ -77,49 +74,81 @@ fn make_change(parts: &mut Parts, kind: Kind, change: Change) -> Result<Done, Re
     ensures err { OnErr result (state_of parts.new ≡ state_of parts.old) }
     ensures why { IfErr result (λ e. IsNotMade kind change (state_of parts.old) e) }
 {
-    let count = parts.steps.len();
     let step = step_of(parts, kind, &change)?;
     let told = step_of(parts, kind, &change)?;
-    parts.steps.reserve(1)?;
-    let after = changed_design(&parts.design, &change)?;
-    let plan = plan_of_change(&mut parts.table, &parts.design, &change, &after)?;
-    let ready = gather(parts, kind, &change, after, plan)?;
+    let (entry, ready) = prepare(parts, kind, &change)?;
+    complete(parts, kind, change, step, entry, ready)?;
+    Ok(Done {
+        place: parts.steps.len() as u64,
+        step: told,
+    })
+}
+
+// Makes the prepared change.
+fn complete(
+    parts: &mut Parts,
+    kind: Kind,
+    change: Change,
+    step: Step,
+    entry: Entry,
+    ready: Prepared,
+) -> Result<(), Refusal>
+    requires keeps { Keeps parts.old }
+    requires top { IsTop kind parts.old.history change }
+    requires prepared { IsPrepared kind change parts.old entry ready }
+    requires step { step ≡ record { kind = kind; change = change; pending = length parts.old.tasks.items; shelved = shelved_by kind parts.old.history } }
+    ensures keeps { Keeps parts.new }
+    ensures ok { OnOk result (IsDone kind change (state_of parts.old) (state_of parts.new) (record { place = length parts.new.steps.items; step = step })) }
+    ensures design { OnOk result (parts.new.design ≡ changed parts.old.design change) }
+    ensures err { OnErr result (state_of parts.new ≡ state_of parts.old) }
+    ensures why { IfErr result (λ e. IsNotMade kind change (state_of parts.old) e) }
+{
+    enter(
+        &mut parts.log,
+        &mut parts.listed,
+        &ready.view,
+        &ready.plan.delta,
+        entry,
+    )?;
+    finish(parts, kind, change, step, ready);
+    Ok(())
+}
+
+// Makes the prepared change, whose guards are in the log already. The listed tilings are those after it.
+fn finish(parts: &mut Parts, kind: Kind, change: Change, step: Step, ready: Prepared)
+    requires history { CanNote kind parts.old.history }
+    requires table { (arc_value ready.plan.view).placements ≡ parts.old.table.placements }
+    requires tasks { length ready.tasks.flags.items ≡ length parts.old.tasks.items }
+    requires empty { ready.tasks.room.items ≡ [] }
+    requires room { length parts.old.tasks.items + length ready.tasks.fresh.items ≤ vec_capacity ready.tasks.room }
+    requires steps { vec_len parts.old.steps < vec_capacity parts.old.steps }
+    requires endings { vec_len parts.old.endings + length ready.tasks.ended.items ≤ vec_capacity parts.old.endings }
+    requires next { parts.old.next + length ready.tasks.fresh.items ≤ 4294967296 }
+    ensures stays { parts.new ≡ record parts.old { design = parts.new.design; table = parts.new.table; scene = parts.new.scene; tasks = parts.new.tasks; next = parts.new.next; history = parts.new.history; steps = parts.new.steps; endings = parts.new.endings } }
+    ensures design { parts.new.design ≡ ready.after }
+    ensures table { parts.new.table ≡ arc_value ready.plan.view }
+    ensures scene { parts.new.scene ≡ arc_value ready.view }
+    ensures tasks { parts.new.tasks.items ≡ items_where_true ready.tasks.flags.items parts.old.tasks.items ++ ready.tasks.fresh.items }
+    ensures next { parts.new.next ≡ parts.old.next + length ready.tasks.fresh.items }
+    ensures history { Noted kind parts.old.history parts.new.history change (record { made = length parts.old.steps.items + 1; shelf = ready.shelf }) }
+    ensures steps { parts.new.steps.items ≡ parts.old.steps.items ++ step ∷ [] }
+    ensures endings { parts.new.endings.items ≡ parts.old.endings.items ++ ready.tasks.ended.items }
+{
     let Prepared {
         after,
         plan,
         view,
-        guards,
-        fresh,
-        flags,
-        ended,
-        returned,
+        tasks,
         shelf,
-        room,
     } = ready;
-    parts.endings.reserve(ended.len())?;
-    let delta = &plan.delta;
-    enter(
-        &mut parts.log,
-        &mut parts.listed,
-        &view,
-        delta,
-        guards,
-        returned,
-    )?;
-    let more = fresh.len() as u64;
+    parts.steps.push_reserved(step);
+    let made = parts.steps.len() as u64;
     parts.table.make(plan);
     parts.design = after;
     parts.scene = Scene::new(view);
-    replace_tasks(&mut parts.tasks, room, &flags, fresh);
-    let made = count as u64 + 1;
+    parts.next += tasks.fresh.len() as u64;
     note(&mut parts.history, kind, change, Kept { made, shelf });
-    parts.steps.push_reserved(step);
-    push_endings(ended, &mut parts.endings);
-    parts.next += more;
-    Ok(Done {
-        place: made,
-        step: told,
-    })
+    replace_tasks(&mut parts.tasks, &mut parts.endings, tasks);
 }
 
 // The step that the change is about to become.
@@ -136,38 +165,6 @@ fn step_of(parts: &Parts, kind: Kind, change: &Change) -> Result<Step, Refusal>
     })
 }
 
-// The design after the change.
-fn changed_design(design: &Design, change: &Change) -> Result<Design, Refusal>
-    requires { IsDesign (changed design.now change.now) }
-    ensures ok { IfOk result (λ d. d ≡ changed design.now change.now) }
-    ensures why { IfErr result (λ e. e ≡ Refusal.Memory) }
-{
-    let mut after = design.copy()?;
-    after.make(change)?;
-    Ok(after)
-}
-
-// What the change does to the table, which is right for the design.
-fn plan_of_change(
-    table: &mut Table,
-    design: &Design,
-    change: &Change,
-    after: &Design,
-) -> Result<Plan, Refusal>
-    requires right { IsRight table.old design.now }
-    requires after { after.now ≡ changed design.now change.now }
-    ensures ok { IfOk result (λ p. IsPlanFor table.old design.now (changed design.now change.now) (arc_value p.view) p.delta) }
-    ensures last { IfOk result (λ p. (arc_value p.view).placements ≡ table.new.placements) }
-    ensures grown { Grown table.old table.new }
-    ensures right { IsRight table.new design.now }
-    ensures why { IfErr result (λ e. ((e ≡ Refusal.Spent) × NumbersAreSpent table.old.placements (changed design.now change.now)) ⊎ (e ≡ Refusal.Memory)) }
-{
-    match table.plan_by(design, change, after) {
-        Ok(plan) => Ok(plan),
-        Err(refusal) => Err(refusal),
-    }
-}
-
 // Adds the guards to the log and exchanges the listed tilings. If it is refused, both stay as they were. A change that
 // lists no tilings again is never refused for the catalogue's limit.
 fn enter(
@@ -175,25 +172,25 @@ fn enter(
     listed: &mut Catalogue,
     view: &View,
     delta: &Delta,
-    laid: Vec<Atom>,
-    more: Vec<Tiling>,
+    entry: Entry,
 ) -> Result<(), Refusal>
-    requires small { AllSmall laid.items }
+    requires small { AllSmall entry.guards.items }
     requires from { AreOfEither view.now delta.now listed.old }
-    requires tilings { list_all (is_tiling view.now) more.items ≡ true }
-    requires once { AreOnce (listed.old ++ more.items) }
-    ensures log { OnOk result (log.new ≡ log.old ++ laid.items ∷ []) }
-    ensures listed { OnOk result (AreSame listed.new (filter (λ T. is_tiling view.now T) listed.old ++ more.items)) }
+    requires tilings { list_all (is_tiling view.now) entry.returned.items ≡ true }
+    requires once { AreOnce (listed.old ++ entry.returned.items) }
+    ensures log { OnOk result (log.new ≡ log.old ++ entry.guards.items ∷ []) }
+    ensures listed { OnOk result (AreSame listed.new (filter (λ T. is_tiling view.now T) listed.old ++ entry.returned.items)) }
     ensures log_stays { OnErr result (log.new ≡ log.old) }
     ensures listed_stays { OnErr result (listed.new ≡ listed.old) }
-    ensures why { IfErr result (λ e. ((e ≡ Refusal.CatalogueFull) × (0 < length more.items) × (MAX_TILINGS < length (filter (λ T. is_tiling view.now T) listed.old) + length more.items)) ⊎ (e ≡ Refusal.Memory)) }
+    ensures why { IfErr result (λ e. ((e ≡ Refusal.CatalogueFull) × (0 < length entry.returned.items) × (MAX_TILINGS < length (filter (λ T. is_tiling view.now T) listed.old) + length entry.returned.items)) ⊎ (e ≡ Refusal.Memory)) }
 {
-    log.push(laid)?;
-    if more.is_empty() {
+    let Entry { guards, returned } = entry;
+    log.push(guards)?;
+    if returned.is_empty() {
         listed.keep_only(view, delta);
         return Ok(());
     }
-    match listed.exchange(view, delta, more) {
+    match listed.exchange(view, delta, returned) {
         Ok(()) => Ok(()),
         Err(refusal) => {
             log.pop();
@@ -214,16 +211,25 @@ fn note(history: &mut History<Change, Kept>, kind: Kind, change: Change, kept: K
     }
 }
 
-// Keeps the tasks that go on, and appends the new ones.
-fn replace_tasks(tasks: &mut Vec<Pending>, room: Vec<Pending>, flags: &[bool], fresh: Vec<Pending>)
-    requires empty { room.items ≡ [] }
-    requires room { length tasks.old.items + length fresh.items ≤ vec_capacity room }
-    requires flags { length flags.now ≡ length tasks.old.items }
-    ensures { tasks.new.items ≡ items_where_true flags.now tasks.old.items ++ fresh.items }
+// Keeps the tasks that go on, appends the new ones, and appends the endings of the others to the list of endings.
+fn replace_tasks(tasks: &mut Vec<Pending>, endings: &mut Vec<Ending>, next: NextTasks)
+    requires empty { next.room.items ≡ [] }
+    requires room { length tasks.old.items + length next.fresh.items ≤ vec_capacity next.room }
+    requires flags { length next.flags.items ≡ length tasks.old.items }
+    requires endings { vec_len endings.old + length next.ended.items ≤ vec_capacity endings.old }
+    ensures tasks { tasks.new.items ≡ items_where_true next.flags.items tasks.old.items ++ next.fresh.items }
+    ensures endings { endings.new.items ≡ endings.old.items ++ next.ended.items }
 {
+    let NextTasks {
+        fresh,
+        flags,
+        ended,
+        room,
+    } = next;
     let old = mem::replace(tasks, room);
-    push_surviving(old, flags, tasks);
+    push_surviving(old, &flags, tasks);
     push_tasks(fresh, tasks);
+    push_endings(ended, endings);
 }
 
 /// Appends the tasks to the list, which has room for them.

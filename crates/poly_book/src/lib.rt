@@ -23,6 +23,7 @@ mod fresh;
 mod hand_in;
 pub mod laws;
 mod maps;
+mod next_tasks;
 mod parts;
 mod prepare;
 mod quiet;

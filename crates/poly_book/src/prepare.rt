@@ -1,36 +1,37 @@
 //! Prepares all that a change needs before anything is changed, so that every refusal comes first.
-ghost use Rattle.std.specs.Prelude.{◌≡◌, ◌↔◌, ◌≤◌, ◌<◌, ◌*◌, ◌+◌, ◌++◌, ◌⊎◌, ◌∷◌, [], IfErr, IfOk, OnOk, List, None, Some, cond, length, map, nat_le, not, option_copied, true};
+ghost use Rattle.std.specs.Prelude.{◌≡◌, ◌↔◌, ◌≤◌, ◌<◌, ◌*◌, ◌⊎◌, IfErr, IfOk, OnOk, cond, length, map, nat_le, option_copied, true};
 ghost use Rattle.std.specs.Arc.{arc_value};
-ghost use Rattle.std.specs.List.{filter};
-ghost use Rattle.poly_tiling.specs.Puzzle.{View as ViewOf, is_tiling};
-ghost use Rattle.poly_atom.specs.declared.atom.Atom.{Atom as AtomOf};
+ghost use Rattle.poly_design.specs.Changes.{HasBefore, changed};
+ghost use Rattle.poly_design.specs.Limits.{IsDesign};
+ghost use Rattle.poly_tiling.specs.Names.{Grown};
+ghost use Rattle.poly_place.specs.Between.{IsChangeOf};
+ghost use Rattle.poly_place.specs.Delta.{IsPlanFor};
+ghost use Rattle.poly_place.specs.Right.{IsRight};
+ghost use Rattle.poly_place.specs.Spent.{IsSpent as NumbersAreSpent};
+ghost use Rattle.poly_atom.specs.Atoms.{AllSmall};
 ghost use Rattle.poly_atom.specs.Guards.{guards};
-ghost use Rattle.poly_atom.specs.Hopeless.{hopeless};
-ghost use Rattle.poly_atom.specs.Stairs.{stairs};
 ghost use Rattle.poly_catalogue.specs.Listed.{AreOfEither};
 ghost use Rattle.poly_report.specs.Gather.{lists};
-ghost use Rattle.poly_book.specs.Changing.{IsGathered, IsNotGathered, shelf_at, shelf_by, shelved_by, stood_by};
-ghost use Rattle.poly_book.specs.Events.{hopeless_endings};
-ghost use Rattle.poly_book.specs.Keeps.{Keeps};
+ghost use Rattle.poly_book.specs.Amounts.{IsNarrow};
+ghost use Rattle.poly_book.specs.Changing.{IsGathered, IsNotGathered, IsPrepared, IsTop, shelf_at, shelf_by, shelved_by, stood_by};
+ghost use Rattle.poly_book.specs.Keeps.{Keeps, state_of};
 ghost use Rattle.poly_book.specs.Mapped.{AreNoted};
-ghost use Rattle.poly_book.specs.Meaning.{AreTasks, IsOwn, own_of, stored_of, tasks_of};
-ghost use Rattle.poly_book.specs.Shelves.{openings, returned};
-ghost use Rattle.poly_book.specs.Tasks.{atoms_of, hopeful};
-ghost use Rattle.poly_book.specs.Reaching.{AreEndsReached};
+ghost use Rattle.poly_book.specs.Meaning.{AreTasks, stored_of, tasks_of};
+ghost use Rattle.poly_book.specs.Refused.{IsNotMade};
+ghost use Rattle.poly_book.specs.Shelves.{returned};
+ghost use Rattle.poly_book.specs.Tasks.{atoms_of};
 ghost use Rattle.poly_book.specs.Touching.{IsMadeBy};
 
-use crate::fresh::fresh_tasks;
+use crate::next_tasks::{NextTasks, next_tasks};
 use crate::parts::Parts;
 use crate::quiet::copies;
-use crate::reach::reached;
 use crate::shelf::Kept;
-use crate::step::{Ending, Kind};
-use crate::task::{Own, Pending, all_atoms, is_hopeless};
-use crate::touch::Touch;
+use crate::step::Kind;
+use crate::task::{Pending, all_atoms};
 use poly_atom::{Atom, BothGuards, GuardLog, both_guards};
 use poly_design::{Change, Design};
 use poly_grid::Refusal;
-use poly_place::{Delta, Plan};
+use poly_place::{Delta, Plan, Table};
 use poly_tiling::{Tiling, View};
 use poly_undo::{History, Shelf, Step as Beside};
 use std::alloc::Global;
@@ -45,7 +46,16 @@ pub const MAX_CHANGES: usize = 100_000;
 /// A shelf is kept if the number of its frozen tasks times the guards of the inverse is at most this.
 pub const MAX_SHELF: usize = 4096;
 
-/// The parts of the book after a change.
+/// What a change adds to the log and to the listed tilings.
+#[derive(Drop)]
+pub(crate) struct Entry {
+    /// The guards of the change.
+    pub guards: Vec<Atom>,
+    /// The tilings that it lists again.
+    pub returned: Vec<Tiling>,
+}
+
+/// The other parts of the book after a change.
 #[derive(Drop)]
 pub(crate) struct Prepared {
     /// The design after it.
@@ -54,68 +64,127 @@ pub(crate) struct Prepared {
     pub plan: Plan,
     /// The design after it, by numbers.
     pub view: Arc<View>,
-    /// Its guards.
-    pub guards: Vec<Atom>,
-    /// The tasks that it opens.
-    pub fresh: Vec<Pending>,
-    /// Which of the pending tasks go on.
-    pub flags: Vec<bool>,
-    /// The endings of the others.
-    pub ended: Vec<Ending>,
-    /// The tilings that the change lists again.
-    pub returned: Vec<Tiling>,
+    /// The tasks after it.
+    pub tasks: NextTasks,
     /// What the change stores for its undo or redo, if a shelf is kept.
     pub shelf: Option<Shelf>,
-    /// Room for the tasks after it.
-    pub room: Vec<Pending>,
 }
 
-/// Prepares the change to the design `after`, by the plan that the table made for it.
-pub(crate) fn gather(
+/// Prepares the change, so that nothing but the exchange of the listed tilings can refuse it. The book shows what it showed.
+pub(crate) fn prepare(
+    parts: &mut Parts,
+    kind: Kind,
+    change: &Change,
+) -> Result<(Entry, Prepared), Refusal>
+    requires keeps { Keeps parts.old }
+    requires noted { AreNoted parts.old.register.maps parts.old.log parts.old.tasks.items }
+    requires before { HasBefore parts.old.design change.now }
+    requires design { IsDesign (changed parts.old.design change.now) }
+    requires top { IsTop kind parts.old.history change.now }
+    ensures stays { parts.new ≡ record parts.old { table = parts.new.table; steps = parts.new.steps; endings = parts.new.endings } }
+    ensures steps { parts.new.steps.items ≡ parts.old.steps.items }
+    ensures endings { parts.new.endings.items ≡ parts.old.endings.items }
+    ensures keeps { Keeps parts.new }
+    ensures ok { IfOk result (λ r. IsPrepared kind change.now parts.new r.0 r.1) }
+    ensures narrow { OnOk result (kind ≡ Kind.Edit → IsNarrow parts.old.design (changed parts.old.design change.now)) }
+    ensures why { IfErr result (λ e. IsNotMade kind change.now (state_of parts.old) e) }
+{
+    parts.steps.reserve(1)?;
+    let after = changed_design(&parts.design, change)?;
+    let plan = plan_of_change(&mut parts.table, &parts.design, change, &after)?;
+    let view = Arc::try_clone(&plan.view)?;
+    let (entry, tasks, shelf) = gather(parts, kind, change, &view, &plan.delta)?;
+    parts.endings.reserve(tasks.ended.len())?;
+    Ok((
+        entry,
+        Prepared {
+            after,
+            plan,
+            view,
+            tasks,
+            shelf,
+        },
+    ))
+}
+
+// The design after the change.
+fn changed_design(design: &Design, change: &Change) -> Result<Design, Refusal>
+    requires { IsDesign (changed design.now change.now) }
+    ensures ok { IfOk result (λ d. d ≡ changed design.now change.now) }
+    ensures why { IfErr result (λ e. e ≡ Refusal.Memory) }
+{
+    let mut after = design.copy()?;
+    after.make(change)?;
+    Ok(after)
+}
+
+// What the change does to the table, which is right for the design.
+fn plan_of_change(
+    table: &mut Table,
+    design: &Design,
+    change: &Change,
+    after: &Design,
+) -> Result<Plan, Refusal>
+    requires right { IsRight table.old design.now }
+    requires after { after.now ≡ changed design.now change.now }
+    ensures ok { IfOk result (λ p. IsPlanFor table.old design.now (changed design.now change.now) (arc_value p.view) p.delta) }
+    ensures last { IfOk result (λ p. (arc_value p.view).placements ≡ table.new.placements) }
+    ensures grown { Grown table.old table.new }
+    ensures right { IsRight table.new design.now }
+    ensures why { IfErr result (λ e. ((e ≡ Refusal.Spent) × NumbersAreSpent table.old.placements (changed design.now change.now)) ⊎ (e ≡ Refusal.Memory)) }
+{
+    match table.plan_by(design, change, after) {
+        Ok(plan) => Ok(plan),
+        Err(refusal) => Err(refusal),
+    }
+}
+
+// Gathers what a change to the view adds and stores, and how it goes on with the tasks.
+fn gather(
     parts: &Parts,
     kind: Kind,
     change: &Change,
-    after: Design,
-    plan: Plan,
-) -> Result<Prepared, Refusal>
+    view: &View,
+    delta: &Delta,
+) -> Result<(Entry, NextTasks, Option<Shelf>), Refusal>
     requires keeps { Keeps parts.now }
     requires noted { AreNoted parts.now.register.maps parts.now.log parts.now.tasks.items }
-    requires made { IsMadeBy parts.now.scene (arc_value plan.view) plan.delta change.now }
-    requires either { AreOfEither (arc_value plan.view) plan.delta parts.now.listed }
-    ensures ok { IfOk result (λ r. IsGathered parts.now.scene parts.now.listed parts.now.log parts.now.tasks.items (stood_by kind parts.now.history) after plan parts.now.next r) }
+    requires made { IsMadeBy parts.now.scene view.now delta.now change.now }
+    requires either { AreOfEither view.now delta.now parts.now.listed }
+    ensures ok { IfOk result (λ r. IsGathered parts.now.scene view.now parts.now.listed parts.now.log parts.now.tasks.items (stood_by kind parts.now.history) parts.now.next r.0 r.1 r.2) }
     ensures few { IfOk result (λ r. length parts.now.steps.items < MAX_CHANGES) }
-    ensures narrow { OnOk result (kind ≡ Kind.Edit → (length (guards parts.now.scene (arc_value plan.view)) ≤ MAX_GUARDS) × (length (guards (arc_value plan.view) parts.now.scene) ≤ MAX_GUARDS)) }
-    ensures why { IfErr result (λ e. IsNotGathered parts.now.scene (arc_value plan.view) kind (length parts.now.steps.items) parts.now.next (stood_by kind parts.now.history) e) }
+    ensures narrow { OnOk result (kind ≡ Kind.Edit → (length (guards parts.now.scene view.now) ≤ MAX_GUARDS) × (length (guards view.now parts.now.scene) ≤ MAX_GUARDS)) }
+    ensures why { IfErr result (λ e. IsNotGathered parts.now.scene view.now kind (length parts.now.steps.items) parts.now.next (stood_by kind parts.now.history) e) }
 {
-    let alloc = parts.alloc;
-    let view = Arc::try_clone(&plan.view)?;
-    let both = both_guards(alloc, parts.scene.view(), &view, &plan.delta)?;
-    let BothGuards { forth: laid, back } = both;
-    let width = back.len();
-    check_width(kind, laid.len(), width)?;
+    let (guards, width) = guards_of_change(parts, kind, view, delta)?;
     if parts.steps.len() >= MAX_CHANGES {
         return Err(Refusal::Spent);
     }
     let stood = shelf_ahead(&parts.history, kind);
-    let edition = parts.log.len() as u64;
-    let fresh = fresh_tasks(alloc, &view, &laid, stood, parts.next, edition)?;
-    let flags = going_on(parts, &view, &plan.delta, change)?;
-    let ended = endings_of(alloc, &parts.tasks, &flags, edition + 1)?;
-    let returned = returning(alloc, stood)?;
-    let shelf = shelve(parts, &view, &plan.delta, width)?;
-    let room = Vec::with_capacity(alloc, parts.tasks.len() + fresh.len())?;
-    Ok(Prepared {
-        after,
-        plan,
-        view,
-        guards: laid,
-        fresh,
-        flags,
-        ended,
-        returned,
-        shelf,
-        room,
-    })
+    let returned = returning(parts.alloc, stood)?;
+    let shelf = shelve(parts, view, delta, width)?;
+    let tasks = next_tasks(parts, view, delta, change, &guards, stood)?;
+    Ok((Entry { guards, returned }, tasks, shelf))
+}
+
+// The guards of the change to the view, and the number of those of its inverse. Refuses an edit if either are too many.
+fn guards_of_change(
+    parts: &Parts,
+    kind: Kind,
+    view: &View,
+    delta: &Delta,
+) -> Result<(Vec<Atom>, usize), Refusal>
+    requires { IsChangeOf parts.now.scene view.now delta.now }
+    ensures small { IfOk result (λ r. AllSmall r.0.items) }
+    ensures forth { IfOk result (λ r. r.0.items ≡ guards parts.now.scene view.now) }
+    ensures back { IfOk result (λ r. r.1 ≡ length (guards view.now parts.now.scene)) }
+    ensures narrow { OnOk result (kind ≡ Kind.Edit → (length (guards parts.now.scene view.now) ≤ MAX_GUARDS) × (length (guards view.now parts.now.scene) ≤ MAX_GUARDS)) }
+    ensures why { IfErr result (λ e. ((e ≡ Refusal.TooWide) × (kind ≡ Kind.Edit) × ((MAX_GUARDS < length (guards parts.now.scene view.now)) ⊎ (MAX_GUARDS < length (guards view.now parts.now.scene)))) ⊎ (e ≡ Refusal.Memory)) }
+{
+    let BothGuards { forth, back } = both_guards(parts.alloc, parts.scene.view(), view, delta)?;
+    let width = back.len();
+    check_width(kind, forth.len(), width)?;
+    Ok((forth, width))
 }
 
 // Refuses an edit if it or its inverse has too many guards.
@@ -127,93 +196,6 @@ fn check_width(kind: Kind, forth: usize, back: usize) -> Result<(), Refusal>
         return Err(Refusal::TooWide);
     }
     Ok(())
-}
-
-// Which tasks go on after the change.
-fn going_on(
-    parts: &Parts,
-    view: &View,
-    delta: &Delta,
-    change: &Change,
-) -> Result<Vec<bool>, Refusal>
-    requires keeps { Keeps parts.now }
-    requires noted { AreNoted parts.now.register.maps parts.now.log parts.now.tasks.items }
-    requires made { IsMadeBy parts.now.scene view.now delta.now change.now }
-    ensures ok { IfOk result (λ v. v.items ≡ map (λ p. not (hopeless view.now (own_of parts.now.log p.own))) parts.now.tasks.items) }
-    ensures why { IfErr result (λ e. e ≡ Refusal.Memory) }
-{
-    let touch = Touch::new(parts.alloc, view, delta, change)?;
-    let reach = reached(parts.alloc, &touch, &parts.register.maps, &parts.tasks)?;
-    let flags = surviving(parts.alloc, view, &parts.log, &parts.tasks, &reach)?;
-    Ok(flags)
-}
-
-// Which tasks go on. Checks only the tasks that are reached: those whose number is at most what the entry at their index, or
-// an earlier entry, reaches.
-fn surviving(
-    alloc: Global,
-    view: &View,
-    log: &GuardLog,
-    tasks: &[Pending],
-    reach: &[u32],
-) -> Result<Vec<bool>, Refusal>
-    requires tasks { AreTasks log.now tasks.now }
-    requires len { length reach.now ≡ length tasks.now }
-    requires reached { AreEndsReached view.now log.now tasks.now reach.now }
-    ensures ok { IfOk result (λ v. v.items ≡ map (λ p. not (hopeless view.now (own_of log.now p.own))) tasks.now) }
-    ensures why { IfErr result (λ e. e ≡ Refusal.Memory) }
-{
-    let mut flags = Vec::new(alloc);
-    let mut far = 0;
-    for (i, task) in tasks.iter().enumerate() {
-        far = reach[i].max(far);
-        let ends = ends_by(alloc, view, log, task, far)?;
-        flags.push(!ends)?;
-    }
-    Ok(flags)
-}
-
-// Whether the own atoms are hopeless after the change, which they are only if it reaches the task.
-fn ends_by(
-    alloc: Global,
-    view: &View,
-    log: &GuardLog,
-    task: &Pending,
-    far: u32,
-) -> Result<bool, Refusal>
-    requires own { IsOwn log.now task.now.own }
-    requires reached { hopeless view.now (own_of log.now task.now.own) ≡ true → task.now.number ≤ far }
-    ensures ok { IfOk result (λ yes. yes ≡ hopeless view.now (own_of log.now task.now.own)) }
-    ensures why { IfErr result (λ e. e ≡ Refusal.Memory) }
-{
-    if task.number > far {
-        return Ok(false);
-    }
-    is_hopeless(alloc, view, log, &task.own)
-}
-
-// The endings of the tasks that don't go on.
-fn endings_of(
-    alloc: Global,
-    tasks: &[Pending],
-    flags: &[bool],
-    edition: u64,
-) -> Result<Vec<Ending>, Refusal>
-    requires { length flags.now ≡ length tasks.now }
-    ensures ok { IfOk result (λ v. (log : List (List AtomOf)) (w : ViewOf) → flags.now ≡ map (λ p. not (hopeless w (own_of log p.own))) tasks.now → v.items ≡ hopeless_endings w edition (tasks_of log tasks.now)) }
-    ensures why { IfErr result (λ e. e ≡ Refusal.Memory) }
-{
-    let mut all = Vec::new(alloc);
-    for i in 0..tasks.len() {
-        if flags[i] {
-            continue;
-        }
-        all.push(Ending::Hopeless {
-            task: tasks[i].number,
-            edition,
-        })?;
-    }
-    Ok(all)
 }
 
 // What a change to the view stores for its inverse, which has `width` guards. None if a shelf would be too large.

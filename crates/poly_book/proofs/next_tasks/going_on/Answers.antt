@@ -8,7 +8,7 @@ use Rattle.poly_book.specs.Reaching.{AreEndsReached, IsReached}
 use Rattle.poly_book.proofs.Halving.{numbers_rise}
 use Rattle.poly_book.proofs.Reached.{ends_reached}
 use Rattle.poly_book.proofs.Touched.{all_touched}
-use Rattle.poly_book.proofs.prepare.going_on.Goals as goal
+use Rattle.poly_book.proofs.next_tasks.going_on.Goals as goal
 
 pub new-requires : goal.new-requires
 new-requires c = c.requires.made.0.delta.gone.given_out

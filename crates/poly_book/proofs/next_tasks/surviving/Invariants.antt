@@ -1,7 +1,7 @@
 use Rattle.std.proofs.Common.{get_or, map, not, take, ℕ, ◌<◌, ◌≡◌, ◌≤◌}
 use Rattle.poly_atom.specs.Hopeless.{hopeless}
 use Rattle.poly_book.specs.Meaning.{own_of}
-use Rattle.poly_book.proofs.prepare.surviving.Given as goal
+use Rattle.poly_book.proofs.next_tasks.surviving.Given as goal
 
 abbrev pub invariant-loop-i : goal.invariant-loop-i
 invariant-loop-i l = record {

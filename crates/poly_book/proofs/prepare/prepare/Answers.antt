@@ -1,0 +1,142 @@
+use mathlib.Core.Path.{transport}
+use Rattle.std.proofs.Common.{ap, inl, inr, length, refl, rules, subst, sym, ◌∙◌, ◌≡◌, ◌≤◌}
+use Rattle.std.specs.Arc.{arc_value}
+use Rattle.std.proofs.lemmas.List.{length-reverse}
+use Rattle.std.proofs.lemmas.Result.{err_from_is_err_and}
+use Rattle.poly_design.specs.Changes.{HasBefore, changed}
+use Rattle.poly_design.specs.Limits.{IsDesign}
+use Rattle.poly_design.specs.declared.change.Change.{Change}
+use Rattle.poly_tiling.proofs.Grown.{names_on}
+use Rattle.poly_atom.specs.Guards.{guards}
+use Rattle.poly_atom.specs.Width.{HasWidth}
+use Rattle.poly_atom.proofs.Widths.{widths_show_lem}
+use Rattle.poly_catalogue.specs.Listed.{AreOfEither}
+use Rattle.poly_place.specs.Between.{IsChangeOf}
+use Rattle.poly_place.specs.Delta.{IsPlanFor}
+use Rattle.poly_place.specs.declared.plan.Plan.{Plan}
+use Rattle.poly_book.specs.declared.parts.Parts.{Parts}
+use Rattle.poly_book.specs.Changing.{IsGathered, stood_by}
+use Rattle.poly_book.specs.Events.{Leads}
+use Rattle.poly_book.specs.Keeps.{Keeps, state_of}
+use Rattle.poly_book.specs.Meaning.{shown}
+use Rattle.poly_book.specs.Touching.{IsMadeBy}
+use Rattle.poly_book.proofs.Applying.{still_keeps}
+use Rattle.poly_book.proofs.Cataloguing.{listed_either}
+use Rattle.poly_book.proofs.Refusing.{gather_not_made, memory_not_made, spent_not_made}
+use Rattle.poly_book.proofs.prepare.prepare.Goals as goal
+
+-- the plan's view is one of the design after
+leads_by : (p : Parts) (x : Change) (r : Plan) → Keeps p → HasBefore p.design x → IsDesign (changed p.design x) → IsPlanFor p.table p.design (changed p.design x) (arc_value r.view) r.delta → Leads (state_of p) x (arc_value r.view)
+leads_by p x r k has is q = record {
+  before = has;
+  design = is;
+  well = q.right.well;
+  shows = q.right.shows;
+  names = names_on p.scene p.table (arc_value r.view) k.grown.0 q.names;
+}
+
+-- the listed tilings are those of either view
+either_by : (p : Parts) (x : Change) (r : Plan) → Keeps p → IsPlanFor p.table p.design (changed p.design x) (arc_value r.view) r.delta → AreOfEither (arc_value r.view) r.delta p.listed
+either_by p x r k q = listed_either p.scene p.table (arc_value r.view) p.design (changed p.design x) r.delta p.listed k.whole.consistent.well k.grown k.right q k.whole.consistent.partition.only
+
+-- the plan's differences are those of the change
+abbrev change_by : (p : Parts) (x : Change) (r : Plan) → Keeps p → IsDesign (changed p.design x) → IsPlanFor p.table p.design (changed p.design x) (arc_value r.view) r.delta → IsChangeOf p.scene (arc_value r.view) r.delta
+change_by p x r k is q = record {
+  before = p.design;
+  after = changed p.design x;
+  shown = record { well = k.whole.consistent.well; shows = k.whole.consistent.shows };
+  updated = q.right;
+  first = k.whole.consistent.design;
+  second = is;
+  names = names_on p.scene p.table (arc_value r.view) k.grown.0 q.names;
+  delta = q.delta;
+}
+
+widths_by : (p : Parts) (x : Change) (r : Plan) → Keeps p → IsDesign (changed p.design x) → IsPlanFor p.table p.design (changed p.design x) (arc_value r.view) r.delta →
+    HasWidth p.design (changed p.design x) (length (guards p.scene (arc_value r.view))) × HasWidth (changed p.design x) p.design (length (guards (arc_value r.view) p.scene))
+widths_by p x r k is q = widths_show_lem p.scene (arc_value r.view) r.delta (change_by p x r k is q)
+
+pub gather-requires-clause-made : goal.gather-requires-clause-made
+gather-requires-clause-made c =
+    let shown : arc_value c.in_ok-view.view ≡ arc_value c.in_ok-plan.plan.view = search rules in
+    let at : c.deref.result.now ≡ arc_value c.in_ok-plan.plan.view = c.deref.ensures ∙ shown in
+    subst (λ w. IsMadeBy c.args.parts.now.scene w c.in_ok-plan.plan.delta c.args.change.now) (sym at) (change_by c.args.parts.now c.args.change.now c.in_ok-plan.plan c.requires.keeps c.requires.design c.in_ok-plan.ensures.ok, refl)
+
+pub gather-requires-clause-either : goal.gather-requires-clause-either
+gather-requires-clause-either c =
+    let shown : arc_value c.in_ok-view.view ≡ arc_value c.in_ok-plan.plan.view = search rules in
+    let at : c.deref.result.now ≡ arc_value c.in_ok-plan.plan.view = c.deref.ensures ∙ shown in
+    subst (λ w. AreOfEither w c.in_ok-plan.plan.delta c.args.parts.now.listed) (sym at) (either_by c.args.parts.now c.args.change.now c.in_ok-plan.plan c.requires.keeps c.in_ok-plan.ensures.ok)
+
+pub returns-in_err-plan-clause-why : goal.returns-in_err-plan-clause-why
+returns-in_err-plan-clause-why c =
+    let p = err_from_is_err_and c.from_residual-in_err-plan.result c.from_residual-in_err-plan.ensures.1 in
+    let a = c.args.parts.now in
+    rw (p.1, p.2) (elim c.in_err-plan.ensures.why [
+      | inl m ↦ spent_not_made c.args.kind c.args.change.now (state_of a) a.table _ m.0 c.requires.keeps.grown m.1
+      | inr m ↦ memory_not_made c.args.kind c.args.change.now (state_of a) _ m
+    ])
+
+pub returns-in_err-entry-clause-why : goal.returns-in_err-entry-clause-why
+returns-in_err-entry-clause-why c =
+    let p = err_from_is_err_and c.from_residual-in_err-entry.result c.from_residual-in_err-entry.ensures.1 in
+    let s = state_of c.args.parts.now in
+    let shown : arc_value c.in_ok-view.view ≡ arc_value c.in_ok-plan.plan.view = search rules in
+    let at : c.deref.result.now ≡ arc_value c.in_ok-plan.plan.view = c.deref.ensures ∙ shown in
+    let l = leads_by c.args.parts.now c.args.change.now c.in_ok-plan.plan c.requires.keeps c.requires.before c.requires.design c.in_ok-plan.ensures.ok in
+    let g = widths_by c.args.parts.now c.args.change.now c.in_ok-plan.plan c.requires.keeps c.requires.design c.in_ok-plan.ensures.ok in
+    let n : length c.reserve.new.self.items ≡ length s.steps = ap length c.reserve.ensures.items ∙ sym (length-reverse c.args.parts.now.steps.items) in
+    rw (p.1, p.2) (gather_not_made s c.args.parts.now.history c.args.change.now (arc_value c.in_ok-plan.plan.view) refl refl l g (length c.reserve.new.self.items) n c.args.kind c.requires.top _ (rw (sym at) c.in_err-entry.ensures.why))
+
+pub returns-in_err-reserve-2-clause-keeps : goal.returns-in_err-reserve-2-clause-keeps
+returns-in_err-reserve-2-clause-keeps c = rw (c.reserve.ensures.items, c.reserve-2.ensures.items) (still_keeps c.requires.keeps c.in_ok-plan.ensures.grown c.in_ok-plan.ensures.right)
+
+pub returns-in_err-reserve-2-clause-why : goal.returns-in_err-reserve-2-clause-why
+returns-in_err-reserve-2-clause-why c =
+    let p = err_from_is_err_and c.from_residual-in_err-reserve-2.result c.from_residual-in_err-reserve-2.ensures.1 in
+    rw p.1 (memory_not_made c.args.kind c.args.change.now (state_of c.args.parts.now) p.0 p.2)
+
+pub returns-clause-keeps : goal.returns-clause-keeps
+returns-clause-keeps c = rw (c.reserve.ensures.items, c.reserve-2.ensures.items) (still_keeps c.requires.keeps c.in_ok-plan.ensures.grown c.in_ok-plan.ensures.right)
+
+pub returns-clause-narrow : goal.returns-clause-narrow
+returns-clause-narrow c = λ edit.
+    let a = c.args.parts.now in
+    let x = c.args.change.now in
+    let w = arc_value c.in_ok-plan.plan.view in
+    let shown : arc_value c.in_ok-view.view ≡ w = search rules in
+    let at : c.deref.result.now ≡ w = c.deref.ensures ∙ shown in
+    let widths = widths_by a x c.in_ok-plan.plan c.requires.keeps c.requires.design c.in_ok-plan.ensures.ok in
+    let few = subst (λ v. (length (guards a.scene v) ≤ 20000) × (length (guards v a.scene) ≤ 20000)) at (c.in_ok-entry.ensures.narrow edit) in
+    record {
+      forth = _;
+      back = _;
+      forth_width = widths.0;
+      back_width = widths.1;
+      few_forth = few.0;
+      few_back = few.1;
+    }
+
+pub returns-clause-ok : goal.returns-clause-ok
+returns-clause-ok c =
+    let a = c.args.parts.now in
+    let x = c.args.change.now in
+    let w = arc_value c.in_ok-plan.plan.view in
+    let q = c.in_ok-plan.ensures.ok in
+    let shown_view : arc_value c.in_ok-view.view ≡ w = search rules in
+    let at : c.deref.result.now ≡ w = c.deref.ensures ∙ shown_view in
+    let steps : c.reserve.new.self.items ≡ a.steps.items = c.reserve.ensures.items in
+    let ends : c.reserve-2.new.self.items ≡ a.endings.items = c.reserve-2.ensures.items in
+    let l = leads_by a x c.in_ok-plan.plan c.requires.keeps c.requires.before c.requires.design q in
+    record {
+      after_is = c.in_ok-after.ensures.ok;
+      view_is = shown_view;
+      leads = transport (λ i. Leads (shown a.opened a.design a.scene a.listed a.log a.tasks.items a.next a.history (sym steps i) (sym ends i)) x w) l;
+      right = q.right;
+      last = c.in_ok-plan.ensures.last;
+      either = either_by a x c.in_ok-plan.plan c.requires.keeps q;
+      gathered = subst (λ v. IsGathered a.scene v a.listed a.log a.tasks.items (stood_by c.args.kind a.history) a.next c.in_ok-entry.entry c.in_ok-entry.tasks c.in_ok-entry.shelf) at c.in_ok-entry.ensures.ok;
+      few_steps = c.in_ok-entry.ensures.few;
+      room_steps = search rules;
+      room_endings = search rules;
+    }

@@ -1,0 +1,160 @@
+//! The tasks after a change: which of the pending ones go on, and which are new.
+ghost use Rattle.std.specs.Prelude.{◌≡◌, ◌≤◌, ◌<◌, ◌+◌, ◌⊎◌, IfErr, IfOk, List, length, map, not, option_copied, true};
+ghost use Rattle.poly_tiling.specs.Puzzle.{View as ViewOf};
+ghost use Rattle.poly_atom.specs.declared.atom.Atom.{Atom as AtomOf};
+ghost use Rattle.poly_atom.specs.Atoms.{AllSmall};
+ghost use Rattle.poly_atom.specs.Hopeless.{hopeless};
+ghost use Rattle.poly_atom.specs.Stairs.{stairs};
+ghost use Rattle.poly_book.specs.Changing.{AreNext};
+ghost use Rattle.poly_book.specs.Events.{hopeless_endings};
+ghost use Rattle.poly_book.specs.Keeps.{Keeps};
+ghost use Rattle.poly_book.specs.Mapped.{AreNoted};
+ghost use Rattle.poly_book.specs.Meaning.{AreTasks, IsOwn, own_of, stored_of, tasks_of};
+ghost use Rattle.poly_book.specs.Shelves.{openings};
+ghost use Rattle.poly_book.specs.Tasks.{hopeful};
+ghost use Rattle.poly_book.specs.Reaching.{AreEndsReached};
+ghost use Rattle.poly_book.specs.Touching.{IsMadeBy};
+
+use crate::fresh::fresh_tasks;
+use crate::parts::Parts;
+use crate::reach::reached;
+use crate::step::Ending;
+use crate::task::{Pending, is_hopeless};
+use crate::touch::Touch;
+use poly_atom::{Atom, GuardLog};
+use poly_design::Change;
+use poly_grid::Refusal;
+use poly_place::Delta;
+use poly_tiling::View;
+use poly_undo::Shelf;
+use std::alloc::Global;
+
+/// How a change goes on with the tasks.
+#[derive(Drop)]
+pub(crate) struct NextTasks {
+    /// The tasks that it opens.
+    pub fresh: Vec<Pending>,
+    /// Which of the pending tasks go on.
+    pub flags: Vec<bool>,
+    /// The endings of the others.
+    pub ended: Vec<Ending>,
+    /// Room for the tasks after it.
+    pub room: Vec<Pending>,
+}
+
+/// How the change to the view goes on with the tasks, by its guards and the shelf that it opens again.
+pub(crate) fn next_tasks(
+    parts: &Parts,
+    view: &View,
+    delta: &Delta,
+    change: &Change,
+    laid: &[Atom],
+    stood: Option<&Shelf>,
+) -> Result<NextTasks, Refusal>
+    requires keeps { Keeps parts.now }
+    requires noted { AreNoted parts.now.register.maps parts.now.log parts.now.tasks.items }
+    requires made { IsMadeBy parts.now.scene view.now delta.now change.now }
+    requires small { AllSmall laid.now }
+    ensures ok { IfOk result (λ t. AreNext view.now parts.now.log parts.now.tasks.items laid.now (stored_of (option_copied stood.entry)) parts.now.next t) }
+    ensures why { IfErr result (λ e. ((e ≡ Refusal.Spent) × (4294967296 < parts.now.next + length (hopeful view.now (openings (stored_of (option_copied stood.entry)) (stairs laid.now))))) ⊎ (e ≡ Refusal.Memory)) }
+{
+    let alloc = parts.alloc;
+    let edition = parts.log.len() as u64;
+    let fresh = fresh_tasks(alloc, view, laid, stood, parts.next, edition)?;
+    let flags = going_on(parts, view, delta, change)?;
+    let ended = endings_of(alloc, &parts.tasks, &flags, edition + 1)?;
+    let room = Vec::with_capacity(alloc, parts.tasks.len() + fresh.len())?;
+    Ok(NextTasks {
+        fresh,
+        flags,
+        ended,
+        room,
+    })
+}
+
+// Which tasks go on after the change.
+fn going_on(
+    parts: &Parts,
+    view: &View,
+    delta: &Delta,
+    change: &Change,
+) -> Result<Vec<bool>, Refusal>
+    requires keeps { Keeps parts.now }
+    requires noted { AreNoted parts.now.register.maps parts.now.log parts.now.tasks.items }
+    requires made { IsMadeBy parts.now.scene view.now delta.now change.now }
+    ensures ok { IfOk result (λ v. v.items ≡ map (λ p. not (hopeless view.now (own_of parts.now.log p.own))) parts.now.tasks.items) }
+    ensures why { IfErr result (λ e. e ≡ Refusal.Memory) }
+{
+    let touch = Touch::new(parts.alloc, view, delta, change)?;
+    let reach = reached(parts.alloc, &touch, &parts.register.maps, &parts.tasks)?;
+    let flags = surviving(parts.alloc, view, &parts.log, &parts.tasks, &reach)?;
+    Ok(flags)
+}
+
+// Which tasks go on. Checks only the tasks that are reached: those whose number is at most what the entry at their index, or
+// an earlier entry, reaches.
+fn surviving(
+    alloc: Global,
+    view: &View,
+    log: &GuardLog,
+    tasks: &[Pending],
+    reach: &[u32],
+) -> Result<Vec<bool>, Refusal>
+    requires tasks { AreTasks log.now tasks.now }
+    requires len { length reach.now ≡ length tasks.now }
+    requires reached { AreEndsReached view.now log.now tasks.now reach.now }
+    ensures ok { IfOk result (λ v. v.items ≡ map (λ p. not (hopeless view.now (own_of log.now p.own))) tasks.now) }
+    ensures why { IfErr result (λ e. e ≡ Refusal.Memory) }
+{
+    let mut flags = Vec::new(alloc);
+    let mut far = 0;
+    for (i, task) in tasks.iter().enumerate() {
+        far = reach[i].max(far);
+        let ends = ends_by(alloc, view, log, task, far)?;
+        flags.push(!ends)?;
+    }
+    Ok(flags)
+}
+
+// Whether the own atoms are hopeless after the change, which they are only if it reaches the task.
+fn ends_by(
+    alloc: Global,
+    view: &View,
+    log: &GuardLog,
+    task: &Pending,
+    far: u32,
+) -> Result<bool, Refusal>
+    requires own { IsOwn log.now task.now.own }
+    requires reached { hopeless view.now (own_of log.now task.now.own) ≡ true → task.now.number ≤ far }
+    ensures ok { IfOk result (λ yes. yes ≡ hopeless view.now (own_of log.now task.now.own)) }
+    ensures why { IfErr result (λ e. e ≡ Refusal.Memory) }
+{
+    if task.number > far {
+        return Ok(false);
+    }
+    is_hopeless(alloc, view, log, &task.own)
+}
+
+// The endings of the tasks that don't go on.
+fn endings_of(
+    alloc: Global,
+    tasks: &[Pending],
+    flags: &[bool],
+    edition: u64,
+) -> Result<Vec<Ending>, Refusal>
+    requires { length flags.now ≡ length tasks.now }
+    ensures ok { IfOk result (λ v. (log : List (List AtomOf)) (w : ViewOf) → flags.now ≡ map (λ p. not (hopeless w (own_of log p.own))) tasks.now → v.items ≡ hopeless_endings w edition (tasks_of log tasks.now)) }
+    ensures why { IfErr result (λ e. e ≡ Refusal.Memory) }
+{
+    let mut all = Vec::new(alloc);
+    for i in 0..tasks.len() {
+        if flags[i] {
+            continue;
+        }
+        all.push(Ending::Hopeless {
+            task: tasks[i].number,
+            edition,
+        })?;
+    }
+    Ok(all)
+}
