@@ -1,5 +1,9 @@
 //! Begins a book.
-ghost use Rattle.std.specs.Prelude.{◌≡◌, IfErr, IfOk};
+ghost use Rattle.std.specs.Prelude.{◌≡◌, ◌∷◌, [], IfErr, IfOk};
+ghost use Rattle.std.specs.Arc.{arc_value};
+ghost use Rattle.std.proofs.Common.{Global, Vec as VecOf};
+ghost use Rattle.poly_atom.specs.declared.atom.Atom.{Atom as AtomOf};
+ghost use Rattle.poly_place.specs.Right.{IsRight};
 ghost use Rattle.poly_tiling.specs.Names.{WellNamed};
 ghost use Rattle.poly_tiling.specs.Shows.{Shows};
 ghost use Rattle.poly_book.specs.States.{opening};
@@ -14,6 +18,7 @@ use poly_catalogue::Catalogue;
 use poly_design::Design;
 use poly_grid::Refusal;
 use poly_place::Table;
+use poly_tiling::View;
 use poly_undo::History;
 use std::alloc::Global;
 use std::sync::Arc;
@@ -25,16 +30,10 @@ impl Book {
         ensures ok { IfOk result (λ b. (b ≡ opening design b.view) × WellNamed b.view × Shows b.view design) }
         ensures why { IfErr result (λ e. e ≡ Refusal.Memory) }
     {
-        let opened = design.copy()?;
-        let table = Table::of(alloc, &design)?;
-        let view = Arc::new(alloc, table.view()?)?;
+        let tasks = first_task(alloc)?;
         let history = History::new(alloc)?;
-        let mut tasks = Vec::new(alloc);
-        tasks.push(Pending {
-            number: 1,
-            own: Own::Atoms(Vec::new(alloc)),
-            made: 0,
-        })?;
+        let opened = design.copy()?;
+        let (table, view) = numbered(alloc, &design)?;
         Ok(Book {
             parts: Parts {
                 alloc,
@@ -53,4 +52,29 @@ impl Book {
             },
         })
     }
+}
+
+// Task 1, without atoms.
+fn first_task(alloc: Global) -> Result<Vec<Pending>, Refusal>
+    ensures ok { IfOk result (λ ps. (own : VecOf AtomOf Global) × (own.items ≡ []) × (ps.items ≡ (record { number = 1; own = Own.Atoms own; made = 0 }) ∷ [])) }
+    ensures why { IfErr result (λ e. e ≡ Refusal.Memory) }
+{
+    let mut tasks = Vec::new(alloc);
+    tasks.push(Pending {
+        number: 1,
+        own: Own::Atoms(Vec::new(alloc)),
+        made: 0,
+    })?;
+    Ok(tasks)
+}
+
+// The table of the design, and its view.
+fn numbered(alloc: Global, design: &Design) -> Result<(Table, Arc<View>), Refusal>
+    ensures right { IfOk result (λ r. IsRight r.0 design.now) }
+    ensures view { IfOk result (λ r. arc_value r.1 ≡ r.0) }
+    ensures why { IfErr result (λ e. e ≡ Refusal.Memory) }
+{
+    let table = Table::of(alloc, design)?;
+    let view = Arc::new(alloc, table.view()?)?;
+    Ok((table, view))
 }
