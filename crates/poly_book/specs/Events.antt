@@ -91,7 +91,7 @@ pub record Leads (s : State) (x : Change) (w : View) : Type 0 where
   pub shows : Shows w (changed s.design x)
   pub names : Names s.view w
 
--- f of the first way's change leads to the view; if there is no way, this says nothing
+-- There is no way, or the change that f makes of the first way's change leads to the view.
 abbrev pub LeadsBy : State → (Change → Change) → List Way → View → Type 0
 LeadsBy s f [] w = Unit {0}
 LeadsBy s f (b ∷ ways) w = Leads s (f b.change) w

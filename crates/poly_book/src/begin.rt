@@ -1,7 +1,7 @@
 //! Begins a book.
-ghost use Rattle.std.specs.Prelude.{◌≡◌, ◌∷◌, [], IfErr, IfOk};
+ghost use Rattle.std.specs.Prelude.{◌≡◌, ◌∷◌, [], IfErr, IfOk, Vec as VecOf};
 ghost use Rattle.std.specs.Arc.{arc_value};
-ghost use Rattle.std.proofs.Common.{Global, Vec as VecOf};
+ghost use Rattle.std.specs.Global.{Global as GlobalOf};
 ghost use Rattle.poly_atom.specs.declared.atom.Atom.{Atom as AtomOf};
 ghost use Rattle.poly_place.specs.Right.{IsRight};
 ghost use Rattle.poly_tiling.specs.Names.{WellNamed};
@@ -56,7 +56,7 @@ impl Book {
 
 // Task 1, without atoms.
 fn first_task(alloc: Global) -> Result<Vec<Pending>, Refusal>
-    ensures ok { IfOk result (λ ps. (own : VecOf AtomOf Global) × (own.items ≡ []) × (ps.items ≡ (record { number = 1; own = Own.Atoms own; made = 0 }) ∷ [])) }
+    ensures ok { IfOk result (λ ps. (own : VecOf AtomOf GlobalOf) × (own.items ≡ []) × (ps.items ≡ (record { number = 1; own = Own.Atoms own; made = 0 }) ∷ [])) }
     ensures why { IfErr result (λ e. e ≡ Refusal.Memory) }
 {
     let mut tasks = Vec::new(alloc);

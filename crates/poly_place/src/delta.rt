@@ -41,6 +41,7 @@ impl Delta {
     pub fn marks_of_gone(&self, alloc: Global, count: usize) -> Result<Vec<bool>, Refusal>
         requires { list_all (λ n. nat_lt n count) self.now.gone.items ≡ true }
         ensures ok { IfOk result (λ marks. (n : ℕ) → slice_index_or marks.items n false ≡ mem self.now.gone.items n) }
+        ensures len { IfOk result (λ marks. length marks.items ≡ count) }
         ensures why { IfErr result (λ e. e ≡ Refusal.Memory) }
     {
         let marks = marks_of(alloc, count, &self.gone)?;
@@ -92,6 +93,7 @@ fn is_marked(marks: &[bool], number: u32) -> bool
 pub(crate) fn marks_of(alloc: Global, count: usize, numbers: &[u32]) -> Result<Vec<bool>, Refusal>
     requires { list_all (λ n. nat_lt n count) numbers.now ≡ true }
     ensures ok { IfOk result (λ marks. (n : ℕ) → slice_index_or marks.items n false ≡ mem numbers.now n) }
+    ensures len { IfOk result (λ marks. length marks.items ≡ count) }
     ensures why { IfErr result (λ e. e ≡ Refusal.Memory) }
 {
     let mut marks = unset(alloc, count)?;

@@ -25,9 +25,9 @@ pub(crate) struct Lists {
 
 /// The exact cover matrix of a view. It is made once for a view, and each frame of that view can use it.
 ///
-/// `numbers` has the placement of each column, and `stands` the column of each placement. `lists` has the items of each
-/// column. `cells` has a guess for the index of each cell. `rows` has `width` words for each item, with a bit for each
-/// column. Unless the rows are narrow, `occupied` says which of these words have bits set.
+/// `numbers[j]` is the placement of column `j`, and `stands[p]` is the column of placement `p`. `lists` holds the items of
+/// each column, and `cells` a first guess for the index of each cell. `rows` has `width` words for each item, with a bit for
+/// each column. Unless the rows are narrow, `occupied` says which of these words have bits set.
 #[derive(Drop)]
 pub struct Matrix {
     pub(crate) numbers: Vec<u32>,
