@@ -3,30 +3,29 @@
 
 usage: scripts/build.py
 
-If the gate, `./check`, has proved the same files on this machine, nothing is proved again: the program is taken from what
-the gate kept. If not, standard error says which crate is being proved, how many are done, and the time so far. A crate is
-proved as soon as the crates below it are, so crates that don't use each other are proved at the same time, on all
-processors. `rt` locks a crate together with all crates below it, so each proof runs in a folder of its own, which contains
-the sources and links to the libraries that are proved already. The result goes to crates/NAME/out, where later runs of `rt`
-find it.
+It does what `rt ci polybench` does, on a copy of the crates, but without their tests and their must-fail edits, and in an
+order of its own: a crate is proved as soon as the crates below it are, and the one that most others wait for gets all
+processors. Like `rt ci`, it keeps what it proves on this machine. So nothing is proved twice: neither here what the gate,
+`./check`, has proved, nor by the gate what is proved here, nor by a second start what a stopped one has proved.
 
-A second start waits until the first has ended. The exit status is 0 if the program is built, else 1. After a failed
-proof, standard error ends with the last lines of its log.
+Standard error says which crate is being proved, how many are done, and the time so far. A second start waits until the first
+has ended. The exit status is 0 if the program is built, else 1. After a failed proof, standard error ends with the last lines
+of its log.
 """
+import contextlib
 import fcntl
 import os
+import queue
 import shutil
-import subprocess
 import sys
 import tempfile
+import threading
 import time
-from concurrent.futures import FIRST_COMPLETED, ThreadPoolExecutor, wait
 
 import kept
 
-ROOT = os.path.dirname(os.path.dirname(os.path.abspath(__file__)))
-PROGRAM = "polybench"
-SOURCES = ("src", "specs", "proofs")
+ROOT = kept.ROOT
+PROGRAM = kept.PROGRAM
 LINES_OF_A_FAILED_LOG = 40
 
 
@@ -34,120 +33,95 @@ def say(text):
     print(f"polybench: {text}", file=sys.stderr, flush=True)
 
 
-def read_crates():
-    """Returns the libraries that each crate names in crates.txt, as a dictionary."""
-    uses = {}
-    with open(f"{ROOT}/crates.txt", encoding="utf-8") as file:
-        for line in file:
-            name, colon, libraries = line.partition("#")[0].partition(":")
-            if colon:
-                uses[name.split()[0]] = libraries.split()
-    return uses
-
-
-def below(uses, name):
-    """Returns the crates of the repository below the crate, lowest first."""
-    found = []
-    for library in uses[name]:
-        if library in uses:
-            found += [it for it in [*below(uses, library), library] if it not in found]
-    return found
-
-
-def size(name):
-    """Returns the number of bytes of a crate's sources, a rough measure of the time that its proof takes."""
-    files = [f"{at}/{it}" for part in SOURCES for at, _, names in os.walk(f"{ROOT}/crates/{name}/{part}") for it in names]
-    return sum(os.path.getsize(it) for it in files)
-
-
-def lay_out(room, uses, name):
-    """Fills the folder with what `rt` needs to prove the crate: sources, and links to the proved libraries below it."""
-    lower = below(uses, name)
-    with open(f"{room}/crates.txt", "w", encoding="utf-8") as file:
-        file.writelines(f"{it}: {' '.join(uses[it])}\n" for it in [*lower, name])
-    if os.path.isfile(f"{ROOT}/HANDLES"):
-        shutil.copy(f"{ROOT}/HANDLES", room)
-    for crate in [*lower, name]:
-        for part in SOURCES:
-            if os.path.isdir(f"{ROOT}/crates/{crate}/{part}"):
-                shutil.copytree(f"{ROOT}/crates/{crate}/{part}", f"{room}/crates/{crate}/{part}")
-    for crate in lower:
-        library = f"crates/{crate}/out/rlib"
-        shutil.copytree(f"{ROOT}/{library}", f"{room}/{library}", copy_function=os.link)
-
-
-def prove(uses, name, jobs, niceness):
-    """Proves one crate and copies its library or program to its out/. Returns None, or the log if the proof failed."""
-    out = f"{ROOT}/crates/{name}/out"
-    os.makedirs(out, exist_ok=True)
-    with tempfile.TemporaryDirectory(prefix=".room-", dir=out) as room:
-        lay_out(room, uses, name)
-        verb = "run" if name == PROGRAM else "lib"
-        # `rt run` proves, builds and then runs the program; without input it ends at once. Nobody edits the room, so
-        # the checksums of the sources are computed only once.
-        ran = subprocess.run(
-            ["nice", "-n", str(niceness), sys.executable, f"{ROOT}/scripts/rt_once.py", verb, "--jobs", str(jobs)],
-            cwd=f"{room}/crates/{name}",
-            stdin=subprocess.DEVNULL,
-            stdout=subprocess.PIPE,
-            stderr=subprocess.STDOUT,
-            errors="replace",
-        )
-        made = PROGRAM if name == PROGRAM else "rlib"
-        if not os.path.exists(f"{room}/crates/{name}/out/{made}"):
-            return ran.stdout or "no output"
-        if name != PROGRAM and ran.returncode != 0:
-            return ran.stdout
-        shutil.rmtree(f"{out}/{made}", ignore_errors=True)
-        os.replace(f"{room}/crates/{name}/out/{made}", f"{out}/{made}")
-    return None
-
-
-def chains(uses, names):
-    """Returns for each crate the size of the largest chain of crates from it up to the program."""
-    longest = {}
-    for name in reversed(names):
-        above = [longest[it] for it in names if name in uses[it]]
-        longest[name] = size(name) + max(above, default=0)
-    return longest
-
-
 def clock(start):
     seconds = int(time.monotonic() - start)
     return f"{seconds // 60} min {seconds % 60:02} s"
 
 
-def build(uses):
-    names = [*below(uses, PROGRAM), PROGRAM]
-    processors = len(os.sched_getaffinity(0))
-    chain, start = chains(uses, names), time.monotonic()
-    waiting, running, done = sorted(names, key=lambda it: -chain[it]), {}, set()
-    say(f"proving {len(names)} crates on {processors} processors; this takes about an hour, once")
-    failed = False
-    with ThreadPoolExecutor(len(names)) as pool:
+def chains(tasks):
+    """Returns for each task the number of lines of the longest chain of tasks from it up to the program."""
+    longest = {}
+    for key, (waits, lines, _, _) in reversed(tasks.items()):  # each task is after those that it waits for
+        longest[key] = longest.get(key, 0) + lines
+        for below in waits:
+            longest[below] = max(longest.get(below, 0), longest[key])
+    return longest
+
+
+class Schedule:
+    """Takes the place of the schedule of `rt ci`: it calls the proofs of the tasks, and no other task."""
+
+    def __init__(self, processors):
+        self.processors = processors
+        self.niceness = os.getpriority(os.PRIO_PROCESS, 0)
+        self.ended = queue.SimpleQueue()
+
+    def start(self, key, call, given, jobs, niceness):
+        def run():
+            is_proved = False
+            try:
+                # on Linux, this thread and the commands that it starts get the niceness, and nothing else
+                os.setpriority(os.PRIO_PROCESS, threading.get_native_id(), min(19, self.niceness + niceness))
+                is_proved = call(given, jobs)
+            finally:
+                self.ended.put((key, is_proved))
+
+        # if this process is stopped, it doesn't wait for the thread, and its commands end with it
+        threading.Thread(target=run, daemon=True).start()
+
+    def run(self, tasks):
+        """Returns for each task whether all is well, as `rt ci` wants it."""
+        given = {it: True for it in tasks if it[1] != "proof"}
+        tasks = {it: task for it, task in tasks.items() if it[1] == "proof"}
+        chain, start = chains(tasks), time.monotonic()
+        waiting, running, failed = sorted(tasks, key=lambda it: -chain[it]), set(), False
+        say(f"proving {len(tasks)} crates on {self.processors} processors; this takes about half an hour, once")
         while running or waiting and not failed:
-            # everything above waits for the crate with the longest chain: it gets every processor, and the others get the
+            # everything above waits for the crate with the longest chain: it gets all processors, and the others get the
             # time that it leaves
-            leading = max((it for it in names if it not in done), key=lambda it: chain[it])
-            for name in [it for it in waiting if not failed and all(lower in done for lower in below(uses, it))]:
-                others = [it for it in running.values() if it != leading]
-                if name == leading or len(others) < max(1, processors - 1):
-                    jobs, niceness = (processors, 0) if name == leading else (1, 10)
-                    waiting.remove(name)
-                    running[pool.submit(prove, uses, name, jobs, niceness)] = name
-                    say(f"proving {name} ({len(done)} of {len(names)} done, {clock(start)})")
-            for it in wait(running, return_when=FIRST_COMPLETED).done:
-                name = running.pop(it)
-                log = it.result()
-                if log is not None:
-                    print("\n".join(log.splitlines()[-LINES_OF_A_FAILED_LOG:]), file=sys.stderr)
-                    say(f"{name} could not be proved or built, after {clock(start)}; the end of the log is above")
-                    failed = True
-                else:
-                    done.add(name)
-    if not failed:
-        say(f"built after {clock(start)}")
-    return not failed
+            leading = max((it for it in tasks if it not in given), key=lambda it: chain[it])
+            for key in [it for it in waiting if not failed and all(below in given for below in tasks[it][0])]:
+                if key == leading or len(running - {leading}) < max(1, self.processors - 1):
+                    waiting.remove(key)
+                    running.add(key)
+                    done = sum(it in tasks for it in given)
+                    say(f"proving {key[0]} ({done} of {len(tasks)} done, {clock(start)})")
+                    jobs, niceness = (self.processors, 0) if key == leading else (1, 10)
+                    self.start(key, tasks[key][3], given, jobs, niceness)
+            key, is_proved = self.ended.get()
+            given[key] = is_proved
+            running.remove(key)
+            if not is_proved:
+                say(f"{key[0]} could not be proved or built, after {clock(start)}")
+                failed = True
+        if not failed:
+            say(f"built after {clock(start)}")
+        return {it: given.get(it, False) for it in [*given, *tasks]}
+
+
+def build():
+    """Proves and builds the program. Returns whether it could."""
+    rt = kept.load_rt()
+    rt.in_lanes = Schedule(rt.processors()).run
+    rt.edits_of = lambda crate: ([], [])
+    rt.Crate.has_tests = lambda crate: False
+    with tempfile.TemporaryDirectory(prefix="polybench-") as top, open(f"{top}/log", "w+", errors="replace", encoding="utf-8") as log:
+        # the gate wants its crates at the top of a repository
+        room = f"{top}/repository"
+        rt.copy_crates(ROOT, room)
+        os.mkdir(f"{room}/.git")
+        os.mkdir(f"{top}/aside")
+        os.chdir(room)
+        with contextlib.redirect_stdout(log):
+            status = rt.ci_over(f"{top}/aside", False, [PROGRAM], ROOT)
+        os.chdir(ROOT)
+        if status:
+            log.seek(0)
+            print("".join(log.readlines()[-LINES_OF_A_FAILED_LOG:]), end="", file=sys.stderr)
+            say("the program could not be built; the end of the log is above")
+            return False
+        kept.bring(room, f"crates/{PROGRAM}/out/{PROGRAM}")
+        return True
 
 
 def main():
@@ -163,7 +137,7 @@ def main():
             say("another start is building the program; waiting for it")
             fcntl.flock(lock, fcntl.LOCK_EX)
         is_built = os.access(f"{out}/{PROGRAM}", os.X_OK)
-        return 0 if is_built or kept.take() or build(read_crates()) else 1
+        return 0 if is_built or kept.take() or build() else 1
 
 
 if __name__ == "__main__":

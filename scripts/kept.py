@@ -9,18 +9,26 @@ file of a crate or of the crates below it has changed since. The results go to c
 
 The exit status is 0 if the program was taken, else 1.
 """
+import importlib.machinery
+import importlib.util
 import os
 import shutil
 import sys
 import tempfile
-
-from rt_once import load_rt
 
 ROOT = os.path.dirname(os.path.dirname(os.path.abspath(__file__)))
 PROGRAM = "polybench"
 # The crates whose test programs the scripts under tests/ run.
 TESTED = ("poly_crew", "poly_tests")
 SOURCES = ("src", "specs", "proofs")
+
+
+def load_rt():
+    """Returns the command `rt` as a module."""
+    loader = importlib.machinery.SourceFileLoader("rt", shutil.which("rt"))
+    rt = importlib.util.module_from_spec(importlib.util.spec_from_loader("rt", loader))
+    loader.exec_module(rt)
+    return rt
 
 
 def lay_out(room):
@@ -51,6 +59,13 @@ def fetch(rt, room):
     return made
 
 
+def bring(room, path):
+    """Copies a program from the room to the same path of the repository."""
+    os.makedirs(os.path.dirname(f"{ROOT}/{path}"), exist_ok=True)
+    shutil.copy(f"{room}/{path}", f"{ROOT}/{path}.new")
+    os.replace(f"{ROOT}/{path}.new", f"{ROOT}/{path}")
+
+
 def take():
     """Returns whether the program was taken. What can't be read counts as not kept."""
     try:
@@ -59,9 +74,7 @@ def take():
             lay_out(room)
             made = fetch(load_rt(), room)
             for path in made:
-                os.makedirs(os.path.dirname(f"{ROOT}/{path}"), exist_ok=True)
-                shutil.copy(f"{room}/{path}", f"{ROOT}/{path}.new")
-                os.replace(f"{ROOT}/{path}.new", f"{ROOT}/{path}")
+                bring(room, path)
     except (Exception, SystemExit) as error:  # another version of `rt` may lack what is used here
         print(f"polybench: nothing is taken from the gate: {error}", file=sys.stderr)
         return False
