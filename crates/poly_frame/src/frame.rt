@@ -17,6 +17,7 @@ ghost use Rattle.poly_frame.specs.Walk.{backtrack_to, is_due, is_open, is_option
 mod allowed;
 mod consistent;
 mod items;
+mod levels;
 mod lists;
 mod matrix;
 mod members;
@@ -30,16 +31,14 @@ mod steps;
 mod table;
 mod wanted;
 
-use crate::frame::items::PLACEMENT_ITEMS;
+use crate::frame::levels::{Levels, levels_of};
 use crate::frame::lists::{Lists, lists_of};
+use crate::frame::matrix::Columns;
 pub use crate::frame::matrix::Matrix;
-use crate::frame::matrix::{Columns, columns_of};
 use crate::frame::node::Node;
-use crate::frame::opened::open_row;
 use crate::frame::starved::is_starved;
-use crate::frame::steps::{Steps, start};
-use crate::frame::table::{Table, counts_of, table_of};
-use crate::frame::wanted::wanted_of;
+use crate::frame::steps::Steps;
+use crate::frame::table::Table;
 use crate::plain;
 use poly_atom::Atom;
 use poly_grid::Refusal;
@@ -152,29 +151,19 @@ impl<'a> Frame<'a> {
         ensures once { distinct view.now.live ≡ true }
     {
         let lists = lists_of(alloc, view, atoms)?;
-        let base = &lists.members;
-        let whole = part.matrix();
-        let mut raised = Vec::with_capacity(alloc, STEPS * PLACEMENT_ITEMS)?;
-        let have = counts_of(alloc, view, base, &whole.cells, &mut raised)?;
-        let wanted = wanted_of(alloc, view, atoms, &whole.cells)?;
-        let consistent = consistent::begin(view, whole, atoms, base, &wanted.mosts, &have, sure);
-        let row = open_row(alloc, view, whole, atoms, base, &wanted.mosts, &have)?;
-        let (columns, row) = columns_of(alloc, view, part, row)?;
-        let table = table_of(alloc, view, columns.matrix(), atoms, wanted)?;
-        let node = Node {
-            view,
-            trail: atoms,
-            given: atoms.len(),
-            matrix: columns.matrix(),
-            table: &table,
-        };
-        let steps = start(alloc, &node, row, have, raised)?;
+        let levels = levels_of(alloc, view, part, atoms, &lists.members, sure)?;
         let Lists {
             trail,
             members,
             sizes,
             options,
         } = lists;
+        let Levels {
+            consistent,
+            columns,
+            table,
+            steps,
+        } = levels;
         Ok(Frame {
             view,
             trail,

@@ -1,0 +1,126 @@
+//! What a frame keeps besides its lists: the columns that it reads, the table, and the bits of its steps.
+ghost use Rattle.std.specs.Prelude.{IfErr, IfOk, length, true, vec_capacity, ◌*◌, ◌<◌, ◌^◌, ◌≡◌, ◌≤◌};
+ghost use Rattle.poly_atom.specs.Hopeless.{base};
+ghost use Rattle.poly_frame.specs.declared.frame.TheConstants.{STEPS};
+ghost use Rattle.poly_frame.specs.declared.frame.items.TheConstants.{PLACEMENT_ITEMS};
+ghost use Rattle.poly_frame.specs.FrameConsistent.{ConsistentShows, is_consistent};
+ghost use Rattle.poly_frame.specs.FrameSteps.{HasRoom, StepsKeep};
+ghost use Rattle.poly_frame.specs.FrameTable.{HasOpen, HaveShows, LeastsShow, MostsShow, TableShows};
+ghost use Rattle.poly_frame.specs.Matrices.{IsMatrix, RowOf, matrix_of};
+ghost use Rattle.poly_frame.specs.Open.{open_in};
+
+use crate::frame::items::PLACEMENT_ITEMS;
+use crate::frame::matrix::{Columns, Matrix, columns_of};
+use crate::frame::node::Node;
+use crate::frame::opened::open_row;
+use crate::frame::steps::{Steps, start};
+use crate::frame::table::{Table, counts_of, table_of};
+use crate::frame::wanted::{Wanted, wanted_of};
+use crate::frame::{STEPS, consistent};
+use poly_atom::Atom;
+use poly_grid::Refusal;
+use poly_tiling::View;
+use std::alloc::Global;
+
+/// What a frame keeps besides its lists.
+#[derive(Drop)]
+pub(crate) struct Levels<'a> {
+    pub(crate) consistent: usize,
+    pub(crate) columns: Columns<'a>,
+    pub(crate) table: Table,
+    pub(crate) steps: Steps,
+}
+
+// What is counted before the columns are chosen.
+#[derive(Drop)]
+struct Counted {
+    consistent: usize,
+    have: Vec<u64>,
+    raised: Vec<usize>,
+    wanted: Wanted,
+}
+
+/// The levels of a frame at the atoms, whose base are the members. The base may be known to be consistent.
+pub(crate) fn levels_of<'a>(
+    alloc: Global,
+    view: &View,
+    part: Columns<'a>,
+    atoms: &[Atom],
+    members: &[u32],
+    sure: bool,
+) -> Result<Levels<'a>, Refusal>
+    requires part { IsMatrix view.now (matrix_of part) }
+    requires all { HasOpen view.now atoms.now (matrix_of part) }
+    requires base { members.now ≡ base view.now atoms.now }
+    requires few { length members.now < 2 ^ 63 }
+    requires sure { sure ≡ true → is_consistent view.now atoms.now ≡ true }
+    ensures consistent { IfOk result (λ l. ConsistentShows view.now atoms.now (length atoms.now) l.consistent) }
+    ensures steps { IfOk result (λ l. StepsKeep view.now atoms.now (length atoms.now) (matrix_of l.columns) l.table l.steps) }
+    ensures room { IfOk result (λ l. HasRoom (matrix_of l.columns) l.steps) }
+    ensures why { IfErr result (λ e. e ≡ Refusal.Memory) }
+{
+    let (row, counted) = counted_row(alloc, view, part.matrix(), atoms, members, sure)?;
+    let (columns, row) = columns_of(alloc, view, part, row)?;
+    let Counted {
+        consistent,
+        have,
+        raised,
+        wanted,
+    } = counted;
+    let table = table_of(alloc, view, columns.matrix(), atoms, wanted)?;
+    let node = Node {
+        view,
+        trail: atoms,
+        given: atoms.len(),
+        matrix: columns.matrix(),
+        table: &table,
+    };
+    let steps = start(alloc, &node, row, have, raised)?;
+    Ok(Levels {
+        consistent,
+        columns,
+        table,
+        steps,
+    })
+}
+
+// The row of the columns that are open at the atoms, and what is counted for it.
+fn counted_row(
+    alloc: Global,
+    view: &View,
+    whole: &Matrix,
+    atoms: &[Atom],
+    members: &[u32],
+    sure: bool,
+) -> Result<(Vec<u64>, Counted), Refusal>
+    requires part { IsMatrix view.now whole.now }
+    requires base { members.now ≡ base view.now atoms.now }
+    requires few { length members.now < 2 ^ 63 }
+    requires sure { sure ≡ true → is_consistent view.now atoms.now ≡ true }
+    ensures len { IfOk result (λ r. length r.0.items ≡ whole.now.width) }
+    ensures row { IfOk result (λ r. RowOf (λ p. open_in view.now atoms.now p) whole.now r.0.items) }
+    ensures consistent { IfOk result (λ r. ConsistentShows view.now atoms.now (length atoms.now) r.1.consistent) }
+    ensures have_len { IfOk result (λ r. length r.1.have.items ≡ length view.now.bounds) }
+    ensures have { IfOk result (λ r. HaveShows view.now members.now r.1.have.items) }
+    ensures raised { IfOk result (λ r. STEPS * PLACEMENT_ITEMS ≤ vec_capacity r.1.raised) }
+    ensures mosts_len { IfOk result (λ r. length r.1.wanted.mosts.items ≡ length view.now.bounds) }
+    ensures mosts { IfOk result (λ r. MostsShow view.now atoms.now r.1.wanted.mosts.items) }
+    ensures leasts_len { IfOk result (λ r. length r.1.wanted.leasts.items ≡ length view.now.bounds) }
+    ensures leasts { IfOk result (λ r. LeastsShow view.now atoms.now r.1.wanted.leasts.items) }
+    ensures why { IfErr result (λ e. e ≡ Refusal.Memory) }
+{
+    let mut raised = Vec::with_capacity(alloc, STEPS * PLACEMENT_ITEMS)?;
+    let have = counts_of(alloc, view, members, &whole.cells, &mut raised)?;
+    let wanted = wanted_of(alloc, view, atoms, &whole.cells)?;
+    let row = open_row(alloc, view, whole, atoms, members, &wanted.mosts, &have)?;
+    let consistent = consistent::begin(view, whole, atoms, members, &wanted.mosts, &have, sure);
+    Ok((
+        row,
+        Counted {
+            consistent,
+            have,
+            raised,
+            wanted,
+        },
+    ))
+}
