@@ -39,7 +39,7 @@ use Rattle.poly_book.specs.Tasks.{atoms_of, hopeful}
 abbrev pub shelf_by : View → List (List ℕ) → List (List Atom) → List Pending → ℕ → Option Stored
 shelf_by w listed log ps width = cond (nat_le (length ps * width) MAX_SHELF) (Some (record { taken = filter (λ T. not (is_tiling w T)) listed; frozen = map (λ t. atoms_of t) (tasks_of log ps) })) None
 
--- how a change with these guards goes on with the tasks
+-- what becomes of the tasks by a change with these guards
 pub record AreNext (w : View) (log : List (List Atom)) (ps : List Pending) (laid : List Atom) (stood : Option Stored) (next : ℕ) (t : NextTasks) : Type 0 where
   pub fresh_are : Opens (log ++ laid ∷ []) next w (openings stood (stairs laid)) t.fresh.items
   pub few : next + length t.fresh.items ≤ 4294967296
@@ -48,7 +48,7 @@ pub record AreNext (w : View) (log : List (List Atom)) (ps : List Pending) (laid
   pub room_empty : t.room.items ≡ []
   pub room : length ps + length t.fresh.items ≤ vec_capacity t.room
 
--- what a change from one view to another adds and stores, and how it goes on with the tasks
+-- what a change from one view to another adds and stores, and what becomes of the tasks
 pub record IsGathered (v w : View) (listed : List (List ℕ)) (log : List (List Atom)) (ps : List Pending) (stood : Option Stored) (next : ℕ) (e : Entry) (t : NextTasks) (h : Option Shelf) : Type 0 where
   pub guards_are : e.guards.items ≡ guards v w
   pub guards_small : AllSmall e.guards.items

@@ -7,7 +7,8 @@ use Rattle.poly_atom.specs.Atoms.{meets_all}
 use Rattle.poly_book.specs.Tasks.{atoms_of}
 use Rattle.poly_book.specs.States.{State, Stored}
 
--- Each tiling is listed once and meets no pending task, or isn't listed and meets exactly one; what is listed is a tiling.
+-- Each tiling is listed once and meets the atoms of no pending task, or isn't listed and meets those of exactly one; what is
+-- listed is a tiling.
 pub record Partition (s : State) : Type 0 where
   pub shared : (T : List ℕ) → is_tiling s.view T ≡ true → tally (λ U. same_list U T) s.listed + tally (λ t. meets_all s.view T (atoms_of t)) s.pending ≡ 1
   pub only : list_all (λ U. is_tiling s.view U) s.listed ≡ true

@@ -9,7 +9,7 @@ use Rattle.poly_book.specs.Trails.{Consistent, Trail}
 use Rattle.poly_book.specs.Quiet.{StaysQuiet}
 
 -- The tilings are shared out; the shelves are right; the steps lead to the design; undoing or redoing a change that found
--- nothing pending leaves nothing pending, as `StaysQuiet` says; the tasks' numbers rise below the next one.
+-- nothing pending leaves nothing pending, as `StaysQuiet` says; the tasks' numbers ascend, below the number of the next task.
 pub record Whole (s : State) : Type 0 where
   pub trail : Trail
   pub consistent : Consistent s trail

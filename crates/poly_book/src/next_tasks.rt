@@ -29,7 +29,7 @@ use poly_tiling::View;
 use poly_undo::Shelf;
 use std::alloc::Global;
 
-/// How a change goes on with the tasks.
+/// What becomes of the tasks by a change.
 #[derive(Drop)]
 pub(crate) struct NextTasks {
     /// The tasks that it opens.
@@ -42,7 +42,7 @@ pub(crate) struct NextTasks {
     pub room: Vec<Pending>,
 }
 
-/// How the change to the view goes on with the tasks, by its guards and the shelf that it opens again.
+/// What becomes of the tasks by the change that leads to the view, given its guards and the shelf that it opens again.
 pub(crate) fn next_tasks(
     parts: &Parts,
     view: &View,
@@ -91,8 +91,8 @@ fn going_on(
     Ok(flags)
 }
 
-// Which tasks go on. Checks only the tasks that are reached: those whose number is at most what the entry at their index, or
-// an earlier entry, reaches.
+// Which tasks go on. Checks only the tasks that are reached: those whose number is at most the value of `reach` at their
+// index or at an earlier one.
 fn surviving(
     alloc: Global,
     view: &View,
@@ -116,7 +116,7 @@ fn surviving(
     Ok(flags)
 }
 
-// Whether the own atoms are hopeless after the change, which they are only if it reaches the task.
+// Whether the task's own atoms are hopeless after the change, which they are only if the change reaches the task.
 fn ends_by(
     alloc: Global,
     view: &View,

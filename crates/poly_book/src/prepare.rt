@@ -1,4 +1,5 @@
-//! Prepares all that a change needs before anything is changed, so that every refusal comes first.
+//! Prepares all that a change needs before anything is changed, so that afterwards only the exchange of the listed tilings can
+//! refuse it.
 ghost use Rattle.std.specs.Prelude.{◌≡◌, ◌↔◌, ◌≤◌, ◌<◌, ◌*◌, ◌⊎◌, IfErr, IfOk, OnOk, cond, length, map, nat_le, option_copied, true};
 ghost use Rattle.std.specs.Arc.{arc_value};
 ghost use Rattle.poly_design.specs.Changes.{HasBefore, changed};
@@ -43,7 +44,7 @@ pub const MAX_GUARDS: usize = 20_000;
 /// The most changes of a book.
 pub const MAX_CHANGES: usize = 100_000;
 
-/// A shelf is kept if the number of its frozen tasks times the guards of the inverse is at most this.
+/// A shelf is kept if the number of its frozen tasks times the number of the inverse's guards is at most this.
 pub const MAX_SHELF: usize = 4096;
 
 /// What a change adds to the log and to the listed tilings.
@@ -139,7 +140,7 @@ fn plan_of_change(
     }
 }
 
-// Gathers what a change to the view adds and stores, and how it goes on with the tasks.
+// Gathers what a change that leads to the view adds and stores, and what becomes of the tasks.
 fn gather(
     parts: &Parts,
     kind: Kind,
@@ -167,7 +168,8 @@ fn gather(
     Ok((Entry { guards, returned }, tasks, shelf))
 }
 
-// The guards of the change to the view, and the number of those of its inverse. Refuses an edit if either are too many.
+// The guards of the change that leads to the view, and how many its inverse has. Refuses an edit if there are too many of
+// either.
 fn guards_of_change(
     parts: &Parts,
     kind: Kind,
@@ -198,7 +200,7 @@ fn check_width(kind: Kind, forth: usize, back: usize) -> Result<(), Refusal>
     Ok(())
 }
 
-// What a change to the view stores for its inverse, which has `width` guards. None if a shelf would be too large.
+// What a change that leads to the view stores for its inverse, which has `width` guards. None if a shelf would be too large.
 fn shelve(parts: &Parts, view: &View, delta: &Delta, width: usize) -> Result<Option<Shelf>, Refusal>
     requires tasks { AreTasks parts.now.log parts.now.tasks.items }
     requires either { AreOfEither view.now delta.now parts.now.listed }

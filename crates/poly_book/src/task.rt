@@ -29,7 +29,7 @@ pub struct Pending {
     pub made: u64,
 }
 
-/// Whether the own atoms are hopeless. Fails only when out of memory, and only for a stair.
+/// Whether a task's own atoms are hopeless. Fails only when out of memory, and only for a stair.
 pub(crate) fn is_hopeless(
     alloc: Global,
     view: &View,

@@ -1,4 +1,4 @@
-//! Vouches for a Quiet: tells whether the book's first steps lead to its design.
+//! Vouches for a Quiet: tells whether the book's first steps lead to the Quiet's design.
 ghost use Rattle.std.specs.Prelude.{◌≡◌, ◌≤◌, ◌↔◌, IfErr, IfOk, IsTrue, length, take};
 ghost use Rattle.poly_book.specs.Vouched.{AllLead, IsLedTo, led_to};
 

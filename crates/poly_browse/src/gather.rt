@@ -19,11 +19,11 @@ pub(crate) struct Gathered {
     pub(crate) count: u64,
     /// The numbers that all of them have; none if no tiling meets the query.
     pub(crate) common: Vec<u32>,
-    /// The numbers of the view's placements that at least one of them has, each once.
+    /// The numbers of the view's placements that at least one of these tilings has, each once.
     pub(crate) used: Vec<u32>,
 }
 
-/// Gathers this from the tilings that meet the query. Fails with `Memory` only.
+/// Gathers what is kept of the tilings that meet the query. Fails only with `Memory`.
 pub(crate) fn gather(
     alloc: Global,
     tilings: &[Tiling],

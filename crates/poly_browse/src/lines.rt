@@ -1,9 +1,9 @@
-//! The words of a query by numbers: which numbers of the view each word names.
+//! The words of a query by numbers: for each word, the numbers of the placements that it is about.
 //!
 //! The words are looked up once for a query, so the pass over the tilings looks at numbers and flags, and never at names or
-//! cells. The time for a tiling depends on its placements and not on the number of words: all placements to have share one
-//! list of flags, all placements to lack share another, and up to 64 items to cover share one list of masks. For the same
-//! reason a long query takes little memory.
+//! cells. The placements that a tiling must have share one list of flags, those that it must lack share another, and up to 64
+//! items that it must cover share one list of masks. So the time for a tiling depends on its placements and hardly on the
+//! number of words, and a long query takes little memory.
 ghost use Rattle.std.specs.Prelude.{IfErr, IfNone, IfOk, IfSome, List, OnOk, ℕ, false, length, min, nat_eq, slice_index_or, true, [], ◌^◌, ◌∷◌, ◌<◌, ◌≡◌, ◌≤◌, ◌||◌};
 ghost use Rattle.std.specs.List.{list_all, list_any};
 ghost use Rattle.poly_tiling.specs.Lists.{distinct, mem, tally};
@@ -35,8 +35,8 @@ impl Line {
         self.flags.get(number as usize).copied().unwrap_or(false)
     }
 
-    // Whether one of the numbers has its flag. All of them are looked at: a loop that ends early takes longer, since the
-    // processor can't predict its end.
+    // Whether the flag of one of the numbers is raised. All of them are looked at: a loop that ends early takes longer, since
+    // the processor can't predict its end.
     fn has_one(&self, numbers: &[u32]) -> bool
         ensures { result ≡ has_flagged self.now numbers.now }
     {
@@ -47,7 +47,7 @@ impl Line {
         found
     }
 
-    // How many of the numbers have their flag.
+    // How many of the numbers have their flag raised.
     fn count(&self, numbers: &[u32]) -> usize
         ensures value { result ≡ tally (λ n. slice_index_or self.now.flags.items n false) numbers.now }
         ensures most { result ≤ length numbers.now }
@@ -69,7 +69,8 @@ pub(crate) struct Has {
     named: bool,
     // Their numbers.
     line: Line,
-    // How many different numbers these are. A tiling has each of its numbers once, so it has all of these if it has this many.
+    // How many different numbers these are. A tiling has each of its numbers once, so it has all of these if it has this many
+    // of them.
     count: usize,
 }
 
@@ -192,7 +193,7 @@ fn number_of(view: &View, placement: &Placement) -> Option<u32>
     None
 }
 
-/// The placements of every view differ, so each has one number. This does nothing: a proof learns it from the contract.
+/// No two numbers of a view name the same placement. This does nothing: a proof learns that fact from the contract.
 pub(crate) fn well_named(view: &View)
     ensures { WellNamed view.now }
 {

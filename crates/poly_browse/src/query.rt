@@ -3,7 +3,7 @@
 use poly_design::Placement;
 use poly_tiling::Item;
 
-/// What a tiling must have, lack and cover. Every tiling meets a query without words.
+/// What a tiling must have, lack and cover. Every tiling meets a query whose three lists are empty.
 #[derive(Drop)]
 pub struct Query {
     /// Placements that the tiling must have. No tiling has a placement that the design doesn't have.
@@ -14,13 +14,13 @@ pub struct Query {
     pub covers: Vec<Item>,
 }
 
-/// What the tilings that meet a query have in common.
+/// The answer to a query: what is counted and found over the tilings that meet it.
 #[derive(Drop)]
 pub struct Answer {
     /// How many tilings meet the query.
     pub count: u64,
     /// The placements that are in all of them, in placement order. There are none if no tiling meets the query.
     pub forced: Vec<Placement>,
-    /// Each item of the design, in item order, and how many different placements cover it in one of them.
+    /// Each item of the design, in item order, and how many different placements cover it in at least one of these tilings.
     pub options: Vec<(Item, u64)>,
 }

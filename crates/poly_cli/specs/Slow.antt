@@ -1,5 +1,6 @@
--- The slow session: the answer to each line after the puzzle line, and the next state. It knows only the definitions: no engine,
--- no numbers, no tables, no search. It is given only the refusals of an engine that has failed.
+-- The slow session: the answer to each line after the puzzle line, and the next state. It knows only the definitions: no
+-- engine, no placement numbers, no tables, no search. Its one parameter is the set of refusals by which an engine says that
+-- it failed.
 use Rattle.std.specs.Prelude.{Bool, false, true, ◌≡◌, ◌⊎◌, ℕ, ◌+◌, List, [], ◌∷◌, Option, Some, None, Result, Ok, Err}
 use Rattle.poly_grid.specs.declared.refusal.Refusal.{Refusal}
 use Rattle.poly_grid.specs.declared.refusal.Refusal.TheVariants.{LineTooLong, Memory}
@@ -39,8 +40,8 @@ is_status _ = false
 abbrev pub Fails : (Refusal → Type 0) → State → List ℕ → State → Type 0
 Fails Failures s out t = (e : Refusal) × Failures e × IsRefusal e s out t
 
--- The reply to a command that was read, or the refusal of one that was not. A failure of the engine may take the place of any
--- reply but that of `status`.
+-- The reply to a command that was read, or the refusal of one that was not. A failure of the engine may take the place of the
+-- reply to any command that was read but `status`.
 abbrev pub Replies : (Refusal → Type 0) → Result Command Refusal → State → List ℕ → State → Type 0
 Replies Failures (Ok c) s out t = Answers c s out t ⊎ ((is_status c ≡ false) × Fails Failures s out t)
 Replies Failures (Err e) s out t = IsRefusal e s out t
@@ -50,7 +51,7 @@ abbrev pub WordsSay : (Refusal → Type 0) → List (List ℕ) → State → Lis
 WordsSay Failures [] s out t = (t ≡ s) × (out ≡ [])
 WordsSay Failures (first ∷ words) s out t = ((c : Result Command Refusal) × CommandSays s.design.grid (first ∷ words) c × Replies Failures c s out t) ⊎ IsRefusal Memory s out t
 
--- the reply to a line; its text is not given if it is too long
+-- the reply to a line, given by its text; None stands for a line that is too long
 abbrev pub Slow : (Refusal → Type 0) → State → Option (List ℕ) → List ℕ → State → Type 0
 Slow Failures s None out t = IsRefusal LineTooLong s out t
 Slow Failures s (Some line) out t = WordsSay Failures (words_of line) s out t

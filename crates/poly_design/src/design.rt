@@ -42,7 +42,7 @@ pub struct Design {
     grid: Grid,
     cells: BTreeMap<Cell, Mode>,
     pieces: BTreeMap<Name, Spec>,
-    // The number of all placements, so that a change counts only those that it adds or removes.
+    // The number of all placements, kept so that a change lists only those of its own cell or piece.
     placement_count: usize,
 }
 
@@ -58,7 +58,7 @@ impl Model for Design {
 }
 
 impl Design {
-    /// The design without cells and pieces. Never allocates.
+    /// The design without cells or pieces. Never allocates.
     pub fn empty(alloc: Global, grid: Grid) -> Design
         ensures { result ≡ record { grid = grid; cells = []; pieces = [] } }
     {
@@ -172,7 +172,8 @@ impl Design {
         placements_on(self.alloc, &self.cells, &self.pieces, cell)
     }
 
-    /// Makes the change: replaces whatever was there by its after side. Requires that the result keeps the limits.
+    /// Makes the change: its cell or piece gets the change's after side, whatever it was before. Requires that the result
+    /// keeps the limits.
     ///
     /// Fails only when out of memory, and then leaves the design unchanged.
     pub fn make(&mut self, change: &Change) -> Result<(), Refusal>

@@ -17,12 +17,12 @@ abbrev pub cut_count : List Ending → ℕ
 cut_count [] = 0
 cut_count (e ∷ es) = cut_in e + cut_count es
 
--- the receipt is of a change with that property
+-- the receipt is of a change whose place and step have the property P
 abbrev pub IsChanged : (Done → Type 0) → Receipt → Type 0
 IsChanged P (receipt.Changed place step) = P (record { place = place; step = step })
 IsChanged P (receipt.Cut place task) = ⊥
 
--- the book has one more step and no more cuts; it has at most one more ending for each task that was pending
+-- the book has one more step and as many cuts as before; it has at most one more ending for each task that was pending
 pub record OneChange (s t : State) (done : Done) : Type 0 where
   pub opened : t.opened ≡ s.opened
   pub last : t.steps ≡ done.step ∷ s.steps

@@ -1,4 +1,4 @@
-//! Whether a receipt is right: the book has what it says at its place.
+//! Whether a receipt is right: whether the book has, at the receipt's place, what the receipt says.
 ghost use Rattle.std.specs.Prelude.{◌≡◌, ◌↔◌, IsTrue};
 ghost use Rattle.poly_book.specs.declared.step.Ending.{Ending};
 ghost use Rattle.poly_desk.specs.Receipts.{IsAt, IsRightReceipt, entries, place_of};

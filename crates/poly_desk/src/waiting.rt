@@ -12,8 +12,8 @@ pub(crate) struct Tries {
     pauses: u32,
 }
 
-/// For a short call. A worker takes its next task right after it has handed a report in, so it gets the lock before
-/// those that wait with a report.
+/// For a short call. A worker tries so often for its next task that, right after it has handed a report in, it gets the lock
+/// before those that wait with a report.
 pub(crate) const OFTEN: Tries = Tries {
     count: 512,
     pauses: 20,

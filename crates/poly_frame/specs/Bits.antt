@@ -14,7 +14,7 @@ in_both words at rows from j = has_bit words (64 * at + j) && has_bit rows (64 *
 abbrev pub NoneIn : (ℕ → Bool) → ℕ → ℕ → Type 0
 NoneIn f low high = (x : ℕ) → low ≤ x → x < high → f x ≡ false
 
--- k is the first of these that passes
+-- k is the first number from `low` on and below `high` that passes the test
 pub record FirstIn (f : ℕ → Bool) (low high k : ℕ) : Type 0 where
   pub least : low ≤ k
   pub most : k < high

@@ -132,8 +132,8 @@ impl<'a> Frame<'a> {
         Ok(Some(frame))
     }
 
-    // A frame at the atoms, from a matrix with a column for each placement that is open there. The base may be known to be
-    // consistent.
+    // A frame at the atoms, from a matrix with a column for each placement that is open there. If `sure`, the base is known
+    // to be consistent.
     #[tactic(auto, using(poly_tiling::proofs::Orders::live_once))]
     fn begin(
         alloc: Global,

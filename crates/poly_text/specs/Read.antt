@@ -4,7 +4,8 @@ use Rattle.poly_text.specs.declared.command.queries.QueryWord as kept
 use Rattle.poly_text.specs.declared.command.queries.QueryWord.TheVariants as kept_as
 use Rattle.poly_text.specs.Queries.{Query, has, lacks, covers, Makes}
 
--- the same item, or the placement of the same name and cells
+-- the word is kept as one of its kind: with its item, or with the placement of its name and cells, or with none if the cells
+-- make no set
 abbrev pub IsReadAs : Query → kept.QueryWord → Type 0
 IsReadAs (has n) (kept_as.Has made) = Makes n made
 IsReadAs (has n) (kept_as.Lacks made) = ⊥

@@ -1,5 +1,5 @@
-//! The steps to undo and the steps to redo. Both lists have room for all steps from the start, since a step only moves
-//! from one list to the other. So only `new` can run out of memory, and every change that was made can be recorded.
+//! The steps to undo and the steps to redo. Each list has room for `MAX_STEPS` steps from the start, and never has more. So
+//! only `new` can run out of memory, and every change that was made can be recorded.
 
 ghost use Rattle.std.specs.Prelude.{◌≡◌, ◌+◌, ◌∷◌, ◌++◌, ◌<◌, ◌≤◌, ◌↔◌, [], IfErr, IfOk, IsSome, length, option_copied};
 ghost use Rattle.poly_undo.specs.Steps.{Moves, newest, next_of};

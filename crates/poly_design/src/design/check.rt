@@ -25,8 +25,9 @@ impl Design {
     ///
     /// Fails with the first cause that holds: for a new piece `NameTaken`, `BadShape`, `TooManyPieces`, `TooManyPlacements`; for
     /// any other edit `NoSuchPiece` if no piece has the name, `NoChange` if the edit would change nothing, and then
-    /// `TooManyCells`, `TooManyPlacements` or `NotAPlacement`. Detecting `TooManyPlacements` or `NotAPlacement` takes
-    /// memory, so `Memory` may come in place of these two, but never of any other cause.
+    /// `TooManyCells`, `TooManyPlacements` or `NotAPlacement`. Detecting `TooManyPlacements` or `NotAPlacement`,
+    /// and making the change, take memory, so `Memory` may come in place of these two or of the change, but never of any
+    /// other cause.
     pub fn check(&self, edit: &Edit) -> Result<Change, Refusal>
         ensures ok { IfOk result (λ change. IsAccepted self.now edit.now change) }
         ensures why { IfErr result (λ e. (e ≡ Refusal.Memory) ⊎ IsRefused self.now edit.now e) }
@@ -281,7 +282,7 @@ impl Design {
         }
     }
 
-    // Whether there is room for the cell, if it is not blocked.
+    // Whether there is room for the cell with this mode. A blocked cell takes no room.
     fn has_room(&self, cell: Cell, mode: Mode) -> bool
         ensures room { IsTrue result ↔ (length (set_mode self.now.cells cell mode) ≤ MAX_CELLS) }
         ensures design { IsDesign self.now }
@@ -295,7 +296,7 @@ impl Design {
         same_mode(mode, Mode::Blocked)
     }
 
-    // Whether there are few enough placements after the change.
+    // Refuses the change if there are too many placements after it.
     fn keeps_few(&self, change: &Change) -> Result<(), Refusal>
         ensures ok { OnOk result (FewPlacements (changed self.now change.now)) }
         ensures why { IfErr result (λ e. (e ≡ Refusal.Memory) ⊎ ((e ≡ Refusal.TooManyPlacements) × (¬ FewPlacements (changed self.now change.now)))) }

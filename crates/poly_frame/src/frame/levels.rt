@@ -1,4 +1,5 @@
-//! What a frame keeps besides its lists: the columns that it reads, the table, and the bits of its steps.
+//! What a frame keeps besides its lists: how many of its first levels are consistent, the columns that it reads, the table,
+//! and the bits of its steps.
 ghost use Rattle.std.specs.Prelude.{IfErr, IfOk, length, true, vec_capacity, ◌*◌, ◌<◌, ◌^◌, ◌≡◌, ◌≤◌};
 ghost use Rattle.poly_atom.specs.Hopeless.{base};
 ghost use Rattle.poly_frame.specs.declared.frame.TheConstants.{STEPS};
@@ -40,7 +41,8 @@ struct Counted {
     wanted: Wanted,
 }
 
-/// The levels of a frame at the atoms, whose base are the members. The base may be known to be consistent.
+/// The levels of a frame at the atoms, whose base is `members`. `part` has a column for each placement that is open there.
+/// If `sure`, the base is known to be consistent.
 pub(crate) fn levels_of<'a>(
     alloc: Global,
     view: &View,

@@ -21,8 +21,8 @@ use poly_tiling::{View, has_number};
 use std::alloc::Global;
 
 /// `live` has a row of the open columns for the given atoms and one for each step. `have` counts the members of the base
-/// with each item. `raised` has the indices that the steps counted up, and `marks` says how many of these there were before
-/// each step. `due` notes which items are due.
+/// with each item. `raised` has the indices whose counts the steps raised, and `marks` says how many of these there were
+/// before each step. `due` has a bit for each item, set if the base has too few members with it; a wrong bit only costs time.
 #[derive(Drop)]
 pub(crate) struct Steps {
     pub(crate) live: Vec<u64>,
@@ -37,7 +37,7 @@ ghost use Rattle.poly_frame.specs.FrameTable.{HaveShows, TableShows};
 ghost use Rattle.poly_frame.specs.FrameSteps.{HasRoom, IsAt, StepsKeep};
 ghost use Rattle.poly_frame.specs.declared.frame.items.TheConstants.{PLACEMENT_ITEMS};
 
-// Notes the indices of the number's items. `column` is the number's column, if it has one.
+// Adds the indices of the number's items to the list. `column` is the number's column, if it has one.
 fn note_number(
     view: &View,
     matrix: &Matrix,
@@ -130,7 +130,7 @@ pub(crate) fn pick(node: &Node<'_>, members: &[u32], steps: &mut Steps, number: 
     }
 }
 
-/// Leaves a placement.
+/// Leaves a placement out.
 pub(crate) fn leave(node: &Node<'_>, steps: &mut Steps, number: u32)
     requires kept { IsAt node.now steps.old }
     requires room { HasRoom node.now.matrix.now steps.old }
@@ -179,7 +179,8 @@ fn with_room(row: Vec<u64>, width: usize) -> Result<Vec<u64>, Refusal>
     Ok(rows)
 }
 
-/// No steps, for a table with what it was made of, and the row of what is open.
+/// The steps of a frame before its first one. `row` is the row of what is open at the node's atoms, and `have` counts the
+/// members of their base with each item. `raised` is emptied: only its room is used.
 pub(crate) fn start(
     alloc: Global,
     node: &Node<'_>,
