@@ -11,7 +11,7 @@ use std::time::{Duration, Instant};
 // The nodes of a report, as a worker asks for them.
 pub(crate) const NODES: u32 = 256;
 
-// The sums over all reports until no task was left.
+// The sums over all reports until no task is left; `pending` is the most tasks that were pending at a time.
 #[derive(Drop)]
 struct Totals {
     reports: u64,

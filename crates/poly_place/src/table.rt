@@ -84,9 +84,9 @@ impl Table {
 
     /// The plan of a change of the design that the table is right for.
     ///
-    /// Fails with `Spent` if there are more placements than numbers, and otherwise only with `Memory`. Whether or not the
-    /// plan is used, and even if the call is refused, the table stays right for the design before. Numbers that were
-    /// assigned stay in use.
+    /// Fails with `Spent` if the placements that have numbers, and the placements and pins of the design after the change,
+    /// are together more than there are numbers, and otherwise only with `Memory`. The call leaves the table right for the
+    /// design before, even if it is refused. The numbers that it assigned stay in use, whether or not the plan is applied.
     pub fn plan(&mut self, design: &Design, change: &Change) -> Result<Plan, Refusal>
         requires standing { IsRight self.old design.now }
         requires limits { IsDesign (changed design.now change.now) }
@@ -130,7 +130,7 @@ impl Table {
         )
     }
 
-    /// Applies the plan, which must be the last one that the table made. Never allocates.
+    /// Applies the plan. The table must not have assigned a number since it made the plan. Never allocates.
     pub fn make(&mut self, plan: Plan)
         requires { (arc_value plan.view).placements ≡ self.old.placements }
         ensures now { self.new ≡ arc_value plan.view }

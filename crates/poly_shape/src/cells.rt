@@ -205,7 +205,7 @@ impl Hash for Cells {
     }
 }
 
-// Writes the list over the first elements.
+// Writes `front`, the cell and `back`, one after the other, over the first elements of the room.
 fn place(room: &mut [Cell], front: &[Cell], cell: Cell, back: &[Cell])
     requires { length front.now + 1 + length back.now ≤ length room.old }
     ensures { room.new ≡ (front.now ++ cell ∷ back.now) ++ drop (length front.now + 1 + length back.now) room.old }

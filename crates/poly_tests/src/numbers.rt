@@ -61,7 +61,8 @@ fn numbers_of_each_item(rt: HostRuntime) {
     expect_counts(&rt, &view, (8, 6, 0));
 }
 
-// Makes the edit of the line on the design and its table, asserts how long the delta's lists are, and returns the delta.
+// Makes the edit of the line on the design and its table, asserts how long the delta's lists are, and returns two of them:
+// what is gone and what is fresh.
 fn led(
     rt: &(impl AllocGlobal + Abort),
     table: &mut Table,

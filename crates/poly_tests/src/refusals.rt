@@ -1,4 +1,4 @@
-//! The number, the name and the cause of each refusal.
+//! The number and the name of each refusal, and the texts of three of them.
 
 use poly_grid::Refusal;
 use std::alloc::AllocError;

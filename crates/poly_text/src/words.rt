@@ -130,8 +130,8 @@ fn coordinates_of(word: &[u8]) -> Result<(u64, u64), Refusal>
     Ok((column, row))
 }
 
-/// Returns the cell that the word names by its column and its row, each in 1 to 9 decimal digits, with a comma between them. Fails
-/// with `BadCommand` if the word has another form, and otherwise with `BadCell` if the column or the row is over 63.
+/// Returns the cell that the word names by its column and its row, each in 1 to 9 decimal digits, with a comma between them.
+/// Fails with `BadCommand` if the word has another form, and otherwise with `BadCell` if the column or the row is over 63.
 pub fn cell_of(word: &[u8]) -> Result<Cell, Refusal>
     ensures { result ≡ cell_of word.now }
 {
@@ -177,8 +177,8 @@ fn are_formed(parts: &[&[u8]]) -> bool
     parts.iter().all(|part| coordinates_of(part).is_ok())
 }
 
-/// Returns the set of the cells that the words name, or `None` if there are over 16 or one comes twice. Fails as `cell_of` does on the
-/// leftmost word that names no cell.
+/// Returns the set of the cells that the words name, or `None` if there are over 16 or one comes twice. Fails as `cell_of`
+/// does on the leftmost word that names no cell.
 pub fn read_set(words: &[&[u8]]) -> Result<Option<Cells>, Refusal>
     ensures ok { IfOk result (λ set. (cells : List Spot) × (cells_of (map (λ w. w.now) words.now) ≡ Ok cells) × MakesSet cells set) }
     ensures why { IfErr result (λ e. cells_of (map (λ w. w.now) words.now) ≡ Err e) }
@@ -189,9 +189,9 @@ pub fn read_set(words: &[&[u8]]) -> Result<Option<Cells>, Refusal>
     Ok(Cells::new(&cells[..count]).ok())
 }
 
-/// Returns the set of the cells that the text lists with slashes between them, or `None` if there are over 16 or one comes twice.
-/// Fails with `BadCommand` if a part has another form than a cell, otherwise with `BadCell` if a column or a row is over 63. `Memory` may
-/// come in place of these.
+/// Returns the set of the cells that the text lists with slashes between them, or `None` if there are over 16 or one comes
+/// twice. Fails with `BadCommand` if a part doesn't have the form of a cell, otherwise with `BadCell` if a column or a row is
+/// over 63. Fails with `Memory` if the list of the parts can't be allocated.
 pub fn listed_set(alloc: Global, text: &[u8]) -> Result<Option<Cells>, Refusal>
     ensures ok { IfOk result (λ set. (cells : List Spot) × (listed_cells text.now ≡ Ok cells) × MakesSet cells set) }
     ensures why { IfErr result (λ e. (e ≡ Refusal.Memory) ⊎ (listed_cells text.now ≡ Err e)) }
