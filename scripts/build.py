@@ -3,14 +3,17 @@
 
 usage: scripts/build.py
 
-It does what `rt ci polybench` does, on a copy of the crates, but without their tests and their must-fail edits, and in an
-order of its own: a crate is proved as soon as the crates below it are, and the one that most others wait for gets all
-processors. Like `rt ci`, it keeps what it proves on this machine. So nothing is proved twice: neither here what the gate,
-`./check`, has proved, nor by the gate what is proved here, nor by a second start what a stopped one has proved.
+If the program is there already, nothing is done, even if a source has changed since: remove it to build it again. What the
+gate, `./check`, has proved on this machine is taken from there.
+
+The rest is proved as by `rt ci polybench` on a copy of the crates, with an order of its own: a crate is proved as soon as the
+crates below it are, and the one that begins the longest chain of crates up to the program gets all processors. What the
+program doesn't need is left out: the tests, the must-fail edits, the search for contracts that no call can meet, and the
+build by the second compiler. So what is proved here isn't kept for the gate.
 
 Standard error says which crate is being proved, how many are done, and the time so far. A second start waits until the first
-has ended. The exit status is 0 if the program is built, else 1. After a failed proof, standard error ends with the last lines
-of its log.
+has ended. The exit status is 0 if the program is built, else 1. If it could not be built, standard error ends with the last
+lines of the log.
 """
 import contextlib
 import fcntl
@@ -26,7 +29,9 @@ import kept
 
 ROOT = kept.ROOT
 PROGRAM = kept.PROGRAM
-LINES_OF_A_FAILED_LOG = 40
+LINES_OF_A_FAILED_LOG = 60
+# A proof by several processes takes about so much memory for each, in bytes.
+MEMORY_OF_A_JOB = 1_500_000_000
 
 
 def say(text):
@@ -49,63 +54,77 @@ def chains(tasks):
 
 
 class Schedule:
-    """Takes the place of the schedule of `rt ci`: it calls the proofs of the tasks, and no other task."""
+    """Takes the place of the schedule of `rt ci`: it runs the tasks that are proofs, and no others."""
 
-    def __init__(self, processors):
+    def __init__(self, processors, memory):
         self.processors = processors
+        self.room = max(1, memory // MEMORY_OF_A_JOB)
         self.niceness = os.getpriority(os.PRIO_PROCESS, 0)
         self.ended = queue.SimpleQueue()
+        self.start = time.monotonic()
 
-    def start(self, key, call, given, jobs, niceness):
+    def call(self, proof, given, key, jobs, niceness):
+        """Begins a proof in a thread of its own, which then tells whether it succeeded."""
+
         def run():
             is_proved = False
             try:
                 # on Linux, this thread and the commands that it starts get the niceness, and nothing else
                 os.setpriority(os.PRIO_PROCESS, threading.get_native_id(), min(19, self.niceness + niceness))
-                is_proved = call(given, jobs)
+                is_proved = proof(given, jobs)
             finally:
                 self.ended.put((key, is_proved))
 
-        # if this process is stopped, it doesn't wait for the thread, and its commands end with it
+        # if this process is stopped, it doesn't wait for the thread, and the thread's commands end with the process
         threading.Thread(target=run, daemon=True).start()
 
     def run(self, tasks):
-        """Returns for each task whether all is well, as `rt ci` wants it."""
+        """Returns for each task whether all is well, as `rt ci` wants it. A task that isn't a proof counts as well."""
         given = {it: True for it in tasks if it[1] != "proof"}
         tasks = {it: task for it, task in tasks.items() if it[1] == "proof"}
-        chain, start = chains(tasks), time.monotonic()
-        waiting, running, failed = sorted(tasks, key=lambda it: -chain[it]), set(), False
-        say(f"proving {len(tasks)} crates on {self.processors} processors; this takes about half an hour, once")
+        chain = chains(tasks)
+        waiting, running, failed = sorted(tasks, key=lambda it: -chain[it]), {}, False
+        say(f"proving {len(tasks)} crates on {self.processors} processors; on four, this takes about half an hour, once")
         while running or waiting and not failed:
-            # everything above waits for the crate with the longest chain: it gets all processors, and the others get the
-            # time that it leaves
+            # If the crate with the longest chain starts now, it gets all processors that memory allows, as everything above
+            # waits for it. The others get one job each, and the time that it leaves.
             leading = max((it for it in tasks if it not in given), key=lambda it: chain[it])
             for key in [it for it in waiting if not failed and all(below in given for below in tasks[it][0])]:
-                if key == leading or len(running - {leading}) < max(1, self.processors - 1):
+                free = self.room - sum(running.values())
+                jobs = max(1, min(self.processors, free)) if key == leading else 1
+                if key == leading or free > 0 and len(running.keys() - {leading}) < max(1, self.processors - 1):
                     waiting.remove(key)
-                    running.add(key)
+                    running[key] = jobs
                     done = sum(it in tasks for it in given)
-                    say(f"proving {key[0]} ({done} of {len(tasks)} done, {clock(start)})")
-                    jobs, niceness = (self.processors, 0) if key == leading else (1, 10)
-                    self.start(key, tasks[key][3], given, jobs, niceness)
+                    say(f"proving {key[0]} ({done} of {len(tasks)} done, {clock(self.start)})")
+                    self.call(tasks[key][3], given, key, jobs, 0 if key == leading else 10)
             key, is_proved = self.ended.get()
             given[key] = is_proved
-            running.remove(key)
+            del running[key]
             if not is_proved:
-                say(f"{key[0]} could not be proved or built, after {clock(start)}")
+                say(f"{key[0]} could not be proved or built, after {clock(self.start)}")
                 failed = True
-        if not failed:
-            say(f"built after {clock(start)}")
         return {it: given.get(it, False) for it in [*given, *tasks]}
+
+
+def leave_out(rt):
+    """Has `rt ci` leave out what the program doesn't need. What it proves then must not be kept for the gate."""
+    help_of, compile_by = rt.rtlib.help_of, rt.Crate.compile_by
+    rt.edits_of = lambda crate: ([], [])
+    rt.Crate.has_tests = lambda crate: False
+    # `rt` asks for that search if the help of the prover names it
+    rt.rtlib.help_of = lambda verb: help_of(verb).replace("--empty-contracts", "")
+    rt.Crate.compile_by = lambda crate, by, *given: compile_by(crate, by, *given) if by == "llvm" else 0
+    rt.Kept.keep = lambda *given: None
 
 
 def build():
     """Proves and builds the program. Returns whether it could."""
     rt = kept.load_rt()
-    rt.in_lanes = Schedule(rt.processors()).run
-    rt.edits_of = lambda crate: ([], [])
-    rt.Crate.has_tests = lambda crate: False
-    with tempfile.TemporaryDirectory(prefix="polybench-") as top, open(f"{top}/log", "w+", errors="replace", encoding="utf-8") as log:
+    leave_out(rt)
+    schedule = Schedule(rt.processors(), 85 * rt.free() // 100)
+    rt.in_lanes = schedule.run
+    with tempfile.TemporaryDirectory(prefix="polybench-") as top, open(f"{top}/log", "w+", errors="replace") as log:
         # the gate wants its crates at the top of a repository
         room = f"{top}/repository"
         rt.copy_crates(ROOT, room)
@@ -121,6 +140,7 @@ def build():
             say("the program could not be built; the end of the log is above")
             return False
         kept.bring(room, f"crates/{PROGRAM}/out/{PROGRAM}")
+        say(f"built after {clock(schedule.start)}")
         return True
 
 

@@ -4,8 +4,8 @@
 usage: scripts/kept.py
 
 `rt ci` leaves no program behind, but it keeps what it proved, under the checksums of everything that the proof read. Its
-next run takes that over instead of proving it again. This script takes it over in the same way, so it takes nothing if any
-file of a crate or of the crates below it has changed since. The results go to crates/NAME/out.
+next run takes that over instead of proving it again. This script takes it over in the same way, crate by crate, so it takes
+nothing of a crate if a file of it, or of a crate below it, has changed since. The results go to crates/NAME/out.
 
 The exit status is 0 if the program was taken, else 1.
 """
