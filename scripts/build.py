@@ -97,7 +97,7 @@ class Schedule:
                     running[key] = jobs
                     done = sum(it in tasks for it in given)
                     say(f"proving {key[0]} ({done} of {len(tasks)} done, {clock(self.start)})")
-                    self.call(tasks[key][3], given, key, jobs, 0 if key == leading else 10)
+                    self.call(tasks[key][3], given, key, jobs, 0 if key == leading else 19)
             key, is_proved = self.ended.get()
             given[key] = is_proved
             del running[key]

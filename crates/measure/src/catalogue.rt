@@ -150,6 +150,9 @@ fn are_tilings(view: &View, tilings: &[Tiling]) -> bool
     tilings.iter().all(|t| view.is_tiling(t.numbers()))
 }
 
+// The bytes of a page, in which /proc/self/statm counts memory.
+const PAGE: u64 = 4096;
+
 // The memory that the program holds now.
 fn resident_bytes(rt: &HostRuntime) -> io::Result<u64> {
     let text = fs::read_to_string(rt, "/proc/self/statm")?;
@@ -157,7 +160,7 @@ fn resident_bytes(rt: &HostRuntime) -> io::Result<u64> {
         return Ok(0);
     };
     match pages.parse::<u64>() {
-        Ok(pages) => Ok(pages.saturating_mul(4096)),
+        Ok(pages) => Ok(pages.saturating_mul(PAGE)),
         Err(_) => Ok(0),
     }
 }

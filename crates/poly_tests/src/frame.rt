@@ -1,6 +1,7 @@
 //! Frames of small designs: what is open, due and found there is counted by hand. Placement 0 of `DOMINOES` is A on the upper
 //! row, and placement 7 is B on the lower row.
 ghost use Rattle.std.specs.Prelude.{length, ◌+◌, ◌<◌, ◌≡◌};
+ghost use Rattle.poly_frame.specs.declared.frame.TheConstants.{STEPS};
 
 use crate::designs::{DOMINOES, design_of};
 use poly_atom::Atom;
@@ -88,7 +89,7 @@ fn expect_due(rt: &impl Abort, frame: &Frame<'_>, want: &Item) {
 
 // Asserts whether taking the placement leaves too little for the last cell of the square.
 fn expect_starved(rt: &impl Abort, view: &View, frame: &mut Frame<'_>, placement: u32, want: bool)
-    requires { length frame.old.atoms < frame.old.given + 4096 }
+    requires { length frame.old.atoms < frame.old.given + STEPS }
     ensures { frame.new ≡ frame.old }
 {
     let cell = view.items().get(3).expect(rt, "four cells").item;

@@ -1,5 +1,6 @@
 //! Reports: what `holds`, `leaves` and `cut_up` say about small trees, and that what `explore` grows is a report.
 ghost use Rattle.std.specs.Prelude.{◌≤◌};
+ghost use Rattle.poly_report.specs.declared.size.TheConstants.{NODES};
 
 use crate::designs::{DOMINOES, design, view};
 use poly_atom::Atom;
@@ -182,7 +183,7 @@ fn a_split_on_any_placement(rt: HostRuntime) {
 // Whether what is explored holds and has the leaves that `leaves` gives it.
 fn is_report(alloc: Global, view: &View, nodes: u32) -> Result<bool, Refusal>
     requires some { 1 ≤ nodes }
-    requires few { nodes ≤ 4096 }
+    requires few { nodes ≤ NODES }
 {
     let explored = explore_with_leaves(alloc, view, &[], nodes)?;
     match judged(alloc, view, &[], &explored.tree)? {
