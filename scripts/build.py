@@ -9,7 +9,7 @@ gate, `./check`, has proved on this machine is taken from there.
 The rest is proved as by `rt ci polybench` on a copy of the crates, with an order of its own: a crate is proved as soon as the
 crates below it are, and the one that begins the longest chain of crates up to the program gets all processors. What the
 program doesn't need is left out: the tests, the must-fail edits, the search for contracts that no call can meet, and the
-build by the second compiler. So what is proved here isn't kept for the gate.
+build by the second compiler. So what is proved here isn't kept for the gate, but a start that was stopped is continued.
 
 Standard error says which crate is being proved, how many are done, and the time so far. A second start waits until the first
 has ended. The exit status is 0 if the program is built, else 1. If it could not be built, standard error ends with the last
@@ -29,6 +29,8 @@ import kept
 
 ROOT = kept.ROOT
 PROGRAM = kept.PROGRAM
+# Where a start keeps what it has proved until the program is built.
+STORE = f"{ROOT}/crates/{PROGRAM}/out/proved"
 LINES_OF_A_FAILED_LOG = 60
 # A proof by several processes takes about so much memory for each, in bytes.
 MEMORY_OF_A_JOB = 1_500_000_000
@@ -108,14 +110,14 @@ class Schedule:
 
 
 def leave_out(rt):
-    """Has `rt ci` leave out what the program doesn't need. What it proves then must not be kept for the gate."""
+    """Has `rt ci` leave out what the program doesn't need, and keep what it proves where the gate doesn't find it."""
     help_of, compile_by = rt.rtlib.help_of, rt.Crate.compile_by
     rt.edits_of = lambda crate: ([], [])
     rt.Crate.has_tests = lambda crate: False
     # `rt` asks for that search if the help of the prover names it
     rt.rtlib.help_of = lambda verb: help_of(verb).replace("--empty-contracts", "")
     rt.Crate.compile_by = lambda crate, by, *given: compile_by(crate, by, *given) if by == "llvm" else 0
-    rt.Kept.keep = lambda *given: None
+    rt.STORE = STORE
 
 
 def build():
@@ -140,6 +142,7 @@ def build():
             say("the program could not be built; the end of the log is above")
             return False
         kept.bring(room, f"crates/{PROGRAM}/out/{PROGRAM}")
+        shutil.rmtree(STORE, ignore_errors=True)
         say(f"built after {clock(schedule.start)}")
         return True
 
@@ -157,7 +160,11 @@ def main():
             say("another start is building the program; waiting for it")
             fcntl.flock(lock, fcntl.LOCK_EX)
         is_built = os.access(f"{out}/{PROGRAM}", os.X_OK)
-        return 0 if is_built or kept.take() or build() else 1
+        try:
+            return 0 if is_built or kept.take() or build() else 1
+        except KeyboardInterrupt:
+            say("stopped; the next start continues from here")
+            return 1
 
 
 if __name__ == "__main__":
