@@ -1,12 +1,12 @@
 #!/usr/bin/env python3
-"""Times sessions of the built program, each next to the yardstick, and prints a table of them.
+"""Times sessions of the built program, some of them next to the yardstick `dlx`, and prints a table of them.
 
 usage: benches/sessions.py
 
-Each session is a puzzle line and commands on standard input. Before a session that has a rectangle, `dlx` searches the same
-rectangle. The table has the processor time in user mode, what part of the time of `dlx` that is, the elapsed time, and the
-most memory that was resident, which is never less than what this script itself needs. Run it with nothing else running. The
-program has to be built: start `./polybench` once before.
+Each session is a puzzle line and commands on standard input. Some sessions come right after a search of the same board by
+`dlx`. The table has the processor time of each session in user mode, that time divided by the time of `dlx`, the elapsed time,
+and the most memory that was resident, which is never less than what this script itself needs. Run it with nothing else running.
+The program has to be built: start `./polybench` once before.
 """
 import itertools
 import json
@@ -47,7 +47,7 @@ def changes():
 
 
 def sessions():
-    """Returns for each session what it is, its lines, and the arguments of `dlx` for the same rectangle, if any."""
+    """Returns for each session what it is, its lines, and the arguments of `dlx` for the same board, or None."""
     six, hole = pentominoes(["#" * 10] * 6), pentominoes(["#" * 8] * 3 + ["###..###"] * 2 + ["#" * 8] * 3)
     million = first_line("million.txt")
     for name, line, size in (

@@ -3,16 +3,17 @@
 
 usage: scripts/build.py
 
-If the program is there already, nothing is done, even if a source has changed since: remove it to build it again. What the
-gate, `./check`, has proved on this machine is taken from there.
+If the program is there already, nothing is done, even if a source has changed since: to build the program again, remove it
+first. If the gate, `./check`, has proved the program on this machine, it is taken from there.
 
-The rest is proved as by `rt ci polybench` on a copy of the crates, with an order of its own: a crate is proved as soon as the
-crates below it are, and the one that begins the longest chain of crates up to the program gets all processors. What the
-program doesn't need is left out: the tests, the must-fail edits, the search for contracts that no call can meet, and the
-build by the second compiler. So what is proved here isn't kept for the gate, but a start that was stopped is continued.
+Otherwise the program and all crates that it uses are proved as by `rt ci polybench` on a copy of the crates, but in another
+order: a crate is proved as soon as the crates below it are, and the one that begins the longest chain of crates up to the
+program gets all processors that memory allows. What the program doesn't need is left out: the tests, the must-fail edits, the
+search for contracts that no call can meet, and the build by the second compiler. So what is proved here isn't kept for the
+gate. If a start is stopped, the next one continues from what it has proved.
 
 Standard error says which crate is being proved, how many are done, and the time so far. A second start waits until the first
-has ended. The exit status is 0 if the program is built, else 1. If it could not be built, standard error ends with the last
+has ended. The exit status is 0 if the program is built, else 1. If a proof or the build fails, standard error also has the last
 lines of the log.
 """
 import contextlib
@@ -32,7 +33,7 @@ PROGRAM = kept.PROGRAM
 # Where a start keeps what it has proved until the program is built.
 STORE = f"{ROOT}/crates/{PROGRAM}/out/proved"
 LINES_OF_A_FAILED_LOG = 60
-# A proof by several processes takes about so much memory for each, in bytes.
+# Roughly how much memory each process of a proof takes, in bytes.
 MEMORY_OF_A_JOB = 1_500_000_000
 
 
@@ -48,7 +49,7 @@ def clock(start):
 def chains(tasks):
     """Returns for each task the number of lines of the longest chain of tasks from it up to the program."""
     longest = {}
-    for key, (waits, lines, _, _) in reversed(tasks.items()):  # each task is after those that it waits for
+    for key, (waits, lines, _, _) in reversed(tasks.items()):  # each task comes after those that it waits for
         longest[key] = longest.get(key, 0) + lines
         for below in waits:
             longest[below] = max(longest.get(below, 0), longest[key])
@@ -66,12 +67,12 @@ class Schedule:
         self.start = time.monotonic()
 
     def call(self, proof, given, key, jobs, niceness):
-        """Begins a proof in a thread of its own, which then tells whether it succeeded."""
+        """Begins a proof in a thread of its own. At its end the thread puts into `ended` whether the proof succeeded."""
 
         def run():
             is_proved = False
             try:
-                # on Linux, this thread and the commands that it starts get the niceness, and nothing else
+                # on Linux, only this thread and the commands that it starts get the niceness
                 os.setpriority(os.PRIO_PROCESS, threading.get_native_id(), min(19, self.niceness + niceness))
                 is_proved = proof(given, jobs)
             finally:
@@ -81,15 +82,15 @@ class Schedule:
         threading.Thread(target=run, daemon=True).start()
 
     def run(self, tasks):
-        """Returns for each task whether all is well, as `rt ci` wants it. A task that isn't a proof counts as well."""
+        """Returns for each task whether it succeeded, as `rt ci` expects. A task that isn't a proof counts as succeeded."""
         given = {it: True for it in tasks if it[1] != "proof"}
         tasks = {it: task for it, task in tasks.items() if it[1] == "proof"}
         chain = chains(tasks)
         waiting, running, failed = sorted(tasks, key=lambda it: -chain[it]), {}, False
         say(f"proving {len(tasks)} crates on {self.processors} processors; on four, this takes about half an hour, once")
         while running or waiting and not failed:
-            # If the crate with the longest chain starts now, it gets all processors that memory allows, as everything above
-            # waits for it. The others get one job each, and the time that it leaves.
+            # The crate with the longest chain gets all processors that memory allows when it starts, as the crates above wait
+            # for it. The others get one job each, and the processor time that it leaves.
             leading = max((it for it in tasks if it not in given), key=lambda it: chain[it])
             for key in [it for it in waiting if not failed and all(below in given for below in tasks[it][0])]:
                 free = self.room - sum(running.values())
@@ -110,11 +111,11 @@ class Schedule:
 
 
 def leave_out(rt):
-    """Has `rt ci` leave out what the program doesn't need, and keep what it proves where the gate doesn't find it."""
+    """Makes `rt ci` leave out what the program doesn't need, and keep its proofs where the gate doesn't find them."""
     help_of, compile_by = rt.rtlib.help_of, rt.Crate.compile_by
     rt.edits_of = lambda crate: ([], [])
     rt.Crate.has_tests = lambda crate: False
-    # `rt` asks for that search if the help of the prover names it
+    # `rt` has the prover search for contracts that no call can meet only if the prover's help names this option
     rt.rtlib.help_of = lambda verb: help_of(verb).replace("--empty-contracts", "")
     rt.Crate.compile_by = lambda crate, by, *given: compile_by(crate, by, *given) if by == "llvm" else 0
     rt.STORE = STORE

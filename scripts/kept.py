@@ -1,11 +1,11 @@
 #!/usr/bin/env python3
-"""Takes the program and the test programs from what the gate has proved on this machine, so that nobody proves it again.
+"""Takes the program and the test programs from what the gate has proved on this machine, so they aren't proved again.
 
 usage: scripts/kept.py
 
-`rt ci` leaves no program behind, but it keeps what it proved, under the checksums of everything that the proof read. Its
-next run takes that over instead of proving it again. This script takes it over in the same way, crate by crate, so it takes
-nothing of a crate if a file of it, or of a crate below it, has changed since. The results go to crates/NAME/out.
+`rt ci` leaves no program behind, but it keeps what it proved, under the checksums of everything that the proof read, and
+its next run uses that instead of proving it again. This script uses it in the same way, crate by crate. It takes nothing of
+a crate if a file of that crate, or of a crate below it, has changed since. The results go to crates/NAME/out.
 
 The exit status is 0 if the program was taken, else 1.
 """
@@ -32,7 +32,7 @@ def load_rt():
 
 
 def lay_out(room):
-    """Copies to the folder what the gate's checksums are made of."""
+    """Copies the files that the gate's checksums cover to the folder `room`."""
     for name in ("crates.txt", "HANDLES"):
         shutil.copy(f"{ROOT}/{name}", room)
     for crate in os.listdir(f"{ROOT}/crates"):
@@ -42,7 +42,7 @@ def lay_out(room):
 
 
 def fetch(rt, room):
-    """Has the gate's store fill the out/ folders of the room, lowest crate first. Returns the programs that it made."""
+    """Fills the out/ folders of the room from the gate's store, lowest crate first. Returns the programs' paths."""
     rt.Crate.allowed = rt.handles_of(room)
     crates = rt.crates_of(room)
     kept = rt.Kept(crates)
@@ -67,7 +67,7 @@ def bring(room, path):
 
 
 def take():
-    """Returns whether the program was taken. What can't be read counts as not kept."""
+    """Takes the programs. Returns whether `polybench` is among them; what can't be read counts as not kept."""
     try:
         # outside the repository, as the gate wants its crates at the top of one
         with tempfile.TemporaryDirectory(prefix="polybench-") as room:

@@ -6,7 +6,7 @@ usage: scripts/watch.py LOG COMMAND [ARGUMENT ..]
 Runs the command, passes its output on to standard output, and ends with its exit status. Meanwhile:
 - Twice a second it looks at the checks that the command has started. Each check belongs to a crate and a phase: the
   crate's `proof`, the proof of its `tests`, or its must-fail `edits`.
-- Every half minute standard error says how many crates are proved, which checks run, and the time so far.
+- Every half minute it says on standard error how many crates are proved, which checks run, and the time so far.
 - At the end LOG has one line for each crate and phase, `CRATE PHASE BEGAN ENDED PROCESSOR CHECKS`: when its first
   check began and its last one ended, the user and system time of its checks, all in seconds, and the number of checks.
   The last line is `all all 0 ENDED PROCESSOR CHECKS` for the whole command and everything that it ran.

@@ -52,7 +52,7 @@ REFUSALS = {
 
 
 class Refused(Exception):
-    """A refusal by its number."""
+    """A refusal; its argument is the number of the refusal."""
 
 
 def by_row(cells):
@@ -157,7 +157,7 @@ class Design:
                 continue
             if {(n, by_row(turned[c] for c in cells)) for n, cells in places} != places:
                 continue
-            # A pin on a cell that is blocked carries nowhere, but then there is no tiling to put into a class.
+            # A pin that covers a blocked cell can't be carried, but then there is no tiling to put into a class.
             if {(n, frozenset(turned.get(c) for c in pin)) for n, pin in pins} == pins:
                 found.append(turned)
         return found
@@ -237,7 +237,7 @@ class Session:
         return self.design.pieces[name]
 
     def replace(self, name, at, value):
-        """Replaces one field of the piece; the same value is no change."""
+        """Replaces one field of the piece. The same value is refused as no change."""
         piece = self.piece(name)
         if piece[at] == value:
             raise Refused(15)

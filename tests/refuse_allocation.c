@@ -1,5 +1,5 @@
-/* Loaded before the C library: the allocation with the number in REFUSE_AT finds no memory, and leaves the file that
-   REFUSED names. */
+/* A library that is loaded before the C library. It refuses the allocation whose number is in REFUSE_AT, counted from 1, and
+   creates the file that REFUSED names. */
 #define _GNU_SOURCE
 #include <dlfcn.h>
 #include <fcntl.h>

@@ -1,8 +1,10 @@
 #!/usr/bin/env bash
-# Refuses each allocation of a test in turn, counting up until a run ends in which none was refused.
+# Runs each test below again and again: first with its first allocation refused, then with its second, and so on, until a run
+# ends before the allocation that it would be refused.
 #
-# If a call runs out of memory, the tests below assert that it changed nothing, and make it a second time. So a run with a
-# refused allocation must pass like one without. `rt test` proves and builds the tests, unless the gate has proved them.
+# If a call runs out of memory, the tests assert that it changed nothing, except that `settle` of a book keeps the reports that
+# it has applied, and make it a second time. So a run with a refused allocation must pass like a run without one. `rt test`
+# proves and builds the tests, unless the gate has proved them.
 . "$(dirname "${BASH_SOURCE[0]}")/setup.bash"
 
 # A crate, and the full name of one of its tests.
@@ -21,7 +23,7 @@ if ! cc -O1 -shared -fPIC -o "$room/refuse.so" tests/refuse_allocation.c -ldl; t
     exit 1
 fi
 
-# Runs the test once for each of its allocations, which is refused.
+# Runs the test once for each of its allocations, with that allocation refused.
 play() {
     local program=crates/$1/out/$1_tests name=$2 at=0 before=$failed status
     if [ ! -x "$program" ]; then

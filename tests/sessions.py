@@ -4,8 +4,8 @@
 usage: tests/sessions.py [SESSIONS [SEED [ARGUMENT..]]]
 
 Each session has a puzzle and 40 commands; further arguments go to the program. In the program's `status` line the edition
-has to be right, and the listed tilings have to be at most those that exist: all of them if no task is pending, and
-none may be pending between an answer about all tilings and the next change. Standard output ends with a line
+has to be right. The number of listed tilings may not exceed the number of all tilings, and has to equal it if no task is
+pending. Between an answer about all tilings and the next change no task may be pending. Standard output ends with a line
 `N passed, M failed`, which counts sessions.
 """
 import json
@@ -33,7 +33,7 @@ NAMES = ["A", "B", "C", "Zed_9"]
 
 
 def puzzle(dice):
-    """Returns a puzzle with at most 12 cells and 3 pieces."""
+    """Returns a puzzle line with at most 12 cells and at most 3 pieces."""
     width, height = dice.choice([(2, 2), (3, 2), (4, 2), (3, 3), (5, 1), (4, 3)])
     board = ["".join(dice.choice("###++.") for _ in range(width)) for _ in range(height)]
     pieces = []
@@ -46,7 +46,7 @@ def puzzle(dice):
 
 
 def cells(dice):
-    """Returns cell words: a shape, turned and moved at random, so that it is often a placement."""
+    """Returns cell words: a shape, reflected or not and moved at random, so that the words are often a placement."""
     shape = dice.choice(SHAPES)
     swap, x, y = dice.random() < 0.5, dice.randint(0, 3), dice.randint(0, 2)
     return [f"{b + x},{a + y}" if swap else f"{a + x},{b + y}" for a, b in shape]
@@ -92,7 +92,7 @@ def agree(ours, theirs, settled):
 
 
 def difference(text, arguments):
-    """Returns the first two lines that differ, or None."""
+    """Returns the first pair of lines that don't agree; if there is none, the numbers of lines if these differ, else None."""
     ours = replies([PROGRAM, *arguments], text)
     theirs = replies([sys.executable, REFERENCE], text)
     settled = False

@@ -8,7 +8,7 @@
 # program's arguments. The blocks of a document between ```text and ``` belong to one transcript, up to the next puzzle line.
 . "$(dirname "${BASH_SOURCE[0]}")/setup.bash"
 
-# Plays the transcript in a file, with further arguments of the program. `name` is what a failure is reported under.
+# Plays the transcript in a file, with further arguments of the program. Failures are reported under `name`.
 play_with() {
     local name=$1 transcript=$2 wanted status arguments
     shift 2

@@ -1,4 +1,4 @@
-//! What a book costs: runs each line of a session on it, and prints how long the call took.
+//! What a book costs: runs each line of a session on a book, and prints how long the call took.
 
 use crate::questions;
 use crate::reports::NODES;
@@ -29,7 +29,8 @@ fn print_begun(rt: &HostRuntime, begin: Instant, book: &Result<Book, Refusal>) -
     }
 }
 
-/// Runs the line on the book, and prints how long the call took.
+/// Runs the line on the book, and prints how long the call took. For `status` prints only the book's numbers. A line without
+/// words does nothing, and for a line that can't be read the refusal is printed.
 pub fn measure(rt: &HostRuntime, book: &mut Book, line: &str) -> io::Result<()> {
     let command = match asked(rt.alloc(), book.design().grid(), line.as_bytes()) {
         Ok(Some(command)) => command,

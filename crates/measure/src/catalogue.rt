@@ -1,5 +1,5 @@
-//! What the catalogue costs: memory and time to list all tilings of a design, and the time to keep those that an edit
-//! leaves.
+//! What the catalogue costs: memory and time to list all tilings of a design, and the time to copy those that an edit takes
+//! away and to keep the others.
 ghost use Rattle.std.specs.Prelude.{◌≡◌, ◌++◌, IfOk, List, true, ℕ};
 ghost use Rattle.std.specs.Arc.{arc_value};
 ghost use Rattle.std.specs.List.{list_all};
@@ -18,7 +18,8 @@ use std::alloc::Global;
 use std::time::Instant;
 use std::{fs, io};
 
-/// Lists all tilings of the design, and keeps those that the edit leaves.
+/// Measures `list_all` of all tilings of the design, and then `leaving` and `keep_only` for the edit that the line asks for.
+/// Does nothing if `edit_of` finds no edit in the line.
 pub fn measure(rt: &HostRuntime, design: &Design, line: &str) -> io::Result<()> {
     let Some(edit) = edit_of(rt.alloc(), design, line) else {
         return Ok(());
@@ -48,7 +49,7 @@ fn measure_table(
     Ok(())
 }
 
-// Lists the tilings, and returns whether that was done. `before` is how many bytes were resident before they were found.
+// Lists the tilings, and returns whether that was done. `before` is how many bytes were resident before the search.
 fn measure_list(
     rt: &HostRuntime,
     catalogue: &mut Catalogue,
@@ -111,8 +112,9 @@ fn measure_plan(
     let begin = Instant::now(rt)?;
     let leaving = catalogue.leaving(view, delta);
     let taken = begin.elapsed(rt)?.as_micros();
-    if let Ok(gone) = leaving {
-        println!(rt; "leaving: {} tilings, {taken} us", gone.len())?;
+    match leaving {
+        Ok(gone) => println!(rt; "leaving: {} tilings, {taken} us", gone.len())?,
+        Err(refusal) => println!(rt; "leaving was refused: {}", refusal.name())?,
     }
     let before = catalogue.len();
     let begin = Instant::now(rt)?;
@@ -123,7 +125,7 @@ fn measure_plan(
     println!(rt; "keep_only: {gone} tilings go and {stay} stay, {taken} us")
 }
 
-// The plan of the edit, if the listed tilings are tilings of the table.
+// The plan of the edit. Fails with `DoesNotHold` unless all listed tilings are tilings of the table's view.
 fn plan_of(
     design: &Design,
     table: &mut Table,
@@ -150,10 +152,10 @@ fn are_tilings(view: &View, tilings: &[Tiling]) -> bool
     tilings.iter().all(|t| view.is_tiling(t.numbers()))
 }
 
-// The bytes of a page, in which /proc/self/statm counts memory.
+// The bytes of a page. /proc/self/statm counts memory in pages.
 const PAGE: u64 = 4096;
 
-// The memory that the program holds now.
+// How many bytes of the program are in memory now, by /proc/self/statm; 0 if that file can't be understood.
 fn resident_bytes(rt: &HostRuntime) -> io::Result<u64> {
     let text = fs::read_to_string(rt, "/proc/self/statm")?;
     let Some(pages) = text.as_str().split_whitespace().nth(1) else {

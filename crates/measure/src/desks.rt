@@ -49,7 +49,7 @@ struct Sides<C: Ledger, K: Ledger, O: Opening> {
     pass: Pass<C, K, O>,
 }
 
-/// Measures `look` of a desk, and its `take` and `hand_in` with those of a book.
+/// Measures `look` of a desk, and compares `take` and `hand_in` of the desk with those of a book.
 pub fn measure<R: Clock + Print + Wait>(rt: &R, alloc: Global, design: &Design) -> io::Result<()> {
     let (book, other) = match two_books(alloc, design) {
         Ok(both) => both,

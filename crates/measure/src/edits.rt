@@ -1,4 +1,5 @@
-//! What an edit costs: its check, the table's plan and make, and its guards, forth and back.
+//! What an edit costs: its check, the table's `plan` and `make`, the guards of the change and of its inverse, and `hopeless`
+//! over the guards of the change.
 ghost use Rattle.std.specs.Prelude.{IfOk};
 ghost use Rattle.std.specs.Arc.{arc_value};
 ghost use Rattle.poly_place.specs.Between.{IsChangeOf};
@@ -17,7 +18,7 @@ use std::time::Instant;
 /// Measures the edit that the line asks for. The design stays as it is.
 pub fn measure(rt: &HostRuntime, design: &Design, line: &str) -> io::Result<()> {
     let Some(edit) = edit_of(rt.alloc(), design, line) else {
-        return println!(rt; "no edit: {line}");
+        return println!(rt; "not an edit: {line}");
     };
     if measure_made(rt, design, &edit, line)? {
         return measure_planned(rt, design, &edit, line);
@@ -64,7 +65,7 @@ fn measure_planned(rt: &HostRuntime, design: &Design, edit: &Edit, line: &str) -
     }
 }
 
-/// Returns the edit that the line asks for.
+/// Returns the edit that the line asks for, or `None` if the line isn't an edit or can't be read.
 pub fn edit_of(alloc: Global, design: &Design, line: &str) -> Option<Edit> {
     let command = asked(alloc, design.grid(), line.as_bytes());
     match &command {
@@ -73,7 +74,7 @@ pub fn edit_of(alloc: Global, design: &Design, line: &str) -> Option<Edit> {
     }
 }
 
-// Makes the edit on the table.
+// Checks the edit, plans its change and makes it on the table.
 fn made(design: &Design, table: &mut Table, edit: &Edit) -> Result<(), Refusal>
     requires { IsRight table.old design.now }
 {
@@ -104,7 +105,7 @@ fn planned(design: &Design, table: &mut Table, edit: &Edit) -> Result<(View, Pla
     }
 }
 
-// Measures the guards both ways, and whether those that lead forth are hopeless.
+// Measures the guards of the change and of its inverse, and `hopeless` over the guards of the change.
 fn measure_guards(rt: &HostRuntime, before: &View, after: &View, delta: &Delta) -> io::Result<()>
     requires { IsChangeOf before.now after.now delta.now }
 {
@@ -115,12 +116,12 @@ fn measure_guards(rt: &HostRuntime, before: &View, after: &View, delta: &Delta) 
         return println!(rt; "the guards were refused");
     };
     println!(rt;
-        "guards: {} forth and {} back, {taken} us",
+        "guards: {} of the change and {} of its inverse, {taken} us",
         both.forth.len(),
         both.back.len()
     )?;
     let begin = Instant::now(rt)?;
     let ends = hopeless(after, &both.forth);
     let taken = begin.elapsed(rt)?.as_nanos();
-    println!(rt; "hopeless over the guards that lead forth: {ends}, {taken} ns")
+    println!(rt; "hopeless over the guards of the change: {ends}, {taken} ns")
 }

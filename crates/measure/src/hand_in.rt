@@ -1,6 +1,7 @@
-//! What it costs a book to take a report, beyond the check of its tree.
+//! What `hand_in` of a book costs, beyond the check of the report's tree.
 //!
-//! The report is on the opening task, with the tree that a worker makes of 100 nodes.
+//! The report is on the opening task. The report's tree is the one that a worker makes with at most 100 nodes that aren't
+//! Rest.
 
 use crate::reports::inner_nodes;
 use poly_atom::Atom;
@@ -147,7 +148,7 @@ fn begin_round(alloc: Global, design: &Design) -> Result<Round, Refusal> {
     Ok(Round { book, job, tree })
 }
 
-// The opening task, and the tree of a worker for it.
+// The opening task, and the tree that a worker makes for it.
 fn job_and_tree(alloc: Global, book: &Book) -> Result<(Job, Tree), Refusal> {
     let job = opening_job(book)?;
     let tree = grown_tree(alloc, &job.view, &job.atoms)?;
@@ -162,8 +163,8 @@ fn opening_job(book: &Book) -> Result<Job, Refusal> {
     }
 }
 
-// A book that has made its matrix, since it has checked a report. It refuses that report, unless the only tiling is the
-// empty one.
+// A book that has already made its matrix, because it has checked a report. The book refuses that report, unless the
+// opening task has no open placement.
 fn book_with_matrix(alloc: Global, design: &Design) -> Result<Book, Refusal> {
     let copy = design.copy()?;
     let mut book = Book::begin(alloc, copy)?;
@@ -175,7 +176,7 @@ fn book_with_matrix(alloc: Global, design: &Design) -> Result<Book, Refusal> {
     Ok(book)
 }
 
-// The tree of a worker with this many nodes.
+// The tree that a worker makes with at most `NODES` nodes that aren't Rest.
 fn grown_tree(alloc: Global, view: &View, atoms: &[Atom]) -> Result<Tree, Refusal> {
     let whole = Matrix::new(alloc, view)?;
     let Explored { tree, leaves: _ } = explore_over(alloc, view, &whole, atoms, NODES)?;

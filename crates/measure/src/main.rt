@@ -1,8 +1,9 @@
 //! Measures the parts of the workbench on the designs that standard input gives.
 //!
-//! Without an argument, the first line is a puzzle line, and each further line is an edit of that design, measured by
-//! itself. With the argument `book`, the further lines are a session on one book. With the argument `desk`, each line is a
-//! puzzle line, and the calls of a desk of its design are compared with the same calls of a book.
+//! Without an argument, the first line is a puzzle line, and each further line is an edit of that design. The edits
+//! are measured one by one, and each starts from the design as it was read. With the argument `book`, the further lines are a
+//! session on one book. With the argument `desk`, each line is a puzzle line, and the calls of a desk of its design are
+//! compared with the same calls of a book.
 #![tactic(auto)]
 
 mod books;
@@ -27,6 +28,7 @@ enum Subject {
     Parts,
     Book,
     Desk,
+    Unknown,
 }
 
 fn main(rt: HostRuntime) -> io::Result<()> {
@@ -34,23 +36,28 @@ fn main(rt: HostRuntime) -> io::Result<()> {
         Subject::Parts => measure_parts(&rt),
         Subject::Book => measure_book(&rt),
         Subject::Desk => measure_desk(&rt, &rt),
+        Subject::Unknown => refuse_argument(&rt),
     }
 }
 
-// What the first argument names.
+fn refuse_argument(rt: &HostRuntime) -> io::Result<()> {
+    println!(rt; "the argument is `book` or `desk`, or there is none")
+}
+
+// The subject that the first argument names; `Parts` if there is no argument.
 fn read_subject(rt: &HostRuntime) -> io::Result<Subject> {
     let words: Vec<String> = env::args(rt)?.collect(rt.alloc())?;
     match words.get(1) {
         Some(word) => match word.as_str() {
             "book" => Ok(Subject::Book),
             "desk" => Ok(Subject::Desk),
-            _ => Ok(Subject::Parts),
+            _ => Ok(Subject::Unknown),
         },
         None => Ok(Subject::Parts),
     }
 }
 
-// Measures the parts on the design, and then for each edit of it.
+// Measures the parts on the first design that is read, and then each further line as an edit of that design.
 fn measure_parts(rt: &HostRuntime) -> io::Result<()> {
     let mut design: Option<Design> = None;
     for line in rt.lines(rt.alloc()) {

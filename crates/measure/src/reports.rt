@@ -8,10 +8,10 @@ use std::alloc::Global;
 use std::io;
 use std::time::{Duration, Instant};
 
-// The nodes of a report, as a worker asks for them.
+/// The most nodes of a report's tree that aren't Rest.
 pub(crate) const NODES: u32 = 256;
 
-// The sums over all reports until no task is left; `pending` is the most tasks that were pending at a time.
+// The sums over all reports, but `pending` is the most tasks that were pending at a time.
 #[derive(Drop)]
 struct Totals {
     reports: u64,

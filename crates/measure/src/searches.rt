@@ -1,4 +1,4 @@
-//! What placements, a view, a frame and a whole search cost.
+//! What a design's placements, its view, the view's matrix, frames, the leaves of a report and a search for all tilings cost.
 ghost use Rattle.poly_frame.specs.Matrices.{IsWhole};
 
 use crate::reports::{self, NODES};
@@ -13,11 +13,11 @@ use std::alloc::Global;
 use std::io;
 use std::time::Instant;
 
-// How many times the frames for these rests are made.
+// How many times a frame is made for each rest of a report.
 const ROUNDS: u32 = 100;
 
-/// Measures the design's placements, its view, a frame at the root and for each rest of a report, the solver, and, if the
-/// solver finished, the reports of a worker.
+/// Measures the design's placements, its view, the view's matrix, a frame at the root, the walk for the leaves of one report,
+/// a frame for each rest of that report, the solver, and, if the solver finished, the reports of a worker.
 pub fn measure(rt: &HostRuntime, design: &Design) -> io::Result<()> {
     let begin = Instant::now(rt)?;
     let places = design.places();
@@ -90,8 +90,8 @@ fn measure_report(rt: &HostRuntime, view: &View, matrix: &Matrix) -> io::Result<
     measure_frames(rt, view, matrix, &found.rests)
 }
 
-// Measures a frame for each of the tasks. All of them are made several times, since the first ones wait for fresh memory,
-// and a worker makes frames all the time.
+// Measures a frame for each of the tasks. All frames are made several times: the first ones wait for fresh memory, which is
+// rare for a worker, since it makes frames all the time.
 fn measure_frames(
     rt: &HostRuntime,
     view: &View,
@@ -127,7 +127,7 @@ fn make_frames(
     Ok(())
 }
 
-// Measures the search. Returns whether it finished.
+// Measures the solver. Returns whether it finished.
 fn measure_search(rt: &HostRuntime, view: &View) -> io::Result<bool> {
     let begin = Instant::now(rt)?;
     let found = search_all(rt.alloc(), view, &[]);

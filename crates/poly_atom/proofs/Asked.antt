@@ -1,4 +1,4 @@
--- What a list of atoms asks for counts once, however often and in whichever order the list asks for it.
+-- Whether a list is hopeless depends on which placements its Has atoms ask for, but not on how often or in which order.
 use Rattle.std.proofs.Common.{Bool, List, [], ap, eqb, false, get_or, inl, inr, length, not, refl, set, subst, sym, take, true, ℕ, ◌++◌, ◌||◌, ◌&&◌, ◌+◌, ◌<◌, ◌∙◌, ◌∷◌, ◌≡◌, ◌≤◌}
 use Rattle.std.proofs.lemmas.Bool.{eq-eqb, eqb-true, or_cases, or_left, or_right, true≢false}
 use Rattle.std.proofs.lemmas.List.{take_all, take_more, take_more_set}
@@ -23,11 +23,11 @@ asked_append (AtMost i n ∷ A) B = asked_append A B
 mem_asked : (A B : List Atom) (p : ℕ) → mem (asked (A ++ B)) p ≡ (mem (asked A) p || mem (asked B) p)
 mem_asked A B p = ap (λ l. mem l p) (asked_append A B) ∙ any_append (λ y. eqb y p) (asked A) (asked B)
 
--- an atom that is written after the first n
+-- once an atom is written at index n, the first n + 1 atoms ask for what the first n and the new atom ask for
 pub gathered_new : (list new : List Atom) (n : ℕ) (a : Atom) → n < length list → new ≡ set list n a → (p : ℕ) → mem (asked (take (n + 1) new)) p ≡ (mem (asked (take n list)) p || mem (asked (a ∷ [])) p)
 gathered_new list new n a l is p = ap (λ z. mem (asked (take (n + 1) z)) p) is ∙ ap (λ z. mem (asked z) p) (take_more_set list n a l) ∙ mem_asked (take n list) (a ∷ []) p
 
--- one more atom of the list
+-- if two lists ask for the same placements, they still do when the same atom is added to both
 pub gathered_more : (A : List Atom) (i : ℕ) (d a : Atom) (old new : List Atom) → i < length A → a ≡ get_or A i d → ((p : ℕ) → mem (asked old) p ≡ mem (asked (take i A)) p) →
     ((p : ℕ) → mem (asked new) p ≡ (mem (asked old) p || mem (asked (a ∷ [])) p)) → (p : ℕ) → mem (asked new) p ≡ mem (asked (take (i + 1) A)) p
 gathered_more A i d a old new l is h next p =
@@ -37,7 +37,7 @@ gathered_more A i d a old new l is h next p =
 pub gathered_all : (A : List Atom) (i : ℕ) (new : List Atom) → length A ≤ i → ((p : ℕ) → mem (asked new) p ≡ mem (asked (take i A)) p) → AskTheSame new A
 gathered_all A i new l h p = h p ∙ ap (λ z. mem (asked z) p) (take_all i A l)
 
--- a Has of one list is in the other
+-- if two lists ask for the same placements, each Has of one is in the other
 has_same : (D A : List Atom) → AskTheSame D A → (p : ℕ) → In (Has p) D → In (Has p) A
 has_same D A h p i = asked_in A p (mem_in (asked A) p (sym (h p) ∙ in_mem (asked D) p (in_asked D p i)))
 
@@ -111,7 +111,8 @@ bad_found v D A h (Lacks p) i b = found_beyond v D A (Lacks p) i (or_left (mem v
 bad_found v D A h (AtLeast j n) i b = found_beyond v D A (AtLeast j n) i b
 bad_found v D A h (AtMost j n) i b = found_beyond v D A (AtMost j n) i b
 
--- the gathered atoms and those that rule out decide whether the list is hopeless
+-- if the gathered atoms D ask for the same placements as the list A, then A is hopeless exactly if an atom of D is `lost` or
+-- an atom of A is `beyond`
 pub found_is : (v : View) (D A : List Atom) → AskTheSame D A → (list_any (λ a. lost v D a) D || list_any (λ a. beyond v D a) A) ≡ hopeless v A
 found_is v D A h = same_truth (list_any (λ a. lost v D a) D || list_any (λ a. beyond v D a) A) (hopeless v A)
     (λ e. elim (or_cases (list_any (λ a. lost v D a) D) (list_any (λ a. beyond v D a) A) e) [

@@ -1,4 +1,4 @@
--- What each member of a family has.
+-- The base of a list of atoms: each tiling of the family has all placements of the base.
 use Rattle.std.proofs.Common.{Bool, List, [], ap, inl, inr, refl, subst, sym, true, ℕ, ◌∷◌, ◌≡◌, ◌≤◌, ◌⊎◌}
 use Rattle.std.proofs.lemmas.Bool.{both_ways, eqb-true, not-true, true≢false}
 use Rattle.poly_tiling.specs.Lists.{ascending, mem, put_all, tally}
@@ -47,7 +47,7 @@ in_base_pin v A p i = in_put_all_right (asked A) (put_all v.pins []) p (in_put_a
 pub atom_met : (v : View) (T : List ℕ) (A : List Atom) → meets_all v T A ≡ true → (a : Atom) → In a A → meets v T a ≡ true
 atom_met v T A h a i = all_in (λ b. meets v T b) A h a i
 
--- each member of the family has the base
+-- each tiling of the family has every member of the base
 pub base_within : (v : View) (T : List ℕ) (A : List Atom) → IsTiling v T → meets_all v T A ≡ true → (p : ℕ) → In p (base v A) → In p T
 base_within v T A t m p i = elim (base_in v A p i)
     [ inl j ↦ mem_in T p (atom_met v T A m (Has p) j) | inr j ↦ t.pinned p j ]
@@ -58,6 +58,6 @@ not_lacked v T p (Lacks q) m l i = both_ways (mem T q) (not-true _ m) (in_mem T 
 not_lacked v T p (AtLeast j n) m l i = true≢false (sym l)
 not_lacked v T p (AtMost j n) m l i = true≢false (sym l)
 
--- the base has no more than a tiling of the family
+-- no more members of the base pass a test than members of a tiling of the family
 pub base_fewer : (v : View) (T : List ℕ) (A : List Atom) → IsTiling v T → meets_all v T A ≡ true → (f : ℕ → Bool) → tally f (base v A) ≤ tally f T
 base_fewer v T A t m f = tally_within f f (base v A) T (ascending_distinct (base v A) (base_up v A)) (λ p i e. (base_within v T A t m p i, e))

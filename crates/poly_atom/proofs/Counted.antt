@@ -1,4 +1,4 @@
--- Tests and counts over what each tiling of a family has, without building the list of it.
+-- Tests and counts over the base of a list of atoms, without building the base.
 use Rattle.std.proofs.lemmas.List.{at_drop_more}
 use Rattle.std.proofs.Common.{Bool, List, [], ap, arith, cond, drop, eqb, false, get_or, inl, inr, length, ltb, not, refl, sym, true, ℕ, ◌&&◌, ◌+◌, ◌<◌, ◌||◌, ◌∙◌, ◌∷◌, ◌≡◌}
 use Rattle.std.proofs.lemmas.Bool.{eqb-false, eqb-true, false_from_ne_true, ltb-true, or_cases, or_left, or_right}
@@ -19,7 +19,7 @@ pub or_no : (b : Bool) → (b || false) ≡ b
 or_no true = refl
 or_no false = refl
 
--- a test of what is asked for, atom by atom
+-- whether some placement that is asked for passes a test can be seen atom by atom
 pub any_asked : (f : ℕ → Bool) (A : List Atom) → list_any (λ a. list_any f (asked (a ∷ []))) A ≡ list_any f (asked A)
 any_asked f [] = refl
 any_asked f (Has p ∷ A) = ap (λ b. b || list_any (λ a. list_any f (asked (a ∷ []))) A) (or_no (f p)) ∙ ap (λ b. f p || b) (any_asked f A)
@@ -27,7 +27,7 @@ any_asked f (Lacks p ∷ A) = any_asked f A
 any_asked f (AtLeast i n ∷ A) = any_asked f A
 any_asked f (AtMost i n ∷ A) = any_asked f A
 
--- a test of the base is one of what is asked for and of the pins
+-- some member of the base passes a test exactly if some placement that is asked for or some pin passes it
 pub any_base : (v : View) (A : List Atom) (f : ℕ → Bool) → list_any f (base v A) ≡ (list_any f (asked A) || list_any f v.pins)
 any_base v A f = same_truth (list_any f (base v A)) (list_any f (asked A) || list_any f v.pins)
     (λ e. let x = any_in f (base v A) e in elim (put_all_in (asked A) (put_all v.pins []) x.0 x.1) [
@@ -67,7 +67,7 @@ put_tally_at f p q qs h ih false false e l =
     let other : mem (q ∷ qs) p ≡ mem qs p = ap (λ b. b || mem qs p) (false_from_ne_true (eqb q p) (λ k. eqb-false p q e (sym (eqb-true q p k)))) in
     omega (arith, ih, ap (λ b. one (f p && not b)) other)
 
--- one more number counts if it is new
+-- putting a number into an ascending list raises the count by one if the number passes the test and is new, else by nothing
 pub put_tally : (f : ℕ → Bool) (p : ℕ) (qs : List ℕ) → ascending qs ≡ true → tally f (put p qs) ≡ one (f p && not (mem qs p)) + tally f qs
 put_tally f p [] h = omega (arith, one_yes (f p))
 put_tally f p (q ∷ qs) h = put_tally_at f p q qs h (put_tally f p qs (ascending_rest q qs h)) (eqb p q) (ltb p q) refl refl
@@ -80,7 +80,7 @@ mem_put_all ps qs x = same_truth (mem (put_all ps qs) x) (mem ps x || mem qs x)
       | inr b ↦ in_mem (put_all ps qs) x (in_put_all_right ps qs x (mem_in qs x b))
     ])
 
--- in a list without repeats each number counts once
+-- if a list has no repeats, as many of its numbers pass a test as if they are put into an ascending list
 once_tally : (f : ℕ → Bool) (ps : List ℕ) → distinct ps ≡ true → tally f (put_all ps []) ≡ tally f ps
 once_tally f [] d = refl
 once_tally f (p ∷ ps) d =
@@ -92,7 +92,7 @@ neither true true c = refl
 neither true false c = refl
 neither false b c = refl
 
--- the count over the base
+-- the count over the base is the count over the pins plus what the atoms add
 pub count_base : (v : View) (A : List Atom) (i : Item) → WellNamed v → count v v.pins i + extra v A i ≡ count v (base v A) i
 count_base v [] i w = omega (arith, once_tally (λ p. has_item v p i) v.pins (pins_once v w))
 count_base v (Has p ∷ A) i w =
@@ -103,7 +103,7 @@ count_base v (Lacks p ∷ A) i w = omega (arith, count_base v A i w)
 count_base v (AtLeast j n ∷ A) i w = omega (arith, count_base v A i w)
 count_base v (AtMost j n ∷ A) i w = omega (arith, count_base v A i w)
 
--- one more atom of the list
+-- what the atoms from index n on add is what atom n adds plus what the later atoms add
 pub extra_more : (v : View) (A : List Atom) (n : ℕ) (i : Item) (a : Atom) (rest : List Atom) → n < length A → a ≡ get_or A n a → rest ≡ drop (n + 1) A →
     extra v (drop n A) i ≡ one (adds v a rest i) + extra v (drop (n + 1) A) i
 extra_more v A n i a rest h is e =

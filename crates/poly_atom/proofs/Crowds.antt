@@ -1,5 +1,5 @@
--- A list that asks for more different placements than the view has items is hopeless: placements that share no cell each
--- have an item of their own, the first cell or, if a placement covers none, its piece.
+-- A list that asks for more different placements than the view has items is hopeless: if no two placements
+-- share a cell, each has an item of its own. A placement's own item is its first cell or, if it covers no cell, its piece.
 use Rattle.std.proofs.Common.{Bool, List, None, Option, Some, [], ap, arith, eqb, false, get_or, inl, inr, length, map, not, refl, slice_get, subst, sym, take, true, ℕ, ◌++◌, ◌+◌, ◌&&◌, ◌<◌, ◌||◌, ◌∙◌, ◌∷◌, ◌≡◌, ◌≤◌, ◌⊎◌}
 use Rattle.std.proofs.lemmas.Bool.{both_ways, cases_Bool, eqb-false, eqb-true, false_from_ne_true, not-false, or_parts, true≢false}
 use Rattle.std.proofs.lemmas.List.{append-nil, take-append-drop, take_more}
@@ -66,11 +66,11 @@ abbrev leads_of : Bound → Option Placement → Bool
 leads_of b None = false
 leads_of b (Some x) = same_item b.item (first_item x.name x.cells)
 
--- the bound is that of the placement's own item
+-- the bound's item is the placement's own item
 abbrev leads : View → Bound → ℕ → Bool
 leads v b p = leads_of b (slice_get v.placements p)
 
--- two placements with the same item of their own are the same, or share a cell
+-- if two placements have the same own item, they are equal or share a cell
 shares : (m n : List ℕ) (cs ds : List Spot) → same_item (first_item m cs) (first_item n ds) ≡ true → ((m ≡ n) × (cs ≡ ds)) ⊎ ((c : Spot) × In c cs × In c ds)
 shares m n [] [] h = inl ((bytes_decides m n).0 h, refl)
 shares m n [] (d ∷ ds) h = absurd (true≢false (sym h))
@@ -116,7 +116,7 @@ leads_in v w p i =
 
 -- ---- more placements than items
 
--- a placement that is asked for and isn't bad
+-- the placement is in the design, and in conflict with no placement that is asked for
 record IsFine (v : View) (A : List Atom) (p : ℕ) : Type 0 where
   live : In p v.live
   apart : (q : ℕ) → In (Has q) A → conflicts v p q ≡ false
@@ -191,7 +191,7 @@ same_all : (D A : List Atom) → ((p : ℕ) → mem (asked D) p ≡ mem (asked A
 same_all D A h [] = refl
 same_all D A h (p ∷ ps) = ap (λ b. b && list_all (λ p. mem (asked D) p) ps) (h p) ∙ ap (λ b. mem (asked A) p && b) (same_all D A h ps)
 
--- one more atom asks for one more placement, if no other atom asks for that one
+-- one more atom raises the count by one if it asks for a placement that no atom of the list asks for, else by nothing
 asked_more : (A : List Atom) (a : Atom) → asked_count (A ++ a ∷ []) ≡ asked_count A + one (not (list_all (λ p. mem (asked A) p) (asked (a ∷ []))))
 asked_more A (Has p) =
     let same : mem (put_all (asked A) []) p ≡ mem (asked A) p = mem_put_all (asked A) [] p ∙ or_no (mem (asked A) p) in

@@ -1,4 +1,4 @@
--- A change sets and removes few pins.
+-- A change adds at most 64 pins and removes at most 64.
 use Rattle.std.proofs.Common.{List, arith, length, ℕ, ◌≤◌}
 use Rattle.poly_shape.proofs.Ascending.{length-part}
 use Rattle.poly_design.specs.Layout.{Layout}

@@ -34,7 +34,7 @@ any_same_in : {X : Type 0} (f g : X → Bool) (xs : List X) → ((x : X) → In 
 any_same_in f g [] h = refl
 any_same_in f g (x ∷ xs) h = ap (λ b. b || list_any f xs) (h x (inl refl)) ∙ ap (λ b. g x || b) (any_same_in f g xs (λ y i. h y (inr i)))
 
--- numbers that name something
+-- the number of each placement of the design is below the length of the view's `placements`
 pub live_low : (v : View) → WellNamed v → (p : ℕ) → In p v.live → p < length v.placements
 live_low v wn p i = ltb-true p (length v.placements) (all_in (λ q. nat_lt q (length v.placements)) v.live wn.named p i)
 

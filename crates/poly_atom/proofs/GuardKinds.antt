@@ -1,4 +1,4 @@
--- The guards tell the old tilings among the new.
+-- The guards tell which tilings of the new design are tilings of the old one.
 use Rattle.std.proofs.Common.{List, ap, arith, eqb, false, inl, inr, ltb, not, refl, slice_get, subst, sym, true, ℕ, ◌&&◌, ◌++◌, ◌<◌, ◌∙◌, ◌≡◌, ◌≤◌}
 use Rattle.std.proofs.lemmas.Bool.{both_ways, cases_Bool, false_from_ne_true, le-leb, leb-true, lt-ltb, ltb-false, ltb-true, not-true, not_from_false}
 use Rattle.std.specs.List.{filter, list_all, list_any}
@@ -16,7 +16,7 @@ use Rattle.poly_atom.specs.Guards.{guards, guards_fresh, guards_least, guards_mo
 use Rattle.poly_atom.specs.Laws.{GuardsTell}
 use Rattle.poly_atom.proofs.Bases.{atom_met}
 
--- guards of the four kinds are in the list
+-- each new placement, each removed pin, and each item of the old design whose least fell or whose most rose has its guard
 pub guard_lacks : (old new : View) (p : ℕ) → In p new.live → mem old.live p ≡ false → In (Lacks p) (guards old new)
 guard_lacks old new p i n =
     in_append_left (Lacks p) (guards_fresh old new) (guards_least old new ++ (guards_most old new ++ guards_pins old new))
@@ -42,7 +42,7 @@ guard_has old new p i n =
     (in_append_right _ (guards_most old new) (guards_pins old new)
     (in_map (λ p. Has p) (filter (λ p. not (mem new.pins p)) old.pins) p (in_filter (λ p. not (mem new.pins p)) old.pins p i (not_from_false _ n)))))
 
--- a guard is of one of the four kinds
+-- what a guard of each kind says about the two designs
 abbrev pub IsGuard : View → View → Atom → Type 0
 IsGuard old new (Lacks p) = In p new.live × (mem old.live p ≡ false)
 IsGuard old new (AtLeast i n) = (n ≡ least old i) × (0 < n)
@@ -83,7 +83,7 @@ old_met old new T wn names t (Lacks p) g = not_from_false _ (false_from_ne_true 
 old_met old new T wn names t (AtLeast i n) g = le-leb _ _ (omega (arith, g.0, old_count old new T wn names t.placed i, t.enough i))
 old_met old new T wn names t (AtMost i n) g = le-leb _ _ (omega (arith, g.0, old_count old new T wn names t.placed i, t.few i))
 
--- the old least is met
+-- a tiling of the new design that meets the guards covers each item at least as often as the old least asks
 old_enough : (old new : View) (T : List ℕ) → IsTiling new T → meets_all new T (guards old new) ≡ true → (b : Bound) → In b old.bounds → least old b.item ≤ count new T b.item
 old_enough old new T t m b k = elim (cases_Bool (ltb (least new b.item) (least old b.item))) [
   | inl y ↦ leb-true _ _ (atom_met new T (guards old new) m (AtLeast b.item (least old b.item)) (guard_least old new b k y))

@@ -21,7 +21,7 @@ sorted_places lt (x ∷ xs) i zero d h l m = absurd (omega arith)
 sorted_places lt (x ∷ xs) zero (suc j) d h l m = all_in (λ y. lt x y) xs (and_parts (list_all (λ y. lt x y) xs) (sorted lt xs) h).0 (get_or xs j d) (in_get xs j d (omega arith))
 sorted_places lt (x ∷ xs) (suc i) (suc j) d h l m = sorted_places lt xs i j d (and_parts (list_all (λ y. lt x y) xs) (sorted lt xs) h).1 (omega arith) (omega arith)
 
--- each element equal to x lies between two indices
+-- each element equal to x has an index that is at least `low` and below `high`
 pub record IsWithin {X : Type 0} (eq : X → X → Bool) (xs : List X) (x : X) (low high : ℕ) : Type 0 where
   pub at : (k : ℕ) → k < length xs → eq (get_or xs k x) x ≡ true → (low ≤ k) × (k < high)
 
@@ -55,7 +55,7 @@ module _ {X : Type 0} (lt eq : X → X → Bool) (o : IsOrder lt eq) (xs : List 
         ];
   }
 
--- nothing is left to look at
+-- if no index is left between `low` and `high`, no element is equal to x
 pub none_within : {X : Type 0} (eq : X → X → Bool) (xs : List X) (x : X) (low high : ℕ) → IsWithin eq xs x low high → high ≤ low → list_any (λ y. eq y x) xs ≡ false
 none_within eq xs x low high w h = any_none (λ y. eq y x) xs (λ y i e.
     let p = in_place xs y x i in

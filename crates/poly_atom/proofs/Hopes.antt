@@ -1,4 +1,5 @@
--- A list stays as hopeless as it was if it also asks for an open placement, or rules out one that is neither asked for nor pinned.
+-- Whether a list is hopeless doesn't change if it also asks for an open placement, or rules out one that is neither asked for
+-- nor pinned.
 use Rattle.std.proofs.Common.{Bool, List, None, Option, Some, [], ap, arith, eqb, false, inl, inr, nat_lt, not, refl, slice_get, subst, sym, true, ℕ, ◌&&◌, ◌++◌, ◌+◌, ◌<◌, ◌||◌, ◌∙◌, ◌∷◌, ◌≡◌, ◌≤◌, ◌⊎◌}
 use Rattle.std.proofs.lemmas.Bool.{and_from, and_parts, both_ways, cases_Bool, eq-eqb, eqb-true, false_from_ne_true, le-leb, lt-ltb, ltb-false, ltb-true, not-true, not_from_false, or_cases, or_left, or_right, true≢false}
 use Rattle.std.specs.List.{list_any}
@@ -34,7 +35,7 @@ conflict_back v p q h =
 last_one : (A : List Atom) (b a : Atom) → In a (A ++ b ∷ []) → In a A ⊎ (b ≡ a)
 last_one A b a i = elim (in_append_cases a A (b ∷ []) i) [ inl j ↦ inl j | inr (inl e) ↦ inr e | inr (inr k) ↦ absurd k ]
 
--- what a list with one more atom lacks
+-- if a list with one more atom rules out a placement, the list or that atom does
 lacked_by : (A : List Atom) (b : Atom) (q : ℕ) → list_any (λ a. lacks a q) (A ++ b ∷ []) ≡ true → (list_any (λ a. lacks a q) A ≡ true) ⊎ (lacks b q ≡ true)
 lacked_by A b q h =
     let a = any_in (λ a. lacks a q) (A ++ b ∷ []) h in
@@ -54,7 +55,7 @@ module _ (v : View) (A : List Atom) (p : ℕ) (o : IsOpenFor v A p) where
   one_more i = tally_within (λ q. has_item v q i) (λ q. has_item v q i) (base v (A ++ Has p ∷ [])) (p ∷ base v A)
       (ascending_distinct (base v (A ++ Has p ∷ [])) (base_up v (A ++ Has p ∷ []))) (λ q j h. (joined q j, h))
 
-  -- the piece of the open placement may be in one more member
+  -- the base has room for one more placement of the open placement's piece
   has_room : (i : Item) → In i (items v p) → is_piece i ≡ true → count v (base v A) i < most v i
   has_room i j is = elim (cases_Bool (nat_le (most v i) (count v (base v A) i))) [
     | inl e ↦ absurd (both_ways _ o.room (any_from (λ i. is_piece i && nat_le (most v i) (count v (base v A) i)) (items v p) i j (and_from _ _ is e)))

@@ -104,7 +104,7 @@ module _ (a b : View) (d e : Layout) (wn : WellNamed a) (first : IsDesign d) (s 
         lower = omega (arith, l, shown_most a d s (Piece n), shown_most b e t (Piece n));
       }
 
-  -- only a piece can rise
+  -- an item of the first design whose most rises is a piece
   pub risen_piece : (i : Item) (c : Bound) → In c a.bounds → c.item ≡ i → most a i < most b i → (n : List ℕ) × (i ≡ Piece n) × MostFalls e d n
   risen_piece (Cell k) c i is l =
       let one = cell_most d first c k (subst (λ bs. In c bs) s.bounds i) is in
@@ -175,7 +175,7 @@ forth_count v w x c = sym (guards_by_length v x.fresh.items x.unneeded.items x.w
 pub back_count : (v w : View) (x : Delta) → IsChangeOf v w x → length x.gone.items + (length x.needed.items + (length x.narrowed.items + length x.pinned.items)) ≡ length (guards w v)
 back_count v w x c = sym (guards_by_length w x.gone.items x.needed.items x.narrowed.items x.pinned.items) ∙ ap length (back_is v w x c)
 
--- ---- few of them
+-- ---- how many items or pieces have a bound that changes
 
 filter_shorter : {X : Type 0} (f : X → Bool) (xs : List X) → length (filter f xs) ≤ length xs
 filter_shorter f [] = omega arith

@@ -25,13 +25,14 @@ abbrev pub sorted : {X : Type 0} → (X → X → Bool) → List X → Bool
 sorted lt [] = true
 sorted lt (x ∷ xs) = list_all (λ y. lt x y) xs && sorted lt xs
 
--- the elements of the first list that pass, with their partners in the second
+-- `make x` for each x of the first list that passes the test; if both lists are sorted, the test also sees the element of the
+-- second list that is equal to x, if there is one
 abbrev pub walk : {X A : Type 0} → (X → X → Bool) → (X → X → Bool) → (X → Option X → Bool) → (X → A) → List X → List X → List A
 walk lt eq test make [] ys = []
 walk lt eq test make (x ∷ xs) ys =
     cond (test x (front (λ y. eq y x) (behind (λ y. lt y x) ys))) (make x ∷ walk lt eq test make xs (behind (λ y. lt y x) ys)) (walk lt eq test make xs (behind (λ y. lt y x) ys))
 
--- an order, and which elements have the same place in it
+-- `lt` is an order, and `eq` says which elements are equal in that order
 pub record IsOrder {X : Type 0} (lt eq : X → X → Bool) : Type 0 where
   pub trans : (x y z : X) → lt x y ≡ true → lt y z ≡ true → lt x z ≡ true
   pub apart : (x y : X) → lt x y ≡ true → eq x y ≡ true → ⊥
@@ -167,7 +168,7 @@ walk_rose make xs ys hx hy =
     walk_is bound_below same_bound items_order rose make xs ys (sorted_items xs hx) (sorted_items ys hy)
     ∙ ap (λ t. map make t) (filter_same_in (λ b. rose b (find (λ c. same_item c.item b.item) ys)) (λ b. nat_lt b.most (bound_in ys b.item (λ c. c.most))) xs (λ b i. ap (λ n. nat_lt b.most n) (first_bound ys b.item (λ c. c.most))))
 
--- the walk over what is left from an index on
+-- the walk from index i on: what it makes of element i, if this passes, and then the walk from the next index on
 pub walk_more : {X A : Type 0} (lt eq : X → X → Bool) (test : X → Option X → Bool) (make : X → A) (xs : List X) (i : ℕ) (x : X) (ys zs : List X) →
     i < length xs → x ≡ get_or xs i x → zs ≡ behind (λ y. lt y x) ys →
     walk lt eq test make (drop i xs) ys ≡ cond (test x (front (λ y. eq y x) zs)) (make x ∷ walk lt eq test make (drop (i + 1) xs) zs) (walk lt eq test make (drop (i + 1) xs) zs)
@@ -180,7 +181,7 @@ add_at : {A : Type 0} (b : Bool) (out rest : List A) (x : A) → cond b (out ++ 
 add_at true out rest x = append_assoc out (x ∷ []) rest
 add_at false out rest x = refl
 
--- one step of the walk
+-- a step adds element i to `out` if it passes; `out` followed by the rest of the walk stays the same list
 pub walk_step : {X A : Type 0} (lt eq : X → X → Bool) (test : X → Option X → Bool) (make : X → A) (xs : List X) (i : ℕ) (x : X) (ys zs : List X) (out : List A) (b : Bool) →
     i < length xs → x ≡ get_or xs i x → zs ≡ behind (λ y. lt y x) ys → b ≡ test x (front (λ y. eq y x) zs) →
     cond b (out ++ make x ∷ []) out ++ walk lt eq test make (drop (i + 1) xs) zs ≡ out ++ walk lt eq test make (drop i xs) ys
@@ -194,7 +195,7 @@ sorted_drop lt zero xs h = h
 sorted_drop lt (suc n) [] h = refl
 sorted_drop lt (suc n) (x ∷ xs) h = sorted_drop lt n xs (and_parts (list_all (λ y. lt x y) xs) (sorted lt xs) h).1
 
--- what comes before all that is left needs no second look
+-- an element of the second list that is below each element of the first list changes nothing
 walk_past : {X A : Type 0} (lt eq : X → X → Bool) (test : X → Option X → Bool) (make : X → A) (xs : List X) (y : X) (ys : List X) → ((x : X) → In x xs → lt y x ≡ true) →
     walk lt eq test make xs (y ∷ ys) ≡ walk lt eq test make xs ys
 walk_past lt eq test make [] y ys h = refl
@@ -211,7 +212,7 @@ missing_past : (v : View) (x : ℕ) (xs ys : List ℕ) → ((q : ℕ) → In q x
 missing_past v x xs [] up = refl
 missing_past v x xs (y ∷ ys) up = missing_past_at v x xs y ys up (eqb y x) refl
 
--- a number that both lists contain is skipped
+-- once number x of the first list is passed, skipping x in the second list changes nothing
 pub missing_on : (v : View) (xs : List ℕ) (i x : ℕ) (ys : List ℕ) → in_order v xs ≡ true → i < length xs → x ≡ get_or xs i x →
     walk (below v) (λ p q. eqb p q) is_missing (λ p. p) (drop (i + 1) xs) (past (λ y. eqb y x) ys) ≡ walk (below v) (λ p q. eqb p q) is_missing (λ p. p) (drop (i + 1) xs) ys
 missing_on v xs i x ys up l is =
@@ -219,12 +220,12 @@ missing_on v xs i x ys up l is =
     let sorts : sorted (below v) (x ∷ drop (i + 1) xs) ≡ true = ap (sorted (below v)) (sym here) ∙ sorted_drop (below v) i xs (sorted_numbers v xs up) in
     missing_past v x (drop (i + 1) xs) ys (all_in (λ q. below v x q) (drop (i + 1) xs) (and_parts (list_all (λ q. below v x q) (drop (i + 1) xs)) (sorted (below v) (drop (i + 1) xs)) sorts).0)
 
--- nothing is left to walk over
+-- after the last index the walk adds nothing
 pub walk_done : {X A : Type 0} (lt eq : X → X → Bool) (test : X → Option X → Bool) (make : X → A) (xs : List X) (i : ℕ) (ys : List X) (out : List A) →
     length xs ≤ i → out ++ walk lt eq test make (drop i xs) ys ≡ out
 walk_done lt eq test make xs i ys out h = ap (λ t. out ++ walk lt eq test make t ys) (drop_all i xs h) ∙ append-nil out
 
--- an item's bounds are those next to it in the list
+-- a bound that is below each bound of a list has the item of none of them
 not_itself : (b : Bound) (bs : List Bound) (c : Bound) → list_all (λ d. bound_below b d) bs ≡ true → In c bs → same_item b.item c.item ≡ false
 not_itself b bs c h i = false_from_ne_true (same_item b.item c.item) (items_order.apart b c (all_in (λ d. bound_below b d) bs h c i))
 

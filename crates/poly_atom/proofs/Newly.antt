@@ -1,4 +1,4 @@
--- What a change makes hopeless has an atom about what it touches.
+-- A list that a change makes hopeless has an atom about what the change touches.
 use Rattle.std.proofs.Common.{List, None, Option, Some, ap, arith, eqb, false, inl, inr, length, nat_lt, not, slice_get, subst, sym, true, ℕ, ◌&&◌, ◌<◌, ◌||◌, ◌∙◌, ◌≡◌, ◌≤◌}
 use Rattle.std.proofs.lemmas.Bool.{and_from, and_parts, both_ways, cases_Bool, cases_lt, false_from_ne_true, lt-ltb, ltb-false, ltb-true, not-true, not_from_false, or_cases, or_left, or_right, true≢false}
 use Rattle.std.specs.List.{list_any}
@@ -71,7 +71,7 @@ module _ (v w : View) (x : Delta) (y : Change) (A : List Atom) (c : IsChangeOf v
   same_has : (q : ℕ) → q < length v.placements → (i : Item) → has_item w q i ≡ has_item v q i
   same_has q l i = ap (λ o. list_any (λ j. same_item j i) (items_of o)) (slot_same v w c.names q l)
 
-  -- what a new pin has in common with what is asked for
+  -- if p has an item of a new pin, the change touches Has p
   by_pin : (p q : ℕ) → In q w.pins → mem v.pins q ≡ false → list_any (λ i. has_item w p i) (items w q) ≡ true → touched w x (item_of y) (Has p) ≡ true
   by_pin p q i e h = or_right (mem x.gone.items p || list_any (λ n. has_item w p (Piece n)) x.narrowed.items) _
       (any_from (λ q. list_any (λ i. has_item w p i) (items w q)) x.pinned.items q (pin_new q i e) h)
@@ -94,7 +94,7 @@ module _ (v w : View) (x : Delta) (y : Change) (A : List Atom) (c : IsChangeOf v
       pinned : In q v.pins → ⊥
       pinned j = bad_there (in_base_pin v A q j) (pin_low v c.shown.well q j)
 
-  -- a piece that is in too many has a lower most, or a new pin
+  -- before the change, the base covers the piece of each placement that is asked for no more often than the piece's most
   few_before : (p : ℕ) (i : Item) → In (Has p) A → In i (items w p) → is_piece i ≡ true → count v (base v A) i ≤ most v i
   few_before p i k j is = elim (cases_lt (most v i) (count v (base v A) i)) [
     | inl l ↦ absurd (not_bad (Has p) k (or_right _ _ (any_from (λ i. is_piece i && nat_lt (most v i) (count v (base v A) i)) (items v p) i

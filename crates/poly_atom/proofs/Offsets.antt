@@ -34,7 +34,7 @@ first_part n front g after m f e =
     let w : m - n ≡ length g = omega arith in
     ap (λ k. take k (drop n (front ++ (g ++ after)))) w ∙ ap (λ xs. take (length g) xs) (drop_at front (g ++ after) n f) ∙ take_at g after (length g) refl
 
--- the parts at the lists' starts are the lists
+-- cutting the joined lists at their starts gives the lists again
 pub rows_back : (n : ℕ) (front : List Atom) (L : List (List Atom)) → length front ≡ n → rows (offsets n L) (front ++ flat L) ≡ L
 rows_back n front [] f = refl
 rows_back n front (g ∷ L) f =
@@ -47,7 +47,7 @@ rows_back n front (g ∷ L) f =
 pub kept_rows : (L : List (List Atom)) → rows (offsets 0 L) (flat L) ≡ L
 kept_rows L = rows_back 0 [] L refl
 
--- where a list starts
+-- a list starts after the elements of all lists before it
 pub offset_at : (n : ℕ) (L : List (List Atom)) (e d : ℕ) → e < length L → get_or (offsets n L) e d ≡ n + length (flat (take e L))
 offset_at n [] e d h = absurd (omega arith)
 offset_at n (g ∷ L) zero d h = omega arith
@@ -59,11 +59,11 @@ flat_split [] (suc e) = refl
 flat_split (g ∷ L) zero = refl
 flat_split (g ∷ L) (suc e) = ap (λ x. g ++ x) (flat_split L e) ∙ sym (append_assoc g (flat (take e L)) (flat (drop e L)))
 
--- how many elements come before a list
+-- the start of part e is the number of elements in the parts before it
 pub start_is : (s : List ℕ) (all : List Atom) (e x : ℕ) → IsKept s all → e < length s → x ≡ get_or s e x → x ≡ length (flat (take e (rows s all)))
 start_is s all e x k h is = omega (arith, is, ap (λ t. get_or t e x) k.starts_are, offset_at 0 (rows s all) e x (omega (arith, length-rows s all)))
 
--- all elements come before the end of the last list
+-- if there are at most e parts, the first e parts have all elements
 pub start_past : (s : List ℕ) (all : List Atom) (e : ℕ) → IsKept s all → length s ≤ e → length all ≡ length (flat (take e (rows s all)))
 start_past s all e k h = ap length (k.all_are ∙ ap flat (sym (take_all e (rows s all) (omega (arith, length-rows s all)))))
 
@@ -72,13 +72,13 @@ start_in s all e k =
     let L = rows s all in
     omega (arith, ap length (k.all_are ∙ flat_split L e), length-append (flat (take e L)) (flat (drop e L)))
 
--- the elements from a list's start on
+-- the elements from the start of part e on are those of part e and of the later parts
 pub tail_is : (s : List ℕ) (all : List Atom) (e x : ℕ) → IsKept s all → x ≡ length (flat (take e (rows s all))) → drop x all ≡ flat (drop e (rows s all))
 tail_is s all e x k is =
     let L = rows s all in
     ap (λ t. drop x t) (k.all_are ∙ flat_split L e) ∙ drop_at (flat (take e L)) (flat (drop e L)) x (sym is)
 
--- the elements between two starts
+-- the elements from the start of list e to the start of the next list are list e
 between : (L : List (List Atom)) (e : ℕ) → take (length (flat (take (suc e) L)) - length (flat (take e L))) (flat (drop e L)) ≡ get_or L e []
 between [] zero = refl
 between [] (suc e) = refl
@@ -112,7 +112,7 @@ starts_push s all g k =
     let n : length all ≡ 0 + length (flat L) = omega (arith, ap length k.all_are) in
     ap (λ t. t ++ length all ∷ []) k.starts_are ∙ ap (λ m. offsets 0 L ++ m ∷ []) n ∙ sym (offsets_push 0 L g)
 
--- one more list at the end
+-- adding a list at the end adds one part
 pub rows_push : (s : List ℕ) (all g : List Atom) → IsKept s all → rows (s ++ length all ∷ []) (all ++ g) ≡ rows s all ++ g ∷ []
 rows_push s all g k =
     let L = rows s all in
@@ -138,7 +138,7 @@ offsets-take n (suc k) (g ∷ L) = ap (λ t. n ∷ t) (offsets-take (n + length 
 flat-take : (L : List (List Atom)) (k : ℕ) → take (length (flat (take k L))) (flat L) ≡ flat (take k L)
 flat-take L k = ap (λ t. take (length (flat (take k L))) t) (flat_split L k) ∙ take_at (flat (take k L)) (flat (drop k L)) (length (flat (take k L))) refl
 
--- without the lists from one on
+-- cutting off the parts from index k on leaves the first k parts
 pub rows_cut : (s : List ℕ) (all : List Atom) (k x : ℕ) → IsKept s all → x ≡ length (flat (take k (rows s all))) → rows (take k s) (take x all) ≡ take k (rows s all)
 rows_cut s all k x h is =
     let L = rows s all in

@@ -1,4 +1,4 @@
--- Atoms that can be negated in 8 bits.
+-- Atoms that can be negated: the number of the negation is from 0 to 255.
 use Rattle.std.proofs.Common.{Bool, List, [], arith, cond, drop, false, inl, inr, refl, suc, take, true, zero, ℕ, ◌&&◌, ◌++◌, ◌∷◌, ◌≡◌, ◌≤◌}
 use Rattle.std.proofs.lemmas.Bool.{and_parts, leb-true}
 use Rattle.std.specs.List.{list_all}
@@ -42,7 +42,7 @@ bounds_low (b ∷ bs) i h =
     let hs = and_parts (nat_le b.least b.most && nat_le b.most 16) (list_all (λ c. nat_le c.least c.most && nat_le c.most 16) bs) h in
     low_at b bs i (same_item b.item i) (leb-true b.most 16 (and_parts (nat_le b.least b.most) (nat_le b.most 16) hs.0).1) (bounds_low bs i hs.1)
 
--- no item is in more than 16 members
+-- the most of an item is at most 16
 pub most_low : (v : View) → WellNamed v → (i : Item) → most v i ≤ 16
 most_low v w i = bounds_low v.bounds i w.small
 

@@ -1,4 +1,4 @@
--- A set that breaks a guard meets exactly one stair.
+-- If no atom of a list is an AtLeast with 0, a set that doesn't meet all of the atoms meets exactly one of their stairs.
 use Rattle.std.proofs.Common.{Bool, List, [], ap, append_assoc, arith, false, leb, not, refl, sym, true, ℕ, ◌&&◌, ◌++◌, ◌+◌, ◌-◌, ◌<◌, ◌∙◌, ◌∷◌, ◌≡◌}
 use Rattle.std.proofs.lemmas.Bool.{and_parts, ltb-true}
 use Rattle.std.proofs.lemmas.Bool.Decides.{nat_tests}
@@ -33,7 +33,7 @@ pub and_true : (b : Bool) → (b && true) ≡ b
 and_true true = refl
 and_true false = refl
 
--- a list with one more atom
+-- a set meets a list with one more atom exactly if it meets the list and that atom
 pub meets_push : (v : View) (T : List ℕ) (A : List Atom) (a : Atom) → meets_all v T (A ++ a ∷ []) ≡ (meets_all v T A && meets v T a)
 meets_push v T A a = all_append (λ b. meets v T b) A (a ∷ []) ∙ ap (λ b. meets_all v T A && b) (and_true (meets v T a))
 

@@ -1,4 +1,5 @@
--- What is hopeless stays hopeless, and stairs were hopeless before the change.
+-- A hopeless list stays hopeless if atoms are added and new numbers are assigned. The stairs of a change are hopeless in the
+-- design before it.
 use Rattle.std.proofs.Common.{Bool, List, [], ap, arith, false, inl, inr, leb, map, nat_lt, not, refl, subst, sym, true, ℕ, ◌&&◌, ◌++◌, ◌||◌, ◌∙◌, ◌∷◌, ◌≡◌, ◌≤◌}
 use Rattle.std.proofs.lemmas.Bool.{and_from, and_parts, cond-false, false_from_ne_true, lt-ltb, ltb-true, not_from_false, or_cases, or_left, or_right}
 use Rattle.std.specs.List.{filter, list_any}
@@ -63,27 +64,27 @@ bad_more v w A B g h (AtLeast i n) e =
     and_from _ _ (ap (λ bs. list_any (λ b. same_item b.item i) bs) g.2 ∙ es.0) (ap (λ k. nat_lt k n) (most_same v w g i) ∙ es.1)
 bad_more v w A B g h (AtMost i n) e = ap (λ k. nat_lt n k) (least_same v w g i) ∙ e
 
--- with more atoms and more numbers
+-- a hopeless list stays hopeless if atoms are added and new numbers are assigned
 pub hopeless_more : (v w : View) (A B : List Atom) → Grown v w → ((a : Atom) → In a A → In a B) → hopeless v A ≡ true → hopeless w B ≡ true
 hopeless_more v w A B g h e = let x = any_in (λ a. bad v A a) A e in any_from (λ a. bad w B a) B x.0 (h x.0 x.1) (bad_more v w A B g h x.0 x.2)
 
 pub hopeless_stays_lem : HopelessStays
 hopeless_stays_lem v w A B g h = hopeless_more v w A (A ++ B) g (λ a i. in_append_left a A B i) h
 
--- the negation of a guard is bad in the design before
+-- the negation of a guard is bad in the design before the change
 negated_bad : (old new : View) (A : List Atom) (a : Atom) → IsGuard old new a → bad old A (negated a) ≡ true
 negated_bad old new A (Has p) g = in_mem old.pins p g
 negated_bad old new A (Lacks p) g = or_left _ _ (or_left _ _ (or_left _ _ (not_from_false _ g.1)))
 negated_bad old new A (AtLeast i n) g = lt-ltb _ _ (omega (arith, g.0, g.1))
 negated_bad old new A (AtMost i n) g = and_from _ _ g.1 (lt-ltb _ _ (omega (arith, g.0)))
 
--- a stair ends in the negation of a guard
+-- each stair has the negation of a guard
 stair_ends : (B g A : List Atom) → In A (stairs_behind B g) → (a : Atom) × In a g × In (negated a) A
 stair_ends B [] A i = absurd i
 stair_ends B (a ∷ g) A (inl e) = (a, inl refl, subst (λ C. In (negated a) C) e (in_append_right (negated a) B (negated a ∷ []) (inl refl)))
 stair_ends B (a ∷ g) A (inr i) = let r = stair_ends (B ++ a ∷ []) g A i in (r.0, inr r.1, r.2)
 
--- a list with all atoms of a stair was hopeless
+-- a list that has all atoms of a stair is hopeless in the design before the change
 pub stair_was_hopeless : (old new : View) (A B : List Atom) → In A (stairs (guards old new)) → ((a : Atom) → In a A → In a B) → hopeless old B ≡ true
 stair_was_hopeless old new A B i h =
     let r = stair_ends [] (guards old new) A i in
@@ -112,7 +113,8 @@ same_has_no_guards_lem v w g =
     ∙ ap (λ x. x ++ (guards_most v w ++ guards_pins v w)) low
     ∙ ap (λ x. x ++ guards_pins v w) high ∙ pins
 
--- a tiling meets the same atoms under more numbers
+-- if each number of the old view names the same placement in the new one, a tiling of the old view meets the same atoms in
+-- both
 pub meets_old : (old new : View) (T : List ℕ) → WellNamed old → Names old new → IsTiling old T → (a : Atom) → meets new T a ≡ meets old T a
 meets_old old new T wn names t (Has p) = refl
 meets_old old new T wn names t (Lacks p) = refl

@@ -1,4 +1,4 @@
--- The stairs of a list with one more guard.
+-- Stairs by their index, and stairs of a log that grows.
 use Rattle.std.proofs.Common.{◌-◌, ◌≡◌, List, [], ◌∷◌, ◌++◌, sym, ap, ◌∙◌, append_assoc, arith, length, ℕ, ◌<◌, zero, suc, slice_index_or, get_or, take, refl, subst}
 use Rattle.std.proofs.lemmas.List.{append-nil, get_or_append_left, length_push, take_at}
 use Rattle.poly_atom.specs.declared.atom.Atom.{Atom}
@@ -19,7 +19,7 @@ behind_at before (g ∷ gs) zero d h = ap (λ b. b ++ negated g ∷ []) (sym (ap
 behind_at before (g ∷ gs) (suc j) d h =
     behind_at (before ++ g ∷ []) gs j d (omega (arith, h)) ∙ ap (λ b. b ++ negated (get_or gs j d) ∷ []) (append_assoc before (g ∷ []) (take j gs))
 
--- a stair is the atoms before a place and the negation of the atom there
+-- the stair at an index is the atoms before the index and the negation of the atom there
 pub stairs_at : (gs : List Atom) (j : ℕ) (d : Atom) → j < length gs → get_or (stairs gs) j [] ≡ take j gs ++ negated (get_or gs j d) ∷ []
 stairs_at gs j d h = behind_at [] gs j d h
 
@@ -31,7 +31,7 @@ length-behind before (g ∷ gs) = ap suc (length-behind (before ++ g ∷ []) gs)
 pub length-stairs : (gs : List Atom) → length (stairs gs) ≡ length gs
 length-stairs gs = length-behind [] gs
 
--- a later change leaves a stair of an earlier one
+-- a later change does not alter the stairs of an earlier one
 pub stair_stays : (log : List (List Atom)) (g : List Atom) (s : Stair) → s.edition < length log → stair_of (log ++ g ∷ []) s ≡ stair_of log s
 stair_stays log g s h = ap (λ x. get_or (stairs x) s.index []) (get_or_append_left log (g ∷ []) [] s.edition h)
 

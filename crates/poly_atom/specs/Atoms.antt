@@ -12,7 +12,7 @@ negated (Lacks p) = Has p
 negated (AtLeast i n) = AtMost i (n - 1)
 negated (AtMost i n) = AtLeast i (n + 1)
 
--- an AtLeast asks for at least one
+-- the atom isn't an AtLeast with 0
 abbrev pub proper : Atom → Bool
 proper (Has p) = true
 proper (Lacks p) = true
@@ -32,7 +32,7 @@ meets_all v T A = list_all (λ a. meets v T a) A
 abbrev pub in_family : View → List Atom → List ℕ → Bool
 in_family v A T = is_tiling v T && meets_all v T A
 
--- the number of the atom's negation fits into 8 bits
+-- the atom can be negated: the number of its negation is from 0 to 255
 abbrev pub IsSmall : Atom → Type 0
 IsSmall (Has p) = Unit {0}
 IsSmall (Lacks p) = Unit {0}

@@ -20,11 +20,13 @@ guards_most old new = map (λ b. AtMost b.item (most old b.item)) (filter (λ b.
 abbrev pub guards_pins : View → View → List Atom
 guards_pins old new = map (λ p. Has p) (filter (λ p. not (mem new.pins p)) old.pins)
 
--- the atoms that a tiling of the new design meets exactly if it is a tiling of the old one too
+-- if each number of the old view names the same placement in the new one, a tiling of the new design meets all of these atoms
+-- exactly if it is a tiling of the old design too
 abbrev pub guards : View → View → List Atom
 guards old new = guards_fresh old new ++ (guards_least old new ++ (guards_most old new ++ guards_pins old new))
 
--- the guards of these numbers, items, pieces and pins, with the bounds of the view
+-- Lacks of each number of the first list, AtLeast of each item with its least in the view, AtMost of each piece with its most
+-- in the view, and Has of each pin
 abbrev pub guards_by : View → List ℕ → List Item → List (List ℕ) → List ℕ → List Atom
 guards_by v lacked leasts mosts pins =
     map (λ p. Lacks p) lacked ++ (map (λ i. AtLeast i (least v i)) leasts ++ (map (λ n. AtMost (Piece n) (most v (Piece n))) mosts ++ map (λ p. Has p) pins))

@@ -1,4 +1,4 @@
--- Hopeless lists: those whose atoms alone show that no tiling meets them all.
+-- Hopeless lists: the atoms and the view show, without a search, that no tiling meets all of the atoms.
 use Rattle.std.specs.List.{list_any}
 use Rattle.std.specs.Prelude.{Bool, List, [], false, nat_lt, not, ℕ, ◌&&◌, ◌==◌, ◌||◌, ◌∷◌, ◌≡◌}
 use Rattle.poly_tiling.specs.Lists.{mem, put_all}
@@ -14,7 +14,7 @@ asked (Lacks p ∷ A) = asked A
 asked (AtLeast i n ∷ A) = asked A
 asked (AtMost i n ∷ A) = asked A
 
--- what each member of the family has: what is asked for, and the pins
+-- the placements that are asked for, and the pins: each tiling of the family has all of them
 abbrev pub base : View → List Atom → List ℕ
 base v A = put_all (asked A) (put_all v.pins [])
 
@@ -24,7 +24,9 @@ lacks (Lacks q) p = q == p
 lacks (AtLeast i n) p = false
 lacks (AtMost i n) p = false
 
--- an atom that no tiling of the family can meet
+-- if the atom is in A, it shows that the family of A is empty: it asks for a placement that isn't in the design, that an atom
+-- of A lacks, that is in conflict with the base, or whose piece the base covers more often than the piece's most; it lacks a
+-- pin; it is an AtLeast above the most of an item of the view; or it is an AtMost below its item's least
 abbrev pub bad : View → List Atom → Atom → Bool
 bad v A (Has p) =
     not (mem v.live p) || list_any (λ a. lacks a p) A || list_any (λ q. conflicts v p q) (base v A)
@@ -40,7 +42,8 @@ hopeless v A = list_any (λ a. bad v A a) A
 abbrev pub AskTheSame : List Atom → List Atom → Type 0
 AskTheSame D A = (p : ℕ) → mem (asked D) p ≡ mem (asked A) p
 
--- an atom of D asks for a placement that the design doesn't have, that is in conflict with the base, or whose piece is over its most
+-- the atom asks for a placement that the design doesn't have, that is in conflict with the base of D, or whose piece this
+-- base covers more often than the piece's most
 abbrev pub lost : View → List Atom → Atom → Bool
 lost v D (Has p) =
     not (mem v.live p) || list_any (λ q. conflicts v p q) (base v D)
@@ -49,7 +52,8 @@ lost v D (Lacks p) = false
 lost v D (AtLeast i n) = false
 lost v D (AtMost i n) = false
 
--- an atom rules out a pin or a placement that D asks for, or its bound is beyond that of its item
+-- the atom lacks a pin or a placement that D asks for, is an AtLeast above the most of an item of the view, or is an AtMost
+-- below its item's least
 abbrev pub beyond : View → List Atom → Atom → Bool
 beyond v D (Has p) = false
 beyond v D (Lacks p) = mem v.pins p || mem (asked D) p

@@ -11,7 +11,8 @@ use Rattle.poly_atom.specs.Stairs.{stairs}
 use Rattle.poly_atom.specs.Hopeless.{hopeless}
 use Rattle.poly_atom.specs.Logs.{without_last}
 
--- A set that breaks a guard meets exactly one stair of the guards; a set that meets all guards meets no stair.
+-- If no atom of a list is an AtLeast with 0, a set that does not meet all atoms of the list meets exactly one of its stairs,
+-- and a set that meets all of them meets no stair. No guard of a change is an AtLeast with 0.
 abbrev pub StairsShareOut : Type 0
 StairsShareOut = (v : View) (T : List ℕ) (g : List Atom) → list_all proper g ≡ true →
     one (meets_all v T g) + tally (λ A. meets_all v T A) (stairs g) ≡ 1
@@ -20,12 +21,13 @@ StairsShareOut = (v : View) (T : List ℕ) (g : List Atom) → list_all proper g
 abbrev pub HopelessIsEmpty : Type 0
 HopelessIsEmpty = (v : View) (A : List Atom) (T : List ℕ) → hopeless v A ≡ true → in_family v A T ≡ false
 
--- A tiling of the new design is a tiling of the old one exactly if it meets the guards.
+-- If each number of the old view names the same placement in the new one, a tiling of the new design is a tiling of the old
+-- one exactly if it meets the guards.
 abbrev pub GuardsTell : Type 0
 GuardsTell = (old new : View) (T : List ℕ) → WellNamed old → Names old new → is_tiling new T ≡ true →
     is_tiling old T ≡ meets_all new T (guards old new)
 
--- Each stair of a change's guards is hopeless in the design before it.
+-- Each stair of a change's guards is hopeless in the design before the change.
 abbrev pub StairsWereHopeless : Type 0
 StairsWereHopeless = (old new : View) → list_all (λ A. hopeless old A) (stairs (guards old new)) ≡ true
 
@@ -41,11 +43,11 @@ SameHasNoGuards = (v w : View) → Grown v w → guards v w ≡ []
 abbrev pub AnswersMayGrow : Type 0
 AnswersMayGrow = (v w : View) (T : List ℕ) (A : List Atom) → WellNamed v → Grown v w → is_tiling v T ≡ true → meets_all w T A ≡ meets_all v T A
 
--- The negation of a negation is the atom itself.
+-- The negation of an atom's negation is the atom itself, unless the atom is an AtLeast with 0.
 abbrev pub NegationIsUndone : Type 0
 NegationIsUndone = (a : Atom) → proper a ≡ true → negated (negated a) ≡ a
 
--- A set meets the negation of an atom exactly if it does not meet the atom.
+-- A set meets the negation of an atom exactly if it does not meet the atom, unless the atom is an AtLeast with 0.
 abbrev pub NegationIsOpposite : Type 0
 NegationIsOpposite = (v : View) (T : List ℕ) (a : Atom) → proper a ≡ true → meets v T (negated a) ≡ not (meets v T a)
 

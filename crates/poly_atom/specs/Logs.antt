@@ -9,12 +9,12 @@ abbrev pub flat : List (List Atom) → List Atom
 flat [] = []
 flat (g ∷ gs) = g ++ flat gs
 
--- the log has the stair's edition, and that edition's guards have its index
+-- the log has the stair's edition, and the guards of that edition have the stair's index
 pub record IsStairOf (log : List (List Atom)) (s : Stair) : Type 0 where
   pub edition_in : s.edition < length log
   pub index_in : s.index < length (slice_index_or log s.edition [])
 
--- the entry that a stair names among the stairs of its edition's guards
+-- the atoms of a stair: the list at its index among the stairs of its edition's guards
 abbrev pub stair_of : List (List Atom) → Stair → List Atom
 stair_of log s = slice_index_or (stairs (slice_index_or log s.edition [])) s.index []
 

@@ -1,4 +1,4 @@
--- Which atoms a change can make hopeless, and which atoms leave a list as hopeless as it was.
+-- The atoms by which a change can make a list hopeless, and atoms that can be added without making a list hopeless.
 use Rattle.std.specs.List.{list_any}
 use Rattle.std.specs.Prelude.{Bool, List, [], false, nat_le, true, ℕ, ◌&&◌, ◌++◌, ◌||◌, ◌∷◌, ◌≡◌}
 use Rattle.poly_design.specs.Changes.{changed}
@@ -14,7 +14,7 @@ use Rattle.poly_atom.specs.declared.atom.Atom.{Atom}
 use Rattle.poly_atom.specs.declared.atom.Atom.TheVariants.{AtLeast, AtMost, Has, Lacks}
 use Rattle.poly_atom.specs.Hopeless.{base, hopeless, lacks}
 
--- The atom is about what the change touches: Has of a number that is gone, that belongs to a piece whose most fell, or
+-- The atom is about what the change touches: Has of a placement that is gone, that belongs to a piece whose most fell, or
 -- that has an item of a new pin; Lacks of a new pin; AtLeast of a piece whose most fell, or of the change's own item;
 -- AtMost of an item whose least rose.
 abbrev pub touched : View → Delta → Item → Atom → Bool
@@ -28,8 +28,8 @@ abbrev pub NewlyHopelessIsTouched : Type 0
 NewlyHopelessIsTouched = (v w : View) (x : Delta) (y : Change) (A : List Atom) → (c : IsChangeOf v w x) → c.after ≡ changed c.before y → hopeless v A ≡ false → hopeless w A ≡ true →
     list_any (touched w x (item_of y)) A ≡ true
 
--- the number may join what each member of the family has: it is another placement, no atom rules it out, it is in
--- conflict with none of them, and its piece may be in one more
+-- the placement may join the base: it is in the design and not in the base, no atom rules it out, it is in conflict with no
+-- member of the base, and the base has room for one more placement of its piece
 pub record IsOpenFor (v : View) (A : List Atom) (p : ℕ) : Type 0 where
   pub live : mem v.live p ≡ true
   pub outside : mem (base v A) p ≡ false
@@ -37,10 +37,10 @@ pub record IsOpenFor (v : View) (A : List Atom) (p : ℕ) : Type 0 where
   pub apart : list_any (λ q. conflicts v p q) (base v A) ≡ false
   pub room : list_any (λ i. is_piece i && nat_le (most v i) (count v (base v A) i)) (items v p) ≡ false
 
--- Asking for an open placement leaves a list as hopeless as it was.
+-- Adding Has of an open placement does not change whether a list is hopeless.
 abbrev pub TakingKeepsHope : Type 0
 TakingKeepsHope = (v : View) (A : List Atom) (p : ℕ) → IsOpenFor v A p → hopeless v (A ++ Has p ∷ []) ≡ hopeless v A
 
--- So does ruling out a placement that is neither asked for nor pinned.
+-- Adding Lacks of a placement that is neither asked for nor pinned does not change whether a list is hopeless.
 abbrev pub LeavingKeepsHope : Type 0
 LeavingKeepsHope = (v : View) (A : List Atom) (p : ℕ) → mem (base v A) p ≡ false → hopeless v (A ++ Lacks p ∷ []) ≡ hopeless v A

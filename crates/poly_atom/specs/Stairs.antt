@@ -3,7 +3,7 @@ use Rattle.std.specs.Prelude.{List, [], ◌++◌, ◌∷◌}
 use Rattle.poly_atom.specs.declared.atom.Atom.{Atom}
 use Rattle.poly_atom.specs.Atoms.{negated}
 
--- for each atom the list of the given atoms, those before it, and its negation
+-- for each atom of the second list: the atoms of `before`, the atoms before it in the second list, and its negation
 abbrev pub stairs_behind : List Atom → List Atom → List (List Atom)
 stairs_behind before [] = []
 stairs_behind before (g ∷ gs) = (before ++ negated g ∷ []) ∷ stairs_behind (before ++ g ∷ []) gs

@@ -28,10 +28,10 @@ pub record HasWidth (d e : Layout) (n : ℕ) : Type 0 where
   pub are_unpinned : IsListOf placement_cmp (λ p. IsPin d p × (¬ IsPin e p)) unpinned
   pub whole : n ≡ length fresh + (length unneeded + (length widened + length unpinned))
 
--- The two designs determine how many guards a change and its inverse have.
+-- A change and its inverse each have as many guards as HasWidth says of the two designs.
 abbrev pub WidthsShow : Type 0
 WidthsShow = (v w : View) (x : Delta) → (c : IsChangeOf v w x) → HasWidth c.before c.after (length (guards v w)) × HasWidth c.after c.before (length (guards w v))
 
--- Two designs determine only one number.
+-- The change from one design to another has only one width.
 abbrev pub WidthIsOne : Type 0
 WidthIsOne = (d e : Layout) (m n : ℕ) → HasWidth d e m → HasWidth d e n → m ≡ n

@@ -4,13 +4,13 @@ ghost use Rattle.poly_atom.specs.Atoms.{IsSmall, negated};
 
 use poly_tiling::Item;
 
-/// A condition on a set of placements: it has a placement, lacks it, or covers an item at least or at most a number of
-/// times.
+/// A condition on a set of placements: it has a placement, it lacks one, it covers an item at least n times, or it covers
+/// one at most n times.
 #[derive(Clone, Copy, Debug, PartialEq, Eq)]
 pub enum Atom {
-    /// The set has the number's placement.
+    /// The set has the placement that the number names.
     Has(u32),
-    /// The set doesn't have the number's placement.
+    /// The set doesn't have the placement that the number names.
     Lacks(u32),
     /// At least this many placements of the set have the item.
     AtLeast(Item, u8),

@@ -1,5 +1,5 @@
-//! The guards of a change and of its inverse, made from what the change does. Together they are as many as the differences
-//! that the change makes, no matter how many placements stay.
+//! The guards of a change and of its inverse, made from the change's `Delta`. Each number, item or name in a list of the
+//! delta gives one guard, either of the change or of its inverse.
 ghost use Rattle.std.specs.Prelude.{IfErr, IfOk, length, map, ◌≡◌};
 ghost use Rattle.poly_atom.specs.Atoms.{AllSmall};
 ghost use Rattle.poly_atom.specs.Guards.{guards, guards_by};
@@ -19,14 +19,14 @@ use std::alloc::{AllocError, Global};
 /// The guards of a change and those of its inverse.
 #[derive(Debug, Drop)]
 pub struct BothGuards {
-    /// The guards of the change: a tiling of the design after is one of the design before exactly if it meets them.
+    /// The guards of the change: a tiling of the later design is a tiling of the earlier one too exactly if it meets them.
     pub forth: Vec<Atom>,
-    /// The guards of its inverse: a tiling of the design before is one of the design after exactly if it meets them.
+    /// The guards of the inverse: a tiling of the earlier design is a tiling of the later one too exactly if it meets them.
     pub back: Vec<Atom>,
 }
 
-/// The guards of the change that leads from the view before to the view after, and of its inverse. Fails only when out of
-/// memory.
+/// The guards of the change that leads from the view before to the view after, and of its inverse. Requires that `delta` is
+/// what the change does. Fails only when out of memory.
 pub fn both_guards(
     alloc: Global,
     before: &View,
@@ -58,7 +58,8 @@ pub fn both_guards(
     Ok(BothGuards { forth, back })
 }
 
-/// Counts the guards of the change from the view before to the view after, and those of its inverse. Never allocates.
+/// Counts the guards of the change from the view before to the view after, and those of its inverse, in this order. Requires
+/// that `delta` is what the change does. Never allocates.
 pub fn guard_counts(before: &View, after: &View, delta: &Delta) -> (usize, usize)
     requires { IsChangeOf before.now after.now delta.now }
     ensures forth { result.0 ≡ length (guards before.now after.now) }
@@ -72,7 +73,8 @@ pub fn guard_counts(before: &View, after: &View, delta: &Delta) -> (usize, usize
     (forth, back)
 }
 
-// `Lacks` of the numbers, `AtLeast` of the items and `AtMost` of the pieces with the view's bounds, `Has` of the pins.
+// `Lacks` of each number, `AtLeast` of each item with its least in the view, `AtMost` of each piece with its most in the
+// view, and `Has` of each pin.
 fn guards_by(
     alloc: Global,
     view: &View,

@@ -1,5 +1,5 @@
-//! The guards of a change: a tiling of the later design is a tiling of the earlier one exactly if it meets them. Each list
-//! of guards is found by reading the two designs' lists side by side, since both have the same order.
+//! The guards of a change: a tiling of the later design is a tiling of the earlier one exactly if it meets them. The guards
+//! of each kind are found by reading two lists side by side, one of each design. Both lists are in the same order.
 ghost use Rattle.std.specs.Prelude.{IfErr, IfOk, OnOk, [], if◌then◌else◌, map, nat_lt, not, true, ◌++◌, ◌∷◌, ◌≡◌};
 ghost use Rattle.std.specs.List.{filter};
 ghost use Rattle.poly_atom.specs.Atoms.{AllSmall};
@@ -16,9 +16,9 @@ use poly_tiling::{Bound, View};
 use std::alloc::{AllocError, Global};
 
 /// The guards of the change from one design to another: `Lacks` of each new placement, in placement order; `AtLeast` of
-/// each item whose least fell, in item order; `AtMost` of each item of the earlier design whose most rose, in item order;
-/// `Has` of each pin that was removed, in the order of the pins. Requires that each number of the earlier view names the
-/// same placement in the later one. Fails only when out of memory.
+/// each item whose least fell, with the earlier least, in item order; `AtMost` of each item of the earlier design whose most
+/// rose, with the earlier most, in item order; `Has` of each pin that was removed, in placement order. Requires that
+/// each number of the earlier view names the same placement in the later one. Fails only when out of memory.
 pub fn guards(alloc: Global, before: &View, after: &View) -> Result<Vec<Atom>, Refusal>
     requires { Names before.now after.now }
     ensures ok { IfOk result (λ atoms. atoms.items ≡ guards before.now after.now) }

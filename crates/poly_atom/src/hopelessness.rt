@@ -1,10 +1,11 @@
-//! Hopeless lists of atoms: the atoms alone show, without a search, that no tiling meets them all. A tiling that meets them
-//! all has the pins and each placement that the list asks for. Each of these is counted once.
+//! Hopeless lists of atoms: the atoms and the view show, without a search, that no tiling meets all of the atoms. A tiling
+//! that meets all of them has the pins and each placement that the list asks for. Each of these placements is counted once,
+//! even if the list asks for it many times.
 //!
-//! A list may be long, and may ask for one placement many times. So the placements that it asks for are gathered first,
-//! each once, and are then compared with one another and with the atoms that rule placements out. A list that asks for
-//! more different placements than the view has items is hopeless: placements that share no cell each have an item of
-//! their own.
+//! A list may be long. So if a list has more than a few atoms, the placements that it asks for are gathered first, each
+//! once. They are then compared with one another, with the pins, and with the atoms that rule placements out. A list that
+//! asks for more different placements than the view has items is hopeless: if no two placements share a cell, each has an
+//! item of its own.
 ghost use Rattle.std.specs.Prelude.{[], IfNone, IfSome, false, nat_lt, not, take, ◌&&◌, ◌+◌, ◌<◌, ◌||◌, ◌∷◌, ◌≡◌, ◌≤◌, length, ℕ};
 ghost use Rattle.std.specs.List.{list_all, list_any};
 ghost use Rattle.poly_atom.specs.Counted.{adds, asked_count};
@@ -18,18 +19,18 @@ use crate::order::stands_in;
 use poly_design::{MAX_CELLS, MAX_PIECES, Name};
 use poly_tiling::{Item, View, find_bound, has_number};
 
-// The most items of a design.
+// The most items that a design can have.
 const MOST_ITEMS: usize = MAX_CELLS + MAX_PIECES;
 
 // Lists up to this length are compared as they are: gathering first would cost more.
 const FEW_ATOMS: usize = 8;
 
-/// Whether the atoms alone show that no tiling meets all of them. An atom shows this if it rules out a pin; if it is
-/// `AtLeast` above the most of an item of the view, or `AtMost` below the least of one; or if it asks for a placement that
-/// isn't in the design, that another atom rules out, that is in conflict with a pin or with another placement asked for, or
-/// whose piece has more placements asked for or pinned than its most. Never allocates.
+/// Whether the atoms and the view show, without a search, that no tiling meets all of the atoms. An atom shows this if it
+/// rules out a pin; if it is `AtLeast` above the most of an item of the view, or `AtMost` below the least of one; or if it
+/// asks for a placement that isn't in the design, that another atom rules out, that is in conflict with a pin or with another
+/// placement asked for, or whose piece has more placements asked for or pinned than its most. Never allocates.
 ///
-/// The time is in proportion to the number of atoms.
+/// If the view shows a design, the time is at most in proportion to the number of atoms.
 pub fn hopeless(view: &View, atoms: &[Atom]) -> bool
     ensures { result ≡ hopeless view.now atoms.now }
 {
@@ -39,8 +40,8 @@ pub fn hopeless(view: &View, atoms: &[Atom]) -> bool
     is_long_hopeless(view, atoms)
 }
 
-// If the list asks for more placements than can be gathered, it is hopeless, unless the view has more items than a design
-// can have.
+// If the list asks for more different placements than can be gathered, and the view has no more items than a design can
+// have, then the list is hopeless.
 fn is_long_hopeless(view: &View, atoms: &[Atom]) -> bool
     ensures { result ≡ hopeless view.now atoms.now }
 {
@@ -51,8 +52,8 @@ fn is_long_hopeless(view: &View, atoms: &[Atom]) -> bool
     }
 }
 
-// Writes an atom for each placement that is asked for to the front of the list, and returns how many there are; `None` if
-// the list is too short.
+// For each placement that the atoms ask for, writes one atom that asks for it to the front of the list. Returns how many
+// these are, or `None` if the list is too short for them.
 fn gather(list: &mut [Atom], atoms: &[Atom]) -> Option<usize>
     ensures fits { IfSome result (λ n. n ≤ length list.new) }
     ensures same { IfSome result (λ n. AskTheSame (take n list.new) atoms.now) }
@@ -68,7 +69,8 @@ fn gather(list: &mut [Atom], atoms: &[Atom]) -> Option<usize>
     Some(count)
 }
 
-// Writes the atom after the first `count` if it asks for a placement that none of them asks for.
+// Writes the atom to index `count` of the list if it asks for a placement that the list's first `count` atoms don't ask
+// for. Returns how many atoms are gathered then, or `None` if there is no room for the atom.
 fn gather_one(list: &mut [Atom], count: usize, atom: Atom) -> Option<usize>
     requires { count ≤ length list.old }
     ensures long { length list.new ≡ length list.old }
@@ -99,7 +101,7 @@ fn is_gathered(list: &[Atom], atom: &Atom) -> bool
     }
 }
 
-// Whether an atom is bad. `gathered` asks for the placements that the atoms ask for.
+// Whether the atoms are hopeless. `gathered` has to ask for the same placements as the atoms.
 fn any_bad(view: &View, atoms: &[Atom], gathered: &[Atom]) -> bool
     requires { AskTheSame gathered.now atoms.now }
     ensures { result ≡ hopeless view.now atoms.now }
@@ -167,7 +169,7 @@ fn is_too_few(view: &View, item: &Item, n: u8) -> bool
     }
 }
 
-// Whether the placement is in conflict with one that each tiling of the family has.
+// Whether the placement is in conflict with a pin or with a placement that the atoms ask for.
 fn conflicts_base(view: &View, atoms: &[Atom], p: u32) -> bool
     ensures { result ≡ list_any (λ q. conflicts view.now p q) (base view.now atoms.now) }
 {
@@ -191,7 +193,7 @@ fn conflicts_with(view: &View, atom: Atom, p: u32) -> bool
     }
 }
 
-// Whether the placements that each tiling of the family has include more of the placement's piece than its most.
+// Whether the piece of `p` has more placements that are asked for or pinned than its most.
 fn is_over(view: &View, atoms: &[Atom], p: u32) -> bool
     ensures { result ≡ list_any (λ i. is_piece i && nat_lt (most view.now i) (count view.now (base view.now atoms.now) i)) (items view.now p) }
 {
@@ -217,8 +219,7 @@ fn most_of(view: &View, item: &Item) -> usize
     }
 }
 
-// Whether more than `most` members of the base have the item. Stops at the first one too many, which bounds how often a
-// placement that is asked for repeatedly is looked up again.
+// Whether more than `most` members of the base have the item. Stops as soon as more than `most` are counted.
 fn has_more(view: &View, atoms: &[Atom], item: &Item, most: usize) -> bool
     ensures { result ≡ nat_lt most (count view.now (base view.now atoms.now) item.now) }
 {

@@ -1,12 +1,15 @@
 //! Atoms, guards, stairs and hopeless lists: the terms in which search tasks are described.
 //!
-//! - [`Atom`]: a condition on a set of placements. The family of a list of atoms is the tilings that meet them all.
-//! - [`guards`], [`BothGuards`]: the atoms that a tiling of the design after a change meets exactly if it is a tiling of the
-//!   design before it too.
-//! - [`Stair`], [`staircase`]: some guards, then the negation of the next one. A set that breaks a guard meets exactly one
-//!   stair.
+//! - [`Atom`]: a condition on a set of placements. The family of a list of atoms is the set of tilings that meet
+//!   all of them.
+//! - [`guards`]: the atoms that a tiling of the design after a change meets exactly if it is a tiling of the design before
+//!   the change too. [`both_guards`] returns [`BothGuards`]: these, and the guards of the inverse change. [`guard_counts`]
+//!   counts both.
+//! - [`Stair`] names a stair of a change: the guards before a guard, followed by the negation of this guard. A set that
+//!   breaks a guard of the change meets exactly one of its stairs. [`staircase`] returns all stairs of a list of atoms.
 //! - [`GuardLog`]: the guards of all changes.
-//! - [`hopeless`]: whether the atoms alone show that no tiling meets them all.
+//! - [`hopeless`]: whether the atoms and the view show, without a search, that no tiling meets all of the atoms.
+//! - The other functions are laws: each does nothing, and its contract states what holds of the definitions.
 #![tactic(auto)]
 
 mod atom;

@@ -14,7 +14,9 @@ use std::marker::Model;
 /// negated.
 #[derive(Debug, Drop)]
 pub struct GuardLog {
+    /// The guards of all changes, one change after another.
     guards: Vec<Atom>,
+    /// Where the guards of each change start in `guards`.
     starts: Vec<usize>,
 }
 
@@ -31,7 +33,7 @@ impl Model for GuardLog {
 }
 
 impl GuardLog {
-    /// No changes yet.
+    /// A log without changes.
     pub fn new(alloc: Global) -> GuardLog
         ensures { result ≡ [] }
     {
@@ -41,21 +43,21 @@ impl GuardLog {
         }
     }
 
-    /// How many changes there were.
+    /// How many changes the log has.
     pub fn len(&self) -> usize
         ensures { result ≡ length self.now }
     {
         self.starts.len()
     }
 
-    /// Whether there were no changes.
+    /// Whether the log has no changes.
     pub fn is_empty(&self) -> bool
         ensures { IsTrue result ↔ (length self.now ≡ 0) }
     {
         self.len() == 0
     }
 
-    /// The guards of every change after the edition, in order; none at the last edition and beyond.
+    /// The guards of all changes that led from this edition or a later one, in order.
     pub fn since(&self, edition: u64) -> &[Atom]
         ensures { result.now ≡ flat (drop edition self.now) }
     {
@@ -77,7 +79,8 @@ impl GuardLog {
         self.guards_of(edition).len()
     }
 
-    /// Adds the guards of one more change. Fails only when out of memory, and then leaves the log as it was.
+    /// Adds the guards of one more change. Requires that each can be negated, as each guard of a change can. Fails only when
+    /// out of memory, and then leaves the log as it was.
     pub fn push(&mut self, guards: Vec<Atom>) -> Result<(), Refusal>
         requires { AllSmall guards.items }
         ensures ok { OnOk result (self.new ≡ self.old ++ guards.items ∷ []) }
@@ -91,7 +94,7 @@ impl GuardLog {
         Ok(())
     }
 
-    /// Removes the guards of the last change.
+    /// Removes the guards of the last change. Requires that there is one.
     pub fn pop(&mut self)
         requires { 0 < length self.old }
         ensures { self.new ≡ without_last self.old }
@@ -120,7 +123,7 @@ fn part<'a>(guards: &'a [Atom], starts: &'a [usize], edition: usize) -> &'a [Ato
     &guards[start..end]
 }
 
-// Where the guards of the edition start.
+// Where the guards of the change that led from the edition start; the end of the guards if there was no such change.
 fn start_of(guards: &[Atom], starts: &[usize], edition: usize) -> usize
     requires { IsKept starts.now guards.now }
     ensures value { result ≡ length (flat (take edition (rows starts.now guards.now))) }
@@ -133,7 +136,7 @@ fn start_of(guards: &[Atom], starts: &[usize], edition: usize) -> usize
     }
 }
 
-// Where the guards of the edition end.
+// Where the guards of the change that led from the edition end; the end of the guards if there was no such change.
 fn end_of(guards: &[Atom], starts: &[usize], edition: usize) -> usize
     requires { IsKept starts.now guards.now }
     ensures value { result ≡ length (flat (take (edition + 1) (rows starts.now guards.now))) }

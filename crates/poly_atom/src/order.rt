@@ -1,4 +1,4 @@
-//! Compares numbers by their placements, compares items, and finds where a number or an item belongs in a list.
+//! Compares numbers by their placements, compares items, and looks for a number or an item in a list.
 ghost use Rattle.std.specs.Prelude.{drop, is_some, length, true, ℕ, ◌==◌, ◌≡◌, ◌≤◌};
 ghost use Rattle.std.specs.List.{list_any};
 ghost use Rattle.std.specs.Ordering.{is_lt};
@@ -10,7 +10,7 @@ ghost use Rattle.poly_tiling.specs.Puzzle.{bound_in, found_or, same_item};
 use poly_design::Placement;
 use poly_tiling::{Bound, Item, View};
 
-/// Whether the placement of the first number comes before that of the second.
+/// Whether the placement of the first number comes before that of the second; false if one of them names no placement.
 pub fn is_below(view: &View, first: u32, second: u32) -> bool
     ensures { result ≡ below view.now first second }
 {
@@ -45,7 +45,7 @@ pub fn is_item_below(first: &Item, second: &Item) -> bool
     first < second
 }
 
-/// The first index, from `from` on, whose number isn't below this one.
+/// The first index from `from` on with a number that isn't below `number`; the length of the list if there is none.
 pub fn skip_numbers(view: &View, numbers: &[u32], from: usize, number: u32) -> usize
     requires { from ≤ length numbers.now }
     ensures rest { drop result numbers.now ≡ behind (λ p. below view.now p number) (drop from numbers.now) }
@@ -59,7 +59,7 @@ pub fn skip_numbers(view: &View, numbers: &[u32], from: usize, number: u32) -> u
     numbers.len()
 }
 
-/// The index after `at` if the number is at that index, and `at` otherwise.
+/// `at + 1` if the list has the number at index `at`; `at` otherwise.
 pub fn past(numbers: &[u32], at: usize, number: u32) -> usize
     requires { at ≤ length numbers.now }
     ensures rest { drop result numbers.now ≡ past (λ p. p == number) (drop at numbers.now) }
@@ -78,7 +78,7 @@ pub fn stands_at(numbers: &[u32], at: usize, number: u32) -> bool
     at < numbers.len() && numbers[at] == number
 }
 
-/// The first index, from `from` on, whose item isn't below this one.
+/// The first index from `from` on with an item that isn't below `item`; the length of the list if there is none.
 pub fn skip_items(bounds: &[Bound], from: usize, item: &Item) -> usize
     requires { from ≤ length bounds.now }
     ensures rest { drop result bounds.now ≡ behind (λ b. is_lt (item_cmp b.item item.now)) (drop from bounds.now) }
@@ -92,7 +92,7 @@ pub fn skip_items(bounds: &[Bound], from: usize, item: &Item) -> usize
     bounds.len()
 }
 
-/// The least and the most of the item at the index; 0 and 0 if another item is there.
+/// The least and the most of the item if it is at the index; 0 and 0 otherwise.
 pub fn bounds_at(bounds: &[Bound], at: usize, item: &Item) -> (u8, u8)
     ensures least { result.0 ≡ found_or (λ b. b.least) (front (λ b. same_item b.item item.now) (drop at bounds.now)) }
     ensures most { result.1 ≡ found_or (λ b. b.most) (front (λ b. same_item b.item item.now) (drop at bounds.now)) }
@@ -107,7 +107,7 @@ pub fn bounds_at(bounds: &[Bound], at: usize, item: &Item) -> (u8, u8)
     (0, 0)
 }
 
-/// Whether the list has the number.
+/// Whether the list has the number. Requires that the list is in placement order.
 pub fn stands_in(view: &View, numbers: &[u32], number: u32) -> bool
     requires { in_order view.now numbers.now ≡ true }
     ensures { result ≡ mem numbers.now number }

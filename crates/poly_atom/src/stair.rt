@@ -1,4 +1,5 @@
-//! Stairs: for each guard the guards before it and its negation, so that a set that breaks some guard meets exactly one.
+//! Stairs. The stair of a guard is the list of the guards before it, followed by the guard's negation. So a set that breaks
+//! a guard meets exactly one stair.
 ghost use Rattle.std.specs.Prelude.{IfErr, IfOk, [], length, map, slice_index_or, ◌<◌, ◌≡◌};
 ghost use Rattle.poly_atom.specs.Atoms.{AllSmall};
 ghost use Rattle.poly_atom.specs.Logs.{IsStairOf, stair_of};
@@ -9,8 +10,7 @@ use crate::log::GuardLog;
 use poly_grid::Refusal;
 use std::alloc::{AllocError, Global};
 
-/// One stair of a change: the guards before the index, of the change that led from the edition, and the negation of the
-/// guard at the index.
+/// Names one stair of a change: the change's guards before the index, and the negation of the guard at the index.
 #[derive(Clone, Copy, Debug, PartialEq, Eq)]
 pub struct Stair {
     /// The edition that the change led from.
@@ -32,7 +32,7 @@ impl Stair {
     }
 }
 
-/// For each atom the list of those before it and its negation, in order. Requires that each atom can be negated. Fails
+/// For each atom, in order, a list: the atoms before it, then its negation. Requires that each atom can be negated. Fails
 /// only when out of memory.
 pub fn staircase(alloc: Global, atoms: &[Atom]) -> Result<Vec<Vec<Atom>>, Refusal>
     requires { AllSmall atoms.now }

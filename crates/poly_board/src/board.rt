@@ -1,4 +1,4 @@
-//! The word of a board, and its steps under the rule.
+//! The word of a board, and the steps on this word. `rule.rt` has the rule that each step keeps.
 
 ghost use Rattle.std.specs.Prelude.{◌≡◌, ◌++◌, [], ◌∷◌, true, false, IfErr, IfOk};
 ghost use Rattle.poly_board.specs.Posts.{NoneFalls, last_of, unpacked};
@@ -18,18 +18,19 @@ use std::sync::Arc;
 type Word = Table<u8, View, Posted, OneLog, Global>;
 
 /// A seat at a board's word.
-pub(crate) type Place = Seat<u8, View>;
+pub(crate) type BoardSeat = Seat<u8, View>;
 
 /// One word that holds the last post. The poster and all looks share it.
 #[derive(Drop)]
 pub struct Board {
+    /// The table of one word, whose rule is `OneLog`.
     pub(crate) word: Word,
     ghost one: { word.shared.table_id.words ≡ 1 },
 }
 
 impl Board {
-    /// Makes a board with its opening post, which may be any numbers. Returns its poster and a look at it. Fails with
-    /// `Memory` only.
+    /// Makes a board with the opening post, which may have any numbers. Returns the board's only poster and a look. Fails
+    /// with `Memory` only.
     pub fn new(alloc: Global, opening: Posted) -> Result<(Poster, Look), Refusal>
         ensures same { IfOk result (λ b. b.0 ≡ b.1) }
         ensures opening { IfOk result (λ b. b.0.posts ≡ opening ∷ []) }
@@ -49,7 +50,7 @@ impl Board {
     }
 
     /// Loads the word: the last post.
-    pub(crate) fn load(&self, seat: &mut Place) -> Posted
+    pub(crate) fn load(&self, seat: &mut BoardSeat) -> Posted
         requires board { seat.old.table_id ≡ self.now.word.shared.table_id }
         ensures board { seat.new.table_id ≡ seat.old.table_id }
         ensures held { seat.new.me.1 ≡ seat.old.me.1 }
@@ -59,7 +60,7 @@ impl Board {
     }
 
     /// Stores the word: one more post.
-    pub(crate) fn store(&self, seat: &mut Place, posted: Posted)
+    pub(crate) fn store(&self, seat: &mut BoardSeat, posted: Posted)
         requires board { seat.old.table_id ≡ self.now.word.shared.table_id }
         requires poster { seat.old.me.0.is_poster ≡ true }
         requires rising { NoneFalls (last_of seat.old.me.0.posts) posted }
@@ -71,7 +72,7 @@ impl Board {
     }
 
     /// A new seat, which knows the same posts.
-    pub(crate) fn split(&self, seat: &mut Place) -> Place
+    pub(crate) fn split(&self, seat: &mut BoardSeat) -> BoardSeat
         requires board { seat.old.table_id ≡ self.now.word.shared.table_id }
         ensures same { (seat.new.table_id ≡ seat.old.table_id) × (seat.new.me ≡ seat.old.me) }
         ensures other { (result.table_id ≡ seat.old.table_id) × (result.me ≡ (view false seat.old.me.0.posts [], [])) }
@@ -79,8 +80,8 @@ impl Board {
         self.word.shared.split_seat::<Copying>(seat)
     }
 
-    /// Tells a seat what another seat knows.
-    pub(crate) fn tell(&self, seat: &mut Place, other: Place)
+    /// Tells `seat` what `other` knows, and uses `other` up. The seat still knows what it knew before.
+    pub(crate) fn tell(&self, seat: &mut BoardSeat, other: BoardSeat)
         requires board { (seat.old.table_id ≡ self.now.word.shared.table_id) × (other.table_id ≡ self.now.word.shared.table_id) }
         requires held { other.me.1 ≡ [] }
         ensures board { seat.new.table_id ≡ seat.old.table_id }
@@ -89,8 +90,8 @@ impl Board {
         self.word.shared.join_seat::<Telling>(seat, other);
     }
 
-    /// Lets a look's seat know what another seat knew.
-    pub(crate) fn learn(&self, seat: &mut Place, other: Place)
+    /// Replaces what `seat` knows by what `other` knows, and uses `other` up.
+    pub(crate) fn learn(&self, seat: &mut BoardSeat, other: BoardSeat)
         requires board { (seat.old.table_id ≡ self.now.word.shared.table_id) × (other.table_id ≡ self.now.word.shared.table_id) }
         requires held { other.me.1 ≡ [] }
         ensures board { seat.new.table_id ≡ seat.old.table_id }

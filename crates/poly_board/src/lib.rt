@@ -6,7 +6,9 @@
 //! - [`Look`]: reads the last post. Split it to give each thread a look of its own.
 //!
 //! Contracts see a poster and a look as a board and the posts on it that are known, oldest first. The poster knows all
-//! posts. A look knows them up to the last one that it read, so the answers of a look never go back.
+//! posts. A look knows the posts up to one of them, and each read makes it know all posts so far. So a look never returns
+//! an older post than before. [`laws`] states that a look that reads after a post returns this post, if no other
+//! post comes in between.
 #![tactic(auto)]
 
 mod board;

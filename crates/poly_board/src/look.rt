@@ -4,7 +4,7 @@ ghost use Rattle.std.specs.Prelude.{◌≡◌, ◌≤◌, IfErr, IfOk};
 ghost use Rattle.poly_board.specs.Posts.{NoneFalls, StartsWith, IsRising, last_of};
 ghost use Rattle.poly_grid.specs.declared.refusal.Refusal.TheVariants.{Memory};
 
-use crate::board::{Board, Place};
+use crate::board::{Board, BoardSeat};
 use crate::posted::Posted;
 use crate::poster::Poster;
 use poly_grid::Refusal;
@@ -12,11 +12,13 @@ use std::alloc::Global;
 use std::marker::Model;
 use std::sync::Arc;
 
-/// Reads a board. Contracts see the board and the posts on it up to the last one that was read, oldest first.
+/// Reads a board. Contracts see the board and the posts on it that the look knows, oldest first.
 #[derive(Drop)]
 pub struct Look {
+    /// The board that is read.
     pub(crate) board: Arc<Board>,
-    pub(crate) seat: Place,
+    /// The look's own seat at the board's word.
+    pub(crate) seat: BoardSeat,
 }
 
 impl Model for Look {
@@ -33,8 +35,8 @@ impl Model for Look {
 }
 
 impl Look {
-    /// Returns the last post, read in one load. Never returns a post from before one that this look, or the look that it was
-    /// split from, has returned. Never allocates or waits.
+    /// Returns the last post, read in one load. Never returns an older post than this look has returned, or than the look
+    /// that it was split from had returned before the split. Never allocates or waits.
     pub fn look(&mut self) -> Posted
         ensures board { self.new.board ≡ self.old.board }
         ensures later { StartsWith self.new.posts self.old.posts }
@@ -57,7 +59,7 @@ impl Look {
     }
 
     /// Makes the look know all posts, with the help of the poster. The posts that the look knew are the first of the poster's.
-    /// This is for proofs: it reads nothing that `look` doesn't read, and no other part of the product needs it.
+    /// Only the law `last_post_is_seen` calls this, for its proof. Like `look`, it reads only the word.
     pub(crate) fn catch_up(&mut self, poster: &mut Poster)
         requires board { self.old.board ≡ poster.old.board }
         ensures poster { poster.new ≡ poster.old }
@@ -90,8 +92,8 @@ mod tests {
         after.edition < before.edition || after.endings < before.endings
     }
 
-    // A poster with both numbers of its last post, which are equal here. A desk too keeps these numbers next to its
-    // poster.
+    // A poster with the number that it posted last, both as the edition and as the endings. In the same way a desk keeps its
+    // book, which has the numbers, next to its poster.
     #[derive(Drop)]
     struct Counter {
         last: u32,
@@ -109,7 +111,7 @@ mod tests {
         }
     }
 
-    // Two looks at one board, which one thread has.
+    // Two looks at one board, both read by the same thread.
     #[derive(Drop)]
     struct Reader {
         first: Look,
@@ -118,7 +120,7 @@ mod tests {
     }
 
     impl Reader {
-        // Whether a number fell, or the two were not posted together.
+        // Whether a number fell from one read to the next, or the two numbers of the last read were not posted together.
         fn is_wrong(&mut self) -> bool {
             let one = self.first.look();
             let two = self.second.look();

@@ -4,7 +4,7 @@ ghost use Rattle.std.specs.Prelude.{◌≡◌, ◌++◌, [], ◌∷◌};
 ghost use Rattle.poly_board.specs.Posts.{NoneFalls, last_of};
 ghost use Rattle.poly_board.specs.Sight.{Sight, sight};
 
-use crate::board::{Board, Place};
+use crate::board::{Board, BoardSeat};
 use crate::posted::Posted;
 use std::marker::Model;
 use std::sync::Arc;
@@ -12,8 +12,10 @@ use std::sync::Arc;
 /// Posts numbers on a board. Contracts see the board and all posts on it, oldest first.
 #[derive(Drop)]
 pub struct Poster {
+    /// The board that gets the posts.
     pub(crate) board: Arc<Board>,
-    pub(crate) seat: Place,
+    /// The poster's own seat at the board's word.
+    pub(crate) seat: BoardSeat,
 }
 
 impl Model for Poster {

@@ -1,5 +1,7 @@
-//! The rule of a board's word: all posts form one log, the word is its last entry, and each seat knows a beginning of it.
-//! Each step on the word must keep the rule, and tells its seat what the plays below state.
+//! The rule of a board's word: all posts form one log in which neither number ever falls, the word holds the last post of
+//! the log, and each seat knows a beginning of the log.
+//!
+//! Each step on the word must keep the rule. The plays, the split and the joins below state what a seat knows after a step.
 //!
 //! A board has four kinds of step: making the views together with the word, a post, a look, and the split of a look.
 //! [`Look::catch_up`](crate::look::Look::catch_up), which only the law uses, joins views too.
@@ -11,13 +13,13 @@ use crate::posted::Posted;
 use atomic_table::{Join, Play, Split, TableRule};
 use std::collections::LinkedList;
 
-/// What a seat knows. The program never makes a value of it.
+/// What a seat knows. Only proofs use this type: the program never makes a value of it.
 pub struct View {
     /// Whether the seat is the poster's.
     pub is_poster: bool,
     /// The posts that the seat knows, oldest first.
     pub posts: LinkedList<Posted>,
-    /// The posts that another seat told it, until its next step.
+    /// The posts that another seat has told this one. The next load or store empties the list.
     pub told: LinkedList<Posted>,
 }
 
@@ -53,7 +55,7 @@ impl Split<View> for Copying {
     ghost right = { λ v. view false v.posts [] };
 }
 
-/// A join: the seat is told which posts the other seat knows, and still knows what it knew.
+/// A join: the seat is told which posts the other seat knows, and still knows what it knew before.
 pub struct Telling;
 
 impl Join<View> for Telling {
@@ -62,7 +64,7 @@ impl Join<View> for Telling {
     ghost spent = { view false [] [] };
 }
 
-/// A join: the seat, which is a look's, comes to know what the other seat knew.
+/// A join: the seat, which is a look's, knows afterwards what the other seat knew.
 pub struct Learning;
 
 impl Join<View> for Learning {

@@ -1,4 +1,5 @@
--- Lists of atoms that are hopeless along the ways of a trail: with more atoms, along fewer ways; and the editions of those ways, which fall.
+-- A list of atoms that is hopeless along the ways of a trail down to that of step m stays so with more atoms, and along the
+-- newest ways alone if the way of step m is among these. If the step numbers of the ways fall, so do those of the newest.
 use Rattle.std.proofs.Common.{List, [], arith, eqb, inl, inr, not, suc, sym, true, zero, ℕ, ◌&&◌, ◌<◌, ◌∷◌, ◌≡◌, ◌≤◌}
 use Rattle.std.proofs.lemmas.Bool.{and_from, and_parts, both_ways, eqb-true, not-true, or_cases, or_left, or_right, true≢false}
 use Rattle.poly_tiling.proofs.Lists.{In}
@@ -18,7 +19,7 @@ pub along_for : (m : ℕ) (ways : List Led) (As Bs : List (List Atom)) → Hopel
 along_for m [] As Bs d h = tt
 along_for m (b ∷ ways) As Bs d h = (h, d.1, d.2)
 
--- with more atoms
+-- if a list is hopeless along the ways, so is each list that has all of its atoms
 pub along_more : (m : ℕ) (ways : List Led) (A B : List Atom) → ((a : Atom) → In a A → In a B) → hopeless_along m ways A ≡ true → hopeless_along m ways B ≡ true
 along_more m [] A B h d = d
 along_more m (b ∷ ways) A B h d = elim (or_cases (hopeless b.to A) (not (eqb b.made m) && hopeless_along m ways A) d) [

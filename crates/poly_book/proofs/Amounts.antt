@@ -54,7 +54,8 @@ stays z y (x ∷ xs) (inl e) (inr j) = inr j
 stays z y (x ∷ xs) (inr i) (inl f) = inr (inl f)
 stays z y (x ∷ xs) (inr i) (inr j) = elim (stays z y xs i j) [ inl e ↦ inl e | inr k ↦ inr (inr k) ]
 
--- if each element of a list has a partner of its own in another list, the first list is not longer than the second
+-- if the elements of a list differ, and each has a partner of its own in another list, the first list isn't longer than the
+-- second
 pub partners : {X Y : Type 0} (R : X → Y → Type 0) (xs : List X) (ys : List Y) → AllPairs (λ x z. x ≢ z) xs → ((x : X) → In x xs → (y : Y) × In y ys × R x y) → ((x z : X) (y : Y) → R x y → R z y → x ≡ z) → length xs ≤ length ys
 partners R [] ys apart find single = omega arith
 partners {X} {Y} R (x ∷ xs) ys apart find single =
@@ -74,7 +75,7 @@ all_at P xs h x i = let c = in_contains xs x i in subst P c.2 (h c.0 x c.1)
 
 -- ---- amounts of tilings
 
--- the placements in order, and the numbers that name them
+-- S is a tiling of the design, written in order, and the numbers T name its placements
 record StandFor (v : View) (d : Layout) (S : List Placement) (T : List ℕ) : Type 0 where
   ordered : IsTilingInOrder d S
   same : (p : Placement) → Contains (names v T) p ↔ Contains S p

@@ -1,4 +1,4 @@
--- A change of the fields is the event of its kind.
+-- A change of the fields is the event of the change's kind.
 use Rattle.std.proofs.Common.{Bool, List, Option, Some, [], ap, arith, length, map, refl, reverse, subst, sym, take, ℕ, ◌++◌, ◌+◌, ◌-◌, ◌<◌, ◌∙◌, ◌∷◌, ◌≡◌, ◌≤◌}
 use Rattle.std.proofs.lemmas.List.{length-drop, length_push, length-reverse}
 use Rattle.std.proofs.lemmas.Option.{slice_get_within}
@@ -42,7 +42,8 @@ can_note kind.Edit h x t = tt
 can_note kind.Undo h x t = some_next h.undo t.0 t.1
 can_note kind.Redo h x t = some_next h.redo t.0 t.1
 
--- the ways of steps that move from one list to the other
+-- The ways of `from` are the way of `top` followed by the ways of `left`. The ways of `made` are a new way of the same change
+-- followed by the ways of `to`.
 record Moved (from to left made : List (Beside Change Kept)) (top : Beside Change Kept) (kept : Kept) : Type 0 where
   was : ways_of from ≡ way_of top ∷ ways_of left
   now : ways_of made ≡ way_by top.change (Some kept) ∷ ways_of to
@@ -104,13 +105,13 @@ did_becomes {o} {d} {d2} {v} {w} {t2} {ls} {ls2} {log} {log2} {ps} {ps2} {fresh}
 few_newest : (xs : List (Beside Change Kept)) → length (newest_undo xs) ≤ 256
 few_newest xs = let l : length (newest_undo xs) ≡ length xs - (length xs - 256) = length-drop (length xs - 256) xs in omega (arith, l)
 
--- the history keeps its bound
+-- if the history has at most 256 steps, it still does after a change is noted
 few_noted : (k : Kind) (h h2 : Steps Change Kept) (x : Change) (kept : Kept) → length h.undo + length h.redo ≤ 256 → Noted k h h2 x kept → length h2.undo + length h2.redo ≤ 256
 few_noted kind.Edit h h2 x kept few n = let added : Beside Change Kept = record { change = x; kept = Some kept } in omega (arith, ap length n.0, ap length n.1, few_newest (h.undo ++ added ∷ []))
 few_noted kind.Undo h h2 x kept few n = let m = n.1 in let put : Beside Change Kept = record m.step { kept = Some kept } in omega (arith, few, ap length m.taken, length_push h2.undo m.step, ap length m.put, length_push h.redo put)
 few_noted kind.Redo h h2 x kept few n = let m = n.1 in let put : Beside Change Kept = record m.step { kept = Some kept } in omega (arith, few, ap length m.taken, length_push h2.redo m.step, ap length m.put, length_push h.undo put)
 
--- the way of the step that comes next
+-- the way of the step that comes next is the first of the ways
 pub top_way : (ss : List (Beside Change Kept)) (top : Beside Change Kept) → next_of ss ≡ Some top → (left : List Way) × (ways_of ss ≡ way_of top ∷ left)
 top_way ss top e = (ways_of (take (length ss - 1) ss), ap (λ xs. ways_of xs) (next_of_ends ss top e) ∙ ways_push (take (length ss - 1) ss) top)
 
@@ -129,7 +130,7 @@ leads_top kind.Redo s h x w eb ef t g =
     let g2 : LeadsBy s (λ y. y) (way_of t.0 ∷ ways_of left) w = subst (λ z. Leads s z w) e1 g in
     subst (λ ws. LeadsBy s (λ y. y) ws w) (sym (ef ∙ was)) g2
 
--- what is done leads on
+-- the change that was made leads to its view
 pub did_leads : {o d d2 : Layout} {v w t2 : View} {ls ls2 : List (List ℕ)} {log log2 : List (List Atom)} {ps ps2 fresh : List Pending} {flags : List Bool} {n n2 : ℕ} {h h2 : Steps Change Kept} {ss ss2 : List Step} {es es2 : List Ending} {x : Change} {kept : Kept} (k : Kind) →
     Did o d d2 v w t2 ls ls2 log log2 ps ps2 fresh flags n n2 h h2 ss ss2 es es2 k x kept → HasBefore d x → IsDesign (changed d x) → Leads (shown o d v ls log ps n h ss es) x w
 did_leads {d = d} {w = w} {t2 = t2} {x = x} k c has is =
@@ -158,7 +159,8 @@ did_keeps {m} {o} {d} {d2} {v} {t} {w} {t2} {ls} {ls2} {log} {log2} {ps} {ps2} {
       few_ways = few_noted k h h2 x kept c.few_ways c.noted;
     }
 
--- the same fields, but for numbers that the table gave out
+-- what holds of the fields still holds after the table has given out more numbers, if it is still right for the design and
+-- nothing else has changed
 pub still_keeps : {m : Register} {o d : Layout} {v t t2 : View} {ls : List (List ℕ)} {log : List (List Atom)} {ps : List Pending} {n : ℕ} {h : Steps Change Kept} {ss : List Step} {es : List Ending} →
     KeepsOf m o d v t ls log ps n h ss es → Grown t t2 → IsRight t2 d → KeepsOf m o d v t2 ls log ps n h ss es
 still_keeps {v = v} {t = t} {t2 = t2} p g r = record { whole = p.whole; right = r; grown = grown_on v t t2 p.grown g; tasks = p.tasks; alive = p.alive; mapped = p.mapped; below = p.below; log_length = p.log_length; few_steps = p.few_steps; few_tasks = p.few_tasks; numbered = p.numbered; few_ways = p.few_ways }

@@ -38,7 +38,7 @@ use Rattle.poly_book.proofs.Sharing.{tally_filter}
 use Rattle.poly_book.proofs.Applying.{leads_top, top_way}
 use Rattle.poly_tiling.proofs.Named.{tally_same_in}
 
--- tilings of the view that can be added to those already listed
+-- tilings of the view that can be added to those already listed without listing one twice
 pub record Enters (w : View) (ls more : List (List ℕ)) : Type 0 where
   pub tilings : list_all (is_tiling w) more ≡ true
   pub once : AreOnce (ls ++ more)
@@ -53,11 +53,11 @@ once_at : (s : State) → Partition s → (T : List ℕ) → (b : Bool) → is_t
 once_at s p T true h = omega (arith, flipped_tally T s.listed, p.shared T h)
 once_at s p T false h = omega (arith, absent s.view s.listed T p.only h)
 
--- each tiling is listed once at most, and nothing else
+-- if the tilings are shared out, each tiling is listed at most once, and only tilings are listed
 pub listed_once : (s : State) → Partition s → (T : List ℕ) → tally (same_list T) s.listed ≤ one (is_tiling s.view T)
 listed_once s p T = once_at s p T (is_tiling s.view T) refl
 
--- no tiling is listed twice
+-- if the tilings are shared out, no tiling is listed twice
 pub partition_once : (s : State) → Partition s → AreOnce s.listed
 partition_once s p T = omega (arith, listed_once s p T, one_most (is_tiling s.view T))
 
@@ -92,7 +92,7 @@ listed_after kind.Redo s h x w eb ef t =
     let e : (way_of t.0).shelf ≡ stood_by kind.Redo h = sym (ap shelf_at t.1) in
     record { view = ap (λ z. z.view) is; listed = ap (λ z. z.listed) is ∙ ap (λ o. filter (λ T. is_tiling w T) s.listed ++ returned o) e }
 
--- what a change lists again
+-- what a change lists again may enter the catalogue
 pub change_enters : (k : Kind) (s : State) (h : Steps Change Kept) (x : Change) (w : View) → s.back ≡ ways_of h.undo → s.forth ≡ ways_of h.redo → IsTop k h x → Whole s → Leads s x w → Enters w s.listed (returned (stood_by k h))
 change_enters k s h x w eb ef t p g =
     let z = step s (event_of k x w) in
@@ -102,7 +102,7 @@ change_enters k s h x w eb ef t p g =
     let only : list_all (is_tiling w) (filter (λ T. is_tiling w T) s.listed ++ more) ≡ true = subst (λ v. list_all (is_tiling v) (filter (λ T. is_tiling w T) s.listed ++ more) ≡ true) l.view (subst (λ L. list_all (is_tiling z.view) L ≡ true) l.listed q.only) in
     beside w s.listed more (partition_once s p.consistent.partition) (subst AreOnce l.listed (partition_once z q)) only
 
--- what a report lists
+-- what a report lists may enter the catalogue
 pub cut_enters : (s : State) (k : ℕ) (u : Task) (tree : Plan) → Whole s → find_task k s.pending ≡ Some u → (fits tree && holds s.view (atoms_of u) tree) ≡ true → Enters s.view s.listed (tilings s.view (atoms_of u) tree)
 cut_enters s k u tree p found right =
     let z = step s (Report k tree) in
@@ -114,6 +114,6 @@ cut_enters s k u tree p found right =
       once = partition_once (cut s k u tree) q;
     }
 
--- each listed tiling is a tiling of the view before the differences
+-- each listed tiling is a tiling of the view before the change or of the one after it
 pub listed_either : (v t w : View) (d e : Layout) (x : Delta) (ls : List (List ℕ)) → WellNamed v → Grown v t → IsRight t d → IsPlanFor t d e w x → list_all (λ U. is_tiling v U) ls ≡ true → AreOfEither w x ls
 listed_either v t w d e x ls wn g r p only = of_plan t w d e x ls r p (all_from (is_tiling t) ls (λ U i. numbers_may_grow_lem v t U wn g ∙ all_in (λ V. is_tiling v V) ls only U i))

@@ -55,7 +55,7 @@ newest_last_at n xs false h =
     let long : length (reverse (drop k xs)) ≡ n = omega (arith, length-reverse (drop k xs), length-drop k xs, high) in
     sym (ap (λ ys. newest n (reverse ys)) (sym (take-append-drop k xs)) ∙ ap (λ ys. newest n ys) (reverse-append (take k xs) (drop k xs)) ∙ newest_front n (reverse (drop k xs)) (reverse (take k xs)) long)
 
--- the last ones of a list, the newest first
+-- the last n elements of a list, in reverse, are the first n of the reversed list
 newest_last : {X : Type 0} (n : ℕ) (xs : List X) → reverse (drop (length xs - n) xs) ≡ newest n (reverse xs)
 newest_last n xs = newest_last_at n xs (leb (length xs) n) refl
 
@@ -77,7 +77,7 @@ pub changed_by_way : (x : Change) (k : Option Kept) → (way_by x k).change ≡ 
 changed_by_way x None = refl
 changed_by_way x (Some k) = refl
 
--- a task ends or goes on
+-- whether a task ends or goes on, the number of endings and the number of tasks that go on add up to one more with it
 ends_or_stays : (e : ℕ) (t : Task) (p : Pending) (b : Bool) (F : List Task) (G : List Pending) →
     length (map (λ (u : Task). Hopeless u.number e) (cond b (t ∷ F) F)) + length (cond (not b) (p ∷ G) G) ≡ length (map (λ (u : Task). Hopeless u.number e) F) + length G + 1
 ends_or_stays e t p true F G = omega arith

@@ -1,4 +1,4 @@
--- Where the tasks come from that are pending after a change.
+-- Where the tasks that are pending after a change come from.
 use Rattle.std.proofs.Common.{Bool, List, None, Option, Some, [], ap, false, inl, inr, map, not, subst, sym, true, ℕ, ◌++◌, ◌+◌, ◌∙◌, ◌∷◌, ◌≡◌, ◌⊎◌}
 use Rattle.std.proofs.lemmas.Bool.{not-true}
 use Rattle.std.specs.List.{filter}
@@ -23,7 +23,8 @@ tasks_in n [] u i = absurd i
 tasks_in n (A ∷ As) u (inl e) = inl (ap (λ t. t.own) e)
 tasks_in n (A ∷ As) u (inr i) = inr (tasks_in (n + 1) As u i)
 
--- what is pending after a change was pending and isn't hopeless, or is opened
+-- the own atoms of a task that is pending after a change aren't hopeless then and belonged to a pending task, or the change
+-- opens them
 pub came : (s : State) (kd : Kind) (xc : Change) (w : View) (h : Option Stored) (x : Bool) (us rs : List Way) (A : List Atom) → In A (owns (moved s kd xc w h x us rs).pending) →
     (In A (owns s.pending) × (hopeless w A ≡ false)) ⊎ In A (openings h (stairs (guards s.view w)))
 came s kd xc w h x us rs A i =
@@ -40,7 +41,7 @@ came s kd xc w h x us rs A i =
       | inr j ↦ inr (subst (λ B. In B (openings h (stairs g))) u.2 (filter_in (λ A. not (hopeless w A)) (openings h (stairs g)) u.0.own (tasks_in s.next opened u.0 j)).0)
     ]
 
--- what a change opens was hopeless before it
+-- the lists that a change opens were hopeless before it
 opened_was_hopeless : (v w : View) (h : Option Stored) (A : List Atom) → In A (openings h (stairs (guards v w))) → hopeless v A ≡ true
 opened_was_hopeless v w None A i = stair_was_hopeless v w A A i (λ a j. j)
 opened_was_hopeless v w (Some h) A i =

@@ -1,4 +1,4 @@
--- `==` on atoms is exact.
+-- `==` on atoms is true exactly if the atoms are the same.
 use Rattle.std.proofs.Common.{eqb, refl, subst, sym, true, ◌≡◌}
 use Rattle.std.proofs.lemmas.Bool.{and_from, and_parts, eq-eqb, eqb-true, true≢false}
 use Rattle.std.specs.Prelude.{Decides}

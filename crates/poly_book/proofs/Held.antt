@@ -57,7 +57,7 @@ kept_one : (log : List (List Atom)) (p : Pending) (xs : List Pending) (t : Task)
 kept_one log p xs t ts true e f = cc
 kept_one log p xs t ts false e f = f
 
--- the tasks that go on, with the guards of one more change
+-- read with the log after one more change, the tasks that go on are the same tasks with the guards of the change added
 pub kept_tasks : (w : View) (log : List (List Atom)) (g : List Atom) (ps : List Pending) → AreTasks log ps →
     tasks_of (log ++ g ∷ []) (filter (λ p. not (hopeless w (own_of log p.own))) ps) ≡ filter (λ t. not (hopeless w t.own)) (map (λ t. lay g t) (tasks_of log ps))
 kept_tasks w log g [] h = refl
@@ -139,7 +139,7 @@ opening_end log next n w all rest ps e o = record {
   tasks = sym (append-nil (tasks_of log ps)) ∙ ap (λ r. tasks_of log ps ++ tasks_from n (hopeful w r)) (sym e) ∙ o.tasks;
 }
 
--- one more task would have a number that is too high
+-- if the next number is over 4,294,967,295 and the next list isn't hopeless, there are too few numbers for the lists
 pub opening_over : (log : List (List Atom)) (next n : ℕ) (w : View) (all rest : List (List Atom)) (A : List Atom) (ps : List Pending) → hopeless w A ≡ false → Opening log next n w all (A ∷ rest) ps → next + length ps ≡ n → 4294967295 < n →
     4294967296 < next + length (hopeful w all)
 opening_over log next n w all rest A ps h o number high =
@@ -200,7 +200,7 @@ take_lists [] i x l e = absurd (omega (arith, l))
 take_lists (y ∷ F) zero x l e = ap (λ z. z.items ∷ []) (sym e)
 take_lists (y ∷ F) (suc i) x l e = let k : suc i + 1 ≡ suc (i + 1) = omega arith in ap (λ n. take n (lists (y ∷ F))) k ∙ ap (λ L. y.items ∷ L) (take_lists F i x (omega (arith, l)) e)
 
--- one more list is crossed
+-- crossing the first i lists and then the next one is crossing the first i + 1
 pub crossed_more : (F : List (Vec Atom Global)) (S : List (List Atom)) (i : ℕ) (x : Vec Atom Global) → i < length F → x ≡ get_or F i x →
     crossed (take i (lists F)) S ++ map (λ B. x.items ++ B) S ≡ crossed (take (i + 1) (lists F)) S
 crossed_more F S i x l e = sym (ap (λ L. crossed L S) (take_lists F i x l e) ∙ crossed_append (take i (lists F)) (x.items ∷ []) S ∙ ap (λ L. crossed (take i (lists F)) S ++ L) (append-nil (map (λ B. x.items ++ B) S)))

@@ -24,11 +24,11 @@ use Rattle.poly_book.proofs.Held.{length_of}
 use Rattle.poly_book.proofs.Indices.{at_drop, first_at}
 use Rattle.poly_book.proofs.Taking.{step_cut}
 
--- the rests of a tree that takes and leaves only open placements
+-- a tree whose branches and splits name only open placements has no hopeless rest if its list of atoms isn't hopeless
 pub rests_hopeful : (v : View) (A : List Atom) (t : Plan) → opened v A t ≡ true → hopeless v A ≡ false → AreHopeful v (rests v A t)
 rests_hopeful v A t o h = subst (λ b. list_all (λ B. cond b (hopeless v B) (not (hopeless v B))) (rests v A t) ≡ true) h (open_paths_add_nothing_hopeless_lem v A t o)
 
--- the first of the lists, and the others
+-- if none of the lists is hopeless, the first isn't, and none of the others is
 pub first_hopeful : (v : View) (A : List Atom) (As : List (List Atom)) → AreHopeful v (A ∷ As) → (hopeless v A ≡ false) × AreHopeful v As
 first_hopeful v A As h = let hs = and_parts (not (hopeless v A)) (list_all (λ B. not (hopeless v B)) As) h in (not-true _ hs.0, hs.1)
 
@@ -42,11 +42,11 @@ all_at f log (p ∷ ps) zero (suc i) d l k h = all_at f log ps zero i d (omega a
 all_at f log (p ∷ ps) (suc n) zero d l k h = absurd (omega (arith, l))
 all_at f log (p ∷ ps) (suc n) (suc i) d l k h = all_at f log ps n i d (omega (arith, l)) (omega (arith, k)) h
 
--- the task at a index
+-- if no task from n on is hopeless, a task at an index of at least n isn't
 pub hopeful_at : (p : Parts) (x : Pending) (i n : ℕ) → n ≤ i → i < length p.tasks.items → x ≡ get_or p.tasks.items i x → AreHopefulFrom n (state_of p) → hopeless p.scene (atoms_of (task_of p.log x)) ≡ false
 hopeful_at p x i n l k is from = not-true _ (ap (λ y. hoped p.scene (task_of p.log y)) is ∙ all_at (hoped p.scene) p.log p.tasks.items n i x l k from)
 
--- behind the last task there is none
+-- from the end of the list on there is no task, so none is hopeless
 pub hopeful_end : (p : Parts) (n : ℕ) → length p.tasks.items ≤ n → AreHopefulFrom n (state_of p)
 hopeful_end p n l = ap (list_all (hoped p.scene)) (drop_all n (tasks_of p.log p.tasks.items) (omega (arith, length_of p.log p.tasks.items, l)))
 
@@ -61,7 +61,7 @@ all_before f n [] us h k = all_drop f n us k
 all_before f zero (t ∷ ts) us h k = all_append f (t ∷ ts) us ∙ and_from (list_all f (t ∷ ts)) (list_all f us) h k
 all_before f (suc n) (t ∷ ts) us h k = all_before f n ts us h k
 
--- the first of the tasks
+-- if all tasks from n on pass a test, so do those from n on among the first m
 all_front : (f : Task → Bool) (log : List (List Atom)) (ps : List Pending) (n m : ℕ) → list_all f (drop n (tasks_of log ps)) ≡ true → list_all f (drop n (tasks_of log (take m ps))) ≡ true
 all_front f log [] zero zero h = refl
 all_front f log [] zero (suc m) h = refl
@@ -80,12 +80,13 @@ fresh_one : (v : View) (n : ℕ) (A : List Atom) (As : List (List Atom)) (b : Bo
 fresh_one v n A As true h ih = ih n
 fresh_one v n A As false h ih = and_from (not (hopeless v (A ++ []))) (list_all (hoped v) (tasks_from (n + 1) (hopeful v As))) (ap (λ B. not (hopeless v B)) (append-nil A) ∙ ap not h) (ih (n + 1))
 
--- what is opened
+-- none of the opened tasks is hopeless
 fresh_hopeful : (v : View) (n : ℕ) (As : List (List Atom)) → list_all (hoped v) (tasks_from n (hopeful v As)) ≡ true
 fresh_hopeful v n [] = refl
 fresh_hopeful v n (A ∷ As) = fresh_one v n A As (hopeless v A) refl (λ m. fresh_hopeful v m As)
 
--- A turn ends the last task and opens others: from its index on none is hopeless.
+-- A turn ends the last task, whose index is `at`, and opens others. If no task from n on is hopeless before the turn, no task
+-- from n or from `at` on, whichever is less, is hopeless after it.
 pub hopeful_on : (p : Parts) (t : State) (k made : ℕ) (tree : Plan) (a : Applied) (at n : ℕ) (ts : List (List ℕ)) (rs : List (List Atom)) → AreLeaves p k at tree ts rs → length p.tasks.items ≤ at + 1 → IsApplied k made tree (state_of p) t a →
     AreHopefulFrom n (state_of p) → AreHopefulFrom (min n at) t
 hopeful_on p t k made tree a at n ts rs l long done from =

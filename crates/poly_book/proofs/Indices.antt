@@ -8,7 +8,7 @@ use Rattle.poly_book.specs.Tasks.{Rising, drop_task, find_task}
 use Rattle.poly_book.specs.declared.task.Pending.{Pending}
 use Rattle.poly_book.specs.Meaning.{AreTasks, task_of, tasks_of}
 
--- the first task of the number is there
+-- the index is that of the first task with the number
 abbrev pub At : ℕ → List Pending → ℕ → Type 0
 At k [] m = ⊥
 At k (p ∷ ps) zero = (p.number == k) ≡ true
@@ -66,7 +66,7 @@ pub nowhere : (k j : ℕ) (log : List (List Atom)) (ps : List Pending) → posit
 nowhere k j log [] e = refl
 nowhere k j log (p ∷ ps) e = nowhere_one k j log p ps (p.number == k) (nowhere k (j + 1) log ps) refl e
 
--- one fewer without it
+-- without the task at the index there is one task fewer
 pub at_left : (k : ℕ) (ps : List Pending) (m : ℕ) → At k ps m → length (take m ps ++ drop (suc m) ps) + 1 ≡ length ps
 at_left k [] m h = absurd h
 at_left k (p ∷ ps) zero h = omega arith
@@ -90,7 +90,7 @@ found_where m n j log (p ∷ ps) (suc i) d r l =
     let same : (j + 1) + i ≡ j + suc i = omega arith in
     ap (λ b. cond b (Some j) (position_from (λ q. q.number == k) (j + 1) ps)) (ne_eqb p.number k other) ∙ found_where (p.number + 1) n (j + 1) log ps i d r.1 low ∙ ap (λ x. Some x) same
 
--- the task of the number at a index is the one there
+-- searching for the number of the task at an index finds that task
 pub find_where : (m n : ℕ) (log : List (List Atom)) (ps : List Pending) (i : ℕ) (d : Pending) → Rising m (tasks_of log ps) n → i < length ps → find_task (get_or ps i d).number (tasks_of log ps) ≡ Some (task_of log (get_or ps i d))
 find_where m n log ps i d r l =
     let e : position_from (λ p. p.number == (get_or ps i d).number) 0 ps ≡ Some i = found_where m n 0 log ps i d r l ∙ ap (λ x. Some x) (let z : 0 + i ≡ i = omega arith in z) in

@@ -16,14 +16,14 @@ use Rattle.poly_book.proofs.Mapping.{row_kept}
 abbrev in_row : List Span → ℕ → Bool
 in_row r n = list_any (λ s. in_span s n) r
 
--- the first entry, if it has the key, and the others, if not
+-- if the first entry has the key, its row decides which numbers are under the key
 here : (k p : ℕ) (r : List Span) (es : Rows) (n : ℕ) → is_at (nat_cmp k) p ≡ true → spanned ((p, r) ∷ es) k n ≡ in_row r n
 here k p r es n t = ap (λ o. in_row (unwrap_or o []) n) (lookup_head (is_at (nat_cmp k)) (p, r) es t)
 
 there : (k p : ℕ) (r : List Span) (es : Rows) (n : ℕ) → is_at (nat_cmp k) p ≡ false → spanned ((p, r) ∷ es) k n ≡ spanned es k n
 there k p r es n t = ap (λ o. in_row (unwrap_or o []) n) (lookup_tail (is_at (nat_cmp k)) (p, r) es t)
 
--- one row after a call of `retain`, and the later ones
+-- if the first row keeps its numbers and the later rows keep theirs, each number stays under its key
 kept_one : (b : Bool) (p : ℕ) (v w : List Span) (es rest : Rows) (k n : ℕ) → (in_row v n ≡ true → in_row w n ≡ true) → (b ≡ false → w ≡ []) → (spanned es k n ≡ true → spanned rest k n ≡ true) →
     spanned ((p, v) ∷ es) k n ≡ true → spanned (cond b ((p, w) ∷ rest) rest) k n ≡ true
 kept_one true p v w es rest k n more none later h = elim (cases_Bool (is_at (nat_cmp k) p)) [
@@ -35,7 +35,8 @@ kept_one false p v w es rest k n more none later h = elim (cases_Bool (is_at (na
   | inr other ↦ later (sym (there k p v es n other) ∙ h)
 ]
 
--- `retain` keeps what is noted for the pending tasks, if each call keeps it in its row and drops only empty rows
+-- `retain` keeps what is noted for the pending tasks, if each call leaves in its row exactly the spans that have the number of
+-- a pending task, and drops only empty rows
 pub rows_kept : {F : Type 0} (T : F → ℕ → List Span → Bool → List Span → F → Type 0) (I : F → Type 0) (ps : List Pending) →
     ((g : F) (k : ℕ) (v : List Span) (b : Bool) (w : List Span) (g' : F) → I g → T g k v b w g' → (w ≡ filter (λ s. has_pending ps s) v) × (b ≡ false → w ≡ []) × I g') →
     (f : F) (es kept : Rows) → I f → RetainsPairs T f es kept → AreKept ps es kept

@@ -1,4 +1,4 @@
--- A report that held for its task holds as long as that is pending.
+-- A report that held for its task holds as long as the task is pending.
 use Rattle.std.proofs.Common.{Bool, List, None, Option, Some, [], ap, append_assoc, arith, inl, inr, map, not, subst, sym, true, ℕ, ◌&&◌, ◌<◌, ◌∙◌, ◌∷◌, ◌≡◌}
 use Rattle.std.proofs.lemmas.Bool.{cond_both}
 use Rattle.std.specs.List.{filter}
@@ -54,7 +54,7 @@ step_rises s (Report k tree) r = cut_rises s k tree (find_task k s.pending) r
 pub becomes_rises : (s z : State) → Becomes s z → Rising 0 s.pending s.next → Rising 0 z.pending z.next
 becomes_rises s z k r = subst (λ y. Rising 0 y.pending y.next) (sym k.same) r
 
--- each pending task of the number has a tree that holds, and no later task has the number
+-- the tree holds for each pending task with the number, and no new task gets this number
 abbrev pub HoldsAt : State → ℕ → Plan → Type 0
 HoldsAt s k tree = (k < s.next) × ((u : Task) → In u s.pending → u.number ≡ k → holds s.view (atoms_of u) tree ≡ true)
 
@@ -103,7 +103,7 @@ step_holds s (Report j other) k tree wn g l = cut_holds s j k tree other (find_t
 pub becomes_holds : (s z : State) (k : ℕ) (tree : Plan) → Becomes s z → HoldsAt s k tree → HoldsAt z k tree
 becomes_holds s z k tree b l = subst (λ y. HoldsAt y k tree) (sym b.same) l
 
--- a tree that holds for the pending task of the number
+-- a tree that holds for the pending task with the number satisfies `HoldsAt`
 pub holds_now : (s : State) (k : ℕ) (t : Task) (tree : Plan) → Rising 0 s.pending s.next → find_task k s.pending ≡ Some t → holds s.view (atoms_of t) tree ≡ true → HoldsAt s k tree
 holds_now s k t tree rises found h =
     let at = found_in k s.pending t found in

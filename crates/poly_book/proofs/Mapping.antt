@@ -1,4 +1,4 @@
--- What is noted in the maps stays noted.
+-- What is noted in the maps for pending tasks stays noted, and what is noted once a stair is.
 use Rattle.std.proofs.Common.{Bool, Err, List, Ok, Result, [], ap, arith, drop, eqb, false, get_or, inl, inr, length, nat_lt, refl, subst, suc, sym, take, true, zero, ℕ, ◌+◌, ◌++◌, ◌-◌, ◌<◌, ◌∙◌, ◌∷◌, ◌≡◌, ◌≤◌}
 use Rattle.std.proofs.lemmas.Bool.Decides.{leb_tells}
 use Rattle.std.proofs.lemmas.Bool.{and_from, and_parts, cases_lt, cond_both, eqb-true, ltb-false, ltb-true, or_cases, or_left, or_right, true≢false}
@@ -25,7 +25,7 @@ pub all_imply : {X : Type 0} (f g : X → Bool) (xs : List X) → ((x : X) → f
 all_imply f g [] i h = refl
 all_imply f g (x ∷ xs) i h = let hs = and_parts (f x) (list_all f xs) h in and_from (g x) (list_all g xs) (i x hs.0) (all_imply f g xs i hs.1)
 
--- one more element has what all before it have
+-- if a test passes on the first i elements and on the next one, it passes on the first i + 1
 pub all_more : {X : Type 0} (f : X → Bool) (xs : List X) (i : ℕ) (d : X) → i < length xs → list_all f (take i xs) ≡ true → f (get_or xs i d) ≡ true → list_all f (take (i + 1) xs) ≡ true
 all_more f xs i d l h k =
     ap (list_all f) (take_more xs i d l) ∙ all_append f (take i xs) (get_or xs i d ∷ []) ∙ and_from (list_all f (take i xs)) (f (get_or xs i d) && true) h (and_from (f (get_or xs i d)) true k refl)
@@ -57,7 +57,7 @@ within s n a b = and_from (nat_le s.from n) (nat_le n s.to) (low_true s.from n a
 pub bounds_of : (s : Span) (n : ℕ) → in_span s n ≡ true → (s.from ≤ n) × (n ≤ s.to)
 bounds_of s n h = let hs = and_parts (nat_le s.from n) (nat_le n s.to) h in (true_low s.from n hs.0, true_low n s.to hs.1)
 
--- the first elements, cut in two
+-- the first k elements, followed by those from k to j, are the first j
 take_join : {X : Type 0} (k j : ℕ) (xs : List X) → k ≤ j → take k xs ++ take (j - k) (drop k xs) ≡ take j xs
 take_join {X} k j xs l =
     ap {B = List X} (λ ys. ys ++ take (j - k) (drop k xs)) (sym (take-take k j xs l))
@@ -74,7 +74,8 @@ all_fewer f k j xs l h =
     (and_parts (list_all f (take k xs)) (list_all f (take (j - k) (drop k xs)))
     (sym (all_append f (take k xs) (take (j - k) (drop k xs))) ∙ ap (list_all f) (take_join k j xs l) ∙ h)).0
 
--- the known ones among the guards of a stair are noted for each task of the span
+-- if k is 0, or the prefix covers the first k guards of the stair's edition and the span, then these guards are noted for each
+-- number in the span
 known_noted : (m : Maps) (log : List (List Atom)) (f : Prefix) (s : Stair) (w : Span) (k n : ℕ) → IsPrefix m log f → (k ≡ 0) ⊎ ((k ≤ f.count) × (f.edition ≡ s.edition) × (f.span.from ≤ w.from) × (w.to ≤ f.span.to)) → in_span w n ≡ true → list_all (λ a. under m a n) (take k (get_or log s.edition [])) ≡ true
 known_noted m log f s w k n p known h = elim known [
   | inl none ↦ ap (λ j. list_all (λ a. under m a n) (take j (get_or log s.edition []))) none
@@ -88,7 +89,8 @@ known_noted m log f s w k n p known h = elim known [
       (all_fewer (λ a. under m a n) k f.count (get_or log f.edition []) some.0 (p n (within f.span n (omega (arith, low, first)) (omega (arith, high, last)))))
 ]
 
--- with the others noted, too, all guards before a stair's last one are
+-- if k is 0, or the prefix covers the first k guards, and the guards from index k up to the stair's index are noted, too, then
+-- all guards before the stair's last atom are noted
 pub guards_noted : (m m2 : Maps) (log : List (List Atom)) (f : Prefix) (s : Stair) (w : Span) (k : ℕ) (g : List Atom) → g ≡ get_or log s.edition [] → IsWider m m2 → IsPrefix m log f → k ≤ s.index → (k ≡ 0) ⊎ ((k ≤ f.count) × (f.edition ≡ s.edition) × (f.span.from ≤ w.from) × (w.to ≤ f.span.to)) → ((n : ℕ) → in_span w n ≡ true → list_all (λ a. under m2 a n) (take (s.index - k) (drop k g)) ≡ true) → (n : ℕ) → in_span w n ≡ true → list_all (λ a. under m2 a n) (take s.index (get_or log s.edition [])) ≡ true
 guards_noted m m2 log f s w k g is wider p low known rest n h =
     let all = get_or log s.edition [] in
@@ -96,7 +98,7 @@ guards_noted m m2 log f s w k g is wider p low known rest n h =
     (wide_atoms m m2 n (take k all) wider (known_noted m log f s w k n p known h))
     (subst (λ x. list_all (λ a. under m2 a n) (take (s.index - k) (drop k x)) ≡ true) is (rest n h))
 
--- a stair is noted where the guards before its last one are and the negation of that one
+-- a stair is noted for a task if the stair's last atom and all guards before that atom are noted for the task
 pub stair_noted : (m : Maps) (log : List (List Atom)) (s : Stair) (n : ℕ) (a d : Atom) (g : List Atom) → g ≡ get_or log s.edition [] → IsStairOf log s → a ≡ negated (get_or g s.index d) → list_all (λ a. under m a n) (take s.index (get_or log s.edition [])) ≡ true → under m a n ≡ true → list_all (λ a. under m a n) (stair_of log s) ≡ true
 stair_noted m log s n a d g is own last h k =
     let f : Atom → Bool = λ a. under m a n in
@@ -111,7 +113,7 @@ indexed_in [] x d i = absurd i
 indexed_in (y ∷ ys) x d (inl e) = (zero, omega arith, e)
 indexed_in (y ∷ ys) x d (inr i) = let r = indexed_in ys x d i in let low = r.1 in (suc r.0, omega (arith, low), r.2)
 
--- the first of the rising numbers that isn't below the span decides whether one is in it
+-- of the pending tasks' numbers, which rise, the first that isn't below the span decides whether one of them is in the span
 pub has_here : (s : Span) (ps : List Pending) (i : ℕ) (d : Pending) → IsNonDecreasingBy (λ (p : Pending). p.number) ps → AllWithin (λ (p : Pending). nat_lt p.number s.from ≡ true) ps 0 i → AllWithin (λ (p : Pending). nat_lt p.number s.from ≡ false) ps i (length ps) → i < length ps → nat_le (get_or ps i d).number s.to ≡ has_pending ps s
 has_here s ps i d rises below above low =
     let x = get_or ps i d in
@@ -143,7 +145,7 @@ has_none s ps i below past = sym (any_none (λ (p : Pending). in_span s p.number
         let first = b.0 in
         omega (arith, ltb-true (get_or ps k q).number s.from (below k q (omega arith) (omega (arith, low, past))), same, first)
 
--- a span with the number of a pending task has a pending task
+-- if the number of a pending task is in a span, the span has a pending task
 has_number : (ps : List Pending) (s : Span) (n : ℕ) → is_pending ps n ≡ true → in_span s n ≡ true → has_pending ps s ≡ true
 has_number ps s n h e =
     let r = any_in (λ (p : Pending). eqb p.number n) ps h in
@@ -156,6 +158,6 @@ any_kept f g (x ∷ xs) i h =
     (λ _. elim (or_cases (f x) (list_any f xs) h) [ inl e ↦ or_left (f x) (list_any f (filter g xs)) e | inr e ↦ or_right (f x) (list_any f (filter g xs)) (any_kept f g xs i e) ])
     (λ off. elim (or_cases (f x) (list_any f xs) h) [ inl e ↦ absurd (true≢false (sym (i x e) ∙ off)) | inr e ↦ any_kept f g xs i e ])
 
--- without the spans of ended tasks a row has the pending ones it had
+-- dropping the spans of ended tasks leaves each number of a pending task in the row
 pub row_kept : (ps : List Pending) (r : List Span) (n : ℕ) → is_pending ps n ≡ true → list_any (λ s. in_span s n) r ≡ true → list_any (λ s. in_span s n) (filter (λ s. has_pending ps s) r) ≡ true
 row_kept ps r n h e = any_kept (λ s. in_span s n) (λ s. has_pending ps s) r (λ s k. has_number ps s n h k) e

@@ -1,4 +1,4 @@
--- A change shares the tilings out again, with a shelf or without, and a report does.
+-- A change shares the tilings out again, with a shelf or without, and so does a report.
 use Rattle.std.proofs.Common.{Bool, List, None, Option, Some, [], ap, arith, false, length, map, not, refl, subst, suc, sym, true, zero, ℕ, ◌&&◌, ◌*◌, ◌+◌, ◌∙◌, ◌∷◌, ◌≡◌}
 use Rattle.std.proofs.lemmas.Bool.{and_from, and_parts, both_ways, cond_both, false_from_ne_true, not-true, not_from_false}
 use Rattle.std.specs.List.{filter, list_all}
@@ -42,7 +42,8 @@ use Rattle.poly_book.specs.Trails.{Earlier, Follows, Led, Consistent, Trail, Way
 use Rattle.poly_tiling.proofs.Designs.{same_design}
 use Rattle.poly_book.proofs.Sharing.{all_filter, and_false, cross_tally, laid_tally, opened_tally, tally_drop, tally_filter, tally_map}
 
--- what comes from a shelf or the stairs, and what it lists again, is one for each tiling that breaks a guard
+-- if the shelf is right for the change, the number of times that a tiling is returned and the number of opened lists that it
+-- meets add up to the number of stairs that it meets
 opened_shares : (s : State) (w : View) (h : Option Stored) (T : List ℕ) → WellNamed s.view → Names s.view w → IsShelf s.view w h → is_tiling w T ≡ true → (b : Bool) → meets_all w T (guards s.view w) ≡ b →
     tally (λ V. same_list V T) (returned h) + tally (λ A. meets_all w T A) (openings h (stairs (guards s.view w))) ≡ tally (λ A. meets_all w T A) (stairs (guards s.view w))
 opened_shares s w None T wn names k t b m = omega arith
@@ -100,7 +101,7 @@ cut_partition s t k tree found h p = record {
       (all_from (λ U. is_tiling s.view U) (tilings s.view (atoms_of t) tree) (λ U i. (and_parts (is_tiling s.view U) (meets_all s.view U (atoms_of t)) (all_in (λ U. in_family s.view (atoms_of t) U) (tilings s.view (atoms_of t) tree) (tree_tilings_belong_lem s.view (atoms_of t) tree) U i)).0));
 }
 
--- what a change stores for its way back is a shelf
+-- what a change stores for its way back is right for the way back
 pub way_shelf : (s : State) (w : View) → Partition s → IsShelf w s.view (shelf_of s w)
 way_shelf s w p = cond_both (nat_le (length s.pending * length (guards w s.view)) 4096) _ None (λ h. IsShelf w s.view h)
     (λ e. (
@@ -112,7 +113,7 @@ way_shelf s w p = cond_both (nat_le (length s.pending * length (guards w s.view)
     ))
     (λ e. tt)
 
--- a shelf serves under more numbers
+-- a shelf for the change from a view is also one for the change from the same view with more numbers
 shelf_from : (v w to : View) (h : Option Stored) → WellNamed v → Grown v w → IsShelf v to h → IsShelf w to h
 shelf_from v w to None wn g k = tt
 shelf_from v w to (Some h) wn g k = (
@@ -161,7 +162,7 @@ pub inverse_twice : (x : Change) → inverse_of (inverse_of x) ≡ x
 inverse_twice (change.Cell c m n) = refl
 inverse_twice (change.Piece c m n) = refl
 
--- a change puts one more way on top, which leads back over it
+-- a change puts one more way on top, which leads back to the design before the change
 follows_push : (f : Change → Change) (s : State) (x y : Change) (w : View) (us : List Led) (bs : List Way) → IsDesign s.design → Shows s.view s.design → HasBefore s.design x → f y ≡ inverse_of x →
     Follows f s.design us bs → Follows f (changed s.design x) (led_back s w ∷ us) (way_back s y w ∷ bs)
 follows_push f s x y w us bs is shows has e k =
@@ -176,11 +177,11 @@ follows_push f s x y w us bs is shows has e k =
       subst (λ d. Follows f d us bs) (sym back) k,
     )
 
--- the view of an event shows what the way's view shows
+-- the view after an undo or a redo is that of the way, perhaps with more numbers
 pub way_grown : (s : State) (f : Change → Change) (w : View) (u : Led) (us : List Led) (b : Way) (bs : List Way) → Earlier s.view (u ∷ us) → Ways s.view (u ∷ us) → Follows f s.design (u ∷ us) (b ∷ bs) → Leads s (f b.change) w → Grown u.to w
 way_grown s f w u us b bs e k l g = same_design u.to w (changed s.design (f b.change)) k.0 g.well l.0.shows g.shows (names_on u.to s.view w e.0 g.names)
 
--- what a change to a view leaves right
+-- the change leads to the view, and the shelf is right for the change
 record Turned (s : State) (x : Change) (w : View) (shelf : Option Stored) : Type 0 where
   leads : Leads s x w
   right : IsShelf s.view w shelf
@@ -287,7 +288,7 @@ none_fails : {X : Type 0} (f : X → Bool) (xs : List X) → tally (λ x. not (f
 none_fails f [] h = refl
 none_fails f (x ∷ xs) h = none_fails_at (tally (λ y. not (f y)) xs) (f x) (list_all f xs) h (λ e. none_fails f xs e)
 
--- the order of what is listed says nothing
+-- a state stays consistent if only the order of its listed tilings changes
 relisted_consistent : (s : State) (L : List (List ℕ)) (t : Trail) → ((f : List ℕ → Bool) → tally f L ≡ tally f s.listed) → Consistent s t → Consistent (record s { listed = L }) t
 relisted_consistent s L t order p = record {
   design = p.design;

@@ -30,7 +30,7 @@ behind_it : (m k : ℕ) (u : Task) (ts : List Task) (t : Task) → u.number < m 
 behind_it m k u ts t l h true e f = absurd (omega (arith, l, h, eqb-true u.number k e))
 behind_it m k u ts t l h false e f = f
 
--- the first task is below the number
+-- a task whose number is less than m doesn't change the result if it is put in front of the list
 passed : (m : ℕ) (u : Task) (ts : List Task) (o : Option ℕ) → u.number < m → MatchOption o (NoneFrom m ts) (λ k. IsLeastFrom m ts k) → MatchOption o (NoneFrom m (u ∷ ts)) (λ k. IsLeastFrom m (u ∷ ts) k)
 passed m u ts None l h = λ k t f. below_it m k u ts t l (h k t) (eqb u.number k) refl f
 passed m u ts (Some n) l h = record {
@@ -69,7 +69,7 @@ turn_at : (T U : List ℕ) (b : Bool) → same_list T U ≡ b → same_list T U 
 turn_at T U true e = e ∙ sym (same_list_self U) ∙ ap (λ V. same_list U V) (sym (same_list_is T U e))
 turn_at T U false e = e ∙ sym (false_from_ne_true (same_list U T) (λ h. true≢false (sym (same_list_self T) ∙ ap (λ V. same_list T V) (sym (same_list_is U T h)) ∙ e)))
 
--- a list and another are the same either way
+-- whether two lists are the same doesn't depend on which comes first
 pub same_flipped : (T U : List ℕ) → same_list T U ≡ same_list U T
 same_flipped T U = turn_at T U (same_list T U) refl
 
@@ -77,7 +77,7 @@ each_at : (s : State) → Partition s → s.pending ≡ [] → (T : List ℕ) �
 each_at s p e T true h = tally_same_in (same_list T) (λ U. same_list U T) s.listed (λ U i. same_flipped T U) ∙ omega (arith, p.shared T h, ap (λ ts. tally (λ t. meets_all s.view T (atoms_of t)) ts) e)
 each_at s p e T false h = tally_none (same_list T) s.listed (λ U i. false_from_ne_true (same_list T U) (λ g. true≢false (sym (all_in (λ V. is_tiling s.view V) s.listed p.only U i) ∙ ap (λ V. is_tiling s.view V) (sym (same_list_is T U g)) ∙ h)))
 
--- nothing pending: each tiling is listed once, and nothing else
+-- if nothing is pending, each tiling is listed once, and nothing else is listed
 pub partition_each : (s : State) → Partition s → s.pending ≡ [] → HasEachOnce s.view s.listed
 partition_each s p e T = each_at s p e T (is_tiling s.view T) refl
 

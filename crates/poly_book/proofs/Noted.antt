@@ -1,4 +1,4 @@
--- The maps have the tasks that stay and those that are new.
+-- Which tasks the maps have noted after tasks end, after new ones are opened, and after the register catches up.
 use Rattle.std.proofs.Common.{Bool, List, [], ap, arith, drop, eqb, false, inl, inr, length, nat_lt, refl, subst, suc, sym, take, true, zero, ℕ, ◌+◌, ◌++◌, ◌-◌, ◌||◌, ◌∙◌, ◌∷◌, ◌≡◌, ◌≤◌}
 use Rattle.std.proofs.lemmas.Bool.Decides.{leb_tells}
 use Rattle.std.proofs.lemmas.Bool.{and_from, and_parts, eq-eqb, or_cases, or_left, or_right, true≢false}
@@ -53,11 +53,11 @@ has_below b m log p = nat_le b p.number || has_all m log p
 pub below_append : (b : ℕ) (m : Maps) (log : List (List Atom)) (ps qs : List Pending) → AreNotedBelow b m log ps → AreNotedBelow b m log qs → AreNotedBelow b m log (ps ++ qs)
 below_append b m log ps qs h k = all_append (has_below b m log) ps qs ∙ and_from (list_all (has_below b m log) ps) (list_all (has_below b m log) qs) h k
 
--- those that are left without the one at a index
+-- the tasks below b are still noted after the task at an index is removed
 pub below_left : (b : ℕ) (m : Maps) (log : List (List Atom)) (i : ℕ) (ps : List Pending) → AreNotedBelow b m log ps → AreNotedBelow b m log (take i ps ++ drop (suc i) ps)
 below_left b m log i ps h = below_append b m log (take i ps) (drop (suc i) ps) (all_take (has_below b m log) i ps h) (all_drop (has_below b m log) (suc i) ps h)
 
--- one more change doesn't alter the own atoms of a task
+-- one more change doesn't alter the own atoms of a task, so the tasks below b are still noted
 pub below_push : (b : ℕ) (m : Maps) (log : List (List Atom)) (g : List Atom) (ps : List Pending) → AreTasks log ps → AreNotedBelow b m log ps → AreNotedBelow b m (log ++ g ∷ []) ps
 below_push b m log g [] are h = refl
 below_push b m log g (p ∷ ps) are h =
@@ -68,7 +68,7 @@ below_push b m log g (p ∷ ps) are h =
 low_true : (m n : ℕ) → m ≤ n → nat_le m n ≡ true
 low_true m n h = elim (leb_tells m n) [ inl p ↦ p.0 | inr p ↦ absurd (omega (arith, h, p.1)) ]
 
--- nothing is owed for new tasks, whose numbers are not below
+-- new tasks needn't be noted, since their numbers aren't below b
 pub below_fresh : (b n : ℕ) (m : Maps) (log : List (List Atom)) (ps : List Pending) (As : List (List Atom)) → b ≤ n → tasks_of log ps ≡ tasks_from n As → AreNotedBelow b m log ps
 below_fresh b n m log [] As l e = refl
 below_fresh b n m log (p ∷ ps) [] l e = absurd (cc)
@@ -79,7 +79,7 @@ below_fresh b n m log (p ∷ ps) (A ∷ As) l e =
     and_from (has_below b m log p) (list_all (has_below b m log) ps) (or_left (nat_le b p.number) (has_all m log p) (low_true b p.number (omega (arith, l, number))))
     (below_fresh b (n + 1) m log ps As (omega (arith, l)) rest)
 
--- the tasks after a change
+-- if the tasks below b are noted before a change, those below b are noted after it
 pub did_noted : {o d d2 : Layout} {v w t2 : View} {ls ls2 : List (List ℕ)} {log log2 : List (List Atom)} {ps ps2 fresh : List Pending} {flags : List Bool} {n n2 : ℕ} {h h2 : Steps Change Kept} {ss ss2 : List Step} {es es2 : List Ending} {k : Kind} {x : Change} {kept : Kept} (b : ℕ) (m : Maps) →
     Did o d d2 v w t2 ls ls2 log log2 ps ps2 fresh flags n n2 h h2 ss ss2 es es2 k x kept → AreTasks log ps → b ≤ n → AreNotedBelow b m log ps → AreNotedBelow b m log2 ps2
 did_noted {v = v} {w = w} {log = log} {log2 = log2} {ps = ps} {ps2 = ps2} {fresh = fresh} {flags = flags} {n = n} {h = h} {k = k} b m c are low mapped =
@@ -90,11 +90,11 @@ did_noted {v = v} {w = w} {log = log} {log2 = log2} {ps = ps} {ps2 = ps2} {fresh
     subst (λ L. AreNotedBelow b m L ps2) (sym c.log_is)
     (subst (λ qs. AreNotedBelow b m log3 qs) (sym c.tasks_are) (below_append b m log3 (items_where_true flags ps) fresh kept new))
 
--- noted tasks are, below any number
+-- if all tasks are noted, those below any number are
 pub noted_below : (b : ℕ) (m : Maps) (log : List (List Atom)) (ps : List Pending) → AreNoted m log ps → AreNotedBelow b m log ps
 noted_below b m log ps h = all_imply (has_all m log) (has_below b m log) ps (λ p e. or_right (nat_le b p.number) (has_all m log p) e) h
 
--- what is noted below a number stays so where what is noted for pending tasks does
+-- if what is noted for pending tasks stays noted, the tasks below a number stay noted
 pub below_kept : (b : ℕ) (m m2 : Maps) (log : List (List Atom)) (ps : List Pending) → KeepsPending ps m m2 → AreNotedBelow b m log ps → AreNotedBelow b m2 log ps
 below_kept b m m2 log ps keeps h =
     all_from (has_below b m2 log) ps (λ p i.
@@ -108,7 +108,7 @@ below_kept b m m2 log ps keeps h =
 pub below_wide : (b : ℕ) (m m2 : Maps) (log : List (List Atom)) (ps : List Pending) → IsWider m m2 → AreNotedBelow b m log ps → AreNotedBelow b m2 log ps
 below_wide b m m2 log ps wider h = below_kept b m m2 log ps (λ a n is e. wider a n e) h
 
--- with those noted, too, that begin at the first number that isn't below, all are
+-- if the tasks below b are noted, and so are the tasks after them, all tasks are noted
 pub caught_up : (b : ℕ) (m m2 : Maps) (log : List (List Atom)) (ps : List Pending) (i : ℕ) → IsWider m m2 → AllWithin (λ (p : Pending). nat_lt p.number b ≡ true) ps 0 i → AreNotedBelow b m log ps → AreNoted m2 log (drop i ps) → AreNoted m2 log ps
 caught_up b m m2 log [] i wider low h k = refl
 caught_up b m m2 log (p ∷ ps) zero wider low h k = k

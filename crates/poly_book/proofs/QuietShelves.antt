@@ -1,4 +1,5 @@
--- Shelves: one that finds nothing pending is kept and freezes nothing; what another one freezes is hopeless along the ways if the tasks were.
+-- The shelf of a change that finds nothing pending is kept and has frozen nothing. If the own atoms of all pending tasks are
+-- hopeless along some ways, so is each list that the shelf of a change freezes.
 use Rattle.std.proofs.Common.{List, None, Option, Some, [], ap, arith, eqb, inl, inr, length, map, refl, subst, sym, true, ℕ, ◌*◌, ◌++◌, ◌∙◌, ◌∷◌, ◌≡◌}
 use Rattle.std.proofs.lemmas.Bool.{both_ways, cond_both, eqb-true, le-leb, true≢false}
 use Rattle.std.specs.Prelude.{nat_le}
@@ -48,7 +49,7 @@ pub quiet_opens : (h : Option Stored) (S : List (List Atom)) (A : List Atom) →
 quiet_opens None S A q i = q
 quiet_opens (Some h) S A q i = let r = crossed_in h.frozen S A i in subst (λ F. In r.0 F) q r.1
 
--- what a kept shelf opens is hopeless_along with what it has frozen
+-- if what a kept shelf has frozen is hopeless along the ways, so is what the shelf opens
 pub shelf_hopeless : (m : ℕ) (ways : List Led) (h : Option Stored) (S : List (List Atom)) → is_kept h ≡ true → stands m ways ≡ true → HopelessAlong m ways (frozen_in h) → (A : List Atom) → In A (openings h S) → hopeless_along m ways A ≡ true
 shelf_hopeless m ways None S k y d A i = absurd (true≢false (sym k))
 shelf_hopeless m ways (Some h) S k y d A i =

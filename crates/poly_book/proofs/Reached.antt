@@ -1,4 +1,4 @@
--- How far touched spans reach, and that they reach each task that can end.
+-- How far touched spans reach, and that they reach each task that the change ends.
 use Rattle.std.proofs.Common.{Bool, List, [], ap, arith, false, get_or, inl, inr, length, nat_lt, refl, subst, suc, sym, take, true, zero, ℕ, ◌+◌, ◌<◌, ◌||◌, ◌∙◌, ◌∷◌, ◌≡◌, ◌≤◌, ◌⊎◌}
 use Rattle.std.proofs.lemmas.Bool.{and_parts, cases_lt, ltb-true, true≢false}
 use Rattle.std.proofs.lemmas.List.{take_more}
@@ -50,7 +50,7 @@ or_cases : (a b : Bool) → (a || b) ≡ true → (a ≡ true) ⊎ (b ≡ true)
 or_cases true b h = inl refl
 or_cases false b h = inr h
 
--- one element more
+-- if one of the first k + 1 elements passes, one of the first k passes, or the element at index k does
 any_more : {X : Type 0} (f : X → Bool) (xs : List X) (k : ℕ) (d : X) → k < length xs → list_any f (take (k + 1) xs) ≡ true → (list_any f (take k xs) ≡ true) ⊎ (f (get_or xs k d) ≡ true)
 any_more f xs k d l h =
     let x = get_or xs k d in
@@ -68,7 +68,8 @@ spans_more r r2 ps ss k d l w h one i e low t =
       | inr b ↦ one i e low b
     ]
 
--- what is reached under the keys of some elements, and under that of one more
+-- if the tasks under the keys of the first k elements are reached, and those under the key of the next element, then the tasks
+-- under the keys of the first k + 1 elements are reached
 pub keys_more : {X K : Type 0} (g : X → K → Bool) (key : K → ℕ) (rows : Rows) (r r2 : List ℕ) (ps : List Pending) (xs : List X) (k : ℕ) (d : X) → k < length xs → IsFarther r r2 →
     ((q : K) → list_any (λ x. g x q) (take k xs) ≡ true → IsReached r ps (λ n. spanned rows (key q) n)) →
     ((q : K) → g (get_or xs k d) q ≡ true → IsReached r2 ps (λ n. spanned rows (key q) n)) →
@@ -84,7 +85,7 @@ noted_at m log [] i d h l = absurd (omega (arith, l))
 noted_at m log (p ∷ ps) zero d h l = (and_parts (list_all (λ a. under m a p.number) (own_of log p.own)) (list_all (λ (q : Pending). list_all (λ a. under m a q.number) (own_of log q.own)) ps) h).0
 noted_at m log (p ∷ ps) (suc i) d h l = noted_at m log ps i d (and_parts (list_all (λ a. under m a p.number) (own_of log p.own)) (list_all (λ (q : Pending). list_all (λ a. under m a q.number) (own_of log q.own)) ps) h).1 (omega (arith, l))
 
--- a task that ends has a touched atom, under which it is noted
+-- if all tasks are noted, and those that are noted under a touched atom are reached, each task that the change ends is reached
 pub ends_reached : (t : Touch) (w : View) (m : Maps) (log : List (List Atom)) (ps : List Pending) (reach : List ℕ) → t.view.now ≡ w → AreNoted m log ps → AreTouched t log ps → ((a : Atom) → touches t a ≡ true → IsReached reach ps (λ n. under m a n)) → AreEndsReached w log ps reach
 ends_reached t w m log ps reach ev noted touched all i d l h =
     let p = get_or ps i d in
@@ -92,14 +93,15 @@ ends_reached t w m log ps reach ev noted touched all i d l h =
     let hit = any_in (touches t) A (touched_at t log ps i d touched l (ap (λ z. hopeless z A) ev ∙ h)) in
     all hit.0 hit.2 i d l (all_in (λ a. under m a p.number) A (noted_at m log ps i d noted l) hit.0 hit.1)
 
--- the farthest of the first entries
+-- if `far` is at least each of the first i entries, and `far2` is at least `far` and the entry at i, then `far2` is at least
+-- each of the first i + 1 entries
 pub far_more : (reach : List ℕ) (i far far2 : ℕ) → ((j : ℕ) → j < i → get_or reach j 0 ≤ far) → far ≤ far2 → get_or reach i 0 ≤ far2 → (j : ℕ) → j < i + 1 → get_or reach j 0 ≤ far2
 far_more reach i far far2 h w k j l = elim (cases_lt j i) [
   | inl low ↦ let b = h j low in omega (arith, b, w)
   | inr past ↦ let same : j ≡ i = omega (arith, past, l) in subst (λ x. get_or reach x 0 ≤ far2) (sym same) k
 ]
 
--- each touched atom is of one of the kinds, which are reached one after the other
+-- if the tasks under the touched atoms of each kind are reached, one kind after the other, those under all touched atoms are
 pub all_kinds : (t : Touch) (m : Maps) (ps : List Pending) (r1 r2 r3 r4 r5 : List ℕ) → IsFarther r1 r2 → IsFarther r2 r3 → IsFarther r3 r4 → IsFarther r4 r5 →
     ((p : ℕ) → touches t (Has p) ≡ true → IsReached r1 ps (λ n. spanned m.has.entries p n)) →
     ((p : ℕ) → mem t.delta.now.pinned.items p ≡ true → IsReached r2 ps (λ n. spanned m.lacks.entries p n)) →

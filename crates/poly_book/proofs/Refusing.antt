@@ -47,13 +47,13 @@ memory_not_made kind.Edit x s e m = inr (inr m)
 memory_not_made kind.Undo x s e m = inr (inr m)
 memory_not_made kind.Redo x s e m = inr (inr m)
 
--- the placements are more than the placement numbers
+-- if the placement numbers don't suffice, the change isn't made
 pub spent_not_made : (k : Kind) (x : Change) (s : State) (t : View) (e : Refusal) → e ≡ Spent → Grown s.view t → NumbersAreSpent t.placements (changed s.design x) → IsNotMade k x s e
 spent_not_made kind.Edit x s t e is g n = inr (inl (is, inr (inr (t, g, n))))
 spent_not_made kind.Undo x s t e is g n = inl (is, inr (inr (t, g, n)))
 spent_not_made kind.Redo x s t e is g n = inl (is, inr (inr (t, g, n)))
 
--- of two designs
+-- if one of the two widths is over 20,000, the change between the designs is too wide
 is_wide : {d e : Layout} {m n : ℕ} → HasWidth d e m → HasWidth e d n → (20000 < m) ⊎ (20000 < n) → IsWide d e
 is_wide {d} {e} {m} {n} there back (inl l) = (m, l, inl there)
 is_wide {d} {e} {m} {n} there back (inr l) = (n, l, inr back)
@@ -86,7 +86,7 @@ module _ (s : State) (h : Steps Change Kept) (x : Change) (w : View) (eb : s.bac
   full : (k : Kind) → IsTop k h x → 1000000 < length (filter (λ T. is_tiling w T) s.listed) + length (returned (stood_by k h)) → 1000000 < length (step s (event_of k x w)).listed
   full k t n = omega (arith, n, ap length (listed_after k s h x w eb ef t).listed, length-append (filter (λ T. is_tiling w T) s.listed) (returned (stood_by k h)))
 
-  -- listing the shelf's tilings again would exceed the limit
+  -- if listing the shelf's tilings again would exceed the limit, the change isn't made
   pub full_not_made : (k : Kind) → IsTop k h x → (e : Refusal) → e ≡ CatalogueFull → 0 < length (returned (stood_by k h)) → 1000000 < length (filter (λ T. is_tiling w T) s.listed) + length (returned (stood_by k h)) → IsNotMade k x s e
   full_not_made kind.Edit t e is some n = absurd (omega (arith, some))
   full_not_made kind.Undo t e is some n = inr (inl (is, (w, l, full kind.Undo t n)))

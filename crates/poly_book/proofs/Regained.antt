@@ -1,4 +1,5 @@
--- A change that found nothing pending is undone, and redone, to nothing pending.
+-- Undoing a change that found nothing pending leaves nothing pending, and so does redoing a change whose undo found nothing
+-- pending, if each undo and redo since had a kept shelf.
 use Rattle.std.proofs.Common.{Bool, List, [], ap, arith, eqb, inl, inr, not, refl, subst, sym, true, ℕ, ◌&&◌, ◌∙◌, ◌∷◌, ◌≡◌}
 use Rattle.std.proofs.lemmas.Bool.{and_parts, both_ways, eq-eqb, not-true, or_cases, or_left}
 use Rattle.poly_design.specs.Changes.{inverse_of}
@@ -29,7 +30,8 @@ no_member : {X : Type 0} (xs : List X) → ((x : X) → In x xs → ⊥) → xs 
 no_member [] h = refl
 no_member (x ∷ xs) h = absurd (h x (inl refl))
 
--- the change that found nothing pending, taken back
+-- if the own atoms of all tasks are hopeless in the view of the top way, and the shelf of that way is kept and has frozen
+-- nothing, then taking the way leaves nothing pending
 nothing_left : (s : State) (kd : Kind) (xc : Change) (w : View) (b : Led) (ways : List Led) (x : Bool) (us rs : List Way) → Grown b.to w → HopelessAlong b.made (b ∷ ways) (owns s.pending) → (moved s kd xc w b.shelf x us rs).pending ≡ []
 nothing_left s kd xc w b ways x us rs g d = no_member _ (λ u i. elim (came s kd xc w b.shelf x us rs u.own (in_map (λ t. t.own) (moved s kd xc w b.shelf x us rs).pending u i)) [
   | inl j ↦ elim (or_cases (hopeless b.to u.own) (not (eqb b.made b.made) && hopeless_along b.made ways u.own) (d.0 u.own j.0)) [
@@ -45,7 +47,8 @@ complete s p e = record { none = e; once = λ T t. omega (arith, p.shared T t, a
 on_top : (b : Led) (ways : List Led) → stands b.made (b ∷ ways) ≡ true
 on_top b ways = or_left _ _ (eq-eqb b.made b.made refl)
 
--- the first of the ways is that of a quiet step: taking it leaves nothing pending
+-- if step m found nothing pending, each undo and redo since had a kept shelf, and the first undo way is that of step m, then
+-- the undo leaves nothing pending
 undo_leaves : (s : State) (t : Trail) (w : View) (ws : List Way) (us : List Led) (m : ℕ) (b : Way) (bs : List Way) → ws ≡ b ∷ bs → b.made ≡ m → Follows inverse_of s.design us ws → Ways s.view us → Earlier s.view us → LeadsBy s inverse_of ws w →
     ((m : ℕ) → quiet_since m s.steps ≡ true → stands m us ≡ true → HopelessAlong m us (owns s.pending)) → quiet_since m s.steps ≡ true → (undone s w ws).pending ≡ []
 undo_leaves s t w [] us m b bs is made l v e g ih q = cc

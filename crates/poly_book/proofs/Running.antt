@@ -22,7 +22,7 @@ happen_push [] (q ∷ rs) s t u e r a h = absurd a
 happen_push (f ∷ es) [] s t u e r a h = absurd a
 happen_push (f ∷ es) (q ∷ rs) s t u e r a h = (a.0, a.1, happen_push es rs a.0 t u e r a.2 h)
 
--- nothing happens, or one event
+-- what happens is a run of one event, or of none if it is refused
 happening : (e : Event) (s t : State) (r : Reply) → Happens e s t r → (es : List event.Event) × Runs s es t
 happening (Edit e) s t (reply.Done d) h = (event.Edit h.change h.made.view ∷ [], (t, h.made.leads, h.made.becomes, refl))
 happening (Edit e) s t (reply.Applied a) h = absurd h
@@ -55,7 +55,7 @@ still_holds_lem s t es rs k tree w h a = λ b found.
     let run = happenings es rs s t a in
     holds_then t k b tree (run_holds s t run.0 k tree w run.1 (holds_now s k h.0 tree w.rising h.1 h.2)) found
 
--- one more event of a loop over them
+-- the loop over the events goes on with one more event and its reply
 pub happen_step : (all items rest : List Event) (s u v : State) (e : Event) (reps : List Reply) (r : Reply) → items ≡ e ∷ rest → Happens e u v r → ((rs : List Reply) (t : State) → AllHappen items u rs t → AllHappen all s (reps ++ rs) t) →
     (rs : List Reply) (t : State) → AllHappen rest v rs t → AllHappen all s ((reps ++ r ∷ []) ++ rs) t
 happen_step all items rest s u v e reps r is h before rs t a =

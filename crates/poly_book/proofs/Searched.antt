@@ -1,4 +1,4 @@
--- What a search found, for a task at a index.
+-- What a search found, for a task at an index.
 use Rattle.std.proofs.Common.{Bool, List, Some, ap, get_or, subst, sym, ℕ, ◌∙◌, ◌≡◌}
 use Rattle.std.specs.List.{position_from}
 use Rattle.std.specs.Prelude.{IsTrue, ◌==◌, ◌↔◌}
@@ -28,7 +28,7 @@ found_leaves p k index v A tree ts rs same h first has = record {
   cut = subst (λ w. IsCutUp w (atoms_of has.0) tree ts rs) same (subst (λ B. IsCutUp v B tree ts rs) has.2 h.cut);
 }
 
--- the atoms of the task at the index are compared
+-- comparing the list of all the task's atoms with the list A tells whether the pending task has the atoms A
 pub has_atoms_by : (p : Parts) (k index : ℕ) (x : Pending) (own A : List Atom) (same : Bool) → position_from (λ q. q.number == k) 0 p.tasks.items ≡ Some index → x ≡ get_or p.tasks.items index x →
     own ≡ atoms_of (task_of p.log x) → (IsTrue same ↔ (own ≡ A)) → IsTrue same ↔ HasAtoms (state_of p).pending k A
 has_atoms_by p k index x own A same first is atoms told =

@@ -1,4 +1,4 @@
--- What settling leaves as it was.
+-- How many tasks settling cuts, and what it leaves as it was.
 use Rattle.std.proofs.Common.{List, [], ap, append_assoc, arith, map, refl, subst, sym, ℕ, ◌++◌, ◌+◌, ◌∙◌, ◌∷◌, ◌≡◌}
 use Rattle.std.proofs.lemmas.List.{append-nil, length-append}
 use Rattle.poly_report.specs.Trees.{Plan}

@@ -1,4 +1,4 @@
--- Each event leaves a quiet trail quiet.
+-- `StaysQuiet` holds of an opening state, and an event keeps it.
 use Rattle.std.proofs.Common.{List, None, Option, Some, [], inl, inr, not, refl, subst, sym, true, ℕ, ◌&&◌, ◌++◌, ◌≡◌}
 use Rattle.std.proofs.lemmas.Bool.{cond_both, true≢false}
 use Rattle.poly_design.specs.Layout.{Layout}

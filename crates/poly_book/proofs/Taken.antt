@@ -20,7 +20,7 @@ use Rattle.poly_book.specs.Shelves.{is_kept, newest, returned, way_back}
 use Rattle.poly_book.specs.Events.{Edit, Redo, Report, Undo, cut, handed_in, moved, redone, undone}
 use Rattle.poly_book.specs.Laws.{ListedStay}
 
--- what a change or a report keeps of the list
+-- a change keeps each listed tiling that is still a tiling
 move_stays : (s : State) (kd : Kind) (x : Change) (w : View) (h : Option Stored) (b : Bool) (us rs : List Way) (T : List ℕ) → list_any (λ U. same_list U T) s.listed ≡ true → is_tiling w T ≡ true → list_any (λ U. same_list U T) (moved s kd x w h b us rs).listed ≡ true
 move_stays s kd xc w h b us rs T l t =
     let x = any_in (λ U. same_list U T) s.listed l in

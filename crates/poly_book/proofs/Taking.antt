@@ -37,7 +37,7 @@ use Rattle.poly_book.proofs.Numbered.{found_in}
 use Rattle.poly_book.proofs.Indices.{At, at_left, at_drop, at_find, at_tasks, find_where, first_at, found_where}
 use Rattle.poly_book.proofs.Proved.{steps_keep_whole_lem}
 
--- the event of a report whose task is pending and whose tree fits and holds
+-- a report whose task is pending and whose tree fits and holds cuts the task
 pub step_cut : (s : State) (k : ℕ) (u : Task) (tree : Plan) → find_task k s.pending ≡ Some u → (fits tree && holds s.view (atoms_of u) tree) ≡ true → step s (Report k tree) ≡ cut s k u tree
 step_cut s k u tree found right = ap (λ o. handed_in s k o tree) found ∙ ap (λ b. cond b (cut s k u tree) s) right
 
@@ -141,7 +141,7 @@ took_from a k index tree ts rs x ls2 ps2 fresh more es2 l is listed tasks opens 
       ended_are = ended ∙ ap (λ m. a.endings.items ++ Cut m ∷ []) number;
     }
 
--- the leaves of a tree for the task at a index
+-- the leaves of a tree for the task at an index
 pub leaves_at : (p : Parts) (x : Pending) (i : ℕ) (tree : Plan) (ts : List (List ℕ)) (rs : List (List Atom)) → Keeps p → i < length p.tasks.items → x ≡ get_or p.tasks.items i x → fits tree ≡ true → holds p.scene (atoms_of (task_of p.log x)) tree ≡ true →
     ts ≡ tilings p.scene (atoms_of (task_of p.log x)) tree → rs ≡ rests p.scene (atoms_of (task_of p.log x)) tree → AreLeaves p x.number i tree ts rs
 leaves_at p x i tree ts rs keeps low is small right tilings_are rests_are =

@@ -45,7 +45,7 @@ no_cons y ys e = cc
 heads_same : {X : Type 0} (x y : X) (xs ys : List X) → x ∷ xs ≡ y ∷ ys → x ≡ y
 heads_same x y xs ys e = cc
 
--- the first of the ways can be made
+-- the change of the first way can be made
 first_stands : (f : Change → Change) (d : Layout) (us : List Led) (ws bs : List Way) (b : Way) → Follows f d us ws → ws ≡ b ∷ bs → HasBefore d (f b.change) × IsDesign (changed d (f b.change))
 first_stands f d us [] bs b l e = absurd (no_cons b bs e)
 first_stands f d [] (c ∷ cs) bs b l e = absurd l
@@ -102,7 +102,7 @@ redone_from {s} {t} h top x done b e is made = record {
   made = subst (λ y. IsDone kind.Redo y s t done) (is ∙ sym (changed_by_way top.change top.kept)) made;
 }
 
--- a change that isn't made isn't undone or redone
+-- if the inverse of the newest change to undo isn't made, nothing is undone
 pub not_undone_from : {s : State} (h : Steps Change Kept) (top : Beside Change Kept) (x : Change) (r : Refusal) → s.back ≡ ways_of h.undo → next_of h.undo ≡ Some top → x ≡ inverse_of top.change → IsNotMade kind.Undo x s r → IsNotUndone s r
 not_undone_from {s} h top x r b e is made =
     inr (way_of top, ways_of (take (length h.undo - 1) h.undo), b ∙ top_way h.undo top e, subst (λ y. IsNotMade kind.Undo y s r) (is ∙ ap inverse_of (sym (changed_by_way top.change top.kept))) made)

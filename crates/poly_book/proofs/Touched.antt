@@ -23,7 +23,7 @@ touched_at t log [] i d h l = absurd (omega (arith, l))
 touched_at t log (p ∷ ps) zero d h l = h.0
 touched_at t log (p ∷ ps) (suc i) d h l = touched_at t log ps i d h.1 (omega (arith, l))
 
--- the change touches each task that it makes hopeless
+-- the change touches an own atom of each task whose own atoms it makes hopeless
 pub all_touched : (t : Touch) (v w : View) (x : Delta) (y : Change) (log : List (List Atom)) (ps : List Pending) → IsMadeBy v w x y → t.view.now ≡ w → t.delta.now ≡ x → t.item ≡ item_of y → AreAlive v (tasks_of log ps) → AreTouched t log ps
 all_touched t v w x y log [] made ev ed ei alive = tt
 all_touched t v w x y log (p ∷ ps) made ev ed ei alive =

@@ -1,4 +1,4 @@
--- The stored steps lead to the state.
+-- The stored steps give the design and the changes to undo and redo.
 use Rattle.std.proofs.Common.{List, None, Option, Some, [], ap, map, refl, subst, suc, sym, true, zero, ℕ, ◌∙◌, ◌∷◌, ◌≡◌}
 use Rattle.std.proofs.lemmas.Bool.{cond_both}
 use Rattle.poly_design.specs.Changes.{HasBefore, changed, inverse_of}

@@ -1,4 +1,4 @@
--- An edit, an undo and a redo leave a quiet trail quiet: one way is pushed onto a stack, or one is popped off it.
+-- An edit, an undo and a redo keep `StaysQuiet`: one way is pushed onto a stack, and an undo or a redo pops one off the other.
 use Rattle.std.proofs.Common.{Bool, List, None, [], ap, arith, eqb, false, inl, inr, length, map, not, refl, subst, sym, true, ℕ, ◌&&◌, ◌+◌, ◌∙◌, ◌∷◌, ◌≡◌, ◌⊎◌}
 use Rattle.std.proofs.lemmas.Bool.{and_from, and_parts, both_ways, cond-false, cond-true, eqb-false, eqb-true, ne_eqb, not_from_false, or_cases, or_left, or_right, true≢false}
 use Rattle.poly_design.specs.Changes.{inverse_of}
@@ -24,7 +24,8 @@ use Rattle.poly_book.proofs.Along.{along_at, along_for, falling_below, falling_n
 use Rattle.poly_book.proofs.QuietShelves.{frozen_hopeless, no_tasks, quiet_shelf, shelf_hopeless}
 use Rattle.poly_book.proofs.Coming.{came, came_from}
 
--- the way that a change stores, on top of the ways that it leaves
+-- A change puts its way on top. Lists that were own atoms of pending tasks, or hopeless before the change, are then hopeless
+-- along the ways down to that of step m, if `quiet_since` holds of m and the way of step m is there.
 pushed : (m : ℕ) (s : State) (w : View) (d : Step) (ways : List Led) (Bs : List (List Atom)) →
     d.pending ≡ length s.pending → Falling (length s.steps + 1) ways →
     (quiet_since m s.steps ≡ true → stands m ways ≡ true → HopelessAlong m ways (owns s.pending)) →
@@ -52,7 +53,8 @@ pushed m s w d ways Bs n f ih from q h false e =
       λ k. frozen_hopeless m s w ways k r,
     )
 
--- the way that a change takes, off the ways below it
+-- A change takes the top way. Then the own atoms of the tasks are hopeless along the ways below it down to that of step m, if
+-- `quiet_since` holds of m and the way of step m is there.
 popped : (m : ℕ) (s : State) (kd : Kind) (xc : Change) (w : View) (b : Led) (ways : List Led) (us rs : List Way) →
     Falling (length s.steps + 1) (b ∷ ways) → Grown b.to w →
     (quiet_since m s.steps ≡ true → stands m (b ∷ ways) ≡ true → HopelessAlong m (b ∷ ways) (owns s.pending)) →

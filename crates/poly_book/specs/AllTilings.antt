@@ -25,7 +25,7 @@ pub record HasAll (q : AllTilings) : Type 0 where
   pub each : HasEachOnce q.view q.tilings
   pub order : IsSorted (tiling_cmp q.view) q.tilings
 
--- nothing is pending in the state, and the tilings are those of its design, at its edition
+-- nothing is pending in the state, and `q` has the state's design, edition and view
 pub record IsQuietOf (s : State) (q : AllTilings) : Type 0 where
   pub none : s.pending ≡ []
   pub design : q.design ≡ s.design

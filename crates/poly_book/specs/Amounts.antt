@@ -1,4 +1,4 @@
--- What a book's amounts say of its design alone: how many tilings it has, and how many guards a change has.
+-- Numbers that depend on designs alone: how many tilings a design has, and how many guards a change between two designs has.
 use Rattle.std.specs.Prelude.{List, length, ℕ, ◌<◌, ◌∷◌, ◌≡◌, ◌≤◌, ◌⊎◌}
 use Rattle.poly_atom.specs.Width.{HasWidth}
 use Rattle.poly_design.specs.Changes.{changed, inverse_of}
@@ -17,19 +17,19 @@ AreTilingsOf n d = (all : List (List Placement)) → IsListOfTilings d all → n
 abbrev pub AreAllTilingsOf : ℕ → Layout → Type 0
 AreAllTilingsOf n d = (all : List (List Placement)) → IsListOfTilings d all → n ≡ length all
 
--- undoing the last change leads to a design with over 1,000,000 tilings
+-- there is a change to undo, and undoing the newest leads to a design with over 1,000,000 tilings
 abbrev pub UndoIsFull : State → Type 0
 UndoIsFull s = (way : Way) × (rest : List Way) × (s.back ≡ way ∷ rest) × HasOverTilings MAX_TILINGS (changed s.design (inverse_of way.change))
 
--- redoing the change that was undone last leads to one
+-- there is a change to redo, and redoing the one that was undone last leads to a design with over 1,000,000 tilings
 abbrev pub RedoIsFull : State → Type 0
 RedoIsFull s = (way : Way) × (rest : List Way) × (s.forth ≡ way ∷ rest) × HasOverTilings MAX_TILINGS (changed s.design way.change)
 
--- the change from the first design to the second, or its way back, has more than 20,000 guards
+-- the change from the first design to the second, or the change back, has more than 20,000 guards
 abbrev pub IsWide : Layout → Layout → Type 0
 IsWide d e = (n : ℕ) × (MAX_GUARDS < n) × (HasWidth d e n ⊎ HasWidth e d n)
 
--- the change from the first design to the second and its way back have at most 20,000 guards each
+-- the change from the first design to the second and the change back have at most 20,000 guards each
 pub record IsNarrow (d e : Layout) : Type 0 where
   pub forth : ℕ
   pub back : ℕ

@@ -35,11 +35,11 @@ use Rattle.poly_book.specs.Shelves.{is_kept, openings, returned}
 use Rattle.poly_book.specs.States.{Stored}
 use Rattle.poly_book.specs.Tasks.{atoms_of, hopeful}
 
--- what is kept of what a change takes away, if the inverse has this many guards
+-- the shelf that a change to the view stores if its inverse has `width` guards; none if the shelf would be too large
 abbrev pub shelf_by : View → List (List ℕ) → List (List Atom) → List Pending → ℕ → Option Stored
 shelf_by w listed log ps width = cond (nat_le (length ps * width) MAX_SHELF) (Some (record { taken = filter (λ T. not (is_tiling w T)) listed; frozen = map (λ t. atoms_of t) (tasks_of log ps) })) None
 
--- what becomes of the tasks by a change with these guards
+-- what a change with the guards `laid` does to the tasks: which ones it opens, which ones go on, and which ones end
 pub record AreNext (w : View) (log : List (List Atom)) (ps : List Pending) (laid : List Atom) (stood : Option Stored) (next : ℕ) (t : NextTasks) : Type 0 where
   pub fresh_are : Opens (log ++ laid ∷ []) next w (openings stood (stairs laid)) t.fresh.items
   pub few : next + length t.fresh.items ≤ 4294967296
@@ -48,7 +48,7 @@ pub record AreNext (w : View) (log : List (List Atom)) (ps : List Pending) (laid
   pub room_empty : t.room.items ≡ []
   pub room : length ps + length t.fresh.items ≤ vec_capacity t.room
 
--- what a change from one view to another adds and stores, and what becomes of the tasks
+-- what a change from one view to another adds and stores, and its effect on the tasks
 pub record IsGathered (v w : View) (listed : List (List ℕ)) (log : List (List Atom)) (ps : List Pending) (stood : Option Stored) (next : ℕ) (e : Entry) (t : NextTasks) (h : Option Shelf) : Type 0 where
   pub guards_are : e.guards.items ≡ guards v w
   pub guards_small : AllSmall e.guards.items
@@ -56,14 +56,14 @@ pub record IsGathered (v w : View) (listed : List (List ℕ)) (log : List (List 
   pub tasks : AreNext w log ps e.guards.items stood next t
   pub shelf_is : stored_of h ≡ shelf_by w listed log ps (length (guards w v))
 
--- why a change from one view to another isn't prepared: its guards, or those of its way back, are more than 20,000; or
--- there were 100,000 changes, or a task number would be over 4,294,967,295
+-- why a change from one view to another isn't prepared: it is an edit, and it or its inverse has over 20,000 guards; or there
+-- were 100,000 changes; or a task number would be over 4,294,967,295; or memory ran out
 abbrev pub IsNotGathered : View → View → Kind → ℕ → ℕ → Option Stored → Refusal → Type 0
 IsNotGathered v w k count next stood e =
     ((e ≡ TooWide) × (k ≡ Edit) × ((MAX_GUARDS < length (guards v w)) ⊎ (MAX_GUARDS < length (guards w v))))
     ⊎ ((e ≡ Spent) × ((MAX_CHANGES ≤ count) ⊎ (4294967296 < next + length (hopeful w (openings stood (stairs (guards v w))))))) ⊎ (e ≡ Memory)
 
--- there is a step to undo or redo
+-- an undo has a change to undo, and a redo has a change to redo
 abbrev pub CanNote : Kind → Steps Change Kept → Type 0
 CanNote Edit h = Unit {0}
 CanNote Undo h = 0 < length h.undo
@@ -75,12 +75,12 @@ Noted Edit old new x k = (new.undo ≡ newest (old.undo ++ (record { change = x;
 Noted Undo old new x k = (stood : Option Kept) × Moves old.undo old.redo new.undo new.redo (Some k) stood
 Noted Redo old new x k = (stood : Option Kept) × Moves old.redo old.undo new.redo new.undo (Some k) stood
 
--- the shelf that is kept with a change
+-- the shelf that is kept with a change, if there is one
 abbrev pub shelf_at : Option (Beside Change Kept) → Option Stored
 shelf_at None = None
 shelf_at (Some s) = (way_of s).shelf
 
--- the shelf that the change opens again
+-- the shelf that the change opens again, if there is one
 abbrev pub stood_by : Kind → Steps Change Kept → Option Stored
 stood_by Edit h = None
 stood_by Undo h = shelf_at (next_of h.undo)
@@ -91,7 +91,7 @@ shelved_by Edit h = true
 shelved_by Undo h = is_kept (stood_by Undo h)
 shelved_by Redo h = is_kept (stood_by Redo h)
 
--- the change is that of the step whose turn is next
+-- an undo makes the inverse of the next change to undo, and a redo makes the next change to redo
 abbrev pub IsTop : Kind → Steps Change Kept → Change → Type 0
 IsTop Edit h x = Unit {0}
 IsTop Undo h x = (top : Beside Change Kept) × (next_of h.undo ≡ Some top) × (x ≡ inverse_of top.change)

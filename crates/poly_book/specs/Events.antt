@@ -30,11 +30,12 @@ pub data Event : Type 0 where
   Redo : View → Event
   Report : ℕ → Plan → Event
 
--- the endings of tasks that a view makes hopeless
+-- the endings of the tasks whose own atoms are hopeless in a view
 abbrev pub hopeless_endings : View → ℕ → List Task → List Ending
 hopeless_endings w edition ts = map (λ t. Hopeless t.number edition) (filter (λ t. hopeless w t.own) ts)
 
--- keeps the listed tilings that are still tilings, adds the guards, ends the hopeless tasks, and opens new ones
+-- The state after a change. The listed tilings that are still tilings stay, and those of the shelf `h` are listed again. Each
+-- pending task gets the guards of the change, or ends if its own atoms are hopeless then. New tasks are opened.
 abbrev pub moved : State → Kind → Change → View → Option Stored → Bool → List Way → List Way → State
 moved s k x w h shelved back forth =
     let g = guards s.view w in
@@ -60,7 +61,7 @@ abbrev pub redone : State → View → List Way → State
 redone s w [] = s
 redone s w (b ∷ ways) = moved s kind.Redo b.change w b.shelf (is_kept b.shelf) (newest MAX_STEPS (way_back s b.change w ∷ s.back)) ways
 
--- the task ends, the tree's tilings are listed, and its rests opened
+-- the task ends, the tree's tilings are listed, and the tree's rests become tasks, except the hopeless ones
 abbrev pub cut : State → ℕ → Task → Plan → State
 cut s k t tree =
     let opened = hopeful s.view (rests s.view (atoms_of t) tree) in
@@ -91,12 +92,12 @@ pub record Leads (s : State) (x : Change) (w : View) : Type 0 where
   pub shows : Shows w (changed s.design x)
   pub names : Names s.view w
 
--- There is no way, or the change that f makes of the first way's change leads to the view.
+-- If there is a first way, the change that `f` makes of the way's change leads to the view.
 abbrev pub LeadsBy : State → (Change → Change) → List Way → View → Type 0
 LeadsBy s f [] w = Unit {0}
 LeadsBy s f (b ∷ ways) w = Leads s (f b.change) w
 
--- the event's change can be made, and its view is one of the design after it
+-- if the event makes a change, the change can be made, and the event's view shows the design after it
 abbrev pub Goes : State → Event → Type 0
 Goes s (Edit x w) = Leads s x w
 Goes s (Undo w) = LeadsBy s inverse_of s.back w

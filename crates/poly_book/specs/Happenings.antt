@@ -13,7 +13,8 @@ use Rattle.poly_book.specs.States.{State}
 use Rattle.poly_book.specs.Steps.{IsEdited, IsRedone, IsUndone}
 use Rattle.poly_book.specs.Tasks.{Task, atoms_of, find_task}
 
--- the event leads from one state to the other with the reply; a refused one changes nothing, and its refusal has its cause
+-- the event leads from the first state to the second with this reply; a refused event changes nothing, and is refused for one
+-- of its possible causes
 abbrev pub Happens : Event → State → State → Reply → Type 0
 Happens (Edit e) s t (reply.Done d) = IsEdited e s t d
 Happens (Edit e) s t (reply.Applied a) = ⊥

@@ -1,4 +1,4 @@
--- What a book keeps of its fields.
+-- What always holds of the fields of a book.
 use Rattle.std.specs.Prelude.{List, length, ℕ, ◌+◌, ◌<◌, ◌≡◌, ◌≤◌}
 use Rattle.poly_design.specs.Layout.{Layout}
 use Rattle.poly_design.specs.declared.change.Change.{Change}
@@ -21,10 +21,11 @@ use Rattle.poly_book.specs.States.{State}
 use Rattle.poly_book.specs.Tasks.{AreAlive}
 use Rattle.poly_book.specs.Whole.{Whole}
 
--- What the fields show is whole; the table is right for the design and has at least the view's numbers; each task was
--- made by now, is noted in the maps if it is older than they are, and isn't hopeless by its own atoms; the log has the
--- guards of each step; numbers and editions are within their limits; endings and pending tasks together are fewer than the
--- number of the next task; the history has at most 256 steps.
+-- `Whole` holds of what the fields show; the table is right for the design and has at least the view's numbers; each task
+-- was made at an edition that the log has, is noted in the maps under each of its own atoms if its number is less than
+-- `m.below`, and isn't hopeless by its own atoms; if these are a stair, the log has it; `m.below` is at most the number of the
+-- next task; the log has one list of guards for each step; numbers and editions are within their limits; endings and pending
+-- tasks together are fewer than the number of the next task; the history has at most 256 steps.
 pub record KeepsOf (m : Register) (o d : Layout) (v table : View) (ls : List (List ℕ)) (log : List (List Atom)) (ps : List Pending) (n : ℕ) (h : Steps Change Kept) (ss : List Step) (es : List Ending) : Type 0 where
   pub whole : Whole (shown o d v ls log ps n h ss es)
   pub right : IsRight table d

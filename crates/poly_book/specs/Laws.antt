@@ -17,14 +17,15 @@ use Rattle.poly_book.specs.Partition.{Becomes, Complete}
 use Rattle.poly_book.specs.Quiet.{quiet_since}
 use Rattle.poly_book.specs.Whole.{Runs, Whole}
 
--- The opening state of a design is whole.
+-- `Whole` holds of the opening state of a design, with a well-named view that shows the design.
 abbrev pub OpeningsAreWhole : Type 0
 OpeningsAreWhole = (d : Layout) (v : View) → IsDesign d → WellNamed v → Shows v d → Whole (opening d v)
 
--- Each event keeps a whole state whole, so each run does.
+-- If `Whole` holds of a state, it holds of the state after an event that can happen there.
 abbrev pub StepsKeepWhole : Type 0
 StepsKeepWhole = (s t : State) (e : Event) → Whole s → Goes s e → Becomes (step s e) t → Whole t
 
+-- If `Whole` holds of a state, it holds of the state after a run.
 abbrev pub RunsKeepWhole : Type 0
 RunsKeepWhole = (s t : State) (es : List Event) → Whole s → Runs s es t → Whole t
 
@@ -33,7 +34,7 @@ abbrev pub ListedStay : Type 0
 ListedStay = (s : State) (e : Event) (T : List ℕ) →
     list_any (λ U. same_list U T) s.listed ≡ true → is_tiling (step s e).view T ≡ true → list_any (λ U. same_list U T) (step s e).listed ≡ true
 
--- A tree that holds for its pending task holds as long as that is pending.
+-- A tree that holds for its pending task holds as long as the task is pending.
 abbrev pub ReportsKeepHolding : Type 0
 ReportsKeepHolding = (s t : State) (es : List Event) (k : ℕ) (a b : Task) (tree : Plan) → Whole s → Runs s es t →
     find_task k s.pending ≡ Some a → holds s.view (atoms_of a) tree ≡ true →

@@ -1,4 +1,4 @@
--- Under which atoms the maps have which tasks.
+-- Which tasks the maps have noted under which atoms.
 use Rattle.std.specs.BTreeMap.{is_at}
 use Rattle.std.specs.List.{list_all, list_any}
 use Rattle.std.specs.Map.{lookup}
@@ -20,7 +20,7 @@ use Rattle.poly_grid.specs.declared.cell.TheConstants.{SIDE}
 abbrev pub key_of_name : List ℕ → ℕ
 key_of_name n = FIRST_NAME + slice_index_or n (length n - 1) 0
 
--- a number for each item
+-- the key of an item; pieces whose names end with the same byte share one
 abbrev pub key_of : Item → ℕ
 key_of (Cell c) = c.y * SIDE + c.x
 key_of (Piece n) = key_of_name n
@@ -43,7 +43,7 @@ spanned rows k n = list_any (λ s. in_span s n) (row_at rows k)
 abbrev pub AreWider : Rows → Rows → Type 0
 AreWider old new = (k n : ℕ) → spanned old k n ≡ true → spanned new k n ≡ true
 
--- the task of the number is noted under the atom
+-- the task with the number is noted under the atom
 abbrev pub under : Maps → Atom → ℕ → Bool
 under m (Has p) n = spanned m.has.entries p n
 under m (Lacks p) n = spanned m.lacks.entries p n
@@ -62,7 +62,7 @@ AreNoted m log ps = list_all (λ p. list_all (λ a. under m a p.number) (own_of 
 abbrev pub AreNotedBelow : ℕ → Maps → List (List Atom) → List Pending → Type 0
 AreNotedBelow b m log ps = list_all (λ p. nat_le b p.number || list_all (λ a. under m a p.number) (own_of log p.own)) ps ≡ true
 
--- each of the edition's first guards is noted for all tasks of the span
+-- each of the edition's first `f.count` guards is noted for all tasks of the span
 abbrev pub IsPrefix : Maps → List (List Atom) → Prefix → Type 0
 IsPrefix m log f = (n : ℕ) → in_span f.span n ≡ true → list_all (λ a. under m a n) (take f.count (slice_index_or log f.edition [])) ≡ true
 
@@ -74,7 +74,7 @@ is_pending ps n = list_any (λ p. p.number == n) ps
 abbrev pub has_pending : List Pending → Span → Bool
 has_pending ps s = list_any (λ p. in_span s p.number) ps
 
--- what the rows have of the pending tasks stays
+-- a row that has the number of a pending task keeps the number
 abbrev pub AreKept : List Pending → Rows → Rows → Type 0
 AreKept ps old new = (k n : ℕ) → is_pending ps n ≡ true → spanned old k n ≡ true → spanned new k n ≡ true
 

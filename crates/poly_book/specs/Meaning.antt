@@ -22,19 +22,19 @@ abbrev pub own_of : List (List Atom) → Own → List Atom
 own_of log (Atoms v) = v.items
 own_of log (OfStair s) = stair_of log s
 
--- a stair is one that the log has
+-- if the own atoms are a stair, the log has it
 abbrev pub IsOwn : List (List Atom) → Own → Type 0
 IsOwn log (Atoms v) = Unit {0}
 IsOwn log (OfStair s) = IsStairOf log s
 
--- the task, with the guards of every change since
+-- the task, with the guards of every change since it was made
 abbrev pub task_of : List (List Atom) → Pending → Task
 task_of log p = record { number = p.number; own = own_of log p.own; laid = flat (drop p.made log) }
 
 abbrev pub tasks_of : List (List Atom) → List Pending → List Task
 tasks_of log ps = map (λ p. task_of log p) ps
 
--- the task's stair is in the log, and the log has the edition at which it was made
+-- if the task's own atoms are a stair, the log has it; and the task was made at an edition that the log has
 pub record IsTask (log : List (List Atom)) (p : Pending) : Type 0 where
   pub own : IsOwn log p.own
   pub made : p.made ≤ length log
@@ -43,7 +43,7 @@ abbrev pub AreTasks : List (List Atom) → List Pending → Type 0
 AreTasks log [] = Unit {0}
 AreTasks log (p ∷ ps) = IsTask log p × AreTasks log ps
 
--- each was made at edition n
+-- each task was made at edition n
 abbrev pub AreFresh : ℕ → List Pending → Type 0
 AreFresh n [] = Unit {0}
 AreFresh n (p ∷ ps) = (p.made ≡ n) × AreFresh n ps

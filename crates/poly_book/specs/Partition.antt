@@ -1,4 +1,4 @@
--- What holds of every state: each tiling is listed once or belongs to exactly one pending task.
+-- How the tilings are shared out: each is listed once or belongs to exactly one pending task.
 use Rattle.std.specs.List.{list_all}
 use Rattle.std.specs.Prelude.{Bool, List, None, Option, Some, [], false, not, true, ℕ, ◌+◌, ◌≡◌}
 use Rattle.poly_tiling.specs.Lists.{same_list, tally}
@@ -13,7 +13,9 @@ pub record Partition (s : State) : Type 0 where
   pub shared : (T : List ℕ) → is_tiling s.view T ≡ true → tally (λ U. same_list U T) s.listed + tally (λ t. meets_all s.view T (atoms_of t)) s.pending ≡ 1
   pub only : list_all (λ U. is_tiling s.view U) s.listed ≡ true
 
--- Each tiling that comes back is on the shelf once, or meets one frozen list; the shelf has only tilings that come back.
+-- A tiling comes back if it is one of `to` but not of `from`. If a shelf is kept, each tiling that comes back is on the shelf
+-- once and meets none of its frozen lists, or isn't on the shelf and meets exactly one of them; and every tiling on the shelf
+-- comes back.
 abbrev pub IsShelf : View → View → Option Stored → Type 0
 IsShelf from to None = Unit {0}
 IsShelf from to (Some h) =
@@ -21,7 +23,7 @@ IsShelf from to (Some h) =
     × (list_all (λ T. is_tiling to T) h.taken ≡ true)
     × (list_all (λ T. not (is_tiling from T)) h.taken ≡ true)
 
--- every tiling is listed, once, and nothing is pending
+-- every tiling is listed once, nothing else is listed, and nothing is pending
 pub record Complete (s : State) : Type 0 where
   pub none : s.pending ≡ []
   pub once : (T : List ℕ) → is_tiling s.view T ≡ true → tally (λ U. same_list U T) s.listed ≡ 1

@@ -18,11 +18,12 @@ abbrev pub frozen_in : Option Stored → List (List Atom)
 frozen_in None = []
 frozen_in (Some h) = h.frozen
 
--- one of the ways undoes step m
+-- one of the ways is that of step m
 abbrev pub stands : ℕ → List Led → Bool
 stands m ways = list_any (λ b. b.made == m) ways
 
--- the atoms are hopeless in a design that one of the ways leads to, up to the way of step m
+-- the atoms are hopeless in the view of one of the ways from the top one down to that of step m, or down to the last one if no
+-- way is that of step m
 abbrev pub hopeless_along : ℕ → List Led → List Atom → Bool
 hopeless_along m [] A = false
 hopeless_along m (b ∷ ways) A = hopeless b.to A || (not (b.made == m) && hopeless_along m ways A)
@@ -31,8 +32,8 @@ abbrev pub IsQuiet : Option Stored → Type 0
 IsQuiet None = ⊥
 IsQuiet (Some h) = h.frozen ≡ []
 
--- Each list is hopeless along the ways down to that of step m. So is each list that a shelf on the way has frozen, along
--- the ways below it. The shelf of step m has frozen nothing.
+-- Each list is hopeless along the ways down to that of step m. For each way above that of step m, the lists that its shelf has
+-- frozen are hopeless along the ways below it, down to that of step m. The shelf of step m is kept, and has frozen nothing.
 abbrev pub HopelessAlong : ℕ → List Led → List (List Atom) → Type 0
 HopelessAlong m [] As = Unit {0}
 HopelessAlong m (b ∷ ways) As =
@@ -40,7 +41,7 @@ HopelessAlong m (b ∷ ways) As =
     × (b.made ≡ m → IsQuiet b.shelf)
     × (stands m ways ≡ true → HopelessAlong m ways (frozen_in b.shelf))
 
--- each way is that of an earlier step than the way above it, and the first is that of a step before n
+-- each way is that of an earlier step than the way above it, and the top way is that of a step before n
 abbrev pub Falling : ℕ → List Led → Type 0
 Falling n [] = Unit {0}
 Falling n (b ∷ ways) = (b.made < n) × Falling b.made ways
@@ -48,8 +49,9 @@ Falling n (b ∷ ways) = (b.made < n) × Falling b.made ways
 abbrev pub owns : List Task → List (List Atom)
 owns ts = map (λ t. t.own) ts
 
--- What holds of every state of a run: as long as the way of a quiet step is there, the own atoms of each pending task are
--- hopeless along the ways down to it.
+-- The step numbers of the undo ways fall, and so do those of the redo ways. Suppose that step m found nothing pending, and
+-- that each undo and redo since had a kept shelf. If the way of step m is among the undo ways, `HopelessAlong` holds of the
+-- undo ways and the own atoms of the pending tasks. The same is true of the redo ways.
 pub record StaysQuiet (s : State) (t : Trail) : Type 0 where
   pub back_falls : Falling (length s.steps + 1) t.back
   pub forth_falls : Falling (length s.steps + 1) t.forth

@@ -10,7 +10,7 @@ use Rattle.poly_book.specs.Meaning.{own_of}
 abbrev pub Reaches : List ℕ → ℕ → ℕ → Type 0
 Reaches reach i n = (j : ℕ) × (j ≤ i) × (n ≤ slice_index_or reach j 0)
 
--- each task whose number is among these is reached
+-- each task whose number passes `f` is reached
 abbrev pub IsReached : List ℕ → List Pending → (ℕ → Bool) → Type 0
 IsReached reach ps f = (i : ℕ) (d : Pending) → i < length ps → f (slice_index_or ps i d).number ≡ true → Reaches reach i (slice_index_or ps i d).number
 

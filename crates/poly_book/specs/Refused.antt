@@ -23,16 +23,17 @@ use Rattle.poly_book.specs.Events.{Leads, Report, step}
 use Rattle.poly_book.specs.States.{State, Way}
 use Rattle.poly_book.specs.Tasks.{Task, atoms_of, find_task}
 
--- the change leads to a view for which this holds
+-- the change leads to a view for which `P` holds
 abbrev pub LeadsTo : State → Change → (View → Type 0) → Type 0
 LeadsTo s x P = (w : View) × Leads s x w × P w
 
--- the guards of the change, or of its way back, are more than 20,000: as its designs say, and as views of them show
+-- the change or its inverse has over 20,000 guards: the two designs alone say so, and so do the guards between their views
 abbrev pub IsTooWide : Change → State → Type 0
 IsTooWide x s = IsWide s.design (changed s.design x) × LeadsTo s x (λ w. (MAX_GUARDS < length (guards s.view w)) ⊎ (MAX_GUARDS < length (guards w s.view)))
 
--- There were 100,000 changes, or a new task would get a number over 4,294,967,295, or there are more placements than
--- placement numbers: those of the view, and further ones that refused changes gave out.
+-- There were 100,000 changes; or a new task would get a number over 4,294,967,295; or the placement numbers don't suffice for
+-- the placements that have numbers and the placements and pins of the design after the change. Refused changes may have given
+-- out numbers, too.
 abbrev pub IsSpent : Kind → Change → State → Type 0
 IsSpent k x s =
     (MAX_CHANGES ≤ length s.steps)
@@ -49,24 +50,25 @@ IsNotMade kind.Edit x s e = ((e ≡ TooWide) × IsTooWide x s) ⊎ ((e ≡ Spent
 IsNotMade kind.Undo x s e = ((e ≡ Spent) × IsSpent kind.Undo x s) ⊎ ((e ≡ CatalogueFull) × IsFull kind.Undo x s) ⊎ (e ≡ Memory)
 IsNotMade kind.Redo x s e = ((e ≡ Spent) × IsSpent kind.Redo x s) ⊎ ((e ≡ CatalogueFull) × IsFull kind.Redo x s) ⊎ (e ≡ Memory)
 
--- the edit isn't accepted, or its change isn't made
+-- the edit isn't accepted, or its change isn't made, or memory ran out
 abbrev pub IsNotEdited : Edit → State → Refusal → Type 0
 IsNotEdited edit s e = IsRefused s.design edit e ⊎ ((x : Change) × IsAccepted s.design edit x × IsNotMade kind.Edit x s e) ⊎ (e ≡ Memory)
 
--- nothing is left to undo, or the inverse of the last change isn't made
+-- nothing is left to undo, or the inverse of the newest change to undo isn't made
 abbrev pub IsNotUndone : State → Refusal → Type 0
 IsNotUndone s e = ((e ≡ NothingToUndo) × (s.back ≡ [])) ⊎ ((way : Way) × (rest : List Way) × (s.back ≡ way ∷ rest) × IsNotMade kind.Undo (inverse_of way.change) s e)
 
--- nothing is left to redo, or the change isn't made
+-- nothing is left to redo, or the change that was undone last isn't made
 abbrev pub IsNotRedone : State → Refusal → Type 0
 IsNotRedone s e = ((e ≡ NothingToRedo) × (s.forth ≡ [])) ⊎ ((way : Way) × (rest : List Way) × (s.forth ≡ way ∷ rest) × IsNotMade kind.Redo way.change s e)
 
--- the report would open a task whose number is over 4,294,967,295, or list more than 1,000,000 tilings
+-- the report would open a task whose number is over 4,294,967,295, or more than 1,000,000 tilings would be listed, or memory
+-- ran out
 abbrev pub IsOver : ℕ → Plan → State → Refusal → Type 0
 IsOver k tree s e =
     ((e ≡ Spent) × (4294967296 < (step s (Report k tree)).next)) ⊎ ((e ≡ CatalogueFull) × (MAX_TILINGS < length (step s (Report k tree)).listed)) ⊎ (e ≡ Memory)
 
--- The task isn't pending; or the tree doesn't fit; or it doesn't hold; or a limit is reached.
+-- The task isn't pending; or the tree doesn't fit; or it fits but doesn't hold; or a limit would be passed; or memory ran out.
 abbrev pub IsNotApplied : ℕ → Plan → State → Refusal → Type 0
 IsNotApplied k tree s e =
     ((e ≡ Gone) × (find_task k s.pending ≡ None))

@@ -1,4 +1,4 @@
--- The design and the steps to undo and redo, as the stored steps give them one after the other.
+-- The stored steps, made one after the other from the opening design, give the design and the changes to undo and redo.
 use Rattle.std.specs.Prelude.{List, [], drop, map, ◌∷◌, ◌≡◌}
 use Rattle.poly_design.specs.Changes.{HasBefore, changed, inverse_of}
 use Rattle.poly_design.specs.Layout.{Layout}
@@ -11,7 +11,7 @@ use Rattle.poly_book.specs.States.{State}
 use Rattle.poly_book.specs.Shelves.{newest}
 use Rattle.poly_undo.specs.declared.history.TheConstants.{MAX_STEPS}
 
--- a design, the changes that can be undone and those that can be redone, the newest first
+-- a design; the changes that can be undone, the newest first; those that can be redone, the one undone last first
 pub record Trace : Type 0 where
   pub design : Layout
   pub back : List Change
@@ -28,13 +28,13 @@ abbrev pub replayed : Layout → List Step → Trace
 replayed o [] = record { design = o; back = []; forth = [] }
 replayed o (s ∷ ss) = traced (replayed o ss) s.kind s.change
 
--- the change is that of the way that the step takes
+-- an undo makes the inverse of the newest change to undo; a redo makes, of the changes to redo, the one that was undone last
 abbrev pub IsNext : Trace → Kind → Change → Type 0
 IsNext t Edit x = Unit {0}
 IsNext t Undo x = (rest : List Change) × (t.back ≡ inverse_of x ∷ rest)
 IsNext t Redo x = (rest : List Change) × (t.forth ≡ x ∷ rest)
 
--- each step's change finds what it is to replace
+-- each step's change finds the values that it replaces, and an undo or a redo makes the change that is next
 abbrev pub AllStand : Layout → List Step → Type 0
 AllStand o [] = Unit {0}
 AllStand o (s ∷ ss) = HasBefore (replayed o ss).design s.change × IsNext (replayed o ss) s.kind s.change × AllStand o ss

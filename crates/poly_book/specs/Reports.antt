@@ -15,8 +15,9 @@ use Rattle.poly_book.specs.Partition.{Becomes}
 use Rattle.poly_book.specs.States.{State}
 use Rattle.poly_book.specs.Tasks.{Task, atoms_of, find_task}
 
--- The task is pending and the tree fits and holds; the state after the report is that of its event; the answer counts
--- what it listed and opened, and whether it was made at an earlier edition.
+-- The task is pending, the tree fits and holds, and `t` is the state after the event of the report. The answer has the number
+-- of endings after the report, how many tilings the report listed and how many tasks it opened, the number of the first of
+-- these tasks, and whether the report was made at an earlier edition.
 pub record IsApplied (k made : ℕ) (tree : Plan) (s t : State) (a : Applied) : Type 0 where
   pub task : Task
   pub found : find_task k s.pending ≡ Some task

@@ -12,7 +12,7 @@ use Rattle.poly_book.specs.Refused.{IsOver}
 use Rattle.poly_book.specs.States.{State}
 use Rattle.poly_book.specs.Tasks.{atoms_of}
 
--- n tasks were cut; the opening design, the design and the steps are the same
+-- n tasks were cut, and no task ended otherwise; the opening design, the design, its view and the steps are the same
 pub record Cuts (s t : State) (n : ℕ) : Type 0 where
   pub opened : t.opened ≡ s.opened
   pub design : t.design ≡ s.design
@@ -22,7 +22,7 @@ pub record Cuts (s t : State) (n : ℕ) : Type 0 where
   pub endings : t.endings ≡ s.endings ++ map (λ k. Cut k) tasks
   pub count : length tasks ≡ n
 
--- a task was cut; or nothing is pending, and nothing has happened
+-- one turn of settling: true if it cut a task, false if nothing is pending and nothing has changed
 abbrev pub IsTurn : State → State → Bool → Type 0
 IsTurn s t true = Cuts s t 1
 IsTurn s t false = (t ≡ s) × (s.pending ≡ [])
@@ -36,10 +36,10 @@ pub record IsSettled (s t : State) (n : ℕ) : Type 0 where
   pub cuts : Cuts s t n
   pub none : t.pending ≡ []
 
--- All turns cut a task, and one is pending still; or fewer did, and the next report was refused.
+-- Each turn cut a task, and a task is still pending; or a turn was refused, and each turn before it cut a task.
 abbrev pub IsNotSettled : ℕ → State → State → Refusal → Type 0
 IsNotSettled turns s t e = ((e ≡ Unfinished) × Cuts s t turns × (0 < length t.pending)) ⊎ ((n : ℕ) × (n < turns) × Cuts s t n × IsNotTurned t e)
 
--- no task from that index on is hopeless
+-- no task from index n on is hopeless
 abbrev pub AreHopefulFrom : ℕ → State → Type 0
 AreHopefulFrom n s = list_all (λ t. not (hopeless s.view (atoms_of t))) (drop n s.pending) ≡ true

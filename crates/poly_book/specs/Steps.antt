@@ -13,7 +13,8 @@ use Rattle.poly_book.specs.Partition.{Becomes}
 use Rattle.poly_book.specs.States.{State, Way}
 use Rattle.poly_book.specs.Changing.{event_of}
 
--- the change led to a design, and the state after it is that of its event; the answer has its place and its step
+-- the change leads to a design, and `t` is the state after the event of the change, up to the order of the listed tilings;
+-- `done` has the edition after the change, and the step that was made
 pub record IsDone (k : Kind) (x : Change) (s t : State) (done : Done) : Type 0 where
   pub view : View
   pub leads : Leads s x view
@@ -21,20 +22,20 @@ pub record IsDone (k : Kind) (x : Change) (s t : State) (done : Done) : Type 0 w
   pub place : done.place ≡ length t.steps
   pub last : t.steps ≡ done.step ∷ s.steps
 
--- the edit was accepted, and its change is an event of the state
+-- the edit was accepted, and the change that it asks for was made
 pub record IsEdited (e : Edit) (s t : State) (done : Done) : Type 0 where
   pub change : Change
   pub accepted : IsAccepted s.design e change
   pub made : IsDone kind.Edit change s t done
 
--- the last change was undone
+-- the newest change to undo was undone
 pub record IsUndone (s t : State) (done : Done) : Type 0 where
   pub way : Way
   pub rest : List Way
   pub top : s.back ≡ way ∷ rest
   pub made : IsDone kind.Undo (inverse_of way.change) s t done
 
--- the last change that was undone was redone
+-- of the changes to redo, the one that was undone last was redone
 pub record IsRedone (s t : State) (done : Done) : Type 0 where
   pub way : Way
   pub rest : List Way

@@ -1,4 +1,4 @@
--- Which pending tasks a change can make hopeless: those with an own atom that it touches.
+-- Which pending tasks a change can make hopeless by their own atoms: those with an own atom that the change touches.
 use Rattle.std.specs.List.{list_any}
 use Rattle.std.specs.Prelude.{Bool, List, [], true, ◌∷◌, ◌≡◌}
 use Rattle.poly_design.specs.Changes.{changed}
@@ -13,14 +13,14 @@ use Rattle.poly_book.specs.declared.task.Pending.{Pending}
 use Rattle.poly_book.specs.declared.touch.Touch.{Touch}
 use Rattle.poly_book.specs.Meaning.{own_of}
 
--- the change leads from one view to the other and does this
+-- the change `y` leads from the view `v` to the view `w`, with the differences `x`
 abbrev pub IsMadeBy : View → View → Delta → Change → Type 0
 IsMadeBy v w x y = (c : IsChangeOf v w x) × (c.after ≡ changed c.before y)
 
 abbrev pub touches : Touch → Atom → Bool
 touches t a = touched t.view.now t.delta.now t.item a
 
--- the change touches an own atom of each task that is hopeless after it
+-- the change touches an own atom of each task whose own atoms are hopeless after it
 abbrev pub AreTouched : Touch → List (List Atom) → List Pending → Type 0
 AreTouched t log [] = Unit {0}
 AreTouched t log (p ∷ ps) = (hopeless t.view.now (own_of log p.own) ≡ true → list_any (touches t) (own_of log p.own) ≡ true) × AreTouched t log ps

@@ -13,7 +13,7 @@ use Rattle.poly_book.specs.Events.{Edit, Event, Redo, Report, Undo}
 use Rattle.poly_book.specs.Partition.{IsShelf, Partition}
 use Rattle.poly_undo.specs.declared.history.TheConstants.{MAX_STEPS}
 
--- an earlier view, the number of the step that led away from it, and what that step stored
+-- an earlier view, the number of the step that led away from it, and what that step stored, if that was kept
 pub record Led : Type 0 where
   pub to : View
   pub made : ℕ
@@ -35,24 +35,24 @@ abbrev pub trail_redone : State → View → List Led → Trail → Trail
 trail_redone s w [] t = t
 trail_redone s w (u ∷ us) t = record { back = newest MAX_STEPS (led_back s w ∷ t.back); forth = us }
 
--- the views after an event
+-- the trail after an event
 abbrev pub trailed : State → Event → Trail → Trail
 trailed s (Edit x w) t = record { back = newest MAX_STEPS (led_back s w ∷ t.back); forth = [] }
 trailed s (Undo w) t = trail_undone s w t.back t
 trailed s (Redo w) t = trail_redone s w t.forth t
 trailed s (Report k tree) t = t
 
--- each shelf is one for the change from the view before it
+-- each view is well named, and its shelf is right for the change from the view before it; the view before the first is `from`
 abbrev pub Ways : View → List Led → Type 0
 Ways from [] = Unit {0}
 Ways from (u ∷ us) = WellNamed u.to × IsShelf from u.to u.shelf × Ways u.to us
 
--- the views name no more than this one does
+-- the view `v` names all that these views name, by the same numbers
 abbrev pub Earlier : View → List Led → Type 0
 Earlier v [] = Unit {0}
 Earlier v (u ∷ us) = Names u.to v × Earlier v us
 
--- the view shows the design that the way's change makes, and the way has its number and its shelf
+-- the view of `u` shows the design that the change `x` makes, and the way `b` has the number and the shelf of `u`
 pub record Links (d : Layout) (x : Change) (u : Led) (b : Way) : Type 0 where
   pub before : HasBefore d x
   pub design : IsDesign (changed d x)
@@ -60,15 +60,15 @@ pub record Links (d : Layout) (x : Change) (u : Led) (b : Way) : Type 0 where
   pub made : u.made ≡ b.made
   pub shelf : u.shelf ≡ b.shelf
 
--- Each view shows the design after one more way. The change that is made is f of the way's: itself for a redo, its inverse
--- for an undo.
+-- Each view shows the design after one more change. For a redo this is the way's change, for an undo the inverse of that:
+-- `f` says which.
 abbrev pub Follows : (Change → Change) → Layout → List Led → List Way → Type 0
 Follows f d [] [] = Unit {0}
 Follows f d [] (b ∷ bs) = ⊥
 Follows f d (u ∷ us) [] = ⊥
 Follows f d (u ∷ us) (b ∷ bs) = Links d (f b.change) u b × Follows f (changed d (f b.change)) us bs
 
--- what holds of every state of a run
+-- what holds of every state that a run from an opening state reaches, with the trail of that run
 pub record Consistent (s : State) (t : Trail) : Type 0 where
   pub design : IsDesign s.design
   pub well : WellNamed s.view

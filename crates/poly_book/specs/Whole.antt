@@ -8,8 +8,9 @@ use Rattle.poly_book.specs.Replay.{Replay}
 use Rattle.poly_book.specs.Trails.{Consistent, Trail}
 use Rattle.poly_book.specs.Quiet.{StaysQuiet}
 
--- The tilings are shared out; the shelves are right; the steps lead to the design; undoing or redoing a change that found
--- nothing pending leaves nothing pending, as `StaysQuiet` says; the tasks' numbers ascend, below the number of the next task.
+-- The tilings are shared out; the shelves are right; the steps lead to the design; undoing a change that found nothing
+-- pending, or redoing a change whose undo found nothing pending, leaves nothing pending if each undo and redo since had a kept
+-- shelf, by `StaysQuiet`; the tasks' numbers ascend, below the number of the next task.
 pub record Whole (s : State) : Type 0 where
   pub trail : Trail
   pub consistent : Consistent s trail

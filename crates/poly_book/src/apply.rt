@@ -1,5 +1,5 @@
-//! Applies a change to the design, the table, the listed tilings, the tasks, the history and the steps. Everything that
-//! may be refused comes first; from the exchange of the listed tilings on, nothing allocates.
+//! Applies a change to the parts of a book. Everything that may be refused comes first; after the exchange of the listed
+//! tilings, nothing allocates.
 ghost use Rattle.std.specs.Prelude.{◌≡◌, ◌≤◌, ◌<◌, ◌+◌, ◌++◌, ◌∷◌, ◌⊎◌, [], IfErr, IfOk, OnErr, OnOk, length, true, vec_capacity, vec_len};
 ghost use Rattle.std.specs.List.{filter, items_where_true, list_all};
 ghost use Rattle.std.specs.Arc.{arc_value};
@@ -32,7 +32,7 @@ use poly_tiling::View;
 use poly_undo::History;
 use std::mem;
 
-/// Applies the change. First the tasks that are new since the last change are noted.
+/// Applies the change. First notes the pending tasks that aren't noted yet.
 pub(crate) fn apply_change(parts: &mut Parts, kind: Kind, change: Change) -> Result<Done, Refusal>
     requires keeps { Keeps parts.old }
     requires before { HasBefore parts.old.design change }
@@ -48,7 +48,7 @@ pub(crate) fn apply_change(parts: &mut Parts, kind: Kind, change: Change) -> Res
     make_change(parts, kind, change)
 }
 
-// Notes the tasks that are new since the last change.
+// Notes the pending tasks that aren't noted yet.
 fn catch_up(parts: &mut Parts) -> Result<(), Refusal>
     requires { Keeps parts.old }
     ensures stays { parts.new ≡ record parts.old { register = parts.new.register } }
@@ -61,7 +61,7 @@ fn catch_up(parts: &mut Parts) -> Result<(), Refusal>
         .catch_up(&parts.log, &parts.tasks, parts.next)
 }
 
-// Makes the change. All tasks are noted.
+// Makes the change. All pending tasks must be noted.
 fn make_change(parts: &mut Parts, kind: Kind, change: Change) -> Result<Done, Refusal>
     requires keeps { Keeps parts.old }
     requires noted { AreNoted parts.old.register.maps parts.old.log parts.old.tasks.items }
@@ -114,7 +114,7 @@ fn complete(
     Ok(())
 }
 
-// Makes the prepared change, whose guards are in the log already. The listed tilings are those after it.
+// Makes the prepared change. Its guards are already in the log, and the listed tilings are already exchanged.
 fn finish(parts: &mut Parts, kind: Kind, change: Change, step: Step, ready: Prepared)
     requires history { CanNote kind parts.old.history }
     requires table { (arc_value ready.plan.view).placements ≡ parts.old.table.placements }
@@ -199,7 +199,9 @@ fn enter(
     }
 }
 
-// Notes the change in the history: an edit's is pushed, an undo and a redo move theirs.
+// Notes the change in the history, with what is kept for it. An edit adds its change to those to undo, keeps at most the
+// newest 256 of them, and drops the changes to redo. An undo moves the change that it undoes to those to redo, and a redo
+// moves the change that it redoes to those to undo.
 fn note(history: &mut History<Change, Kept>, kind: Kind, change: Change, kept: Kept)
     requires { CanNote kind history.old }
     ensures { Noted kind history.old history.new change kept }
@@ -211,7 +213,8 @@ fn note(history: &mut History<Change, Kept>, kind: Kind, change: Change, kept: K
     }
 }
 
-// Keeps the tasks that go on, appends the new ones, and appends the endings of the others to the list of endings.
+// Keeps the tasks that go on and appends the new tasks to them. Appends the endings of the tasks that don't go on to the list
+// of endings.
 fn replace_tasks(tasks: &mut Vec<Pending>, endings: &mut Vec<Ending>, next: NextTasks)
     requires empty { next.room.items ≡ [] }
     requires room { length tasks.old.items + length next.fresh.items ≤ vec_capacity next.room }
@@ -242,7 +245,7 @@ pub(crate) fn push_tasks(fresh: Vec<Pending>, out: &mut Vec<Pending>)
     }
 }
 
-// The tasks that go on.
+// Appends to `out` the tasks whose flags are true. `out` has room for all of the tasks.
 fn push_surviving(tasks: Vec<Pending>, flags: &[bool], out: &mut Vec<Pending>)
     requires flags { length flags.now ≡ length tasks.items }
     requires room { vec_len out.old + length tasks.items ≤ vec_capacity out.old }

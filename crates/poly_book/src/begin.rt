@@ -68,7 +68,7 @@ fn first_task(alloc: Global) -> Result<Vec<Pending>, Refusal>
     Ok(tasks)
 }
 
-// The table of the design, and its view.
+// The table of the design, and the table's view.
 fn numbered(alloc: Global, design: &Design) -> Result<(Table, Arc<View>), Refusal>
     ensures right { IfOk result (λ r. IsRight r.0 design.now) }
     ensures view { IfOk result (λ r. arc_value r.1 ≡ r.0) }

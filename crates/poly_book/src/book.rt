@@ -1,5 +1,5 @@
-//! The book: a design, its listed tilings and its pending tasks. Whatever happens to it, each tiling of the design is
-//! listed once or belongs to exactly one pending task.
+//! The book: a design, its listed tilings and its pending tasks. Whatever happens to the book, each tiling of
+//! the design is listed once or belongs to exactly one pending task.
 ghost use Rattle.std.specs.Prelude.{true, ◌≡◌, ◌≤◌, ◌<◌, length, reverse};
 ghost use Rattle.std.specs.Arc.{arc_value};
 ghost use Rattle.poly_book.specs.Amounts.{AreAllTilingsOf, AreTilingsOf};
@@ -30,6 +30,7 @@ pub struct Numbers {
 /// A design under edits with exact undo, its listed tilings and its pending tasks.
 #[derive(Drop)]
 pub struct Book {
+    /// The fields.
     pub(crate) parts: Parts,
 }
 
@@ -45,8 +46,10 @@ impl Model for Book {
 }
 
 impl Book {
-    /// What holds of every book: the tilings are shared out between the list and the tasks, the steps lead to the design,
-    /// and each kept shelf is right. Always true.
+    /// Always returns true: its contract states what holds of every book. The tilings are shared out between the list and
+    /// the pending tasks, the steps lead to the design, each kept shelf is right, and the numbers of the pending tasks rise.
+    /// Undoing a change that found nothing pending leaves nothing pending if each undo and redo since had a kept shelf; so
+    /// does redoing a change whose undo found nothing pending.
     pub fn whole(&self) -> bool
         ensures whole { Whole self.now }
         ensures yes { result ≡ true }
@@ -54,8 +57,8 @@ impl Book {
         self.parts.next > 0
     }
 
-    /// The numbers of steps, endings, listed tilings and pending tasks. As many tilings are listed as the design has if no
-    /// task is pending, and never more. Never allocates.
+    /// The numbers of steps, endings, listed tilings and pending tasks. If no task is pending, the number of listed tilings
+    /// is the number of tilings of the design. Otherwise there may be fewer listed tilings. Never allocates.
     pub fn numbers(&self) -> Numbers
         ensures edition { result.edition ≡ length self.now.steps }
         ensures endings { result.endings ≡ length self.now.endings }

@@ -1,4 +1,4 @@
-//! Edits, undo and redo. Each is a change of the design, and `apply_change` makes them all.
+//! Edits, undos and redos. Each makes a change of the design, by `apply_change`.
 ghost use Rattle.std.specs.Prelude.{◌≡◌, IfErr, IfOk, OnErr, OnOk};
 ghost use Rattle.poly_book.specs.Amounts.{IsNarrow, RedoIsFull, UndoIsFull};
 ghost use Rattle.poly_book.specs.Refused.{IsNotEdited, IsNotRedone, IsNotUndone};
@@ -11,11 +11,12 @@ use poly_design::Edit;
 use poly_grid::Refusal;
 
 impl Book {
-    /// Makes the change that the edit asks for. Listed tilings that are still tilings stay; what is new becomes tasks.
+    /// Makes the change that the edit asks for. Listed tilings that are still tilings stay listed. Tilings that are new belong
+    /// to new tasks.
     ///
-    /// Refused as `Design::check` refuses; then with `TooWide` if the change or its inverse has over 20,000 guards, with
-    /// `Spent` if the edition, a task number or a placement number would pass its last value, and with `Memory`. A refused
-    /// edit leaves the book as it was.
+    /// Refused as `Design::check` refuses. Otherwise refused with `TooWide` if the change or its inverse has over 20,000
+    /// guards, with `Spent` if the edition, a task number or a placement number would pass its last value, or with `Memory`;
+    /// if several of these apply, any of them may come. A refused edit leaves the book as it was.
     pub fn edit(&mut self, edit: Edit) -> Result<Done, Refusal>
         ensures ok { IfOk result (λ done. IsEdited edit self.old self.new done) }
         ensures narrow { OnOk result (IsNarrow self.old.design self.new.design) }
@@ -26,10 +27,10 @@ impl Book {
         apply_change(&mut self.parts, Kind::Edit, change)
     }
 
-    /// Undoes the last change that isn't undone.
+    /// Undoes the newest change that can be undone. The history keeps at most 256 changes.
     ///
-    /// Refused with `NothingToUndo` if there is none; then with `Spent` as for an edit, with `CatalogueFull` if over
-    /// 1,000,000 tilings would be listed, and with `Memory`. A refused undo leaves the book as it was.
+    /// Refused with `NothingToUndo` if there is none. Otherwise refused with `Spent` as for an edit, with `CatalogueFull` if
+    /// over 1,000,000 tilings would be listed, or with `Memory`. A refused undo leaves the book as it was.
     pub fn undo(&mut self) -> Result<Done, Refusal>
         ensures ok { IfOk result (λ done. IsUndone self.old self.new done) }
         ensures err { OnErr result (self.new ≡ self.old) }
@@ -43,10 +44,10 @@ impl Book {
         apply_change(&mut self.parts, Kind::Undo, change)
     }
 
-    /// Redoes the last change that was undone.
+    /// Of the changes that can be redone, redoes the one that was undone last.
     ///
-    /// Refused with `NothingToRedo` if there is none; then with `Spent` as for an edit, with `CatalogueFull` if over
-    /// 1,000,000 tilings would be listed, and with `Memory`. A refused redo leaves the book as it was.
+    /// Refused with `NothingToRedo` if there is none. Otherwise refused with `Spent` as for an edit, with `CatalogueFull` if
+    /// over 1,000,000 tilings would be listed, or with `Memory`. A refused redo leaves the book as it was.
     pub fn redo(&mut self) -> Result<Done, Refusal>
         ensures ok { IfOk result (λ done. IsRedone self.old self.new done) }
         ensures err { OnErr result (self.new ≡ self.old) }

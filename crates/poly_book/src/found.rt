@@ -1,5 +1,5 @@
-//! Reports that a search made. Their trees fit and hold for the atoms and the view that were searched, and their leaves were
-//! gathered as they grew. So a check finds nothing new if the task has these atoms and the book this view.
+//! A report that a search made. Its tree fits, and holds for the atoms and the view that were searched, and its leaves were
+//! gathered during the search. So the tree needs no check if the task has these atoms and the book has this view.
 ghost use Rattle.std.specs.Prelude.{◌≡◌, ◌≤◌, ◌↔◌, ◌==◌, false, IfErr, IfOk, IsTrue, OnErr, Some};
 ghost use Rattle.std.specs.Arc.{arc_value};
 ghost use Rattle.std.specs.List.{position_from};
@@ -44,8 +44,8 @@ pub struct Found {
 }
 
 impl Found {
-    /// Searches the job's task in the view with at most `nodes` nodes, which is from 1 to 4,096. The matrix is that of the
-    /// view. Fails only when out of memory.
+    /// Searches the job's task in the view with at most `nodes` nodes that aren't Rest. `nodes` is from 1 to 4,096, and the
+    /// matrix is that of the view. Fails only when out of memory.
     pub fn explore(
         alloc: Global,
         view: Arc<View>,
@@ -86,8 +86,8 @@ impl Found {
 
 impl Book {
     /// `hand_in` for a report that a search made in the book's view. If the task has the atoms that were searched, the leaves
-    /// are applied without a check. If it has others, as after a change and its undo, the tree is checked. The result is that
-    /// of `hand_in`.
+    /// are applied without a check. If it has other atoms, as after a change and its undo, the tree is checked. The result is
+    /// that of `hand_in`.
     pub fn hand_in_found(&mut self, found: Found) -> Result<Applied, Refusal>
         requires view { arc_value found.view ≡ self.old.view }
         ensures ok { IfOk result (λ a. IsApplied found.report.task found.report.edition (plan_of found.report.tree) self.old self.new a) }

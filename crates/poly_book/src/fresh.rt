@@ -1,5 +1,5 @@
-//! New tasks: the stairs of a change, the frozen lists crossed with them, and the rests of a report. A hopeless list
-//! gets no task.
+//! New tasks: the stairs of a change or, if a shelf was kept for this undo or redo, each frozen list of the shelf followed by
+//! each stair; and the rests of a report. A hopeless list gets no task.
 ghost use Rattle.std.specs.Prelude.{◌≡◌, ◌≤◌, ◌<◌, ◌++◌, ◌+◌, ◌∷◌, ◌⊎◌, ℕ, [], IfErr, IfOk, OnOk, List, false, length, map, not, option_copied, true};
 ghost use Rattle.std.specs.List.{flat_map};
 ghost use Rattle.poly_atom.specs.declared.atom.Atom.{Atom as AtomOf};
@@ -23,7 +23,7 @@ use std::alloc::Global;
 /// The greatest task number.
 const LAST: u64 = 4_294_967_295;
 
-/// The lists that are opened, as tasks under the next numbers. If `sure`, none of the lists is hopeless.
+/// The lists that aren't hopeless, as tasks with the numbers from `next` on. If `sure`, none of the lists is hopeless.
 pub(crate) fn opened(
     alloc: Global,
     view: &View,
@@ -56,7 +56,7 @@ pub(crate) fn opened(
     Ok(tasks)
 }
 
-// Whether the list isn't hopeless. If `sure`, it isn't, and nothing is computed.
+// Whether the list isn't hopeless. If `sure`, this is known to be true, and nothing is computed.
 fn is_opened(view: &View, own: &[Atom], sure: bool) -> bool
     requires { sure ≡ true → hopeless view.now own.now ≡ false }
     ensures { result ≡ not (hopeless view.now own.now) }
@@ -64,7 +64,8 @@ fn is_opened(view: &View, own: &[Atom], sure: bool) -> bool
     sure || !hopeless(view, own)
 }
 
-/// The stairs of the guards of the change from the edition, as tasks under the next numbers. A hopeless stair gets no task.
+/// The stairs of the guards, as tasks with the numbers from `next` on. `edition` is the edition before the change. A hopeless
+/// stair gets no task.
 pub(crate) fn opened_stairs(
     alloc: Global,
     view: &View,
@@ -114,7 +115,7 @@ fn next_stair(view: &View, atoms: &mut Vec<Atom>, guard: &Atom) -> Result<bool, 
     Ok(yes)
 }
 
-/// Each of the first lists followed by each stair of the guards.
+/// Each frozen list followed by each stair of the guards.
 pub(crate) fn crossed_lists(
     alloc: Global,
     frozen: &[Vec<Atom>],
@@ -160,7 +161,8 @@ fn joined(alloc: Global, before: &[Atom], after: &[Atom]) -> Result<Vec<Atom>, R
     Ok(list)
 }
 
-/// The tasks that a change from the edition opens: its stairs, or with a shelf each frozen list followed by each stair.
+/// The tasks that a change opens: its stairs or, if `stood` is the shelf that was kept for it, each frozen list of the shelf
+/// followed by each stair. `edition` is the edition before the change. A hopeless list gets no task.
 pub(crate) fn fresh_tasks(
     alloc: Global,
     view: &View,

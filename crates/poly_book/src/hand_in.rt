@@ -1,4 +1,4 @@
-//! Takes a report: its task ends, its tilings are listed, and its rests become new tasks.
+//! Applies a report: its task ends, its tilings are listed, and its rests that aren't hopeless become new tasks.
 ghost use Rattle.std.specs.Prelude.{◌≡◌, ◌<◌, ◌==◌, IfErr, IfOk, OnErr, Some, true, ℕ};
 ghost use Rattle.std.specs.List.{position_from};
 ghost use Rattle.poly_report.specs.Gather.{lists};
@@ -22,12 +22,12 @@ use poly_grid::Refusal;
 use poly_report::{Leaves, Report, fits};
 
 impl Book {
-    /// Applies the report: its task ends as `Cut`, the tree's tilings are listed, and its rests that aren't hopeless are
-    /// opened as tasks. The report's edition decides nothing.
+    /// Applies the report: its task ends as `Cut`, the tree's tilings are listed, and the tree's rests that aren't hopeless
+    /// are opened as tasks. The report's edition decides only whether the answer says that the report is late.
     ///
-    /// Refused with `Gone` if the task isn't pending, with `TooLarge` if the tree doesn't fit, with `DoesNotHold` if it
-    /// doesn't hold for the task's atoms, with `Spent` if a task number would pass its last value, with `CatalogueFull` if
-    /// over 1,000,000 tilings would be listed, and with `Memory`. A refused report leaves the book as it was.
+    /// Refused with `Gone` if the task isn't pending, with `TooLarge` if the tree doesn't fit, with `DoesNotHold` if the
+    /// tree doesn't hold for the task's atoms, with `Spent` if a task number would pass its last value, with `CatalogueFull`
+    /// if over 1,000,000 tilings would be listed, or with `Memory`. A refused report leaves the book as it was.
     pub fn hand_in(&mut self, report: Report) -> Result<Applied, Refusal>
         ensures ok { IfOk result (λ a. IsApplied report.task report.edition (plan_of report.tree) self.old self.new a) }
         ensures err { OnErr result (self.new ≡ self.old) }
@@ -38,7 +38,7 @@ impl Book {
     }
 }
 
-/// Checks the report, and applies what it leaves.
+/// Checks the report, and applies the leaves of its tree.
 pub(crate) fn apply_report(parts: &mut Parts, report: &Report) -> Result<Applied, Refusal>
     requires keeps { Keeps parts.old }
     ensures keeps { Keeps parts.new }
@@ -56,7 +56,7 @@ pub(crate) fn apply_report(parts: &mut Parts, report: &Report) -> Result<Applied
     apply_leaves(parts, at, report.edition, leaves, false)
 }
 
-// The leaves of the report's tree, if it holds for the task at the index.
+// The leaves of the report's tree, if the tree holds for the task at the index; otherwise refused with `DoesNotHold`.
 fn checked_leaves(parts: &mut Parts, at: usize, report: &Report) -> Result<Leaves, Refusal>
     requires keeps { Keeps parts.old }
     requires index { position_from (λ q. q.number == report.now.task) 0 parts.old.tasks.items ≡ Some at }
@@ -72,8 +72,8 @@ fn checked_leaves(parts: &mut Parts, at: usize, report: &Report) -> Result<Leave
     Ok(leaves)
 }
 
-/// Ends the task at the index, lists the tilings and opens the rests: the leaves of a tree that fits and holds for it. If
-/// `sure`, no rest is hopeless.
+/// Ends the task at the index, lists the tilings and opens the rests that aren't hopeless. The tilings and the rests are the
+/// leaves of a tree that fits and holds for the task. If `sure`, no rest is hopeless.
 pub(crate) fn apply_leaves(
     parts: &mut Parts,
     at: usize,
@@ -114,7 +114,7 @@ pub(crate) fn apply_leaves(
     })
 }
 
-/// The first index of the number.
+/// The index of the first task with the number, if there is one.
 pub(crate) fn index_of(tasks: &[Pending], number: u32) -> Option<usize>
     ensures { result ≡ position_from (λ p. p.number == number) 0 tasks.now }
 {

@@ -1,5 +1,6 @@
-//! The laws of a book. The contracts of `run` and `still_holds` state what holds of whole runs. The others are laws of the
-//! definitions, each the contract of a function that does nothing.
+//! The laws of a book. The contracts of `run` and `still_holds` state what holds of runs of events. Each other law is the
+//! contract of a function that does nothing: `limits_of_books` states the limits, and the others state laws of the
+//! definitions.
 ghost use Rattle.std.specs.Prelude.{◌≡◌, IfErr, IfOk};
 ghost use Rattle.poly_report.specs.Shapes.{plan_of};
 ghost use Rattle.poly_book.specs.Happenings.{AllHappen, Happens, HoldsNow, KeepsHolding};
@@ -22,7 +23,7 @@ pub fn limits_of_books()
     ensures shelf { MAX_SHELF ≡ 4096 }
 {}
 
-/// What may happen to a book.
+/// An event of a run.
 #[derive(Drop)]
 pub enum Event {
     /// An edit.
@@ -35,7 +36,7 @@ pub enum Event {
     HandIn(Report),
 }
 
-/// The answer of an event.
+/// The answer to an event.
 #[derive(Drop)]
 pub enum Reply {
     /// A change was made.
@@ -88,9 +89,9 @@ fn act(book: &mut Book, event: Event) -> Reply
     }
 }
 
-/// Runs the events one after the other. Whatever they are, each happens with its reply, one that is refused changes
-/// nothing, and the book is whole after them: each tiling of its design is listed once or belongs to exactly one pending
-/// task. Fails only when out of memory for the replies, before the first event.
+/// Runs the events one after the other. Whatever they are, each has its reply, and a refused event changes nothing. `Whole`
+/// holds of the book after them, so each tiling of its design is listed once or belongs to exactly one pending task. Fails
+/// only when out of memory for the replies, before the first event.
 pub fn run(alloc: Global, book: Book, events: Vec<Event>) -> Result<Ran, NotRun>
     ensures happen { IfOk result (λ r. AllHappen events.items book r.replies.items r.book) }
     ensures whole { IfOk result (λ r. Whole r.book) }
@@ -115,8 +116,8 @@ pub fn run(alloc: Global, book: Book, events: Vec<Event>) -> Result<Ran, NotRun>
     Ok(Ran { book, replies })
 }
 
-/// Runs the events. If the report's tree holds for its pending task before them, it holds after them if the task is still
-/// pending. Fails as `run` does.
+/// Runs the events. The report's task must be pending before them, and the report's tree must hold for the task. After them
+/// the tree holds for the task if the task is still pending. Fails as `run` does.
 pub fn still_holds(
     alloc: Global,
     book: Book,
@@ -133,17 +134,17 @@ pub fn still_holds(
     run(alloc, book, events)
 }
 
-/// The opening state of a design is whole.
+/// `Whole` holds of the opening state of a design, with a view that shows the design.
 pub fn openings_are_whole()
     ensures { OpeningsAreWhole }
 {}
 
-/// Each event keeps a whole state whole.
+/// If `Whole` holds of a state, it holds of the state after an event that can happen there.
 pub fn steps_keep_whole()
     ensures { StepsKeepWhole }
 {}
 
-/// Each run keeps a whole state whole.
+/// If `Whole` holds of a state, it holds of the state after a run.
 pub fn runs_keep_whole()
     ensures { RunsKeepWhole }
 {}
@@ -168,7 +169,7 @@ pub fn quiet_redo()
     ensures { QuietRedo }
 {}
 
-/// A change that finds nothing pending keeps its shelf.
+/// Each change that finds nothing pending has its shelf kept.
 pub fn quiet_shelves_are_kept()
     ensures { QuietShelvesAreKept }
 {}

@@ -1,17 +1,21 @@
 //! The book: a design under edits with exact undo, the tilings that are listed and the tasks that are still to be searched.
 //!
 //! Whatever happens, each tiling of the design is listed once or belongs to exactly one pending task, and nothing else is
-//! listed. So with no task pending the catalogue has all tilings.
+//! listed. So the catalogue has all tilings if no task is pending.
 //!
-//! - [`Book`]: `begin`; `edit`, `undo`, `redo`; `next`, `take`, `hand_in`, `hand_in_found`; `quiet`, `settle`, `vouch`; and
-//!   what it holds: `numbers`, `design`, `catalogue`, `view`, `steps`, `endings`.
-//! - [`Done`], [`Step`], [`Kind`]: a change that was made. [`Applied`], [`Ending`]: how a task ended.
-//! - [`Which`], [`Job`]: a task to be worked on. [`Found`]: what a search found for it.
+//! - [`Book`]: `begin`; `edit`, `undo`, `redo`; `next`, `take`, `hand_in`, `hand_in_found`; `quiet`, `settle`, `vouch`;
+//!   `whole`, whose contract states what holds of every book; and what a book holds: `numbers`, `design`, `catalogue`, `view`,
+//!   `steps`, `endings`.
+//! - [`Done`], [`Step`], [`Kind`]: a change that was made. [`Applied`]: a report that was applied. [`Ending`]: how a task
+//!   ended.
+//! - [`Which`]: which task to take. [`Job`]: a task to be worked on. [`Found`]: what a search found for it.
 //! - [`Quiet`]: all tilings of a design.
 //! - [`Numbers`]: how many changes, endings, listed tilings and pending tasks there are. [`Pending`], [`Own`]: a pending
 //!   task. [`Kept`]: what is kept for an undo or a redo.
-//! - Limits: [`MAX_CHANGES`] of a book, [`MAX_GUARDS`] of a change, and [`MAX_SHELF`] on what is kept for an undo.
-//! - [`laws`]: what holds of whole runs of events.
+//! - Limits: [`MAX_CHANGES`] of a book, [`MAX_GUARDS`] of a change, and [`MAX_SHELF`] on what is kept for an undo or a
+//!   redo.
+//! - [`laws`]: `run` and `still_holds`, which run a list of events; the laws of events and of runs of events; and the values
+//!   of the limits.
 #![tactic(auto)]
 
 mod apply;

@@ -1,8 +1,8 @@
-//! Maps from placements and items to the pending tasks that have an own atom about them. Through them a change finds the
-//! tasks that it may make hopeless, and needs to check no others.
+//! Maps from placements and items to the pending tasks that have an own atom about them. Through these maps a change finds
+//! the tasks that it may make hopeless, and needs to check no others.
 //!
-//! Tasks that have ended may still be noted, and a task may be noted where it has no atom. Both cost time and change
-//! nothing: each task that is found is checked.
+//! Tasks that have ended may still be noted, and a task may be noted under an atom that it doesn't have. Both cost time and
+//! change nothing: each task that is found is checked.
 ghost use Rattle.std.specs.Prelude.{◌≡◌, ◌≤◌, ◌⊎◌, IfErr, OnOk, length, true, ℕ};
 ghost use Rattle.std.specs.List.{list_all};
 ghost use Rattle.std.specs.List.Sorted.{IsNonDecreasingBy};
@@ -18,21 +18,30 @@ use poly_tiling::Item;
 use std::alloc::Global;
 use std::collections::BTreeMap;
 
-/// The spans of tasks that have an atom of each kind: by placement, or by the key of the item.
+/// For each kind of atom, the spans of the tasks that are noted under an atom of that kind, by its placement or by the key of
+/// its item.
 #[derive(Drop)]
 pub(crate) struct Maps {
+    /// The allocator.
     pub alloc: Global,
+    /// The tasks noted under a `Has` atom, by its placement.
     pub has: BTreeMap<u32, Row>,
+    /// The tasks noted under a `Lacks` atom, by its placement.
     pub lacks: BTreeMap<u32, Row>,
+    /// The tasks noted under an `AtLeast` atom, by the key of its item.
     pub at_least: BTreeMap<u32, Row>,
+    /// The tasks noted under an `AtMost` atom, by the key of its item.
     pub at_most: BTreeMap<u32, Row>,
 }
 
 /// The first guards of an edition, each of them noted for all tasks of a span.
 #[derive(Clone, Copy, Debug)]
 pub(crate) struct Prefix {
+    /// The edition whose guards these are.
     edition: u64,
+    /// How many of its guards are noted.
     count: usize,
+    /// The tasks for which each of them is noted.
     span: Span,
 }
 
@@ -48,8 +57,8 @@ impl Maps {
         }
     }
 
-    /// Notes each task under its own atoms. Stairs of one edition share what is noted for its guards. Fails only when out of
-    /// memory. What is noted stays noted.
+    /// Notes each task under its own atoms. Stairs of one edition share what is noted for the edition's guards. Fails only
+    /// when out of memory. What was noted before stays noted in any case.
     pub(crate) fn note_all(&mut self, log: &GuardLog, tasks: &[Pending]) -> Result<(), Refusal>
         requires { AreTasks log.now tasks.now }
         ensures wider { IsWider self.old self.new }
@@ -107,8 +116,8 @@ impl Maps {
         }
     }
 
-    // Notes the stair: its guards for all tasks from this one to the last, except the guards that are already noted for all
-    // of these, and its last atom for this task alone.
+    // Notes the stair: the guards before its last atom for all tasks from this one to the last, and its last atom for this
+    // task alone. Skips the guards that `prefix` shows to be noted already for all of these tasks.
     fn note_stair(
         &mut self,
         log: &GuardLog,
@@ -173,7 +182,7 @@ impl Maps {
     }
 }
 
-// How many of the stair's guards are noted for the whole span.
+// How many of the stair's guards, from the first on, are known to be noted for all tasks of the span.
 fn known_count(prefix: &Prefix, stair: &Stair, span: &Span) -> usize
     ensures low { result ≤ stair.now.index }
     ensures known { (result ≡ 0) ⊎ ((result ≤ prefix.now.count) × (prefix.now.edition ≡ stair.now.edition) × (prefix.now.span.from ≤ span.now.from) × (span.now.to ≤ prefix.now.span.to)) }
@@ -207,7 +216,7 @@ pub(crate) fn key_of(item: &Item) -> u32
     }
 }
 
-// The key of the piece of the name.
+// The key of the piece with the name.
 fn key_of_name(name: &[u8]) -> u32
     requires { 1 ≤ length name.now }
     ensures { result ≡ key_of_name name.now }

@@ -29,20 +29,22 @@ use poly_tiling::View;
 use poly_undo::Shelf;
 use std::alloc::Global;
 
-/// What becomes of the tasks by a change.
+/// The effect of a change on the tasks.
 #[derive(Drop)]
 pub(crate) struct NextTasks {
     /// The tasks that it opens.
     pub fresh: Vec<Pending>,
     /// Which of the pending tasks go on.
     pub flags: Vec<bool>,
-    /// The endings of the others.
+    /// The endings of the pending tasks that don't go on.
     pub ended: Vec<Ending>,
-    /// Room for the tasks after it.
+    /// An empty list with room for all tasks after the change.
     pub room: Vec<Pending>,
 }
 
-/// What becomes of the tasks by the change that leads to the view, given its guards and the shelf that it opens again.
+/// What the change that leads to the view does to the tasks. `laid` are the guards of the change, and `stood` is the shelf
+/// that the change opens again, if there is one. Refused with `Spent` if a task number would pass its last value, or with
+/// `Memory`.
 pub(crate) fn next_tasks(
     parts: &Parts,
     view: &View,
@@ -116,7 +118,7 @@ fn surviving(
     Ok(flags)
 }
 
-// Whether the task's own atoms are hopeless after the change, which they are only if the change reaches the task.
+// Whether the task's own atoms are hopeless after the change. They aren't if the task's number is over `far`.
 fn ends_by(
     alloc: Global,
     view: &View,

@@ -12,15 +12,16 @@ use poly_place::Table;
 use poly_undo::History;
 use std::alloc::Global;
 
-/// The fields of a book. Each function that changes them requires and ensures what a book keeps of them.
+/// The fields of a book. `Keeps` says what holds of them before and after each call of the book.
 #[derive(Drop)]
 pub(crate) struct Parts {
+    /// The allocator.
     pub alloc: Global,
     /// The design that the book began with.
     pub opened: Design,
     /// The design now.
     pub design: Design,
-    /// Numbers for the placements of the design. A refused change may have given out more of them.
+    /// The numbers of placements. A refused change may have given out numbers that the scene's view doesn't have.
     pub table: Table,
     /// The design now, by numbers.
     pub scene: Scene,
@@ -28,13 +29,13 @@ pub(crate) struct Parts {
     pub listed: Catalogue,
     /// The guards of each change.
     pub log: GuardLog,
-    /// The pending tasks, by rising numbers.
+    /// The pending tasks, in the order of their numbers.
     pub tasks: Vec<Pending>,
-    /// Which of the tasks have an own atom about a placement or an item.
+    /// The pending tasks by the placements and items of their own atoms. The newest tasks may not be noted yet.
     pub register: Register,
     /// The number that the next new task gets.
     pub next: u64,
-    /// The changes that can be undone and redone.
+    /// The changes that can be undone and those that can be redone, each with what is kept for it.
     pub history: History<Change, Kept>,
     /// The changes that were made, the oldest first.
     pub steps: Vec<Step>,

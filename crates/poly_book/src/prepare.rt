@@ -1,5 +1,5 @@
-//! Prepares all that a change needs before anything is changed, so that afterwards only the exchange of the listed tilings can
-//! refuse it.
+//! Prepares all that a change needs before anything that the book shows is changed, so that afterwards only adding to the log
+//! and exchanging the listed tilings can fail.
 ghost use Rattle.std.specs.Prelude.{◌≡◌, ◌↔◌, ◌≤◌, ◌<◌, ◌*◌, ◌⊎◌, IfErr, IfOk, OnOk, cond, length, map, nat_le, option_copied, true};
 ghost use Rattle.std.specs.Arc.{arc_value};
 ghost use Rattle.poly_design.specs.Changes.{HasBefore, changed};
@@ -41,10 +41,11 @@ use std::sync::Arc;
 /// The most guards that an edit's change may have, and the most that its inverse may have.
 pub const MAX_GUARDS: usize = 20_000;
 
-/// The most changes of a book.
+/// The most changes that a book ever makes, counting edits, undos and redos.
 pub const MAX_CHANGES: usize = 100_000;
 
-/// A shelf is kept if the number of its frozen tasks times the number of the inverse's guards is at most this.
+/// A shelf is kept if the number of its frozen tasks times the number of guards of the change's inverse is at most
+/// this.
 pub const MAX_SHELF: usize = 4096;
 
 /// What a change adds to the log and to the listed tilings.
@@ -56,7 +57,7 @@ pub(crate) struct Entry {
     pub returned: Vec<Tiling>,
 }
 
-/// The other parts of the book after a change.
+/// What a change does to the parts of the book besides the log and the listed tilings.
 #[derive(Drop)]
 pub(crate) struct Prepared {
     /// The design after it.
@@ -65,13 +66,14 @@ pub(crate) struct Prepared {
     pub plan: Plan,
     /// The design after it, by numbers.
     pub view: Arc<View>,
-    /// The tasks after it.
+    /// What it does to the tasks.
     pub tasks: NextTasks,
     /// What the change stores for its undo or redo, if a shelf is kept.
     pub shelf: Option<Shelf>,
 }
 
-/// Prepares the change, so that nothing but the exchange of the listed tilings can refuse it. The book shows what it showed.
+/// Prepares the change, so that afterwards only adding to the log and exchanging the listed tilings can fail. What the book
+/// shows stays the same.
 pub(crate) fn prepare(
     parts: &mut Parts,
     kind: Kind,
@@ -140,7 +142,7 @@ fn plan_of_change(
     }
 }
 
-// Gathers what a change that leads to the view adds and stores, and what becomes of the tasks.
+// Gathers what the change to the view adds and stores, and its effect on the tasks.
 fn gather(
     parts: &Parts,
     kind: Kind,
@@ -168,8 +170,8 @@ fn gather(
     Ok((Entry { guards, returned }, tasks, shelf))
 }
 
-// The guards of the change that leads to the view, and how many its inverse has. Refuses an edit if there are too many of
-// either.
+// The guards of the change that leads to the view, and how many its inverse has. Refuses an edit if it or its inverse has too
+// many guards.
 fn guards_of_change(
     parts: &Parts,
     kind: Kind,
@@ -227,7 +229,7 @@ fn is_small(count: usize, width: usize) -> bool
     count * width <= MAX_SHELF
 }
 
-// The atoms of all tasks.
+// For each task, its atoms.
 fn frozen_atoms(alloc: Global, log: &GuardLog, tasks: &[Pending]) -> Result<Vec<Vec<Atom>>, Refusal>
     requires { AreTasks log.now tasks.now }
     ensures ok { IfOk result (λ v. lists v.items ≡ map (λ t. atoms_of t) (tasks_of log.now tasks.now)) }

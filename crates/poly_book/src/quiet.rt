@@ -21,9 +21,13 @@ use std::sync::Arc;
 /// was pending.
 #[derive(Drop)]
 pub struct Quiet {
+    /// The design whose tilings these are.
     design: Design,
+    /// The edition at which nothing was pending.
     edition: u64,
+    /// The view whose numbers the tilings have.
     view: Arc<View>,
+    /// The tilings, in the order of tilings.
     tilings: Vec<Tiling>,
 }
 
@@ -39,7 +43,7 @@ impl Model for Quiet {
 }
 
 impl Quiet {
-    /// The design.
+    /// The design whose tilings these are.
     pub fn design(&self) -> &Design
         ensures value { result.now ≡ self.now.design }
         ensures all { HasAll self.now }
@@ -62,7 +66,7 @@ impl Quiet {
         &self.view
     }
 
-    /// The tilings, in their order.
+    /// The tilings, in the order of tilings.
     pub fn tilings(&self) -> &[Tiling]
         ensures value { result.now ≡ self.now.tilings }
         ensures each { HasEachOnce self.now.view self.now.tilings }
@@ -73,7 +77,7 @@ impl Quiet {
 }
 
 impl Book {
-    /// All tilings of the design. Refused with `Busy` if tasks are pending, and else only with `Memory`.
+    /// All tilings of the design. Refused with `Busy` if tasks are pending, and otherwise only with `Memory`.
     pub fn quiet(&self) -> Result<Quiet, Refusal>
         ensures ok { IfOk result (λ q. IsQuietOf self.now q) }
         ensures why { IfErr result (λ e. ((e ≡ Refusal.Busy (length self.now.pending)) × (0 < length self.now.pending)) ⊎ ((e ≡ Refusal.Memory) × (self.now.pending ≡ []))) }
@@ -109,7 +113,7 @@ pub(crate) fn copies(alloc: Global, tilings: &[Tiling]) -> Result<Vec<Tiling>, R
     Ok(all)
 }
 
-// The listed tilings, put into their order, if they are all tilings of the design.
+// The listed tilings as a Quiet, put in order. They must be all tilings of the design, each once.
 fn all_tilings(
     alloc: Global,
     design: &Design,

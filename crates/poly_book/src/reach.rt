@@ -1,4 +1,5 @@
-//! How far the spans that a change touches reach. A pending task can become hopeless only if such a span has its number.
+//! How far touched spans reach. A span is touched if it is noted under the placement or the key of an atom that the change
+//! touches. A pending task can become hopeless only if a touched span has the task's number.
 ghost use Rattle.std.specs.Prelude.{◌≡◌, ◌≤◌, ◌<◌, IfErr, IfOk, length, slice_index_or, true, ℕ};
 ghost use Rattle.std.specs.List.{list_any};
 ghost use Rattle.std.specs.List.Sorted.{IsNonDecreasingBy};
@@ -22,8 +23,9 @@ use poly_tiling::Item;
 use std::alloc::Global;
 use std::collections::BTreeMap;
 
-/// For each pending task the last number of the touched spans that begin at it, or 0. A span begins at the first task that
-/// isn't before it. Fails only when out of memory.
+/// For each pending task, the greatest end of the touched spans that begin at it, or 0 if none does. A span begins at the
+/// first task whose number isn't below the span. A task is reached if the value at its index or at an earlier one is at least
+/// the task's number. Fails only when out of memory.
 pub(crate) fn reached(
     alloc: Global,
     touch: &Touch,
@@ -44,7 +46,7 @@ pub(crate) fn reached(
     Ok(reach)
 }
 
-// Reaches the tasks that ask for a placement that the change touches.
+// Reaches the tasks that are noted under a `Has` atom that the change touches.
 fn reach_has(reach: &mut Vec<u32>, tasks: &[Pending], touch: &Touch, rows: &BTreeMap<u32, Row>)
     requires rise { IsNonDecreasingBy (λ p. p.number) tasks.now }
     requires len { length reach.old.items ≡ length tasks.now }

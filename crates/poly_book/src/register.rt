@@ -1,4 +1,4 @@
-//! Which tasks are noted in the maps. Most tasks end before a change, so tasks are noted only when a change asks for them.
+//! Which tasks are noted in the maps. Most tasks end before the next change, so a task is noted only when a change comes.
 ghost use Rattle.std.specs.Prelude.{◌≡◌, ◌≤◌, IfErr, OnOk, false, length, nat_lt, true};
 ghost use Rattle.std.specs.List.Sorted.{IsNonDecreasingBy, IsPartitionPoint};
 ghost use Rattle.poly_book.specs.Mapped.{AreNoted, AreNotedBelow, KeepsPending};
@@ -13,6 +13,7 @@ use std::alloc::Global;
 /// The maps, and how far they are filled.
 #[derive(Drop)]
 pub(crate) struct Register {
+    /// The maps in which tasks are noted.
     pub maps: Maps,
     /// The pending tasks whose numbers are less than this are noted.
     pub below: u64,
@@ -57,7 +58,7 @@ impl Register {
         Ok(())
     }
 
-    // Drops the spans without a pending task, once far more tasks were noted than are pending.
+    // Drops the spans without a pending task if far more tasks were noted since the last time than are pending now.
     fn tidy(&mut self, pending: &[Pending])
         requires { IsNonDecreasingBy (λ p. p.number) pending.now }
         ensures kept { KeepsPending pending.now self.old.maps self.new.maps }

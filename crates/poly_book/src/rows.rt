@@ -12,16 +12,19 @@ use std::alloc::Global;
 use std::collections::BTreeMap;
 use std::marker::Model;
 
-/// The tasks with the numbers from one to another, both included.
+/// The tasks whose numbers are from `from` to `to`, both included.
 #[derive(Clone, Copy, Debug)]
 pub(crate) struct Span {
+    /// The least number.
     pub from: u32,
+    /// The greatest number.
     pub to: u32,
 }
 
 /// The spans of tasks that are noted under one key.
 #[derive(Drop)]
 pub(crate) struct Row {
+    /// The spans, the oldest first.
     spans: Vec<Span>,
 }
 
@@ -59,7 +62,7 @@ impl Row {
         Ok(())
     }
 
-    // Drops the spans without a pending task. Returns whether one is left.
+    // Drops the spans without a pending task. Returns whether a span is left.
     fn keep_pending(&mut self, pending: &[Pending]) -> bool
         requires { IsNonDecreasingBy (λ p. p.number) pending.now }
         ensures kept { self.new ≡ filter (λ s. has_pending pending.now s) self.old }
@@ -70,7 +73,7 @@ impl Row {
     }
 }
 
-/// Notes the span under the key. Fails only when out of memory. What is noted stays noted.
+/// Notes the span under the key. Fails only when out of memory. What was noted before stays noted in any case.
 pub(crate) fn note_span(
     alloc: Global,
     rows: &mut BTreeMap<u32, Row>,
@@ -105,8 +108,8 @@ fn add_row(
     Ok(())
 }
 
-/// Drops the spans without a pending task, whose numbers rise, and the rows without a span. What is noted for a pending task
-/// stays noted. Never allocates.
+/// Drops the spans without a pending task, and the rows without a span. The pending tasks are in the order of their numbers.
+/// What is noted for a pending task stays noted. Never allocates.
 pub(crate) fn tidy_rows(rows: &mut BTreeMap<u32, Row>, pending: &[Pending])
     requires { IsNonDecreasingBy (λ p. p.number) pending.now }
     ensures { AreKept pending.now rows.old.entries rows.new.entries }

@@ -1,4 +1,4 @@
-//! The design by numbers, with the cover matrix from which each task of that design is explored or checked.
+//! The design by numbers, with the cover matrix that serves to explore its tasks and to check the trees of reports.
 ghost use Rattle.std.specs.Prelude.{◌≡◌, ◌≤◌, IfErr, IfOk, MatchOption, None, false, true};
 ghost use Rattle.std.specs.Arc.{arc_value};
 ghost use Rattle.poly_frame.specs.Matrices.{IsWhole};
@@ -23,7 +23,9 @@ use std::sync::Arc;
 /// A design by numbers. Its matrix is made when a task first needs it, and then serves every task.
 #[derive(Drop)]
 pub(crate) struct Scene {
+    /// The design, by numbers.
     view: Arc<View>,
+    /// The cover matrix of the view, once it is made.
     matrix: Option<Matrix>,
 }
 
@@ -122,7 +124,8 @@ fn explore_from(
     found
 }
 
-// Checks the tree with the matrix in the slot, which is made if the slot is empty.
+// The leaves of the tree, if it holds, and `None` if it doesn't. Uses the matrix in the slot, which is made if the slot is
+// empty.
 fn cut_up_from(
     alloc: Global,
     view: &View,

@@ -18,12 +18,12 @@ use poly_grid::Refusal;
 use poly_report::Leaves;
 
 impl Book {
-    /// Takes tasks, explores each with at most `nodes` nodes and hands the result in, until nothing is pending. Returns
-    /// how many reports were applied. The design and the steps stay. `nodes` is from 1 to 4,096.
+    /// Takes tasks, explores each with at most `nodes` nodes that aren't Rest, and hands the result in, until nothing is
+    /// pending. Returns how many reports were applied. The design and the steps stay. `nodes` is from 1 to 4,096.
     ///
-    /// Refused with `Unfinished` if `turns` reports were applied and a task is still pending. Otherwise refused as `hand_in`
-    /// is for a report that holds: with `Spent`, `CatalogueFull` or `Memory`. Reports that were applied before a refusal
-    /// stay applied.
+    /// Refused with `Unfinished` if `turns` reports were applied and a task is still pending. May be refused earlier as
+    /// `hand_in` is for a report that holds: with `Spent`, `CatalogueFull` or `Memory`. Reports that were applied before a
+    /// refusal stay applied.
     pub fn settle(&mut self, turns: u64, nodes: u32) -> Result<u64, Refusal>
         requires some { 1 ≤ nodes }
         requires few { nodes ≤ NODES }
@@ -57,8 +57,8 @@ fn settle_all(parts: &mut Parts, turns: u64, nodes: u32) -> Result<u64, Refusal>
     Err(Refusal::Unfinished)
 }
 
-// One turn: whether there was a task. The tree that is found holds, so its leaves are applied without a check. Only the
-// first `unsure` tasks may be hopeless, so the rests of a later task are opened without a check.
+// Does one turn, and returns whether there was a task. The tree that is found holds, so this isn't checked again. Only the
+// first `unsure` tasks may be hopeless. So no rest of a later task is hopeless, and this isn't checked either.
 fn settle_one(parts: &mut Parts, nodes: u32, unsure: &mut usize) -> Result<bool, Refusal>
     requires some { 1 ≤ nodes }
     requires few { nodes ≤ NODES }

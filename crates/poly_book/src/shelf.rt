@@ -7,6 +7,7 @@ use poly_undo::Shelf;
 pub struct Kept {
     /// The edition after the step that put the change among those to undo or to redo.
     pub made: u64,
-    /// What the change took away, if that was small enough to be kept.
+    /// What that step stored: the listed tilings that it took away, and the atoms of the tasks that were pending before it.
+    /// `None` if `MAX_SHELF` didn't allow it.
     pub shelf: Option<Shelf>,
 }

@@ -20,9 +20,9 @@ pub struct Step {
     pub kind: Kind,
     /// What it changed.
     pub change: Change,
-    /// The number of tasks that were pending before it.
+    /// The number of tasks that were pending before the change.
     pub pending: u64,
-    /// False exactly for an undo or redo without a kept shelf.
+    /// Whether the change is an edit, or an undo or redo with a kept shelf.
     pub shelved: bool,
 }
 
@@ -34,7 +34,7 @@ pub enum Ending {
         /// The task's number.
         task: u32,
     },
-    /// A change left the task without tilings, as its own atoms show.
+    /// A change ended the task: the task's own atoms are hopeless in the view after the change.
     Hopeless {
         /// The task's number.
         task: u32,
@@ -43,7 +43,7 @@ pub enum Ending {
     },
 }
 
-/// The answer of a change that was made.
+/// The answer to an edit, an undo or a redo that made a change.
 #[derive(Drop)]
 pub struct Done {
     /// The edition after the change.
@@ -52,17 +52,18 @@ pub struct Done {
     pub step: Step,
 }
 
-/// The answer of a report that was applied.
+/// The answer to a report that was applied.
 #[derive(Clone, Copy, Debug, PartialEq, Eq)]
 pub struct Applied {
-    /// The number of endings after it.
+    /// The number of endings after the report.
     pub place: u64,
-    /// The number of tilings that it listed.
+    /// The number of tilings that the report listed.
     pub listed: u64,
-    /// The number of tasks that it opened.
+    /// The number of tasks that the report opened.
     pub opened: u64,
-    /// The number of the first task that it opened; if it opened none, the number that the next new task gets.
+    /// The number of the first task that the report opened; the other tasks that it opened have the numbers that follow. If
+    /// it opened none, the number that the next new task gets.
     pub first: u64,
-    /// Whether the report's edition is below the book's. It decides nothing.
+    /// Whether the report's edition is below the book's. A late report is applied like any other.
     pub late: bool,
 }

@@ -1,4 +1,4 @@
-//! Taking tasks. Taking changes nothing, so two workers may take one task.
+//! Taking tasks. Taking changes nothing, so two workers may take the same task.
 ghost use Rattle.std.specs.Prelude.{◌≡◌, IfErr, IfOk, MatchOption, length};
 ghost use Rattle.std.specs.Arc.{arc_value};
 ghost use Rattle.std.specs.List.Sorted.{IsNonDecreasingBy};
@@ -22,7 +22,7 @@ use std::sync::Arc;
 pub enum Which {
     /// Some pending task.
     Any,
-    /// The task of that number.
+    /// The task with this number.
     Task(u32),
 }
 
@@ -31,17 +31,17 @@ pub enum Which {
 pub struct Job {
     /// The task's number.
     pub task: u32,
-    /// The edition at which it was taken.
+    /// The edition at which the task was taken.
     pub edition: u64,
-    /// Its own atoms, and the guards of every change since it was made.
+    /// The task's own atoms, and the guards of every change since the task was made.
     pub atoms: Vec<Atom>,
     /// The design at that edition, by numbers.
     pub view: Arc<View>,
 }
 
 impl Book {
-    /// A pending task with its atoms: the newest, or the one with the given number. `None` only if no task is pending, or if
-    /// that one isn't. Fails only when out of memory.
+    /// A pending task with its atoms: the newest for `Any`, otherwise the one with the given number. `None` only if no task
+    /// is pending, or if a task was asked for by its number and isn't pending. Fails only when out of memory.
     pub fn take(&self, which: Which) -> Result<Option<Job>, Refusal>
         ensures ok { IfOk result (λ o. MatchOption o (IsMissing self.now which) (λ j. IsTaken self.now which j)) }
         ensures why { IfErr result (λ e. e ≡ Refusal.Memory) }
@@ -52,7 +52,7 @@ impl Book {
         }
     }
 
-    /// The least number of a pending task that is at least `from`. Never allocates.
+    /// The least number of a pending task that is at least `from`; `None` if there is none. Never allocates.
     pub fn next(&self, from: u32) -> Option<u32>
         ensures { MatchOption result (NoneFrom from self.now.pending) (λ n. IsLeastFrom from self.now.pending n) }
     {
@@ -60,7 +60,7 @@ impl Book {
     }
 }
 
-// The task of the number, taken, if it is pending.
+// A job for the task with the number, if it is pending.
 fn take_number(parts: &Parts, number: u32) -> Result<Option<Job>, Refusal>
     requires { Keeps parts.now }
     ensures ok { IfOk result (λ o. MatchOption o (IsMissing (state_of parts.now) (Which.Task number)) (λ j. IsTaken (state_of parts.now) (Which.Task number) j)) }
@@ -73,7 +73,7 @@ fn take_number(parts: &Parts, number: u32) -> Result<Option<Job>, Refusal>
     Ok(Some(taken))
 }
 
-// The newest task, if one is pending. Taking the newest keeps the number of pending tasks small.
+// A job for the newest task, if one is pending. Taking the newest keeps the number of pending tasks small.
 fn take_any(parts: &Parts) -> Result<Option<Job>, Refusal>
     requires { Keeps parts.now }
     ensures ok { IfOk result (λ o. MatchOption o (IsMissing (state_of parts.now) Which.Any) (λ j. IsTaken (state_of parts.now) Which.Any j)) }
@@ -86,7 +86,7 @@ fn take_any(parts: &Parts) -> Result<Option<Job>, Refusal>
     Ok(Some(taken))
 }
 
-// The task, taken.
+// A job for the task.
 fn make_job(parts: &Parts, task: &Pending) -> Result<Job, Refusal>
     requires { IsTask parts.now.log task.now }
     ensures task { IfOk result (λ j. j.task ≡ task.now.number) }
@@ -105,7 +105,7 @@ fn make_job(parts: &Parts, task: &Pending) -> Result<Job, Refusal>
     })
 }
 
-// The first number of a task that is at least `from`, found by binary search.
+// The first task number that is at least `from`, found by binary search.
 fn first_from(tasks: &[Pending], from: u32) -> Option<u32>
     requires { IsNonDecreasingBy (λ p. p.number) tasks.now }
     ensures { result ≡ number_from from tasks.now }

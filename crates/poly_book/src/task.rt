@@ -14,7 +14,7 @@ use std::alloc::Global;
 pub enum Own {
     /// A list.
     Atoms(Vec<Atom>),
-    /// A stair of a change, which the guard log has.
+    /// A stair of a change. Its atoms are read from the guard log.
     Stair(Stair),
 }
 
@@ -25,7 +25,7 @@ pub struct Pending {
     pub number: u32,
     /// Its own atoms.
     pub own: Own,
-    /// The edition at which it was made: the guards of every change since are atoms of it, too.
+    /// The edition at which the task was made. The guards of every change since then are atoms of the task, too.
     pub made: u64,
 }
 
@@ -49,7 +49,7 @@ pub(crate) fn is_hopeless(
     }
 }
 
-/// The own atoms as a list of their own.
+/// A copy of the own atoms, as a list.
 pub(crate) fn own_atoms(alloc: Global, log: &GuardLog, own: &Own) -> Result<Vec<Atom>, Refusal>
     requires { IsOwn log.now own.now }
     ensures ok { IfOk result (λ atoms. atoms.items ≡ own_of log.now own.now) }

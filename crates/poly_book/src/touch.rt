@@ -13,13 +13,14 @@ use std::alloc::Global;
 /// What a change touches.
 #[derive(Drop)]
 pub(crate) struct Touch<'a> {
-    /// The design after it.
+    /// The design after the change, by numbers.
     pub view: &'a View,
-    /// How it differs from the design before it.
+    /// How that design differs from the one before the change.
     pub delta: &'a Delta,
     /// The cell or the piece that changes.
     pub item: Item,
-    /// For each number, whether it is gone. A change may take thousands away, and each atom is compared with them.
+    /// For each number of a placement, whether the placement is gone. So an atom needs only one look-up here, even if the
+    /// change takes thousands of placements away.
     pub gone: Vec<bool>,
     ghost marked: { (n : ℕ) → slice_index_or gone.items n false ≡ mem delta.now.gone.items n },
 }

@@ -1,4 +1,4 @@
-//! Which placements a change touches.
+//! Which `Has` atoms a change touches.
 ghost use Rattle.std.specs.Prelude.{◌≡◌, Some, false, slice_index_or};
 ghost use Rattle.std.specs.List.{list_any};
 ghost use Rattle.poly_tiling.specs.Lists.{mem};
@@ -13,7 +13,7 @@ use poly_grid::Cell;
 use poly_tiling::{Item, View};
 
 impl<'a> Touch<'a> {
-    /// Whether the change touches an atom that asks for the placement.
+    /// Whether the change touches the `Has` atom of the placement.
     pub(crate) fn has_placement(&self, p: u32) -> bool
         ensures { result ≡ touches self.now (Has p) }
     {

@@ -9,7 +9,7 @@ use poly_design::Design;
 use poly_grid::Refusal;
 
 impl Book {
-    /// Whether the opening design and the first steps lead to the design of the Quiet. The Quiet's edition says how
+    /// Whether the first steps lead from the opening design to the design of the Quiet. The Quiet's edition says how
     /// many steps these are; false if there are fewer. Fails only when out of memory.
     pub fn vouch(&self, quiet: &Quiet) -> Result<bool, Refusal>
         ensures ok { IfOk result (λ yes. IsTrue yes ↔ IsLedTo self.now quiet.now.edition quiet.now.design) }
@@ -24,7 +24,7 @@ impl Book {
     }
 }
 
-// Whether there are at least `count` steps, and the first `count` lead from one design to the other.
+// Whether there are at least `count` steps, and the first `count` lead from `first` to `to`.
 fn leads_to(first: &Design, steps: &[Step], count: u64, to: &Design) -> Result<bool, Refusal>
     requires { AllLead first.now steps.now }
     ensures ok { IfOk result (λ yes. IsTrue yes ↔ ((count ≤ length steps.now) × (led_to first.now (take count steps.now) ≡ to.now))) }
@@ -37,7 +37,7 @@ fn leads_to(first: &Design, steps: &[Step], count: u64, to: &Design) -> Result<b
     Ok(design.is_same(to))
 }
 
-// The design that the steps lead to.
+// The design that the steps lead to from `first`.
 fn made_by(first: &Design, steps: &[Step]) -> Result<Design, Refusal>
     requires { AllLead first.now steps.now }
     ensures ok { IfOk result (λ d. d ≡ led_to first.now steps.now) }

@@ -35,7 +35,8 @@ use Rattle.poly_browse.proofs.Motions.{still}
 use Rattle.poly_browse.proofs.Sets.{cells_ascend, cells_unblocked, one_taken, some_cell}
 use Rattle.poly_browse.proofs.Tiled.{Carrying, image_from, image_has, image_tiles, image_up, moved}
 
--- the maps are the symmetries of the design that the view shows
+-- the view shows the design; each map is that of a symmetry of the design, and each symmetry has its map unless all cells are
+-- blocked
 pub record AreMaps (v : View) (d : Layout) (maps : List (List ℕ)) : Type 0 where
   pub well : WellNamed v
   pub shows : Shows v d
@@ -56,7 +57,7 @@ neither S T a b differ =
     let less = below_by nat_list_cmp_total (slice_cmp-IsAntisymmetric nat_cmp-IsAntisymmetric) S T b differ in
     both_ways (comes_before S T) a (ap is_lt less)
 
--- what does not come before the later of two does not come before the earlier
+-- if T comes before U, a list that doesn't come before U doesn't come before T
 not_sooner : (S T U : List ℕ) → comes_before T U ≡ true → comes_before S U ≡ false → comes_before S T ≡ false
 not_sooner S T U tu su = false_from_ne_true (comes_before S T) (λ st.
     both_ways (comes_before S U) su (ap is_lt (nat_list_cmp_total.trans S T U (lt_less (slice_cmp nat_cmp S T) st) (lt_less (slice_cmp nat_cmp T U) tu))))
@@ -193,7 +194,7 @@ least_of T (f ∷ maps) = elim (cases_Bool (comes_before (image_of f T) (least_o
   )
 ]
 
--- each tiling is alike to a first one
+-- the tiling is alike to one that is first
 pub record HasFirst (v : View) (d : Layout) (maps : List (List ℕ)) (T : List ℕ) : Type 0 where
   pub list : List ℕ
   pub tiles : is_tiling v list ≡ true

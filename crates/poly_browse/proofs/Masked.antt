@@ -38,7 +38,7 @@ or_digit (suc (suc x)) y a b = absurd (omega arith)
 bit_either : (a b t : ℕ) → eqb (bit_at (bit_or a b) t) 1 ≡ (eqb (bit_at a t) 1 || eqb (bit_at b t) 1)
 bit_either a b t = ap (λ x. eqb x 1) (bit_at_or a b t) ∙ or_digit (bit_at a t) (bit_at b t) (bit_at-lt a t) (bit_at-lt b t)
 
--- after one more bit
+-- after a bit is set, it is 1 and all others are as before
 bit_put : (w bit t : ℕ) → bit < 64 → eqb (bit_at (bit_or w (1 * 2 ^ bit % 2 ^ 64)) t) 1 ≡ (eqb (bit_at w t) 1 || eqb bit t)
 bit_put w bit t low = elim (cases_eq t bit) [
   | inl e ↦
@@ -91,7 +91,7 @@ mark_same true f i e = refl
 mark_same false true i e = refl
 mark_same false false i e = refl
 
--- one more number is marked, or not
+-- the next number's mask gets the bit if the number's flag is raised, and stays as it is otherwise
 pub marked_up : (masks : List ℕ) (at bit n t : ℕ) (a f f' : Bool) → bit < 64 → at < length masks → f' ≡ (f || (true && eqb at n)) → in_mask masks n t ≡ (a || (f && eqb bit t)) →
     in_mask (set masks at (bit_or (get_or masks at 0) (1 * 2 ^ bit % 2 ^ 64))) n t ≡ (a || (f' && eqb bit t))
 marked_up masks at bit n t a f f' low here more so =
@@ -107,7 +107,8 @@ length_set (y ∷ xs) (suc k) x = ap suc (length_set xs k x)
 
 -- ---- masks of items
 
--- The first `at` of the items have their bits: those of the numbers that have them.
+-- The first `at` items are done: each has its bit in the masks of exactly those numbers that have the item, and in `wanted`.
+-- All later bits are 0.
 pub record IsPacked (v : View) (items : List Item) (at : ℕ) (masks : List ℕ) (wanted : ℕ) : Type 0 where
   pub below : (n t : ℕ) (d : Item) → n < 2 ^ 32 → t < at → in_mask masks n t ≡ has_item v n (get_or items t d)
   pub above : (n t : ℕ) → at ≤ t → in_mask masks n t ≡ false
@@ -150,7 +151,7 @@ packed_more v items i at old new wanted flag low here flags marks so = record {
   bits = λ t. bit_put wanted at t low ∙ ap (λ b. b || eqb at t) (so.bits t) ∙ less_more t at;
 }
 
--- all items have their bits
+-- once all items are done, the masks of a tiling's numbers together equal `wanted` exactly if the tiling covers all items
 pub packed_all : (v : View) (items : List Item) (masks : List ℕ) (wanted : ℕ) (T : List ℕ) → AreSmall T → IsPacked v items (length items) masks wanted → eqb (joined masks T) wanted ≡ list_all (λ i. has_it v T i) items
 packed_all v items masks wanted T small so = same_truth (eqb (joined masks T) wanted) (list_all (λ i. has_it v T i) items) all back
   where
@@ -172,7 +173,7 @@ packed_all v items masks wanted T small so = same_truth (eqb (joined masks T) wa
     back : list_all (λ i. has_it v T i) items ≡ true → eqb (joined masks T) wanted ≡ true
     back h = eq-eqb (joined masks T) wanted (same_from_bits (joined masks T) wanted (λ t. same_digit _ _ (bit_at-lt (joined masks T) t) (bit_at-lt wanted t) (one h t)))
 
--- ---- masks for some items after another
+-- ---- one group of items after another
 
 and_turn : (a h r : Bool) → ((a && (h && true)) && r) ≡ (a && (h && r))
 and_turn true true r = refl

@@ -1,4 +1,5 @@
--- A list without repeats has all numbers of another one if it has as many of them as there are.
+-- Two lists of numbers without repeats, `N` and `T`: `T` has all numbers of `N` exactly if as many numbers of `T` are in `N`
+-- as `N` has.
 use Rattle.std.proofs.Common.{Bool, List, [], arith, eqb, false, inl, inr, length, not, refl, sym, ap, true, ℕ, ◌&&◌, ◌∙◌, ◌∷◌, ◌≡◌, ◌≤◌}
 use Rattle.std.proofs.lemmas.Bool.{cases_Bool, eq-eqb, eqb-true, ne_eqb, true≢false}
 use Rattle.std.specs.List.{list_all}
@@ -14,7 +15,7 @@ module _ (N T : List ℕ) (flag : ℕ → Bool) (apart : distinct N ≡ true) (o
   most : tally flag T ≤ length N
   most = omega (arith, tally_within flag (λ x. true) T N once (λ x i f. (mem_in N x (sym (is x) ∙ f), refl)), tally_all N)
 
-  -- one of the numbers isn't in the list
+  -- if `T` lacks a number of `N`, fewer numbers of `T` are in `N` than `N` has
   fewer : (p : ℕ) → In p N → mem T p ≡ false → tally flag T ≡ length N → ⊥
   fewer p i lacks e =
       let other : (x : ℕ) → In x T → eqb x p ≡ false = λ x w. ne_eqb x p (λ s. true≢false (sym (in_mem T x w) ∙ ap (mem T) s ∙ lacks)) in

@@ -37,7 +37,7 @@ pub if_none : {T : Type 0} (P : Type 0) (v : T) (Q : Type 0) (o : Option T) → 
 if_none P v Q None h q = q h
 if_none P v Q (Some x) h q = tt
 
--- a test over what the numbers name, number by number
+-- one of the named placements passes a test exactly if some number names one that does
 pub any_named : (v : View) (f : Placement → Bool) (T : List ℕ) → list_any (λ n. list_any f (names v (n ∷ []))) T ≡ list_any f (names v T)
 any_named v f [] = refl
 any_named v f (n ∷ T) = at (slice_get v.placements n) (any_named v f T)
@@ -60,7 +60,7 @@ any_has_item v i (n ∷ T) = at (slice_get v.placements n) (any_has_item v i T)
     at None e = e
     at (Some x) e = ap (λ b. carries x i || b) e
 
--- one more number is named
+-- what the first k + 1 numbers name is what the first k name, and then what the next one names
 pub named_more : (v : View) (T : List ℕ) (k d : ℕ) → k < length T → names v (take (k + 1) T) ≡ names v (take k T) ++ names v (get_or T k d ∷ [])
 named_more v T k d l = ap (λ l. names v l) (take_more T k d l) ∙ filter_map-append (λ n. slice_get v.placements n) (take k T) (get_or T k d ∷ [])
 
@@ -104,14 +104,14 @@ ascending_push (x ∷ xs) n up low = ascending_from x (xs ++ n ∷ [])
     ])
     (ascending_push xs n (ascending_rest x xs up) (λ y i. low y (inr i)))
 
--- a flag that is raised is among those that were looked at
+-- a raised flag among the first `i` has an index below `i`
 pub raised_low : (i : ℕ) (flags : List Bool) (k : ℕ) → get_or (take i flags) k false ≡ true → k < i
 raised_low zero flags k h = absurd (true≢false (sym h))
 raised_low (suc i) [] k h = absurd (true≢false (sym h))
 raised_low (suc i) (f ∷ flags) zero h = omega arith
 raised_low (suc i) (f ∷ flags) (suc k) h = let l = raised_low i flags k h in omega arith
 
--- one more flag is looked at
+-- the raised flags among the first i + 1 are those among the first i, and flag i if it is raised
 pub flag_more : (i : ℕ) (flags : List Bool) (b : Bool) → i < length flags → get_or flags i false ≡ b → (k : ℕ) → get_or (take (i + 1) flags) k false ≡ (get_or (take i flags) k false || (b && eqb i k))
 flag_more i flags b l e k = elim (cases_eq k i) [
   | inl same ↦
@@ -152,12 +152,12 @@ or_group false true c = refl
 or_group false false true = refl
 or_group false false false = refl
 
--- one more number
+-- the members of the first i + 1 numbers are those of the first i, and the number at index i
 pub mem_more : (old : Bool) (xs : List ℕ) (i k : ℕ) → i < length xs → ((old || mem (take i xs) k) || eqb (get_or xs i 0) k) ≡ (old || mem (take (i + 1) xs) k)
 mem_more old xs i k low = or_group old (mem (take i xs) k) (eqb (get_or xs i 0) k)
     ∙ ap (λ b. old || b) (sym (ap (λ z. mem z k) (take_more xs i 0 low) ∙ any_append (λ y. eqb y k) (take i xs) (get_or xs i 0 ∷ [])))
 
--- the flag of a number is raised, and a number past the flags raises none
+-- setting a flag raises that flag and no other; a number past the flags raises none
 pub set_up : (flags : List Bool) (at k : ℕ) → at < length flags → get_or (set flags at true) k false ≡ (get_or flags k false || eqb at k)
 set_up flags at k low = elim (cases_eq k at) [
   | inl e ↦ get_or-set_at flags at k true false e low ∙ sym (ap (λ b. get_or flags k false || b) (eq-eqb at k (sym e)) ∙ or_true (get_or flags k false))
@@ -186,7 +186,7 @@ placement_ties x y = same_truth (same_placement x y) (eq_by_cmp placement_cmp x 
     equal_from Less h = absurd (true≢false (sym h))
     equal_from Greater h = absurd (true≢false (sym h))
 
--- sorted, without repeats
+-- sorting placements and dropping repeats lists each of them once, in placement order
 pub listed_sorted : (xs ys zs : List Placement) → IsPermutation xs ys → IsSorted placement_cmp ys → IsFiltered (DiffersFromLast same_placement) [] ys zs → IsListOf placement_cmp (Contains xs) zs
 listed_sorted xs ys zs moved sorted kept = listed_from placement_total placement_eq placement_ties placement_same (Contains xs) xs ys zs
     (λ x. (λ c. inr c, λ c. elim c [ inl none ↦ absurd (lacks_nil x none) | inr h ↦ h ])) moved sorted kept
@@ -206,7 +206,7 @@ pub all_as : {X : Type 0} (f g : X → Bool) (xs : List X) → ((x : X) → f x 
 all_as f g [] same = refl
 all_as f g (x ∷ xs) same = ap (λ b. b && list_all f xs) (same x) ∙ ap (λ b. g x && b) (all_as f g xs same)
 
--- each live number names the placement at its place
+-- if each number of a list names a placement, the number at an index names the one at the same index of the named placements
 pub named_at : (v : View) (T : List ℕ) → ((n : ℕ) → In n T → n < length v.placements) → (k e : ℕ) (d : Placement) → k < length T → slice_get v.placements (get_or T k e) ≡ Some (get_or (names v T) k d)
 named_at v [] h k e d l = absurd (omega arith)
 named_at v (n ∷ T) h k e d l =
@@ -219,7 +219,7 @@ named_at v (n ∷ T) h k e d l =
     at zero x is ih l = is
     at (suc k) x is ih l = ih k e d (omega arith)
 
--- the test of a tiling, by its numbers
+-- whether a tiling meets what is asked, by its numbers
 pub meets_is : (v : View) (q : Asked) (T : List ℕ) → matches q (names v T) ≡ (list_all (λ p. names_it v T p) q.has && list_all (λ p. not (names_it v T p)) q.lacks && list_all (λ i. has_it v T i) q.covers)
 meets_is v q T =
     ap (λ b. b && list_all (λ p. not (is_in (names v T) p)) q.lacks && list_all (λ i. is_covered (names v T) i) q.covers)

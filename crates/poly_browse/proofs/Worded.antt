@@ -22,12 +22,12 @@ use Rattle.poly_browse.specs.Browsing.{is_in, same_placement}
 use Rattle.poly_browse.specs.Gathering.{AreSmall, names_it}
 use Rattle.poly_browse.specs.Lines.{AreDifferent}
 
--- a program's numbers of 32 bits are small
+-- numbers that fit in 32 bits are small
 pub small_from : (T : List ℕ) → ((k : ℕ) → Fits w32 (get_or T k 0)) → AreSmall T
 small_from [] h = tt
 small_from (n ∷ T) h = (let f = h 0 in omega (arith, f), small_from T (λ k. h (suc k)))
 
--- the flags of the numbers below `at`
+-- below `at`, the flag of each number says whether `f` holds for it; the other flags are down
 pub record AreFlags (f : ℕ → Bool) (at : ℕ) (flags : List Bool) : Type 0 where
   pub below : (k : ℕ) → k < at → get_or flags k false ≡ f k
   pub above : (k : ℕ) → at ≤ k → get_or flags k false ≡ false
@@ -53,14 +53,15 @@ flag_down f at old is so = record {
   above = λ k l. so.above k (omega arith);
 }
 
--- after all numbers of 32 bits
+-- if `f` holds for no number from `count` on, and the numbers of 32 bits below `count` are done, then the flag of each number
+-- of 32 bits says whether `f` holds for it
 pub all_flags : (f : ℕ → Bool) (at count : ℕ) (flags : List Bool) → min count (2 ^ 32) ≤ at → ((k : ℕ) → count ≤ k → f k ≡ false) → AreFlags f at flags → (k : ℕ) → k < 2 ^ 32 → get_or flags k false ≡ f k
 all_flags f at count flags over none so k l = elim (cases_lt k at) [
   | inl low ↦ so.below k low
   | inr high ↦ so.above k (omega arith) ∙ sym (none k (omega arith))
 ]
 
--- a number that was not given out names nothing and covers nothing
+-- a number past the view's placements names nothing and covers nothing
 pub none_named : (v : View) (p : Placement) (k : ℕ) → length v.placements ≤ k → is_in (names v (k ∷ [])) p ≡ false
 none_named v p k l = ap (λ o. list_any (λ q. same_placement q p) (cons_option o [])) (slice_get_past v.placements k l)
 
@@ -116,7 +117,7 @@ all_more f xs i x low is = ap (list_all f) (take_more xs i x low ∙ ap (λ z. t
 pub any_more : {X : Type 0} (f : X → Bool) (xs : List X) (i : ℕ) (x : X) → i < length xs → x ≡ get_or xs i x → list_any f (take (i + 1) xs) ≡ (list_any f (take i xs) || f x)
 any_more f xs i x low is = ap (list_any f) (take_more xs i x low ∙ ap (λ z. take i xs ++ z ∷ []) (sym is)) ∙ any_append f (take i xs) (x ∷ []) ∙ ap (λ b. list_any f (take i xs) || b) (or_false (f x))
 
--- one that fails the test
+-- if one element fails the test, not all of them pass it
 pub all_not : {X : Type 0} (f : X → Bool) (xs : List X) (i : ℕ) (x : X) → i < length xs → x ≡ get_or xs i x → f x ≡ false → list_all f xs ≡ false
 all_not f xs i x low is fails = false_from_ne_true (list_all f xs) (λ h. both_ways (f x) fails (all_in f xs h x (subst (λ z. In z xs) (sym is) (at_in xs i x low))))
 
@@ -137,7 +138,8 @@ one_name v p k n wn here = same_truth (is_in (names v (n ∷ [])) p) (eqb n k)
 eqb_swap : (a b : ℕ) → eqb a b ≡ eqb b a
 eqb_swap a b = same_truth (eqb a b) (eqb b a) (λ e. eq-eqb b a (sym (eqb-true a b e))) (λ e. eq-eqb a b (sym (eqb-true b a e)))
 
--- the flag of the number of one more placement is raised
+-- after the flag of a placement's number is raised, a tiling has a flagged number exactly if it had one before or has the
+-- placement
 pub flag_named : (v : View) (p : Placement) (k : ℕ) (old new : List Bool) (T : List ℕ) (before : Bool) → ((n : ℕ) → is_in (names v (n ∷ [])) p ≡ eqb n k) → ((n : ℕ) → get_or new n false ≡ (get_or old n false || eqb k n)) →
     list_any (λ n. get_or old n false) T ≡ before → list_any (λ n. get_or new n false) T ≡ (before || names_it v T p)
 flag_named v p k old new T before only raised so =
@@ -147,7 +149,7 @@ flag_named v p k old new T before only raised so =
 
 -- ---- a list of different numbers
 
--- one more number
+-- all numbers pass a test after one is added exactly if the old ones and the added one pass it
 pub all_added : (f : ℕ → Bool) (old new : List ℕ) (x : ℕ) → ((k : ℕ) → mem new k ≡ (mem old k || eqb x k)) → list_all f new ≡ (list_all f old && f x)
 all_added f old new x is = same_truth (list_all f new) (list_all f old && f x)
     (λ h. and_from _ _
@@ -160,7 +162,7 @@ all_added f old new x is = same_truth (list_all f new) (list_all f old && f x)
       | inr e ↦ sym (ap f (eqb-true x k e)) ∙ p.1
     ]))
 
--- a number that the list has already
+-- adding a number that the list has already changes no membership
 pub mem_again : (xs : List ℕ) (x : ℕ) → mem xs x ≡ true → (k : ℕ) → mem xs k ≡ (mem xs k || eqb x k)
 mem_again xs x here k = same_truth (mem xs k) (mem xs k || eqb x k) (λ h. or_left (mem xs k) (eqb x k) h)
     (λ h. elim (or_cases (mem xs k) (eqb x k) h) [ inl e ↦ e | inr e ↦ ap (mem xs) (sym (eqb-true x k e)) ∙ here ])
@@ -182,7 +184,7 @@ distinct_push (x ∷ xs) n once lacks =
 pub different_none : (list : List Item) → list ≡ [] → AreDifferent [] list
 different_none list is = record { same = λ i. subst (λ (z : List Item). Contains z i ↔ Contains [] i) (sym is) (λ c. c, λ c. c); apart = subst (AllPairs (λ (i j : Item). i ≢ j)) (sym is) (pairs_none (λ (i j : Item). i ≢ j)) }
 
--- an item that the list has already
+-- an item that the list has already is skipped
 pub different_skip : (items list : List Item) (i : ℕ) (x : Item) → i < length items → x ≡ get_or items i x → list_any (λ j. same_item j x) list ≡ true → AreDifferent (take i items) list → AreDifferent (take (i + 1) items) list
 different_skip items list i x low is here so =
     let t = take_more items i x low ∙ ap (λ z. take i items ++ z ∷ []) (sym is) in
@@ -196,7 +198,7 @@ different_skip items list i x low is here so =
       apart = so.apart;
     })
 
--- an item that the list doesn't have yet
+-- an item that the list doesn't have yet is added to it
 pub different_push : (items list new : List Item) (i : ℕ) (x : Item) → i < length items → x ≡ get_or items i x → list_any (λ j. same_item j x) list ≡ false → new ≡ list ++ x ∷ [] → AreDifferent (take i items) list → AreDifferent (take (i + 1) items) new
 different_push items list new i x low is none pushed so =
     let t = take_more items i x low ∙ ap (λ z. take i items ++ z ∷ []) (sym is) in

@@ -1,4 +1,4 @@
--- The words of a query: the numbers that each word names.
+-- When a tiling, as a list of numbers, meets the words of a query.
 use Rattle.std.specs.Int.{bit_at}
 use Rattle.std.specs.List.{AllPairs, Contains, list_all, list_any}
 use Rattle.std.specs.Prelude.{Bool, List, [], bit_or, false, nat_eq, not, slice_index_or, ℕ, ◌&&◌, ◌↔◌, ◌∷◌, ◌≢◌}
@@ -10,11 +10,11 @@ use Rattle.poly_browse.specs.declared.lines.Has.{Has}
 use Rattle.poly_browse.specs.declared.lines.Line.{Line}
 use Rattle.poly_browse.specs.declared.lines.Words.{Words}
 
--- a tiling has one of these numbers
+-- a tiling has at least one of the flagged numbers
 abbrev pub has_flagged : Line → List ℕ → Bool
 has_flagged l T = list_any (λ n. slice_index_or l.flags.items n false) T
 
--- each placement has a number, and a tiling has as many of these numbers as there are
+-- each of the placements has a number, and exactly `h.count` numbers of a tiling are flagged
 abbrev pub has_these : Has → List ℕ → Bool
 has_these h T = h.named && nat_eq (tally (λ n. slice_index_or h.line.flags.items n false) T) h.count
 
@@ -39,7 +39,7 @@ are_covered c T = c.there && list_all (λ m. have_all m T) c.masks.items
 abbrev pub are_met : Words → List ℕ → Bool
 are_met w T = has_these w.has T && not (has_flagged w.lacks T) && are_covered w.covers T
 
--- the list has the same items, each once
+-- the list has exactly the given items, each once
 pub record AreDifferent (items list : List Item) : Type 0 where
   pub same : (i : Item) → Contains list i ↔ Contains items i
   pub apart : AllPairs (λ i j. i ≢ j) list

@@ -1,8 +1,8 @@
 //! Answers a query about a list of tilings.
 //!
-//! One pass over the tilings gathers what the answer needs of those that meet the query: how many there are, which
-//! placement numbers all of them have, and which numbers at least one of them has. The answer is made from these
-//! numbers, so the tilings are never scanned item by item.
+//! One pass goes over the tilings. Of those that meet the query, it gathers how many there are, which placement numbers all
+//! of them have, and which numbers at least one of them has. The answer is made from these numbers, so the tilings are
+//! never scanned item by item.
 ghost use Rattle.std.specs.Prelude.{IfErr, IfOk, map, ◌≡◌};
 ghost use Rattle.std.specs.List.{All, Contains};
 ghost use Rattle.poly_design.specs.Listed.{IsListOf};
@@ -19,11 +19,12 @@ use poly_grid::Refusal;
 use poly_tiling::{Item, Tiling, View, item_list};
 use std::alloc::Global;
 
-/// Answers the query about these tilings, which are lists of numbers of the view: how many of them meet it, the placements
-/// in all of these, and for each item of the design how many different placements cover it in one of these.
+/// Answers the query about these tilings, which are lists of numbers of the view. The answer says how many tilings meet the
+/// query, which placements all of those have, and for each item of the design how many different placements cover it in at
+/// least one of them.
 ///
-/// No tiling has a placement that the design doesn't have, and none covers an item that isn't in the design. Fails with
-/// `Memory` only.
+/// The query may name placements and items that the design doesn't have: no tiling of the design has or covers them. Fails
+/// only with `Memory`.
 pub fn browse(
     alloc: Global,
     design: &Design,

@@ -20,9 +20,9 @@ const MOST_BITS: usize = 64;
 /// Which of at most 64 items the placement of each number has.
 #[derive(Drop)]
 pub(crate) struct Masks {
-    // For each number, up to the last one that has an item, a bit for each of the items that it has.
+    /// For each number, up to the last one that has one of the items, a bit for each of the items that its placement has.
     masks: Vec<u64>,
-    // A bit for each of the items.
+    /// A bit for each of the items.
     wanted: u64,
 }
 
@@ -48,8 +48,9 @@ impl Masks {
 /// The items that a tiling must cover.
 #[derive(Drop)]
 pub(crate) struct Covers {
-    // Whether each of the items is in some placement. No tiling covers an item that isn't.
+    /// Whether each of the items is in some placement. No tiling covers an item that is in none.
     there: bool,
+    /// The items in groups of up to 64, in their order: one `Masks` for each group. Empty if `there` is false.
     masks: Vec<Masks>,
 }
 
@@ -68,7 +69,8 @@ fn all_covered(list: &[Masks], numbers: &[u32]) -> bool
     list.iter().all(|masks| masks.are_covered(numbers))
 }
 
-/// The items by the numbers of the view. Fails with `Memory` only.
+/// Looks the items up in the view, so that `are_met` can tell from a tiling's numbers whether the tiling covers all of them.
+/// Fails only with `Memory`.
 pub(crate) fn covers_of(alloc: Global, view: &View, items: &[Item]) -> Result<Covers, Refusal>
     ensures ok { IfOk result (λ covers. (T : List ℕ) → AreSmall T → are_covered covers T ≡ list_all (λ i. has_it view.now T i) items.now) }
     ensures why { IfErr result (λ e. e ≡ Refusal.Memory) }
@@ -110,7 +112,7 @@ fn is_there(view: &View, item: &Item) -> bool
     false
 }
 
-// Returns masks of the items: the first has the lowest bit.
+// Returns the masks of the items; the first item has the lowest bit.
 fn masks_of(alloc: Global, view: &View, items: &[Item]) -> Result<Masks, Refusal>
     requires few { length items.now ≤ MOST_BITS }
     ensures ok { IfOk result (λ masks. (T : List ℕ) → AreSmall T → have_all masks T ≡ list_all (λ i. has_it view.now T i) items.now) }

@@ -33,7 +33,7 @@ fn raise_if_there(flags: &mut Vec<bool>, number: u32)
     }
 }
 
-/// Raises the flag of a number, and makes the flags up to it.
+/// Raises the flag of a number. If there are too few flags, it first adds lowered ones up to that number.
 pub(crate) fn raise_one(flags: &mut Vec<bool>, number: u32) -> Result<(), Refusal>
     ensures ok { OnOk result ((k : ℕ) → slice_index_or flags.new.items k false ≡ (slice_index_or flags.old.items k false || nat_eq number k)) }
     ensures why { IfErr result (λ e. e ≡ Refusal.Memory) }

@@ -1,4 +1,4 @@
-//! The one pass over a list of tilings: what is kept of those that meet a query.
+//! The one pass over a list of tilings, which gathers the numbers of those that meet a query.
 ghost use Rattle.std.specs.Prelude.{IfErr, IfOk, OnOk, ℕ, false, length, true, ◌++◌, ◌&&◌, ◌≡◌};
 ghost use Rattle.std.specs.List.{filter};
 ghost use Rattle.poly_tiling.specs.Lists.{mem};
@@ -12,7 +12,7 @@ use poly_grid::Refusal;
 use poly_tiling::{Tiling, View, has_number};
 use std::alloc::Global;
 
-/// What is kept of the tilings that meet a query, by the numbers of the view.
+/// What is gathered from the tilings that meet a query, by the numbers of the view.
 #[derive(Drop)]
 pub(crate) struct Gathered {
     /// How many tilings meet the query.
@@ -23,7 +23,7 @@ pub(crate) struct Gathered {
     pub(crate) used: Vec<u32>,
 }
 
-/// Gathers what is kept of the tilings that meet the query. Fails only with `Memory`.
+/// Goes over the tilings, and gathers from those that meet the query. Fails only with `Memory`.
 pub(crate) fn gather(
     alloc: Global,
     tilings: &[Tiling],
@@ -56,7 +56,7 @@ pub(crate) fn gather(
     })
 }
 
-// Keeps those of the common numbers that the tiling has too; all of its numbers if it is the first.
+// Keeps only the common numbers that the tiling has too. For the first tiling, takes all of the tiling's numbers.
 fn share(common: &mut Vec<u32>, first: bool, numbers: &[u32]) -> Result<(), Refusal>
     ensures first { OnOk result (first ≡ true → common.new.items ≡ common.old.items ++ numbers.now) }
     ensures later { OnOk result (first ≡ false → (n : ℕ) → mem common.new.items n ≡ (mem common.old.items n && mem numbers.now n)) }

@@ -1,12 +1,12 @@
 //! Laws of answers and of classes. Each is the contract of a function that does nothing.
 ghost use Rattle.poly_browse.specs.Laws.{AlikeIsAnEquivalence, AnswersGoBySets, ClassesAreOneNumber};
 
-/// Being alike, which is that a symmetry carries one to the other, is an equivalence of tilings.
+/// Two tilings are alike if a symmetry of the design carries one to the other. Being alike is an equivalence.
 pub fn alike_is_an_equivalence()
     ensures { AlikeIsAnEquivalence }
 {}
 
-/// Only one number meets the definition of the number of classes.
+/// A design has only one number of classes: no two different numbers meet the definition.
 pub fn classes_are_one_number()
     ensures { ClassesAreOneNumber }
 {}

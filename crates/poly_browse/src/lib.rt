@@ -1,7 +1,9 @@
-//! Questions about the tilings of a design, over a list of them.
+//! Questions about the tilings of a design, answered from a list of them.
 //!
-//! - [`browse`] answers a [`Query`] with an [`Answer`]: how many tilings meet it, and what they have in common.
-//! - [`classes`] counts the tilings of a quiet design up to its symmetries, [`classes_of`] those of a list of all tilings.
+//! - [`browse`] answers a [`Query`] with an [`Answer`]: how many tilings meet the query, which placements all of these have,
+//!   and for each item of the design, how many different placements cover it in at least one of these tilings.
+//! - [`classes_of`] counts the tilings of a design up to its symmetries, from a list of all of them. [`classes`] does so from
+//!   a [`Quiet`](poly_book::Quiet), which has such a list.
 //! - [`laws`] has what follows from the definitions of an answer and of a class.
 #![tactic(auto)]
 

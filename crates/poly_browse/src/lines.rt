@@ -1,9 +1,10 @@
-//! The words of a query by numbers: for each word, the numbers of the placements that it is about.
+//! The words of a query: one for each placement that a tiling must have or lack, and for each item that it must cover. The
+//! words are stored by placement numbers.
 //!
-//! The words are looked up once for a query, so the pass over the tilings looks at numbers and flags, and never at names or
-//! cells. The placements that a tiling must have share one list of flags, those that it must lack share another, and up to 64
-//! items that it must cover share one list of masks. So the time for a tiling depends on its placements and hardly on the
-//! number of words, and a long query takes little memory.
+//! The words are looked up once for a query, so the pass over the tilings looks at numbers, flags and masks, and never at
+//! names or cells. The placements that a tiling must have share one list of flags, those that it must lack share another, and
+//! up to 64 items that it must cover share one list of masks. So the time for a tiling depends on how many placements it has,
+//! and hardly on the number of words, and a long query takes little memory.
 ghost use Rattle.std.specs.Prelude.{IfErr, IfNone, IfOk, IfSome, List, OnOk, ℕ, false, length, min, nat_eq, slice_index_or, true, [], ◌^◌, ◌∷◌, ◌<◌, ◌≡◌, ◌≤◌, ◌||◌};
 ghost use Rattle.std.specs.List.{list_all, list_any};
 ghost use Rattle.poly_tiling.specs.Lists.{distinct, mem, tally};
@@ -25,6 +26,7 @@ use std::alloc::Global;
 /// A set of numbers: a flag for each number, up to the greatest one in the set.
 #[derive(Drop)]
 pub(crate) struct Line {
+    /// The flags by number, raised for the numbers in the set.
     flags: Vec<bool>,
 }
 
@@ -65,12 +67,12 @@ impl Line {
 /// The placements that a tiling must have.
 #[derive(Drop)]
 pub(crate) struct Has {
-    // Whether each of the placements has a number. No tiling has a placement without a number.
+    /// Whether each of the placements has a number. No tiling has a placement without a number.
     named: bool,
-    // Their numbers.
+    /// The numbers of the placements; none if `named` is false.
     line: Line,
-    // How many different numbers these are. A tiling has each of its numbers once, so it has all of these if it has this many
-    // of them.
+    /// How many different numbers these are. A tiling has each of its numbers once, so it has all of these if it has this many
+    /// of them.
     count: usize,
 }
 
@@ -85,10 +87,11 @@ impl Has {
 /// The words of a query.
 #[derive(Drop)]
 pub(crate) struct Words {
+    /// The placements that a tiling must have.
     has: Has,
-    // The numbers of the placements that a tiling must not have.
+    /// The numbers of the placements that a tiling must not have.
     lacks: Line,
-    // The items that a tiling must cover.
+    /// The items that a tiling must cover.
     covers: Covers,
 }
 
@@ -164,7 +167,7 @@ fn add_number(numbers: &mut Vec<u32>, number: u32) -> Result<(), Refusal>
     Ok(())
 }
 
-// Returns the numbers of the placements. One that has no number is left out.
+// Returns the numbers of the placements. Skips a placement that has no number.
 fn line_of(alloc: Global, view: &View, placements: &[Placement]) -> Result<Line, Refusal>
     ensures ok { IfOk result (λ line. (T : List ℕ) → AreSmall T → has_flagged line T ≡ list_any (λ p. names_it view.now T p) placements.now) }
     ensures why { IfErr result (λ e. e ≡ Refusal.Memory) }
@@ -178,7 +181,7 @@ fn line_of(alloc: Global, view: &View, placements: &[Placement]) -> Result<Line,
     Ok(Line { flags })
 }
 
-// Returns the one number that names the placement.
+// Returns the one number that names the placement, or `None` if none does.
 fn number_of(view: &View, placement: &Placement) -> Option<u32>
     ensures some { IfSome result (λ k. (n : ℕ) → is_in (names view.now (n ∷ [])) placement.now ≡ nat_eq n k) }
     ensures none { IfNone result ((n : ℕ) → n < 2 ^ 32 → is_in (names view.now (n ∷ [])) placement.now ≡ false) }
@@ -193,7 +196,7 @@ fn number_of(view: &View, placement: &Placement) -> Option<u32>
     None
 }
 
-/// No two numbers of a view name the same placement. This does nothing: a proof learns that fact from the contract.
+/// No two numbers of a view name the same placement. The function does nothing: a proof learns that fact from its contract.
 pub(crate) fn well_named(view: &View)
     ensures { WellNamed view.now }
 {

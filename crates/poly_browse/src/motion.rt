@@ -13,7 +13,9 @@ use poly_shape::Cells;
 /// A turn, and a shift that the translation subtracts from each turned point.
 #[derive(Clone, Copy)]
 pub(crate) struct Motion {
+    /// The number of the turn.
     pub(crate) turn: u8,
+    /// What the translation subtracts.
     pub(crate) shift: Point,
 }
 
@@ -36,7 +38,7 @@ impl Motion {
         }
     }
 
-    /// Returns the cell that the motion carries the cell to, or `None` if that point isn't a cell.
+    /// Returns the cell that the motion carries the given cell to, or `None` if the point that it is carried to isn't a cell.
     pub(crate) fn moved(self, grid: Grid, cell: Cell) -> Option<Cell>
         requires known { self.turn < turn_count grid true }
         requires near { IsNear self.shift }
@@ -52,7 +54,8 @@ impl Motion {
         Cell::new(x as u64, y as u64)
     }
 
-    /// Returns where the motion carries the cells, or `None` if it carries one of them to a point that isn't a cell.
+    /// Returns the cells that the motion carries the given ones to, or `None` if it carries one of them to a point that isn't
+    /// a cell. Requires 1 to 16 cells.
     pub(crate) fn moved_all(self, grid: Grid, cells: &[Cell]) -> Option<Cells>
         requires known { self.turn < turn_count grid true }
         requires near { IsNear self.shift }

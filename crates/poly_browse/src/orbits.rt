@@ -1,7 +1,7 @@
 //! Counts tilings up to symmetry.
 //!
-//! A tiling counts if no symmetry carries it to a tiling that comes before it, as lists of numbers are compared. So each
-//! class counts once, by the first of its tilings, and no tiling is looked up among the others.
+//! A tiling is counted if no symmetry carries it to an earlier one, in the order of their lists of numbers. So each class is
+//! counted once, by the first of its tilings, and no tiling is looked up among the others.
 ghost use Rattle.std.specs.Prelude.{IfErr, IfOk, length, ◌≡◌};
 ghost use Rattle.std.specs.List.{filter};
 ghost use Rattle.poly_tiling.specs.Lister.{HasEachOnce};
@@ -16,8 +16,8 @@ use poly_grid::Refusal;
 use poly_tiling::{Tiling, View, has_all};
 use std::alloc::Global;
 
-/// Returns the number of classes of the tilings of a quiet design: two tilings are in one class if a symmetry of the design
-/// carries one to the other, as for [`classes_of`]. Fails with `Memory` only.
+/// Returns the number of classes of a design's tilings, as [`classes_of`] does, from a [`Quiet`], which has all of them.
+/// Fails only with `Memory`.
 pub fn classes(alloc: Global, quiet: &Quiet) -> Result<u64, Refusal>
     ensures ok { IfOk result (AreClasses quiet.now.design) }
     ensures why { IfErr result (λ e. e ≡ Refusal.Memory) }
@@ -56,7 +56,7 @@ pub fn classes_of(
     count_firsts(alloc, &symmetries, tilings)
 }
 
-// Returns how many of the tilings no symmetry carries to one that comes before it.
+// Counts the tilings that are the first of their class: no symmetry carries such a tiling to an earlier one.
 fn count_firsts(alloc: Global, symmetries: &[Symmetry], tilings: &[Tiling]) -> Result<u64, Refusal>
     ensures ok { IfOk result (λ n. n ≡ length (filter (is_first symmetries.now) tilings.now)) }
     ensures why { IfErr result (λ e. e ≡ Refusal.Memory) }

@@ -14,13 +14,14 @@ pub struct Query {
     pub covers: Vec<Item>,
 }
 
-/// The answer to a query: what is counted and found over the tilings that meet it.
+/// The answer to a query about a list of tilings.
 #[derive(Drop)]
 pub struct Answer {
     /// How many tilings meet the query.
     pub count: u64,
-    /// The placements that are in all of them, in placement order. There are none if no tiling meets the query.
+    /// The placements that all tilings that meet the query have, in placement order. None if no tiling meets it.
     pub forced: Vec<Placement>,
-    /// Each item of the design, in item order, and how many different placements cover it in at least one of these tilings.
+    /// Each item of the design, in item order, and how many different placements cover it in at least one tiling that meets
+    /// the query.
     pub options: Vec<(Item, u64)>,
 }

@@ -1,8 +1,8 @@
 //! The symmetries of a design, each as a list that maps a live number to the number that it is carried to.
 //!
 //! A symmetry carries the first cell to some cell, so each turn together with each cell gives one motion to try. Nearly all
-//! of them fail at one of the first cells. Only for a motion that keeps the whole board are the placements looked up, by a
-//! binary search each; so no two placements are ever compared for a tiling.
+//! of these motions fail at one of the first cells. If a motion carries each cell to one of the same mode, each placement's
+//! image is looked up by a binary search. After that, tilings are carried by numbers alone.
 ghost use Rattle.std.specs.Prelude.{IfErr, IfNone, IfOk, IfSome, List, OnOk, length, slice_index, slice_index_or, true, false, ℕ, ◌<◌, ◌≡◌, ◌≢◌};
 ghost use Rattle.std.specs.List.{All, Contains, list_all};
 ghost use Rattle.poly_grid.specs.Grid.{IsNear, turn_count};
@@ -28,6 +28,7 @@ use std::marker::Model;
 /// A symmetry of a design, by placement numbers. Contracts see the list of what each number is carried to.
 #[derive(Drop)]
 pub(crate) struct Symmetry {
+    /// For each live number, the number that it is carried to; 0 for each other number.
     images: Vec<u32>,
 }
 
@@ -53,7 +54,7 @@ impl Symmetry {
         numbers.iter().all(|n| has_number(numbers, self.image(*n)))
     }
 
-    /// Writes what the numbers are carried to, ascending and each once.
+    /// Writes into `room` what the numbers are carried to, ascending and each once.
     pub(crate) fn write_image(&self, numbers: &[u32], room: &mut Vec<u32>) -> Result<(), Refusal>
         ensures ok { OnOk result (room.new.items ≡ image_of self.now numbers.now) }
         ensures why { IfErr result (λ e. e ≡ Refusal.Memory) }
@@ -93,7 +94,6 @@ pub(crate) fn symmetries(
     Ok(list)
 }
 
-// Returns the first of the cells.
 fn first_cell(board: &[(Cell, Mode)]) -> Cell
     requires { 0 < length board.now }
     ensures { (mode : Mode) × Contains board.now (result, mode) }
@@ -101,7 +101,7 @@ fn first_cell(board: &[(Cell, Mode)]) -> Cell
     board[0].0
 }
 
-// Adds the symmetries with one turn.
+// Adds the symmetries that have this turn.
 fn add_turn(
     alloc: Global,
     list: &mut Vec<Symmetry>,
@@ -197,7 +197,7 @@ fn keeps_mode(design: &Design, motion: Motion, cell: Cell, mode: Mode) -> bool
     }
 }
 
-// Returns what each live number is carried to, or `None` if a placement is carried to what isn't a placement.
+// Returns what each live number is carried to, or `None` if the image of some placement isn't a placement.
 fn map_of(
     alloc: Global,
     grid: Grid,
@@ -224,7 +224,7 @@ fn map_of(
     Ok(Some(Symmetry { images }))
 }
 
-// Returns the index of the placement that the motion carries the placement to.
+// Returns the index of the placement that the motion carries the given one to, or `None` if there is none.
 fn index_of_image(
     grid: Grid,
     motion: Motion,

@@ -26,7 +26,7 @@ some_is x y o a b = cc
 none_some : {X : Type 0} (x : X) (o : Option X) → o ≡ None → o ≡ Some x → ⊥
 none_some x o a b = cc
 
--- the positions need to stay only where the index has an entry
+-- an index stays right if the noted positions of its entries stay; the other positions may change
 pub respects : (L B R L' B' R' : ℕ → ℕ → Option ℕ) → Agree L B R → ((a b : ℕ) → L' a b ≡ L a b) → ((a b p : ℕ) → L a b ≡ Some p → B' a b ≡ B a b) → ((a b : ℕ) → R' a b ≡ R a b) → Agree L' B' R'
 respects L B R L' B' R' g l m r = record {
   entered = λ t k p h. let e = g.entered t k p (sym (l t k) ∙ h) in (e.0, m t k p (sym (l t k) ∙ h) ∙ e.1, r p e.0 ∙ e.2);
@@ -45,7 +45,7 @@ alone L B R g once t k s l p j a b c d =
     let same : t ≡ s = some_is t s (R p j) x y in
     (same, once t k l p a (subst (λ z. L z l ≡ Some p) (sym same) c))
 
--- an entry goes out
+-- an entry is removed
 pub taken : (L B R : ℕ → ℕ → Option ℕ) → Agree L B R → Once L → (t k p j : ℕ) → L t k ≡ Some p → B t k ≡ Some j → Agree (but L t k None) B (but R p j None)
 taken L B R g once t k p j here index = record {
   entered = λ a b q h. elim (same_place a b t k) [
@@ -69,7 +69,7 @@ taken L B R g once t k p j here index = record {
   ];
 }
 
--- an entry comes in
+-- an entry is added
 pub given : (L B R : ℕ → ℕ → Option ℕ) → Agree L B R → (t k p j : ℕ) → L t k ≡ None → B t k ≡ Some j → R p j ≡ None → Agree (but L t k (Some p)) B (but R p j (Some t))
 given L B R g t k p j lack index free = record {
   entered = λ a b q h. elim (same_place a b t k) [
@@ -101,7 +101,7 @@ but_part L t k a b q h = elim (same_place a b t k) [
   | inr n ↦ sym (but_else L t k None a b n) ∙ h
 ]
 
--- an entry goes out, and the entry at another position of its row takes its position
+-- an entry is removed, and the entry at another position of its row takes its position
 pub taken_over : (L N B R B' R' : ℕ → ℕ → Option ℕ) → IsPart L N → Once N → Agree L B R → (t k p j m s l : ℕ) → L t k ≡ Some p → B t k ≡ Some j → (j ≡ m → ⊥) →
     R p m ≡ Some s → N s l ≡ Some p → ((a b : ℕ) → B' a b ≡ but B s l (Some j) a b) → ((a b : ℕ) → R' a b ≡ but (but R p j (Some s)) p m None a b) → Agree (but L t k None) B' R'
 taken_over L N B R B' R' part once g t k p j m s l here index apart last has told put =

@@ -23,11 +23,11 @@ and_swap true false true = refl
 and_swap true false false = refl
 and_swap false b c = refl
 
--- one test after another
+-- two tests, one after the other, keep what passes both
 pub keeps_on : (p q : List ℕ → Bool) (a b c : List (List ℕ)) → Keeps p a b → Keeps q b c → Keeps (λ T. p T && q T) a c
 keeps_on p q a b c x y f = y f ∙ x (λ T. f T && q T) ∙ tally_same_in (λ T. (f T && q T) && p T) (λ T. f T && (p T && q T)) a (λ T i. and_swap (f T) (q T) (p T))
 
--- with another test that gives the same for each tiling of the list
+-- two tests that give the same for each tiling of the list keep the same tilings
 pub keeps_as : (p q : List ℕ → Bool) (a b : List (List ℕ)) → Keeps p a b → ((T : List ℕ) → In T a → p T ≡ q T) → Keeps q a b
 keeps_as p q a b x same f = x f ∙ tally_same_in (λ T. f T && p T) (λ T. f T && q T) a (λ T i. ap (λ z. f T && z) (same T i))
 
@@ -41,7 +41,7 @@ keeps_all p a all f = tally_same_in f (λ T. f T && p T) a (λ T i. and_true (f 
 none_of : (p : List ℕ → Bool) (a : List (List ℕ)) → list_any p a ≡ false → (T : List ℕ) → In T a → p T ≡ false
 none_of p a h T i = false_from_ne_true (p T) (λ e. both_ways (list_any p a) h (any_from p a T i e))
 
--- if no tiling has the number, none is left out
+-- once no tiling has the number and those that lack it are all still there, the list keeps exactly those that lack it
 pub none_has : (n : ℕ) (a b : List (List ℕ)) → ((f : List ℕ → Bool) → tally (λ T. f T && not (mem T n)) b ≡ tally (λ T. f T && not (mem T n)) a) → list_any (λ T. mem T n) b ≡ false → Keeps (λ T. not (mem T n)) a b
 none_has n a b same none f = keeps_all (λ T. not (mem T n)) b (λ T i. ap not (none_of (λ U. mem U n) b none T i)) f ∙ same f
 
@@ -50,7 +50,7 @@ and_none true true h = refl
 and_none false true h = refl
 and_none a false h = cc
 
--- a tiling that has the number goes
+-- the removal of a tiling that has the number doesn't change the counts of those that lack it
 pub one_goes : (n t : ℕ) (a b c : List (List ℕ)) → ((f : List ℕ → Bool) → tally (λ T. f T && not (mem T n)) b ≡ tally (λ T. f T && not (mem T n)) a) → mem (row b t) n ≡ true →
     ((f : List ℕ → Bool) → tally f c + one (f (row b t)) ≡ tally f b) → (f : List ℕ → Bool) → tally (λ T. f T && not (mem T n)) c ≡ tally (λ T. f T && not (mem T n)) a
 one_goes n t a b c same has gone f = omega (arith, gone (λ T. f T && not (mem T n)), and_none (f (row b t)) (mem (row b t) n) has, same f)
@@ -61,7 +61,7 @@ low_row a t n h = elim (cases_lt t (length a)) [
   | inr g ↦ absurd (let e : row a t ≡ [] = get_or_past a t [] g in let k : mem [] n ≡ true = sym (ap (λ r. mem r n) e) ∙ h in cc)
 ]
 
--- a tiling found by one of a number's indices
+-- each of a number's indices is the index of a tiling that has the number
 pub found_low : (a : List (List ℕ)) (n : ℕ) (indices : List ℕ) (k t : ℕ) → AreIndicesWith a n indices → slice_get indices k ≡ Some t → (t < length a) × (mem (row a t) n ≡ true)
 found_low a n indices k t h e = let has : mem (row a t) n ≡ true = sym (h.exact t) ∙ in_mem indices t (get_in indices k t e) in (low_row a t n has, has)
 
@@ -84,7 +84,7 @@ found_none a n indices h e = false_from_ne_true (list_any (λ T. mem T n) a) (λ
     let j = in_get indices g.0 (mem_in indices g.0 has) in
     none_last indices j.0 g.0 j.1 e)
 
--- after one more test
+-- what is kept after one more test
 pub keeps_more : {X : Type 0} (q : X → List ℕ → Bool) (xs : List X) (i : ℕ) (d : X) (a b c : List (List ℕ)) → i < length xs → Keeps (λ T. list_all (λ x. q x T) (take i xs)) a b → Keeps (q (get_or xs i d)) b c → Keeps (λ T. list_all (λ x. q x T) (take (i + 1) xs)) a c
 keeps_more q xs i d a b c l x y =
     keeps_as (λ T. list_all (λ z. q z T) (take i xs) && q (get_or xs i d) T) (λ T. list_all (λ z. q z T) (take (i + 1) xs)) a c
@@ -99,7 +99,7 @@ keeps_first q xs a = keeps_all (λ T. list_all (λ x. q x T) (take 0 xs)) a (λ 
 pub keeps_whole : {X : Type 0} (q : X → List ℕ → Bool) (xs : List X) (i : ℕ) (a b : List (List ℕ)) → length xs ≤ i → Keeps (λ T. list_all (λ x. q x T) (take i xs)) a b → Keeps (λ T. list_all (λ x. q x T) xs) a b
 keeps_whole q xs i a b l x = keeps_as (λ T. list_all (λ z. q z T) (take i xs)) (λ T. list_all (λ z. q z T) xs) a b x (λ T j. ap (λ g. list_all (λ z. q z T) g) (take_all i xs l))
 
--- from some index on, the tilings that fail have gone
+-- from some index on, the tilings that fail are removed
 pub record IsSwept (p : List ℕ → Bool) (a b : List (List ℕ)) (index : ℕ) : Type 0 where
   pub start : index ≤ length a
   pub low : index ≤ length b
@@ -158,7 +158,7 @@ and_flip true false = refl
 and_flip false true = refl
 and_flip false false = refl
 
--- the tilings of the list that are tilings of the view
+-- a tiling of the list is one of the view exactly if none of its numbers is gone and it meets the differences
 pub stay : (w : View) (x : Delta) (a : List (List ℕ)) → AreOfEither w x a → (T : List ℕ) → In T a → is_tiling w T ≡ (not (has_gone x T) && meets w x T)
 stay w x a of T i = decides of.before w x of.leads T (either_of of.before w a of.either T i) ∙ and_flip (meets w x T) (not (has_gone x T))
 
@@ -174,7 +174,7 @@ and_four : (g p n r : Bool) → (((g && p) && n) && r) ≡ (g && ((p && n) && r)
 and_four true p n r = refl
 and_four false p n r = refl
 
--- by the gone numbers, the pins, the items and the pieces in turn
+-- removal by the gone numbers, then the pins, the items and the pieces, keeps exactly the tilings of the view
 pub kept_four : (w : View) (x : Delta) (a b c d e : List (List ℕ)) → AreOfEither w x a → Keeps (λ T. list_all (λ p. not (mem T p)) x.gone.items) a b → Keeps (λ T. list_all (λ p. mem T p) x.pinned.items) b c →
     Keeps (λ T. list_all (λ i. fits w i T) x.needed.items) c d → Keeps (λ T. list_all (λ n. fits w (Piece n) T) x.narrowed.items) d e → Keeps (is_tiling w) a e
 kept_four w x a b c d e of k l m n =

@@ -13,7 +13,7 @@ use Rattle.poly_catalogue.specs.Covering.{AreCovering}
 use Rattle.poly_catalogue.specs.Listed.{AreMarked}
 use Rattle.poly_catalogue.specs.Rows.{row}
 
--- a tiling has one of the item's placements exactly if one of its placements has the item
+-- a tiling of live numbers has one of the live placements of an item exactly if one of the tiling's placements has the item
 covers_same : (w : View) (i : Item) (T : List ℕ) → ((p : ℕ) → In p T → In p w.live) → list_any (λ p. mem T p) (filter (λ p. has_item w p i) w.live) ≡ list_any (λ p. has_item w p i) T
 covers_same w i T placed = same_truth (list_any (λ p. mem T p) (filter (λ p. has_item w p i) w.live)) (list_any (λ p. has_item w p i) T)
     (λ h.

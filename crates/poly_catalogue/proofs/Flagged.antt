@@ -39,7 +39,8 @@ flags_more a n m more few h = record {
   low = all_from (λ T. list_all (λ p. nat_lt p m) T) a (λ T i. below_more T n m more (all_in (λ U. list_all (λ p. nat_lt p n) U) a h.low T i));
 }
 
--- tilings of a view whose live numbers have flags
+-- if the numbers of a list and all live numbers of a view have flags, so have the numbers of the list with tilings of that
+-- view added
 pub flags_append : (w : View) (a b : List (List ℕ)) (m : ℕ) → HasFlags a m → list_all (λ p. nat_lt p m) w.live ≡ true → list_all (is_tiling w) b ≡ true → HasFlags (a ++ b) m
 flags_append w a b m h live all = record {
   few = h.few;
@@ -55,7 +56,7 @@ flagged_count : (w : View) (i : Item) (flags : List Bool) (T : List ℕ) → Are
 flagged_count w i flags T exact low = tally_same_in (λ p. get_or flags p false) (λ p. has_item w p i) T
     (λ p j. exact p (ltb-true p (length flags) (all_in (λ q. nat_lt q (length flags)) T low p j)))
 
--- flags tell where an item fits
+-- the flags tell in which tilings an item fits
 pub within_fits : (w : View) (i : Item) (flags : List Bool) (l m n : ℕ) (a : List (List ℕ)) (T : List ℕ) → AreFlags w i flags → l ≡ least w i → m ≡ most w i → n ≡ length flags → HasFlags a n → In T a → within flags l m T ≡ fits w i T
 within_fits w i flags l m n a T exact el em en h j =
     let low = subst (λ z. list_all (λ p. nat_lt p z) T ≡ true) en (all_in (λ U. list_all (λ p. nat_lt p n) U) a h.low T j) in

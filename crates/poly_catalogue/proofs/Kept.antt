@@ -1,4 +1,4 @@
--- An index after a tiling came in or went out.
+-- An index after a tiling was added or removed.
 use Rattle.std.proofs.Common.{Bool, List, None, Option, Some, [], ap, arith, drop, get_or, inl, inr, length, refl, set, slice_get, subst, sym, take, true, ℕ, ◌++◌, ◌+◌, ◌-◌, ◌^◌, ◌<◌, ◌∙◌, ◌∷◌, ◌≡◌, ◌≤◌}
 use Rattle.std.specs.Prelude.{nat_lt}
 use Rattle.std.proofs.lemmas.Bool.{cases_eq, lt-ltb}
@@ -46,12 +46,12 @@ span_at ts T a b = elim (cases_eq a (length ts)) [
     other : (us : List (List ℕ)) (a b : ℕ) → (a ≡ length ts → ⊥) → span (at us) (length ts) 0 0 a b ≡ at us a b
     other us a b n = grind (arith, nat_tests)
 
--- room for one more
+-- a tiling is added, without entries yet
 pub pushed_agree : (ts bs bs1 rs rs1 : List (List ℕ)) (T : List ℕ) (n : ℕ) → n ≡ length ts → Agree (at ts) (at bs) (at rs) → ((a b p : ℕ) → at bs a b ≡ Some p → at bs1 a b ≡ Some p) → ((a b : ℕ) → at rs1 a b ≡ at rs a b) → Agree (span (at (ts ++ T ∷ [])) n 0 0) (at bs1) (at rs1)
 pushed_agree ts bs bs1 rs rs1 T n e g kept same = respects (at ts) (at bs) (at rs) (span (at (ts ++ T ∷ [])) n 0 0) (at bs1) (at rs1) g
     (λ a b. ap (λ z. span (at (ts ++ T ∷ [])) z 0 0 a b) e ∙ span_at ts T a b) (λ a b p h. let r = g.entered a b p h in kept a b r.0 r.1 ∙ sym r.1) same
 
--- the index may have more rows, if they are empty
+-- an index stays one if empty rows and further positions are added
 pub same_index : (ts bs bs1 rs rs1 : List (List ℕ)) → IsIndex ts bs rs → length bs1 ≡ length bs → ((a b p : ℕ) → at bs a b ≡ Some p → at bs1 a b ≡ Some p) → ((a b : ℕ) → at rs1 a b ≡ at rs a b) → IsIndex ts bs1 rs1
 same_index ts bs bs1 rs rs1 x even kept same = record {
   few = x.few;
@@ -60,7 +60,7 @@ same_index ts bs bs1 rs rs1 x even kept same = record {
   agree = respects (at ts) (at bs) (at rs) (at ts) (at bs1) (at rs1) x.agree (λ a b. refl) (λ a b p h. let r = x.agree.entered a b p h in kept a b r.0 r.1 ∙ sym r.1) same;
 }
 
--- after one more tiling
+-- once the new tiling has its entries, there is an index of the longer list
 pub pushed_index : (ts bs bs1 rs : List (List ℕ)) (T : List ℕ) → length ts + 1 < 2 ^ 32 → Once (at ts) → ascending T ≡ true → length bs1 ≡ length ts + 1 → Agree (at (ts ++ T ∷ [])) (at bs1) (at rs) → IsIndex (ts ++ T ∷ []) bs1 rs
 pushed_index ts bs bs1 rs T few once up even g = record {
   few = omega (arith, length_push ts T);
@@ -69,7 +69,7 @@ pushed_index ts bs bs1 rs T few once up even g = record {
   agree = g;
 }
 
--- the room removed again
+-- the new tiling, which has no entries, is removed again
 pub taken_back : (ts bs1 rs : List (List ℕ)) (T : List ℕ) (n : ℕ) → n ≡ length ts → n < 2 ^ 32 → Once (at ts) → n ≤ length bs1 → Agree (span (at (ts ++ T ∷ [])) n 0 0) (at bs1) (at rs) → IsIndex (take n (ts ++ T ∷ [])) (take n bs1) rs
 taken_back ts bs1 rs T n e few once even g =
     let is : take n (ts ++ T ∷ []) ≡ ts = take_at ts (T ∷ []) n (sym e) in
@@ -125,7 +125,7 @@ pub last_renamed : (ts bs rs : List (List ℕ)) (n t : ℕ) → n + 1 ≡ length
 last_renamed ts bs rs n t e l even g = respects (moved (at ts) n t) (moved (at bs) n t) (at rs) (at (swap_remove ts t [])) (at (swap_remove bs t [])) (at rs) g
     (λ a b. swapped_at ts t [] n e l a b) (λ a b p h. swapped_at bs t [] n (omega arith) l a b) (λ a b. refl)
 
--- counts after a tiling went out
+-- counts after a tiling was removed
 tally_sum : {X : Type 0} (f : X → Bool) (xs : List X) → tally f xs ≡ sum_by (λ x. one (f x)) xs
 tally_sum f [] = refl
 tally_sum f (x ∷ xs) = ap (λ n. one (f x) + n) (tally_sum f xs) ∙ sym (sum_by-cons (λ x. one (f x)) x xs)
@@ -138,7 +138,7 @@ swap_tally f xs t d l =
 pub swap_before : (xs : List (List ℕ)) (t : ℕ) (d : List ℕ) → t < length xs → take t (swap_remove xs t d) ≡ take t xs
 swap_before xs t d l = take-take t (length xs - 1) (set xs t (get_or xs (length xs - 1) d)) (omega arith) ∙ take-set-le t xs t (get_or xs (length xs - 1) d) (omega arith)
 
--- an index of three lists is an index of three equal lists
+-- what holds for the three lists of an index holds for lists that are equal to them
 pub agree_as : (F : List (List ℕ) → ℕ → ℕ → Option ℕ) (ts ts1 bs bs1 rs rs1 : List (List ℕ)) → ts1 ≡ ts → bs1 ≡ bs → rs1 ≡ rs → Agree (F ts) (at bs) (at rs) → Agree (F ts1) (at bs1) (at rs1)
 agree_as F ts ts1 bs bs1 rs rs1 a b c g = subst (λ us. Agree (F us) (at bs1) (at rs1)) (sym a) (subst (λ us. Agree (F ts) (at us) (at rs1)) (sym b) (subst (λ us. Agree (F ts) (at bs) (at us)) (sym c) g))
 

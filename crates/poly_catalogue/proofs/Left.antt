@@ -18,11 +18,11 @@ some_is x y o a b = cc
 none_some : {X : Type 0} (x : X) (o : Option X) → o ≡ None → o ≡ Some x → ⊥
 none_some x o a b = cc
 
--- the last of a row has the number
+-- each tiling in a number's row has the number
 pub has_number : (ts bs rs : List (List ℕ)) (p j t : ℕ) → HasPart ts bs rs → at rs p j ≡ Some t → mem (row ts t) p ≡ true
 has_number ts bs rs p j t h e = let b = h.agree.backed p j t e in in_mem (row ts t) p (get_in (row ts t) b.0 p (h.part t b.0 p b.1))
 
--- an entry that is the last of its row
+-- the removal of an entry that is the last of its row
 pub left_last : (ts bs rs new : List (List ℕ)) (t k p j n : ℕ) → Once (at ts) → at ts t k ≡ Some p → at bs t k ≡ Some j → n ≡ length (row rs p) → j + 1 ≡ n → Puts rs p (length (row rs p) - 1) None new →
     (numbers : ℕ → ℕ → Option ℕ) (q : ℕ) → IsPart numbers (at ts) → Agree numbers (at bs) (at rs) → numbers t k ≡ Some q → Agree (but numbers t k None) (at bs) (at new)
 left_last ts bs rs new t k p j n once has back long last put numbers q part g here =
@@ -32,7 +32,7 @@ left_last ts bs rs new t k p j n once has back long last put numbers q part g he
     (taken numbers (at bs) (at rs) g (part_once numbers (at ts) part once) t k p j (subst (λ z. numbers t k ≡ Some z) same here) back)
     (λ a b. refl) (λ a b r h. refl) (λ a b. put a b ∙ ap (λ z. but (at rs) p z None a b) e)
 
--- an entry that another one follows in its row
+-- the removal of an entry that isn't the last of its row
 pub left_other : (ts bs rs bs1 rs1 rs2 : List (List ℕ)) (t k p j n : ℕ) → Once (at ts) → at ts t k ≡ Some p → at bs t k ≡ Some j → n ≡ length (row rs p) → (j + 1 ≡ n → ⊥) → TakesOver ts bs rs p j bs1 rs1 → Puts rs1 p (length (row rs1 p) - 1) None rs2 →
     (numbers : ℕ → ℕ → Option ℕ) (q : ℕ) → IsPart numbers (at ts) → Agree numbers (at bs) (at rs) → numbers t k ≡ Some q → Agree (but numbers t k None) (at bs1) (at rs2)
 left_other ts bs rs bs1 rs1 rs2 t k p j n once has back long other takes put numbers q part g here =
@@ -80,7 +80,7 @@ left_all f B R t n end e g = respects (span f t end end) B R (span f t 0 0) B R 
 pub span_next : (f : ℕ → ℕ → Option ℕ) (t n : ℕ) → span f t 0 n t n ≡ None
 span_next f t n = grind (arith, nat_tests)
 
--- an entry at the ends of two rows
+-- a new entry at the end of a number's row
 pub entered : (ts bs rs bs1 rs1 : List (List ℕ)) (t k p j : ℕ) → at ts t k ≡ Some p → j ≡ length (row rs p) → Puts bs t k (Some j) bs1 → Puts rs p (length (row rs p)) (Some t) rs1 →
     (numbers : ℕ → ℕ → Option ℕ) → Agree numbers (at bs) (at rs) → numbers t k ≡ None → Agree (but numbers t k (at ts t k)) (at bs1) (at rs1)
 entered ts bs rs bs1 rs1 t k p j has index told put numbers g lack =
@@ -89,7 +89,7 @@ entered ts bs rs bs1 rs1 t k p j has index told put numbers g lack =
     respects (but numbers t k (Some p)) (at bs1) (but (at rs) p j (Some t)) (but numbers t k (at ts t k)) (at bs1) (at rs1) g2
     (λ a b. ap (λ o. but numbers t k o a b) has) (λ a b q h. refl) (λ a b. put a b ∙ ap (λ z. but (at rs) p z (Some t) a b) (sym index))
 
--- positions of a number that has no entry may be anything
+-- the position of a number that has no entry may be anything
 pub told_only : (bs rs bs1 : List (List ℕ)) (t k : ℕ) (o : Option ℕ) → Puts bs t k o bs1 →
     (numbers : ℕ → ℕ → Option ℕ) → Agree numbers (at bs) (at rs) → numbers t k ≡ None → Agree numbers (at bs1) (at rs)
 told_only bs rs bs1 t k o told numbers g lack =
@@ -116,7 +116,7 @@ pub moves_all : (ts : List (List ℕ)) (B R : ℕ → ℕ → Option ℕ) (from 
 moves_all ts B R from to n l g = respects (half (at ts) from to n) (over B from to) R (moved (at ts) from to) (moved B from to) R g (λ a b. sym (half_all ts from to n l a b))
     (λ a b p h. over_moved B (at ts) from to a b p (sym (half_all ts from to n l a b) ∙ h)) (λ a b. refl)
 
--- a number's row has the indices of the tilings that have it
+-- a number's row has the indices of the tilings that have the number
 pub indices_with : (ts bs rs : List (List ℕ)) (p : ℕ) → IsIndex ts bs rs → AreIndicesWith ts p (row rs p)
 indices_with ts bs rs p x = record {
   exact = λ t. same_truth (mem (row rs p) t) (mem (row ts t) p)

@@ -1,4 +1,4 @@
--- Marks that are added over a list, and copies of what is marked.
+-- Marks that are added while a list is gone through, and copies of the marked tilings.
 use Rattle.std.proofs.Common.{Bool, List, [], ap, arith, cond, false, filter, get_or, inl, inr, length, not, refl, set, sym, take, true, ℕ, ◌&&◌, ◌++◌, ◌||◌, ◌+◌, ◌<◌, ◌∙◌, ◌∷◌, ◌≡◌, ◌≤◌}
 use Rattle.std.proofs.lemmas.Bool.{cases_eq}
 use Rattle.std.proofs.lemmas.List.{get_or-set_other, get_or-set_same, length-set, take_all, take_more}
@@ -19,7 +19,7 @@ use Rattle.poly_catalogue.specs.Stays.{fits, has_gone}
 use Rattle.poly_catalogue.proofs.Counted.{stay}
 use Rattle.poly_catalogue.proofs.Flagged.{within_fits}
 
--- the first k tilings are looked at
+-- the marks after the first k tilings were looked at
 pub record IsMarking (p : List ℕ → Bool) (list : List (List ℕ)) (old new : List Bool) (k : ℕ) : Type 0 where
   pub long : length new ≡ length list
   pub done : (t : ℕ) → t < k → get_or new t false ≡ (get_or old t false || p (row list t))
@@ -44,7 +44,7 @@ marking_more p list old marks new k b low m says is = record {
 pub marking_all : (p : List ℕ → Bool) (list : List (List ℕ)) (old new : List Bool) (k : ℕ) → length list ≤ k → IsMarking p list old new k → AddsMarks p list old new
 marking_all p list old new k l m = record { long = m.long; exact = λ t low. m.done t (omega arith) }
 
--- with another test that gives the same for each tiling of the list
+-- two tests that give the same for each tiling of the list add the same marks
 pub adds_as : (p q : List ℕ → Bool) (list : List (List ℕ)) (old new : List Bool) → AddsMarks p list old new → ((T : List ℕ) → In T list → p T ≡ q T) → AddsMarks q list old new
 adds_as p q list old new m same = record { long = m.long; exact = λ t l. m.exact t l ∙ ap (λ z. get_or old t false || z) (same (row list t) (at_in list t [] l)) }
 
@@ -52,7 +52,7 @@ or_group : (a b c : Bool) → ((a || b) || c) ≡ (a || (b || c))
 or_group true b c = refl
 or_group false b c = refl
 
--- one test after another
+-- two tests, one after the other, add the marks of both
 pub adds_on : (p q : List ℕ → Bool) (list : List (List ℕ)) (a b c : List Bool) → AddsMarks p list a b → AddsMarks q list b c → AddsMarks (λ T. p T || q T) list a c
 adds_on p q list a b c x y = record { long = y.long; exact = λ t l. y.exact t l ∙ ap (λ z. z || q (row list t)) (x.exact t l) ∙ or_group (get_or a t false) (p (row list t)) (q (row list t)) }
 
@@ -68,7 +68,7 @@ not_both false b = refl
 pub adds_first : {X : Type 0} (q : X → List ℕ → Bool) (xs : List X) (list : List (List ℕ)) (marks : List Bool) → length marks ≡ length list → AddsMarks (λ T. not (list_all (λ x. q x T) (take 0 xs))) list marks marks
 adds_first q xs list marks e = record { long = e; exact = λ t l. or_none (get_or marks t false) }
 
--- after one more test
+-- the marks after one more test
 pub adds_more : {X : Type 0} (q : X → List ℕ → Bool) (xs : List X) (i : ℕ) (d : X) (list : List (List ℕ)) (a b c : List Bool) → i < length xs → AddsMarks (λ T. not (list_all (λ x. q x T) (take i xs))) list a b →
     AddsMarks (λ T. not (q (get_or xs i d) T)) list b c → AddsMarks (λ T. not (list_all (λ x. q x T) (take (i + 1) xs))) list a c
 adds_more q xs i d list a b c l x y =
@@ -82,7 +82,7 @@ pub adds_whole : {X : Type 0} (q : X → List ℕ → Bool) (xs : List X) (i : �
 adds_whole q xs i list a b l x =
     adds_as (λ T. not (list_all (λ z. q z T) (take i xs))) (λ T. not (list_all (λ z. q z T) xs)) list a b x (λ T j. ap (λ g. not (list_all (λ z. q z T) g)) (take_all i xs l))
 
--- flags tell where an item doesn't fit
+-- the flags tell in which tilings an item doesn't fit
 pub adds_unfit : (w : View) (i : Item) (flags : List Bool) (l m n : ℕ) (list : List (List ℕ)) (old new : List Bool) → AreFlags w i flags → l ≡ least w i → m ≡ most w i → n ≡ length flags → HasFlags list n →
     AddsMarks (λ T. not (within flags l m T)) list old new → AddsMarks (λ T. not (fits w i T)) list old new
 adds_unfit w i flags l m n list old new exact el em en h a =
@@ -94,7 +94,7 @@ four false true true r = refl
 four false true false r = refl
 four false false n r = refl
 
--- by the gone numbers, the pins, the items and the pieces in turn, the tilings that leave are marked
+-- marking by the gone numbers, then the pins, the items and the pieces, marks exactly the tilings that leave
 pub marked_four : (w : View) (x : Delta) (list : List (List ℕ)) (a b c d : List Bool) → AreOfEither w x list → AreMarked list x.gone.items a → AddsMarks (λ T. not (list_all (λ p. mem T p) x.pinned.items)) list a b →
     AddsMarks (λ T. not (list_all (λ i. fits w i T) x.needed.items)) list b c → AddsMarks (λ T. not (list_all (λ n. fits w (Piece n) T) x.narrowed.items)) list c d → AreMarkedBy (λ T. not (is_tiling w T)) list d
 marked_four w x list a b c d of k l m n = record {
@@ -108,7 +108,7 @@ marked_four w x list a b c d of k l m n = record {
       ∙ ap not (sym (stay w x list of T (at_in list t [] low)));
 }
 
--- after one more tiling
+-- the copies after one more tiling, which is copied if it is marked
 pub copied_more : (p : List ℕ → Bool) (list : List (List ℕ)) (marks : List Bool) (i : ℕ) (old new : List (List ℕ)) (T : List ℕ) → i < length list → AreMarkedBy p list marks → T ≡ row list i → old ≡ filter p (take i list) →
     new ≡ old ++ cond (get_or marks i false) (T ∷ []) [] → new ≡ filter p (take (i + 1) list)
 copied_more p list marks i old new T l m is a b =

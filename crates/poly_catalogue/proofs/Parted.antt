@@ -1,4 +1,4 @@
--- Lists that have each tiling once, and their two parts.
+-- Lists that have each tiling once, and their two parts: what passes a test, and what doesn't.
 use Rattle.std.proofs.Common.{Bool, List, [], ap, arith, false, filter, not, refl, subst, sym, true, ℕ, ◌&&◌, ◌++◌, ◌||◌, ◌+◌, ◌<◌, ◌∷◌, ◌≡◌, ◌≤◌}
 use Rattle.std.proofs.lemmas.Bool.{or_left, true_from_ne_false}
 use Rattle.std.specs.List.{list_all}
@@ -20,7 +20,7 @@ one_true : (b : Bool) → 0 < one b → b ≡ true
 one_true true h = refl
 one_true false h = absurd (omega arith)
 
--- a list that has each tiling that passes once, and no other
+-- if a list has each tiling that passes once and no other, all of its tilings pass
 pub all_pass : (p : List ℕ → Bool) (a : List (List ℕ)) → ((T : List ℕ) → tally (same_list T) a ≡ one (p T)) → list_all p a ≡ true
 all_pass p a h = all_from p a (λ T i. one_true (p T) (omega (arith, h T, some_in (same_list T) a T i (same_list_self T))))
 
@@ -39,7 +39,7 @@ turned T U = same_truth (same_list U T) (same_list T U)
     (λ h. subst (λ z. same_list T z ≡ true) (sym (same_list_is U T h)) (same_list_self T))
     (λ h. subst (λ z. same_list U z ≡ true) (sym (same_list_is T U h)) (same_list_self U))
 
--- the two ways to count a tiling
+-- how often a list has a tiling doesn't depend on the order of the arguments of `same_list`
 pub turned_tally : (T : List ℕ) (a : List (List ℕ)) → tally (same_list T) a ≡ tally (λ U. same_list U T) a
 turned_tally T a = tally_same_in (same_list T) (λ U. same_list U T) a (λ U i. sym (turned T U))
 
@@ -64,14 +64,14 @@ split : (f p : List ℕ → Bool) (a : List (List ℕ)) → tally (λ T. f T && 
 split f p [] = refl
 split f p (T ∷ a) = omega (arith, both_parts (f T) (p T), split f p a)
 
--- what is kept and what isn't are the list, each once
+-- if a list has no tiling twice, neither has what is kept of the list, followed by what isn't kept
 pub parted_once : (p : List ℕ → Bool) (a b : List (List ℕ)) → AreSame b (filter p a) → AreOnce a → AreOnce (b ++ filter (λ T. not (p T)) a)
 parted_once p a b s once T =
     let k = kept_same p a b s in
     let g = filter (λ U. not (p U)) a in
     omega (arith, tally_append (same_list T) b g, k (same_list T), filtered (same_list T) (λ U. not (p U)) a, split (same_list T) p a, once T)
 
--- a plan leads from the tilings that are listed
+-- if the listed tilings are tilings of the view that a plan was made from, they satisfy `AreOfEither` for the plan's view
 pub of_plan : (t v : View) (before after : Layout) (x : Delta) (a : List (List ℕ)) → IsRight t before → IsPlanFor t before after v x → list_all (is_tiling t) a ≡ true → AreOfEither v x a
 of_plan t v before after x a right plan listed = record {
   before = t;

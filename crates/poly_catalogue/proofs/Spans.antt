@@ -1,4 +1,4 @@
--- A row that goes in or out index by index, and one that moves.
+-- A row whose entries are added or removed one by one, and a row that moves to another index.
 use Rattle.std.proofs.Common.{Bool, List, None, Option, Some, ap, arith, cond, eqb, false, inl, inr, leb, length, ltb, refl, sym, true, ℕ, ◌&&◌, ◌||◌, ◌+◌, ◌<◌, ◌∙◌, ◌≡◌, ◌≤◌, ◌⊎◌}
 use Rattle.std.proofs.lemmas.Bool.{and_from, and_left, and_right, cases_eq, cases_lt, cond-false, cond-true, eq-eqb, le-leb, le-ltb, lt-leb, lt-ltb, ne_eqb, or_from, or_right}
 use Rattle.std.proofs.lemmas.Option.{slice_get_past}
@@ -44,7 +44,7 @@ half_once f from to n once t k l p a b = elim (half_is f from to n t k p a) [
   | inr x ↦ elim (half_is f from to n t l p b) [ inl y ↦ absurd (x.0 y.0) | inr y ↦ once t k l p x.1 y.1 ]
 ]
 
--- one more number of a tiling that moves
+-- one more number of a tiling that moves to another index
 pub moves_more : (L B R R' : ℕ → ℕ → Option ℕ) (from to n p j : ℕ) → (from ≡ to → ⊥) → Once L → Agree (half L from to n) (over B from to) R → L from n ≡ Some p → B from n ≡ Some j →
     ((a b : ℕ) → R' a b ≡ but R p j (Some to) a b) → Agree (half L from to (n + 1)) (over B from to) R'
 moves_more L B R R' from to n p j apart once g here index put =

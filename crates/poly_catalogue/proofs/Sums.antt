@@ -1,4 +1,4 @@
--- Counts of whole lists, and of lists without repeats.
+-- Counts of the tilings of a list, and of those that are kept, pass or are added.
 use Rattle.std.proofs.Common.{Bool, List, [], ap, arith, cond, eqb, false, filter, get_or, inl, inr, leb, length, not, refl, replicate, set, subst, suc, sym, take, true, ℕ, ◌&&◌, ◌++◌, ◌||◌, ◌+◌, ◌-◌, ◌<◌, ◌∙◌, ◌∷◌, ◌≡◌, ◌≤◌}
 use Rattle.std.proofs.lemmas.Bool.{cases_eq, cases_lt, eq-eqb, le-leb, leb-true, ne_eqb, or_right, true_from_ne_false}
 use Rattle.std.proofs.lemmas.List.{get_or-replicate, get_or-set_other, get_or-set_same, get_or_past, length-replicate, take_all, take_more}
@@ -50,7 +50,7 @@ kept_in q p a b k all = all_from q b (λ T i. true_from_ne_false (q T) (λ e.
 pub kept_flags : (p : List ℕ → Bool) (a b : List (List ℕ)) (n m : ℕ) → Keeps p a b → m ≡ n → HasFlags a n → HasFlags b m
 kept_flags p a b n m k e h = subst (λ z. HasFlags b z) (sym e) (record { few = h.few; low = kept_in (λ T. list_all (λ q. nat_lt q n) T) p a b k h.low })
 
--- a refused call leaves the list, with more flags perhaps
+-- a catalogue stays one if its list is as it was and there are enough flags, as after a refused call
 pub same_catalogue : (a b : List (List ℕ)) (n m : ℕ) → b ≡ a → HasFlags b m → IsCatalogue a n → IsCatalogue b m
 same_catalogue a b n m e h c = record { few = omega (arith, ap length e, c.few); once = subst AreOnce (sym e) c.once; flags = h }
 
@@ -61,7 +61,7 @@ filter_at : (p : List ℕ → Bool) (T : List ℕ) (a : List (List ℕ)) (b : Bo
 filter_at p T a true e h = rw e (omega (arith, h))
 filter_at p T a false e h = rw e (omega (arith, h))
 
--- what passes and what doesn't make up the list
+-- the tilings that don't pass and those that pass are together as many as the list has
 pub tally_filter : (p : List ℕ → Bool) (a : List (List ℕ)) → length (filter (λ T. not (p T)) a) + tally p a ≡ length a
 tally_filter p [] = refl
 tally_filter p (T ∷ a) = filter_at p T a (p T) refl (tally_filter p a)
@@ -93,7 +93,7 @@ same_kept p a b k f = k f ∙ sym (filtered f p a)
 pub kept_same : (p : List ℕ → Bool) (a b : List (List ℕ)) → AreSame b (filter p a) → Keeps p a b
 kept_same p a b s f = s f ∙ filtered f p a
 
--- the new ones are tilings of the view
+-- a list of tilings of either view stays one if tilings of the later view are added
 pub either_more : (w : View) (x : Delta) (a b : List (List ℕ)) → AreOfEither w x a → list_all (is_tiling w) b ≡ true → AreOfEither w x (a ++ b)
 either_more w x a b of all = record {
   before = of.before;
@@ -116,7 +116,7 @@ all_pass f p b all = tally_same_in (λ T. f T && p T) f b (λ T i. and_true (f T
 pub counts_more : (p : List ℕ → Bool) (a b c : List (List ℕ)) → list_all p b ≡ true → Keeps p (a ++ b) c → (f : List ℕ → Bool) → tally f c ≡ tally (λ T. f T && p T) a + tally f b
 counts_more p a b c all k f = omega (arith, k f, tally_append (λ T. f T && p T) a b, all_pass f p b all)
 
--- what passes, and more that pass
+-- if tilings that pass are added before those that don't pass are removed, the added ones stay
 pub same_more : (p : List ℕ → Bool) (a b c : List (List ℕ)) → list_all p b ≡ true → Keeps p (a ++ b) c → AreSame c (filter p a ++ b)
 same_more p a b c all k f = counts_more p a b c all k f ∙ ap (λ n. n + tally f b) (sym (filtered f p a)) ∙ sym (tally_append f (filter p a) b)
 
@@ -126,7 +126,7 @@ room_after p a b c all k room = omega (arith, length_filter p a, tally_length c,
     simple : (q : List ℕ → Bool) (d : List (List ℕ)) → tally (λ T. true && q T) d ≡ tally q d
     simple q d = refl
 
--- room by the count of those that stay
+-- if `t` tilings stay, and `t` is at most `n`, there is room for `more` exactly if `t` and `more` together are at most `n`
 pub same_room : (t more n : ℕ) → t ≤ n → leb more (n - t) ≡ leb (t + more) n
 same_room t more n l = same_truth (leb more (n - t)) (leb (t + more) n)
     (λ h. le-leb (t + more) n (let k = leb-true more (n - t) h in omega arith))

@@ -18,7 +18,7 @@ length_swap_remove rows t d l =
 row_past : (rows : List (List ℕ)) (a : ℕ) → length rows ≤ a → row rows a ≡ []
 row_past rows a l = get_or_past rows a [] l
 
--- if another tiling takes the index
+-- if a row that isn't the last is removed, the last row takes its index
 pub swapped_at : (rows : List (List ℕ)) (t : ℕ) (d : List ℕ) (n : ℕ) → n + 1 ≡ length rows → t < n → (a b : ℕ) → at (swap_remove rows t d) a b ≡ moved (at rows) n t a b
 swapped_at rows t d n e l a b = elim (cases_eq a t) [
   | inl x ↦
@@ -38,7 +38,7 @@ swapped_at rows t d n e l a b = elim (cases_eq a t) [
   ]
 ]
 
--- if the last tiling itself leaves
+-- if the last row is removed, no other row moves
 pub last_at : (rows : List (List ℕ)) (t : ℕ) (d : List ℕ) → t + 1 ≡ length rows → (a b : ℕ) → at (swap_remove rows t d) a b ≡ span (at rows) t 0 0 a b
 last_at rows t d e a b = elim (cases_eq a t) [
   | inl x ↦ ap (λ r. slice_get r b) (row_gone rows t d a (omega arith)) ∙ sym (cond-true (eqb a t && (ltb b 0 || leb 0 b)) None (at rows a b) (and_from (eqb a t) _ (eq-eqb a t x) (or_right (ltb b 0) (leb 0 b) (le-leb 0 b (omega arith)))))
@@ -82,7 +82,7 @@ found : (ys : List ℕ) (q : ℕ) → list_any (eqb q) ys ≡ true → (i : ℕ)
 found [] q h = absurd cc
 found (y ∷ ys) q h = found_step y q ys (found ys q) (eqb q y) refl h
 
--- a row has no more tilings than there are
+-- a row has no more entries than there are tilings
 pub row_short : (L B : ℕ → ℕ → Option ℕ) (rows : List (List ℕ)) (n p : ℕ) → Agree L B (at rows) → Once L → ((t k q : ℕ) → L t k ≡ Some q → t < n) → length (row rows p) ≤ n
 row_short L B rows n p g once low =
     let xs = row rows p in

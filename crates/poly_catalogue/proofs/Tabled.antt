@@ -46,13 +46,13 @@ row_width w n cs t whole l =
 pub cell_is : (w n : ℕ) (cs : List ℕ) (t k : ℕ) → t < n → k < w → at (rows_of w n cs) t k ≡ slice_get cs (t * w + k)
 cell_is w n cs t k l m = ap (λ r. slice_get r k) (row_is w n cs t l) ∙ get_take (drop (t * w) cs) w k m ∙ get_on (t * w) k cs
 
--- a position that there is
+-- a position of the rows is below the width, in a row below the count
 pub cell_low : (w n : ℕ) (cs : List ℕ) (t k : ℕ) → length cs ≡ n * w → (t < length (rows_of w n cs)) × (k < length (row (rows_of w n cs) t)) → (t < n) × (k < w)
 cell_low w n cs t k whole low =
     let l : t < n = omega (arith, low.0, length_rows w n cs) in
     (l, omega (arith, low.1, row_width w n cs t whole l))
 
--- a position that a table has, as its rows say
+-- a position that has a number in the rows is inside the table's list
 pub noted : (w n : ℕ) (cs : List ℕ) (rows : List (List ℕ)) (t k : ℕ) → rows_of w n cs ≡ rows → length cs ≡ n * w → IsSome (at rows t k) → (t < n) × (k < w) × (t * w + k < length cs)
 noted w n cs rows t k is whole h =
     let low = cell_low w n cs t k whole (there (rows_of w n cs) t k (subst (λ rs. IsSome (at rs t k)) (sym is) h)) in
@@ -140,7 +140,7 @@ pub length_wider : (rows : List (List ℕ)) (z : List ℕ) → length (map (λ r
 length_wider [] z = refl
 length_wider (r ∷ rows) z = ap suc (length_wider rows z)
 
--- positions stay when a row is added
+-- each number stays at its position when a row is added
 pub kept_pushed : (rows : List (List ℕ)) (r : List ℕ) (a b p : ℕ) → at rows a b ≡ Some p → at (rows ++ r ∷ []) a b ≡ Some p
 kept_pushed [] r zero b p e = absurd cc
 kept_pushed [] r (suc a) b p e = absurd cc
@@ -166,7 +166,7 @@ copied rows from to n same long a b = elim (cases_eq a to) [
       ∙ sym (cond-false (eqb a to) (at rows from b) (at rows a b) (ne_eqb a to d))
 ]
 
--- the last row is copied over another and then goes
+-- the last row is copied over another and then removed
 pub swapped : (rows after : List (List ℕ)) (t n : ℕ) → n + 1 ≡ length rows → t ≤ n → length after ≡ length rows → ((a b : ℕ) → at after a b ≡ over (at rows) n t a b) → (a b : ℕ) → at (take n after) a b ≡ at (swap_remove rows t []) a b
 swapped rows after t n e l even over a b = elim (cases_lt a n) [
   | inl m ↦
@@ -183,7 +183,7 @@ swapped rows after t n e l even over a b = elim (cases_lt a n) [
       ∙ sym (ap (λ r. slice_get r b) (row_gone rows t [] a (omega arith)))
 ]
 
--- the rows become wider and one more is added
+-- a row of zeros is added, and all positions stay
 pub one_more_row : (w n : ℕ) (cs : List ℕ) (a b p : ℕ) → length cs ≡ n * w → at (rows_of w n cs) a b ≡ Some p → at (rows_of w (n + 1) (cs ++ replicate w 0)) a b ≡ Some p
 one_more_row w n cs a b p whole e = ap (λ rs. at rs a b) (push_more w n cs (replicate w 0) whole (length-replicate w 0)) ∙ kept_pushed (rows_of w n cs) (replicate w 0) a b p e
 

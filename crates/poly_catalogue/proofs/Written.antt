@@ -1,4 +1,4 @@
--- What writes to rows change at each position.
+-- How writing to rows changes the number at each position.
 use Rattle.std.proofs.Common.{IsSome, List, None, Option, Some, [], ap, arith, get_or, inl, inr, length, refl, set, slice_get, suc, sym, take, zero, ℕ, ◌++◌, ◌+◌, ◌-◌, ◌<◌, ◌∙◌, ◌∷◌, ◌≡◌, ◌≤◌}
 use Rattle.std.proofs.lemmas.Bool.{cases_eq, cases_lt}
 use Rattle.std.proofs.lemmas.List.{get_or-set_other, get_or-set_same, get_or-take, get_or_past, get_or_read, length-set, length-take-le}
@@ -39,7 +39,7 @@ get_push_other [] v (suc b) n = refl
 get_push_other (x ∷ xs) v zero n = refl
 get_push_other (x ∷ xs) v (suc b) n = get_push_other xs v b (λ e. n (ap suc e))
 
--- a position that has a number
+-- a position that has a number is inside a row of the list
 pub some_low : (rows : List (List ℕ)) (i k p : ℕ) → at rows i k ≡ Some p → (i < length rows) × (k < length (row rows i))
 some_low rows i k p h = elim (cases_lt i (length rows)) [
   | inl l ↦ elim (cases_lt k (length (row rows i))) [
@@ -98,7 +98,7 @@ empty_row [] (suc a) b = refl
 empty_row (r ∷ rows) zero b = refl
 empty_row (r ∷ rows) (suc a) b = empty_row rows a b
 
--- a further row changes no other
+-- a further row is at the end, and changes no other row
 pub row_pushed : (rows : List (List ℕ)) (r : List ℕ) → row (rows ++ r ∷ []) (length rows) ≡ r
 row_pushed [] r = refl
 row_pushed (x ∷ rows) r = row_pushed rows r
@@ -134,7 +134,7 @@ row_gone rows t d a m =
     let s = set rows t (get_or rows (length rows - 1) d) in
     get_or_past (take (length rows - 1) s) a [] (omega (arith, length-take-le (length rows - 1) s (omega (arith, length-set rows t (get_or rows (length rows - 1) d)))))
 
--- a position that has some number
+-- a position is inside a row of the list even if it is only known that some number is there
 pub there : (rows : List (List ℕ)) (i k : ℕ) → IsSome (at rows i k) → (i < length rows) × (k < length (row rows i))
 there rows i k h = go (at rows i k) refl h
   where

@@ -5,7 +5,7 @@ use Rattle.poly_tiling.specs.declared.item.Item.{Item}
 use Rattle.poly_tiling.specs.Lists.{tally}
 use Rattle.poly_tiling.specs.Puzzle.{View, has_item}
 
--- each number that has a flag is flagged exactly if its placement has the item
+-- the flag of a number, if it has one, is true exactly if the number's placement has the item
 abbrev pub AreFlags : View → Item → List Bool → Type 0
 AreFlags w i flags = (p : ℕ) → p < length flags → slice_index_or flags p false ≡ has_item w p i
 
@@ -13,7 +13,7 @@ AreFlags w i flags = (p : ℕ) → p < length flags → slice_index_or flags p f
 abbrev pub flagged : List Bool → List ℕ → ℕ
 flagged flags T = tally (λ p. slice_index_or flags p false) T
 
--- not too few of the numbers are flagged, and not too many
+-- at least `least` and at most `most` of the numbers are flagged
 abbrev pub within : List Bool → ℕ → ℕ → List ℕ → Bool
 within flags least most T = nat_le least (flagged flags T) && nat_le (flagged flags T) most
 

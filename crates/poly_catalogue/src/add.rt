@@ -9,7 +9,7 @@ use crate::listing::Listing;
 use poly_grid::Refusal;
 use poly_tiling::{Tiling, View};
 
-/// Adds the tilings of the view at the end, and makes the flags that they need. Fails only with `Memory`, and then the
+/// Adds these tilings of the view at the end, and makes the flags that they need. Fails only with `Memory`, and then the
 /// list stays as it was.
 pub(crate) fn add(
     listing: &mut Listing,

@@ -20,8 +20,11 @@ use std::marker::Model;
 /// The listed tilings of a design, each once and at most 1,000,000, in no particular order.
 #[derive(Drop)]
 pub struct Catalogue {
+    /// The allocator of all memory here.
     alloc: Global,
+    /// The tilings, with their index.
     listing: Listing,
+    /// A flag for each placement number of the tilings. Between calls the flags mean nothing.
     flags: Vec<bool>,
 }
 
@@ -78,11 +81,11 @@ impl Catalogue {
         self.listing.all()
     }
 
-    /// A mark for each listed tiling, in the order of the list: whether it covers the item. Requires that all listed tilings
-    /// are tilings of the view. Fails only with `Memory`.
+    /// A mark for each listed tiling, in the order of the list: whether the tiling covers the item. Requires that all
+    /// listed tilings are tilings of the view. Fails only with `Memory`.
     ///
-    /// No index by item is kept: it would take three times the memory, and the tilings that cover an item are those that
-    /// have one of its placements.
+    /// No index by item is kept: it would take more memory than the index by placement, and that one already leads to the
+    /// tilings that have one of the item's placements.
     pub fn covering(&self, view: &View, item: Item) -> Result<Vec<bool>, Refusal>
         requires { list_all (is_tiling view.now) self.now ≡ true }
         ensures ok { IfOk result (λ marks. AreCovering view.now item self.now marks.items) }
@@ -110,8 +113,9 @@ impl Catalogue {
         Ok(())
     }
 
-    /// Keeps exactly the listed tilings that are tilings of the view, and never allocates. Requires that each listed tiling
-    /// is one of the view or of the view before it, from which the differences lead to it.
+    /// Keeps exactly the listed tilings that are tilings of the view; their order may change. Never allocates. Requires an
+    /// earlier view such that each listed tiling is a tiling of it or of this view, and such that the differences lead from
+    /// the earlier view to this one.
     pub fn keep_only(&mut self, view: &View, delta: &Delta)
         requires { AreOfEither view.now delta.now self.old }
         ensures { AreSame self.new (filter (is_tiling view.now) self.old) }
@@ -119,7 +123,8 @@ impl Catalogue {
         keep(&mut self.listing, &mut self.flags, view, delta);
     }
 
-    /// Copies of the tilings that `keep_only` would take away, in the order of the list. Fails only with `Memory`.
+    /// Copies of the tilings that `keep_only` would take away, in the order of the list. Requires what `keep_only` requires.
+    /// Fails only with `Memory`.
     pub fn leaving(&self, view: &View, delta: &Delta) -> Result<Vec<Tiling>, Refusal>
         requires { AreOfEither view.now delta.now self.now }
         ensures ok { IfOk result (λ list. list.items ≡ filter (λ T. not (is_tiling view.now T)) self.now) }

@@ -1,4 +1,4 @@
-//! The listed tilings that cover an item: those in the rows of the placements that have it.
+//! The listed tilings that cover an item. The index finds them by the placements that have the item.
 ghost use Rattle.std.specs.Prelude.{◌≡◌, IfErr, IfOk, filter, true};
 ghost use Rattle.std.specs.List.{list_all};
 ghost use Rattle.poly_tiling.specs.Puzzle.{has_item, is_tiling};
@@ -10,7 +10,7 @@ use poly_grid::Refusal;
 use poly_tiling::{Item, View};
 use std::alloc::{AllocError, Global};
 
-/// A mark for each tiling that covers the item. Fails only with `Memory`.
+/// A mark for each tiling of the list: whether the tiling covers the item. Fails only with `Memory`.
 pub(crate) fn covering(
     alloc: Global,
     listing: &Listing,

@@ -1,7 +1,7 @@
 //! The entries of the index: each tiling has an entry in the row of each of its numbers.
 //!
-//! To remove an entry, the last entry of its row moves into its position, so nothing else moves. The position that the
-//! moved tiling keeps for this number then changes too.
+//! If an entry is removed, the last entry of its row moves to the free position, and no other entry moves. The position that
+//! is noted for the moved entry then changes too.
 ghost use Rattle.std.specs.Prelude.{◌≡◌, ◌≢◌, ◌+◌, ◌-◌, ◌^◌, ◌<◌, ◌≤◌, [], IfErr, IsSome, None, OnErr, OnOk, Option, Some, length, nat_lt, slice_get, true, ℕ};
 ghost use Rattle.std.specs.List.{list_all, swap_remove};
 ghost use Rattle.poly_tiling.specs.Lists.{ascending, mem};
@@ -14,7 +14,7 @@ use crate::rows::{append, count, cut, put, read};
 use poly_grid::Refusal;
 use poly_tiling::Tiling;
 
-// A number of a tiling.
+// The `nth` number of a tiling.
 fn number_of(tilings: &[Tiling], tiling: usize, nth: usize) -> u32
     requires { IsSome (at tilings.now tiling nth) }
     ensures { at tilings.now tiling nth ≡ Some result }
@@ -22,7 +22,7 @@ fn number_of(tilings: &[Tiling], tiling: usize, nth: usize) -> u32
     tilings[tiling].numbers()[nth]
 }
 
-// Which of a tiling's numbers this one is.
+// The index of this number among the tiling's numbers.
 fn nth_of(tilings: &[Tiling], tiling: usize, number: u32) -> usize
     requires { mem (row tilings.now tiling) number ≡ true }
     ensures { at tilings.now tiling result ≡ Some number }
@@ -157,7 +157,8 @@ pub(crate) fn add_entries(
     Ok(())
 }
 
-/// Writes the index of a tiling without entries into the entries of the last tiling, which is to move there.
+/// Prepares the move of the last tiling to an index: writes this index into the entries of the last tiling. The tiling that is
+/// still at the index must have no entries any more.
 pub(crate) fn reindex_last(
     tilings: &[Tiling],
     positions: &Positions,
@@ -178,7 +179,7 @@ pub(crate) fn reindex_last(
     reindex(tilings, positions, rows, last, index);
 }
 
-// Writes the index of a tiling without entries into the entries of another tiling.
+// Writes the index `to`, whose own tiling has no entries, into the entries of the tiling at `from`.
 fn reindex(tilings: &[Tiling], positions: &Positions, rows: &mut [Row], from: usize, to: usize)
     requires apart { from ≢ to }
     requires once { Once (at tilings.now) }

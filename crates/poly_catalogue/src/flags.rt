@@ -38,7 +38,7 @@ fn reach(flags: &mut Vec<bool>, number: u32) -> Result<(), Refusal>
     Ok(())
 }
 
-/// Flags the numbers whose placements have the item, and no others.
+/// Sets the flag of each number whose placement has the item, and clears all other flags. Adds no flags.
 pub(crate) fn flag_item(flags: &mut Vec<bool>, view: &View, item: &Item)
     requires { length flags.old.items ≤ 2 ^ 32 }
     ensures long { length flags.new.items ≡ length flags.old.items }
@@ -56,7 +56,7 @@ fn write(flags: &mut Vec<bool>, number: usize, flag: bool)
     flags[number] = flag;
 }
 
-/// Whether neither too few nor too many of the numbers are flagged.
+/// Whether at least `least` and at most `most` of the numbers are flagged.
 pub(crate) fn is_within(flags: &[bool], least: usize, most: usize, numbers: &[u32]) -> bool
     ensures { result ≡ within flags.now least most numbers.now }
 {

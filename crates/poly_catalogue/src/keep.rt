@@ -1,4 +1,6 @@
 //! The removal of listed tilings that are no longer tilings.
+//!
+//! An item fits in a tiling if the number of the tiling's placements that have it is within the item's bounds.
 ghost use Rattle.std.specs.Prelude.{◌≡◌, ◌+◌, ◌&&◌, ◌<◌, ◌≤◌, Bool, IfNone, IfSome, List, false, length, not, take, true, ℕ};
 ghost use Rattle.std.specs.List.{list_all, list_any};
 ghost use Rattle.poly_tiling.specs.declared.item.Item.TheVariants.{Piece as PieceItem};
@@ -19,7 +21,7 @@ use poly_tiling::{Item, View, has_all};
 /// Removes the tilings that are not tilings of the view. Never allocates.
 ///
 /// The index finds those with a placement that is gone. The others are looked at only if there are new pins, items whose
-/// least rose or pieces whose most fell. The flags may be set in any way.
+/// least rose or pieces whose most fell. Before the call, the flags may have any values.
 pub(crate) fn keep(listing: &mut Listing, flags: &mut Vec<bool>, view: &View, delta: &Delta)
     requires from { AreOfEither view.now delta.now listing.old }
     requires flags { HasFlags listing.old (length flags.old.items) }

@@ -1,12 +1,15 @@
-//! The catalogue: the tilings of a design that are listed, kept under edits.
+//! The catalogue: the listed tilings of a design, kept up to date when the design is edited.
 //!
 //! An edit takes away the tilings that have a placement which the edit removes, and those that break a new pin or a
-//! bound. An index leads from each placement to the tilings that have it, so removing placements looks at no other tilings.
-//! The position of each number of a tiling in the index is noted, so removing a tiling neither searches nor allocates.
+//! bound. An index leads from each placement to the tilings that have it. So if an edit adds no pin, raises no least and
+//! lowers no most, `keep_only` checks no other tilings than those that it removes. For each placement of a tiling, it is also
+//! noted where the index has the tiling, so removing a tiling neither searches the index nor allocates.
 //!
-//! - [`Catalogue`]: the listed tilings. `list_all` adds some, `leaving` returns those that a change takes away, `keep_only`
-//!   removes them, and `exchange` does both at once.
-//! - [`plans_lead`]: a table's plan of a change names all differences that these calls need.
+//! - [`Catalogue`]: the listed tilings. `new` lists none. `list_all` adds some, `leaving` copies those that a change takes
+//!   away, `keep_only` removes these, and `exchange` removes some and adds others in one call. `len`, `is_empty`, `get` and
+//!   `all` read the list, and `covering` marks the tilings that cover an item.
+//! - [`plans_lead`]: a law. The differences of a table's plan lead from the view of the table to the plan's view, as
+//!   `leaving`, `keep_only` and `exchange` require.
 #![tactic(auto)]
 
 mod add;

@@ -14,14 +14,16 @@ use std::alloc::Global;
 use std::marker::Model;
 
 /// Tilings, found by index in the list and by the placements that they have.
-///
-/// `rows` has for each placement number the indices of the tilings that have it, in any order. `positions` has for each
-/// tiling, in the order of its numbers, the tiling's position in each number's row.
 #[derive(Drop)]
 pub(crate) struct Listing {
+    /// The allocator of all memory here.
     alloc: Global,
+    /// The tilings, by index.
     tilings: Vec<Tiling>,
+    /// For each tiling, its positions in the rows of its numbers, in the order of the numbers.
     positions: Positions,
+    /// A row for each placement number, up to the greatest that a tiling had so far: the indices of the tilings that have the
+    /// number, in any order.
     rows: Vec<Row>,
 }
 

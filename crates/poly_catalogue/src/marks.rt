@@ -1,7 +1,10 @@
 //! Marks for listed tilings.
 //!
-//! Each kind of difference marks the tilings that it takes away, and keeps the marks that are set already. For an item, each
-//! placement is checked once and flagged, and a pass over the tilings then looks only at the flags.
+//! Each function that marks tilings keeps the marks that are set already, so the marks for several differences add up.
+//!
+//! An item fits in a tiling if the number of the tiling's placements that have it is within the item's bounds. To mark the
+//! tilings in which it doesn't fit, each placement is checked once, and flagged if it has the item. The marking then looks
+//! only at the flags.
 ghost use Rattle.std.specs.Prelude.{◌≡◌, ◌||◌, ◌<◌, IfErr, IfOk, false, length, not, replicate, slice_index_or, slice_set, true, ℕ};
 ghost use Rattle.std.specs.List.{list_all};
 ghost use Rattle.poly_tiling.specs.declared.item.Item.TheVariants.{Piece as PieceItem};
@@ -18,7 +21,7 @@ use poly_grid::Refusal;
 use poly_tiling::{Item, Tiling, View, has_all};
 use std::alloc::Global;
 
-/// A mark for each tiling that has one of the numbers. Fails only with `Memory`.
+/// A mark for each tiling of the list: whether the tiling has one of the numbers. Fails only with `Memory`.
 pub(crate) fn having(
     alloc: Global,
     listing: &Listing,
@@ -70,7 +73,7 @@ pub(crate) fn mark_unpinned(marks: &mut Vec<bool>, tilings: &[Tiling], pins: &[u
     }
 }
 
-/// Marks the tilings in which one of the items doesn't fit. The flags may be set in any way.
+/// Marks the tilings in which one of the items doesn't fit. Before the call, the flags may have any values.
 pub(crate) fn mark_unfit_items(
     marks: &mut Vec<bool>,
     flags: &mut Vec<bool>,
@@ -88,7 +91,7 @@ pub(crate) fn mark_unfit_items(
     }
 }
 
-/// Marks the tilings in which one of the pieces doesn't fit. The flags may be set in any way.
+/// Marks the tilings in which one of the pieces doesn't fit. Before the call, the flags may have any values.
 pub(crate) fn mark_unfit_pieces(
     marks: &mut Vec<bool>,
     flags: &mut Vec<bool>,

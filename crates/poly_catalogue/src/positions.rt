@@ -14,9 +14,13 @@ use std::marker::Model;
 /// so far. The positions past a tiling's last number mean nothing.
 #[derive(Drop)]
 pub(crate) struct Positions {
+    /// The allocator of `cells`.
     alloc: Global,
+    /// How many rows there are.
     count: usize,
+    /// How many positions each row has.
     width: usize,
+    /// The positions, row after row.
     cells: Vec<u32>,
 }
 
@@ -59,7 +63,7 @@ impl Positions {
         self.cells[tiling * self.width + nth]
     }
 
-    /// Notes another position.
+    /// Notes another position of the tiling in the row of its `nth` number.
     pub(crate) fn set(&mut self, tiling: usize, nth: usize, position: u32)
         requires { IsSome (at self.old tiling nth) }
         ensures put { Puts self.old tiling nth (Some position) self.new }
@@ -69,8 +73,8 @@ impl Positions {
         self.cells[tiling * self.width + nth] = position;
     }
 
-    /// Adds a row for a tiling with `len` numbers. Fails only with `Memory`, and then no row is added. The positions that
-    /// were noted stay.
+    /// Adds a row for a tiling with `len` numbers. Fails only with `Memory`, and then no row is added. In either case, all
+    /// noted positions stay.
     pub(crate) fn push(&mut self, len: usize) -> Result<(), Refusal>
         requires few { length self.old + 1 < 2 ^ 32 }
         ensures kept { (a b p : ℕ) → at self.old a b ≡ Some p → at self.new a b ≡ Some p }
@@ -87,7 +91,7 @@ impl Positions {
         Ok(())
     }
 
-    // Makes the rows at least `len` wide, and adds one. Fails only with `Memory`, and then they stay as they were.
+    // Makes the rows at least `len` wide, and adds a row. Fails only with `Memory`, and then the rows stay as they were.
     fn push_wider(&mut self, len: usize) -> Result<(), Refusal>
         requires few { length self.old + 1 < 2 ^ 32 }
         ensures kept { (a b p : ℕ) → at self.old a b ≡ Some p → at self.new a b ≡ Some p }
@@ -141,7 +145,7 @@ impl Positions {
     }
 }
 
-// Returns the cells of the same rows, each padded with zeros to the new width.
+// Returns the positions of the same rows, each padded with zeros to the new width.
 fn widened(
     alloc: Global,
     cells: &[u32],
@@ -178,7 +182,7 @@ fn add_zeros(list: &mut Vec<u32>, count: usize) -> Result<(), Refusal>
     Ok(())
 }
 
-// The row at an index, if the rows have this width.
+// The row at an index of a list of rows that have this width.
 fn row_at(cells: &[u32], width: usize, index: usize) -> &[u32]
     requires { index * width + width ≤ length cells.now }
     ensures { result.now ≡ take width (drop (index * width) cells.now) }

@@ -5,9 +5,10 @@ use poly_grid::Refusal;
 use std::alloc::Global;
 use std::marker::Model;
 
-/// A list of numbers: in the index, the indices of the tilings that have one placement number.
+/// A list of numbers. The index has one for each placement number: the indices of the tilings that have the number.
 #[derive(Drop)]
 pub(crate) struct Row {
+    /// The numbers, in the order of the list.
     numbers: Vec<u32>,
 }
 

@@ -13,7 +13,8 @@ use Rattle.poly_cli.specs.Runs.{Runs, Writes, Serves, limits_from, lines_heard}
 use Rattle.poly_cli.proofs.Known.{consumes_more, appends_more}
 use Rattle.poly_cli.proofs.Going.{before_more, open_more, lines_none, none_text, some_text, take_front, take_heard, Goes, goes_line, goes_now, at_last}
 
--- what holds after count lines: done is the part of the taken bytes that was cut, and out is a run's output on the lines of done
+-- what holds after `count` lines: `done` is the part of the bytes read that was cut, and `out` is the output of a run on its
+-- lines
 pub record Answered {S : Type 0} (Says : S → Option (List ℕ) → List ℕ → S → Type 0) (old now : Lines) (start s : S) (first left held_first held : Option (List ℕ)) (count : ℕ) : Type 0 where
   pub done : List ℕ
   pub taken : List ℕ
@@ -28,7 +29,7 @@ pub record Answered {S : Type 0} (Says : S → Option (List ℕ) → List ℕ �
   pub goes : Goes Says old.limit start s done out
 
 module _ {S : Type 0} (Says : S → Option (List ℕ) → List ℕ → S → Type 0) (old now new : Lines) (start s : S) (first left last held_first held : Option (List ℕ)) (count : ℕ) (a : Answered Says old now start s first left held_first held count) where
-  -- the bytes taken, up to those that the next line left
+  -- after the next line, too, the bytes read are those that were cut and those that are ahead
   cut_more : (e : Event) (n : NextLine e now new left last) → ahead old ++ (a.taken ++ n.taken) ≡ (a.done ++ n.piece) ++ ahead new
   cut_more e n =
       sym (append_assoc (ahead old) a.taken n.taken) ∙ ap (λ z. z ++ n.taken) a.parts ∙ append_assoc a.done (ahead now) n.taken ∙ ap (λ z. a.done ++ z) n.parts ∙ sym (append_assoc a.done n.piece (ahead new))
@@ -42,7 +43,7 @@ module _ {S : Type 0} (Says : S → Option (List ℕ) → List ℕ → S → Typ
   taken_more : (e : Event) (n : NextLine e now new left last) → n.over ≡ [] → Consumes first last (a.taken ++ n.taken)
   taken_more e n none = consumes_more first left last a.taken n.taken a.consumed (subst (λ z. Consumes left last z) (ap (λ z. n.taken ++ z) none ∙ append-nil n.taken) n.consumed)
 
-  -- after one more line
+  -- what holds after `count` lines also holds after one more line that was answered whole
   pub line_answered : (n : NextLine event.Line now new left last) (same : new.limit ≡ now.limit) (said : Option (List ℕ)) → ((bytes : List ℕ) → new.line.items ≡ kept new.limit bytes → said ≡ ended new.limit bytes)
       → (t : S) (out : List ℕ) (held_last : Option (List ℕ)) → Says s said out t → Appends held held_last out → Answered Says old new start t first last held_first held_last (count + 1)
   line_answered n same said is t out held_last says wrote =
@@ -62,7 +63,8 @@ module _ {S : Type 0} (Says : S → Option (List ℕ) → List ℕ → S → Typ
         goes = goes_line Says old.limit start s t a.done n.piece a.out out n.finds.0.bytes said a.whole n.finds.0.whole here says a.goes;
       }
 
-  -- what was served, by the bytes that were taken for it
+  -- the session took some bytes, and it served the lines of a stream: the bytes that were ahead at the start, followed by the
+  -- bytes taken
   abbrev pub Served : ℕ → Result (Unit {0}) Fault → Option (List ℕ) → Type 0
   Served most r held_last = (taken : List ℕ) × Consumes first last taken × Serves (limits_from most old) Says start (ahead old ++ taken) r last held_first held_last
 
@@ -76,7 +78,8 @@ module _ {S : Type 0} (Says : S → Option (List ℕ) → List ℕ → S → Typ
       = rw (all, within, before) (take_all most (lines_before old.limit a.done) (omega (arith, a.lines, few))) in
       (a.taken ++ (n.taken ++ n.over), consumes_more first left last a.taken (n.taken ++ n.over) a.consumed n.consumed, (a.out, a.wrote, rw lines (goes_now Says old.limit start s a.done a.out a.goes)))
 
-  -- a line or a byte over the limit: nothing from there on is answered
+  -- as many lines as there may be were answered: whatever comes next, the session may answer nothing more and end with a read
+  -- fault
   pub limit_served : (e : Event) (n : NextLine e now new left last) → Served count (Err Read) held
   limit_served e n =
       let more = ahead now ++ (n.taken ++ n.over) in
@@ -90,7 +93,7 @@ module _ {S : Type 0} (Says : S → Option (List ℕ) → List ℕ → S → Typ
   short_all : (e : Event) (n : NextLine e now new left last) → length (ahead old ++ (a.taken ++ n.taken)) ≤ room old
   short_all e n = omega (arith, left_more e n)
 
-  -- the end, with no line begun
+  -- the input ends, and no line has begun
   pub end_served : (n : NextLine event.End now new left last) (most : ℕ) → new.line.items ≡ [] → count ≤ most → Served most (Ok tt) held
   end_served n most empty few =
       let bytes = cut_all event.End n n.finds.1 in
@@ -132,7 +135,7 @@ module _ {S : Type 0} (Says : S → Option (List ℕ) → List ℕ → S → Typ
     last_line held_last (Ok tt) w = last_served held_last w
     last_line held_last (Err e) w = last_unserved held_last e w
 
-  -- a whole line whose answer wasn't written whole
+  -- a whole line was read, but writing its answer failed
   pub line_unserved : (n : NextLine event.Line now new left last) (most : ℕ) → count < most → new.limit ≡ now.limit → (said : Option (List ℕ)) → ((bytes : List ℕ) → new.line.items ≡ kept new.limit bytes → said ≡ ended new.limit bytes)
       → (t : S) (out : List ℕ) (held_last : Option (List ℕ)) (e : Fault) → Says s said out t → Writes (Err e) held held_last out → Served most (Err e) held_last
   line_unserved n most few same said is t out held_last e says w =

@@ -44,13 +44,13 @@ newest_take zero ways = refl
 newest_take (suc n) [] = refl
 newest_take (suc n) (way ∷ ways) = ap (λ z. way.change ∷ z) (newest_take n ways)
 
--- the changes of the newest ways are the newest changes
+-- the changes of the newest 256 ways are the newest 256 changes
 changes_newest : (ways : List Way) → changes_of (newest MAX_STEPS ways) ≡ newest_last (changes_of ways)
 changes_newest ways =
     let all = map (λ w. w.change) ways in
     ap reverse (newest_take MAX_STEPS ways ∙ ap (take MAX_STEPS) (sym (reverse-reverse all)) ∙ sym (newest_reversed (reverse all))) ∙ reverse-reverse (newest_last (reverse all))
 
--- ---- there are at most 256 changes that can be undone or redone
+-- ---- at most 256 changes in all can be undone or redone
 
 newest_short : {X : Type 0} (n : ℕ) (xs : List X) → length (newest n xs) ≤ n
 newest_short zero xs = omega arith
@@ -75,7 +75,7 @@ few_ways : (s : Book) → Replay s → length s.back + length s.forth ≤ MAX_ST
 few_ways s r =
     omega (arith, few_replayed s.opened s.steps r.stand, ap (λ t. length t.back) r.is, ap (λ t. length t.forth) r.is, length-map s.back (λ b. b.change), length-map s.forth (λ b. b.change))
 
--- the steps tell what can be undone and redone
+-- two books with the same opening design and the same steps can undo and redo the same changes
 pub same_ways : (s t : Book) → Replay s → Replay t → t.opened ≡ s.opened → t.steps ≡ s.steps → (flag : Bool) → session_of t flag ≡ session_of s flag
 same_ways s t p q opened steps flag =
     let same : ◌≡◌ {A = Trace} (record { design = t.design; back = map (λ b. b.change) t.back; forth = map (λ b. b.change) t.forth }) (record { design = s.design; back = map (λ b. b.change) s.back; forth = map (λ b. b.change) s.forth })

@@ -31,7 +31,7 @@ names_more v T i n p lt is e = ap (names v) (up_to T i n lt is) ∙ named_append
 pub names_same : (v : View) (T : List ℕ) (i n : ℕ) → i < length T → n ≡ get_or T i 0 → slice_get v.placements n ≡ None → names v (take (i + 1) T) ≡ names v (take i T)
 names_same v T i n lt is e = ap (names v) (up_to T i n lt is) ∙ named_append v (take i T) (n ∷ []) ∙ ap (λ z. names v (take i T) ++ z) (named_none v n e) ∙ append-nil (names v (take i T))
 
--- the placements collected so far and the next one together cover no more than all of them
+-- the placements collected so far and the next one have at most as many cells as all placements that the numbers name
 pub names_short : (v : View) (T : List ℕ) (i n : ℕ) (p : Placement) → i < length T → n ≡ get_or T i 0 → slice_get v.placements n ≡ Some p → covered (names v (take i T)) + length p.cells ≤ covered (names v T)
 names_short v T i n p lt is e =
     let whole : names v T ≡ (names v (take i T) ++ p ∷ []) ++ names v (drop (i + 1) T)

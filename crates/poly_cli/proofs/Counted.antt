@@ -1,4 +1,5 @@
--- A list by numbers that has each tiling once is as long as the design's list of tilings. That list exists, since any list can be put in order.
+-- A list by numbers that has each tiling once is as long as the design's list of tilings. The design has a list of tilings,
+-- since any list can be put in order.
 use Rattle.std.proofs.Common.{Bool, List, [], ap, arith, cond, false, get_or, length, map, refl, subst, sym, suc, true, true≢false, zero, ℕ, ◌+◌, ◌<◌, ◌∙◌, ◌∷◌, ◌≡◌}
 use Rattle.std.proofs.lemmas.Cmp.{lists_total}
 use Rattle.std.proofs.lemmas.List.{length-map}

@@ -1,4 +1,4 @@
--- A tiling covers no more cells than its board has, each counted for each placement.
+-- The placements of a tiling have no more cells in all than the board has.
 use Rattle.std.proofs.Common.{◌≡◌, ◌+◌, ◌≤◌, ℕ, Bool, true, false, List, [], ◌∷◌, refl, sym, subst, arith, length, map, cond, inl, inr}
 use Rattle.std.specs.List.{Contains, filter}
 use Rattle.std.specs.Map.{keys_of}
@@ -27,7 +27,7 @@ use Rattle.poly_tiling.proofs.Tilings.{same_item_self}
 use Rattle.poly_text.specs.Replies.{covered}
 use Rattle.poly_design.specs.declared.design.TheConstants.{MAX_CELLS}
 
--- how often the cells of the board are covered
+-- how many cells of the board are covered, each counted once for each placement that covers it
 abbrev coverings : List Placement → List Spot → ℕ
 coverings T [] = 0
 coverings T (c ∷ cells) = how_many T (Cell c) + coverings T cells

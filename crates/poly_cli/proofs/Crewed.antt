@@ -13,11 +13,11 @@ use Rattle.poly_desk.specs.Seen.{is_unsettled}
 use Rattle.poly_desk.specs.Settling.{HasMismatch, IsNotSettled}
 use Rattle.poly_desk.specs.declared.receipt.Receipt.{Receipt}
 
--- lists with the same numbers have one sum
+-- lists with the same numbers have the same sum
 pub same_sum : {P : Type 0} (f : P → ℕ) (xs ys : List P) → map f xs ≡ map f ys → sum_by f xs ≡ sum_by f ys
 same_sum f xs ys same = sym (sum-map f xs) ∙ ap sum same ∙ sum-map f ys
 
--- without changes, the steps stay the same
+-- if the desk's passes made no changes, the steps are those with which the desk began
 pub steps_stay : (o : Layout) (ss : List Step) (k : ℕ) (b : Book) (changes cuts : ℕ) → Counts o ss k b changes cuts → changes ≡ 0 → b.steps ≡ ss
 steps_stay o ss k b changes cuts c none = sym (ap (λ n. drop n b.steps) none) ∙ c.begins
 

@@ -1,4 +1,4 @@
--- How lines go on.
+-- How a line goes on, byte by byte, until a line feed ends it.
 use Rattle.std.proofs.Common.{◌≡◌, ◌+◌, ◌-◌, ◌<◌, ◌≤◌, ◌==◌, ◌++◌, Bool, true, false, List, [], ◌∷◌, ℕ, zero, suc, refl, sym, ◌∙◌, ap, take, drop, length, get_or, arith, rules, if◌then◌else◌}
 use Rattle.std.proofs.lemmas.List.{append_assoc, append-nil, length-take, take_more, take-append-drop, drop-take, drop-drop}
 use Rattle.poly_cli.specs.Cutting.{open_line, whole_lines}
@@ -38,7 +38,7 @@ take_long (suc n) (y ∷ b) x h = ap (λ z. y ∷ z) (take_long n b x (omega (ar
 differs_is : (x : ℕ) → (x ≡ 10 → ⊥) → (x == 10) ≡ false
 differs_is x h = search (rules, h)
 
--- one byte more, which isn't a line feed
+-- one more byte that isn't a line feed ends no line
 pub goes_on : (limit i : ℕ) (begun bytes line new : List ℕ) → i < length bytes → (get_or bytes i 0 ≡ 10 → ⊥) → EndsNone limit begun (take i bytes) line
     → ((b : List ℕ) → line ≡ kept limit b → new ≡ kept limit (b ++ get_or bytes i 0 ∷ [])) → EndsNone limit begun (take (i + 1) bytes) new
 goes_on limit i begun bytes line new lt differs e step =
@@ -48,7 +48,7 @@ goes_on limit i begun bytes line new lt differs e step =
     let begins : open_line begun (take i bytes ++ x ∷ []) ≡ open_line begun (take i bytes) ++ x ∷ [] = open_append begun (take i bytes) (x ∷ []) ∙ rw other refl in
     record { whole = rw (take_more bytes i 0 lt) whole; line = rw (take_more bytes i 0 lt, begins) (step (open_line begun (take i bytes)) e.line) }
 
--- the line feed
+-- a line feed ends the line
 pub comes_to_end : (limit i : ℕ) (begun bytes line : List ℕ) → i < length bytes → get_or bytes i 0 ≡ 10 → EndsNone limit begun (take i bytes) line → EndsLine limit begun (take (i + 1) bytes) line
 comes_to_end limit i begun bytes line lt feeds e =
     let x = get_or bytes i 0 in
@@ -57,7 +57,7 @@ comes_to_end limit i begun bytes line lt feeds e =
     let begins : open_line begun (take i bytes ++ x ∷ []) ≡ [] = open_append begun (take i bytes) (x ∷ []) ∙ rw feed refl in
     record { bytes = open_line begun (take i bytes); whole = rw (take_more bytes i 0 lt) whole; after = rw (take_more bytes i 0 lt) begins; line = e.line }
 
--- what is ahead after n bytes of it
+-- the bytes ahead are the first n of them and those that are ahead after these
 pub ahead_parts : (n start end : ℕ) (xs : List ℕ) → start + n ≤ end → take (end - start) (drop start xs) ≡ take n (take (end - start) (drop start xs)) ++ take (end - (start + n)) (drop (start + n) xs)
 ahead_parts n start end xs le =
     let m = end - (start + n) in

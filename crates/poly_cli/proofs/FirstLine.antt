@@ -25,11 +25,11 @@ use Rattle.poly_cli.specs.Sessions.{or_empty, session_lines, Accepts, Refuses, O
 use Rattle.poly_cli.proofs.Known.{consumes_more, appends_none, appends_more}
 use Rattle.poly_cli.proofs.Going.{before_more, lines_more, take_heard}
 
--- the first element of a list and n more
+-- the first n elements of a list are its first element and n - 1 more
 take_first : {X : Type 0} (n : ℕ) (x : X) (xs : List X) → 0 < n → take n (x ∷ xs) ≡ x ∷ take (n - 1) xs
 take_first {X} n x xs some = let e : n ≡ suc (n - 1) = omega (arith, some) in subst (λ m. take m (x ∷ xs) ≡ x ∷ take (n - 1) xs) (sym e) refl
 
--- an input that ends without a line feed, or is empty, has one line
+-- an input without a line feed has one line, even if it is empty
 one_line : (limit : ℕ) (piece : List ℕ) (said : Option (List ℕ)) → whole_lines [] piece ≡ [] → said ≡ unended limit (open_line [] piece) → session_lines limit piece ≡ said ∷ []
 one_line limit piece said whole is = rw (whole, is) (go (open_line [] piece))
   where

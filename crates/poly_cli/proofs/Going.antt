@@ -38,11 +38,11 @@ none_text limit piece text e none = go (open_line [] piece) (sym e.line ∙ none
 pub some_text : (limit : ℕ) (piece text : List ℕ) → EndsNone limit [] piece text → (text ≡ [] → ⊥) → open_line [] piece ≡ [] → ⊥
 some_text limit piece text e some none = some (e.line ∙ ap (kept limit) none ∙ take-nil (limit + 1))
 
--- the first n elements of two lists in a row, if the first list has at most n
+-- the first n elements of two joined lists, if the first list has at most n
 pub take_front : {X : Type 0} (n : ℕ) (xs ys : List X) → length xs ≤ n → take n (xs ++ ys) ≡ xs ++ take (n - length xs) ys
 take_front {X} n xs ys le = let e : n ≡ length xs + (n - length xs) = omega (arith, le) in subst (λ m. take m (xs ++ ys) ≡ xs ++ take (n - length xs) ys) (sym e) (take-append-add xs ys (n - length xs))
 
--- what was read within the limit, if only bytes over the limit follow
+-- if `over` is empty while bytes may still come, the bytes within the limit are exactly `heard`
 pub take_heard : (n left : ℕ) (heard over : List ℕ) → left + length heard ≡ n → (0 < left → over ≡ []) → take n (heard ++ over) ≡ heard
 take_heard n zero heard over e none = take_at heard over n (omega (arith, e))
 take_heard n (suc k) heard over e none = rw (none (omega arith), append-nil heard) (take_all n heard (omega (arith, e)))

@@ -1,4 +1,4 @@
--- The grid of a session's design stays.
+-- The grid of a session's design stays the same.
 use Rattle.std.proofs.Common.{List, None, Option, Some, [], ap, inl, inr, refl, ℕ, ◌∙◌, ◌∷◌, ◌≡◌, Err, Ok, Result}
 use Rattle.poly_grid.specs.declared.refusal.Refusal.{Refusal}
 use Rattle.poly_design.specs.Changes.{changed, inverse_of}

@@ -1,4 +1,5 @@
--- Answers over the tilings of a design: the tilings as their placements in order, and how much all of them cover.
+-- An answer to `browse` stays the same if each tiling is written as its placements in order. The forced placements of an
+-- answer fit a reply line.
 use Rattle.std.proofs.Common.{List, [], ap, arith, inl, inr, length, map, refl, subst, sym, true, ℕ, ◌+◌, ◌<◌, ◌∙◌, ◌∷◌, ◌≡◌, ◌≤◌}
 use Rattle.std.specs.Prelude.{◌⊎◌}
 use Rattle.std.specs.List.{filter}
@@ -120,7 +121,8 @@ module _ (v : View) where
   same_sets [] tilings = tt
   same_sets (T ∷ all) tilings = (same_placed T (tilings T (inl refl)), same_sets all (λ U here. tilings U (inr here)))
 
--- a browse by numbers, read as an answer about tilings whose placements are in order; the forced placements fit a reply line
+-- an answer about tilings as the placements that their numbers name is also one about tilings as their placements in order;
+-- the forced placements fit a reply line
 pub answer_is : AnswersGoBySets → ListingsShow → (q : AllTilings) (l : HasAll q) (asked : Asked) (count : ℕ) (forced : List Placement) (options : List (Item × ℕ))
     → IsAnswer q.design (map (names q.view) q.tilings) asked count forced options → IsAnswer q.design (map (placed q.view) q.tilings) asked count forced options × (covered forced ≤ MAX_CELLS)
 answer_is law listings q l asked count forced options answer =

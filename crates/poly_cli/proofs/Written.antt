@@ -13,12 +13,12 @@ use Rattle.poly_cli.specs.Questions.{list_text}
 use Rattle.poly_cli.proofs.Known.{appends_more}
 
 module _ (old mid new : Option (List ℕ)) (before x : List ℕ) (a : Appends old mid before) where
-  -- the last part
+  -- after the earlier parts, the result of writing the last part is the result of writing all
   pub writes_last : (r : Result (Unit {0}) Fault) (out : List ℕ) → Writes r mid new x → before ++ x ≡ out → Writes r old new out
   writes_last (Ok u) out w e = subst (λ z. Appends old new z) e (appends_more old mid new before x a w)
   writes_last (Err f) out w e = (w.0, before ++ w.1, w.2, appends_more old mid new before w.1 a w.3, append_assoc before w.1 w.2 ∙ ap (λ z. before ++ z) w.4 ∙ e)
 
-  -- a part that was not written whole, with more parts to come
+  -- if writing a part fails, so does writing all, whatever is to come after the part
   pub writes_part : (f : Fault) (out rest : List ℕ) → Writes (Err f) mid new x → before ++ (x ++ rest) ≡ out → Writes (Err f) old new out
   writes_part f out rest w e = (
     w.0,
@@ -28,7 +28,7 @@ module _ (old mid new : Option (List ℕ)) (before x : List ℕ) (a : Appends ol
     append_assoc before w.1 (w.2 ++ rest) ∙ ap (λ z. before ++ z) (sym (append_assoc w.1 w.2 rest) ∙ ap (λ z. z ++ rest) w.4) ∙ e,
   )
 
--- the lines of the first tilings
+-- the lines of the first `i` tilings
 abbrev pub lines_to : View → List (List ℕ) → ℕ → List ℕ
 lines_to v all i = flat_map tiling_text (map (placed v) (take i all))
 
@@ -37,7 +37,7 @@ lines_more v all i T lt is =
     ap (λ z. flat_map tiling_text (map (placed v) z)) (take_more all i [] lt ∙ ap (λ U. take i all ++ U ∷ []) (sym is)) ∙ ap (flat_map tiling_text) (map-append (placed v) (take i all) (T ∷ []))
     ∙ flat_map-append tiling_text (map (placed v) (take i all)) (placed v T ∷ []) ∙ ap (λ z. lines_to v all i ++ z) (append-nil (tiling_text (placed v T)))
 
--- what is left of a listing after a tiling
+-- what is left of a listing after the tiling at `i`
 pub lines_left : (v : View) (all : List (List ℕ)) (i : ℕ) (T : List ℕ) → i < length all → T ≡ get_or all i [] →
     (rest : List ℕ) × (lines_to v all i ++ (tiling_text (placed v T) ++ rest) ≡ list_text (map (placed v) all))
 lines_left v all i T lt is =
@@ -48,11 +48,11 @@ lines_left v all i T lt is =
     ∙ flat_map-append tiling_text (map (placed v) (take (i + 1) all)) (map (placed v) (drop (i + 1) all)) ∙ ap (λ z. z ++ tail) (lines_more v all i T lt is) in
     (tail ++ end, sym (ap (λ z. z ++ end) parts ∙ append_assoc (lines_to v all i ++ tiling_text (placed v T)) tail end ∙ append_assoc (lines_to v all i) (tiling_text (placed v T)) (tail ++ end)))
 
--- one more of the texts of a list
+-- the texts of one more element come after the texts of the first `i`
 pub flat_next : {X : Type 0} (f : X → List ℕ) (xs : List X) (i : ℕ) (d : X) → i < length xs → flat_map f (take (i + 1) xs) ≡ flat_map f (take i xs) ++ f (get_or xs i d)
 flat_next f xs i d lt = ap (flat_map f) (take_more xs i d lt) ∙ flat_map-append f (take i xs) (get_or xs i d ∷ []) ∙ ap (λ z. flat_map f (take i xs) ++ z) (append-nil (f (get_or xs i d)))
 
--- the texts that are left after one
+-- the texts that are left after the element at `i`
 pub flat_left : {X : Type 0} (f : X → List ℕ) (xs : List X) (i : ℕ) (d : X) → i < length xs → (rest : List ℕ) × (flat_map f (take i xs) ++ (f (get_or xs i d) ++ rest) ≡ flat_map f xs)
 flat_left f xs i d lt =
     let tail = flat_map f (drop (i + 1) xs) in (
@@ -60,6 +60,6 @@ flat_left f xs i d lt =
       sym (append_assoc (flat_map f (take i xs)) (f (get_or xs i d)) tail) ∙ ap (λ z. z ++ tail) (sym (flat_next f xs i d lt)) ∙ sym (flat_map-append f (take (i + 1) xs) (drop (i + 1) xs)) ∙ ap (flat_map f) (take-append-drop (i + 1) xs),
     )
 
--- a first part that was not written whole
+-- if writing the first part fails, so does writing all
 pub first_part : (f : Fault) (old new : Option (List ℕ)) (x rest : List ℕ) → Writes (Err f) old new x → Writes (Err f) old new (x ++ rest)
 first_part f old new x rest w = (w.0, w.1, w.2 ++ rest, w.3, sym (append_assoc w.1 w.2 rest) ∙ ap (λ z. z ++ rest) w.4)

@@ -4,7 +4,8 @@ use Rattle.poly_design.specs.declared.change.Change.{Change}
 use Rattle.poly_book.specs.States.{State as Book, Way}
 use Rattle.poly_cli.specs.States.{State}
 
--- the changes of the steps to undo or to redo, the one whose turn is next last
+-- the changes of the steps that can be undone, or of those that can be redone; the last change is the next to be undone or
+-- redone
 abbrev pub changes_of : List Way → List Change
 changes_of ways = reverse (map (λ w. w.change) ways)
 

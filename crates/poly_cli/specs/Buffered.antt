@@ -20,36 +20,36 @@ pub record IsReady (b : Lines) : Type 0 where
   pub within : b.end ≤ length b.chunk.items
   pub some : 0 < length b.chunk.items
 
--- the first bytes of a line, one more than a line may have
+-- the first bytes of a line, at most one more than a line may have
 abbrev pub kept : ℕ → List ℕ → List ℕ
 kept limit bytes = take (limit + 1) bytes
 
--- the piece ends the line that had begun, and nothing in the piece comes after that line; text is what is kept of it
+-- the piece ends the line that had begun, and nothing in the piece comes after that line; `text` is what is kept of the line
 pub record EndsLine (limit : ℕ) (begun piece text : List ℕ) : Type 0 where
   pub bytes : List ℕ
   pub whole : whole_lines begun piece ≡ bytes ∷ []
   pub after : open_line begun piece ≡ []
   pub line : text ≡ kept limit bytes
 
--- the piece ends no line
+-- the piece ends no line; `text` is what is kept of the line that has begun
 pub record EndsNone (limit : ℕ) (begun piece text : List ℕ) : Type 0 where
   pub whole : whole_lines begun piece ≡ []
   pub line : text ≡ kept limit (open_line begun piece)
 
--- what was found: a line's end, or none
+-- what was found in the bytes ahead: the end of a line; or no end, and then no bytes are ahead any more
 abbrev pub Cuts : ℕ → Bool → List ℕ → List ℕ → List ℕ → List ℕ → Type 0
 Cuts limit true begun piece text rest = EndsLine limit begun piece text
 Cuts limit false begun piece text rest = EndsNone limit begun piece text × (rest ≡ [])
 
--- the result of a read if `left` bytes may still come: some bytes, which are ahead from then on; the end; or a fault. A fault takes
--- bytes only if no more may come.
+-- the result of a read if `left` bytes may still come: some bytes, which are ahead from then on; the end; or a fault. A
+-- fault takes bytes only if no more may come.
 abbrev pub Reads : Event → ℕ → ℕ → Option (List ℕ) → Option (List ℕ) → List ℕ → Type 0
 Reads Line left now old new rest = Consumes old new rest × (now + length rest ≡ left)
 Reads End left now old new rest = Consumes old new [] × IsAtEnd new × (rest ≡ []) × (now ≡ left)
 Reads Fault left now old new rest = (over : List ℕ) × Consumes old new over × (rest ≡ []) × (now ≡ left) × (0 < now → over ≡ [])
 
--- the result of reading the next line: the piece of the stream that was cut, the text that is kept of it, and the bytes read over
--- the limit
+-- the result of reading the next line: the piece of the stream that was cut, the text that is kept of it, and the bytes
+-- read over the limit
 abbrev pub Finds : Event → Lines → List ℕ → Option (List ℕ) → List ℕ → Type 0
 Finds Line now piece left over = EndsLine now.limit [] piece now.line.items × (over ≡ [])
 Finds End now piece left over = EndsNone now.limit [] piece now.line.items × (ahead now ≡ []) × IsAtEnd left × (over ≡ [])

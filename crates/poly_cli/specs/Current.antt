@@ -3,6 +3,6 @@ use Rattle.std.specs.Prelude.{IfSome, Option, true, ◌≡◌}
 use Rattle.poly_book.specs.AllTilings.{AllTilings}
 use Rattle.poly_cli.specs.States.{State}
 
--- nothing is kept, or all tilings of the present design are, and the engine has settled
+-- nothing is kept; or all tilings of the present design are kept and a question was answered since the last change
 abbrev pub IsCurrent : Option AllTilings → State → Type 0
 IsCurrent kept s = IfSome kept (λ q. (q.design ≡ s.design) × (s.settled ≡ true))

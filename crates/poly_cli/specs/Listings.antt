@@ -9,7 +9,8 @@ use Rattle.poly_tiling.specs.TilingOrder.{placed}
 use Rattle.poly_text.specs.Replies.{covered}
 use Rattle.poly_design.specs.declared.design.TheConstants.{MAX_CELLS}
 
--- the numbers are a tiling of the view, their placements in order ascend, and what they name fits a reply line
+-- the numbers are a tiling of the view, no two of their placements are the same, and the placements in order ascend and fit a
+-- reply line
 pub record IsPrintable (v : View) (T : List ℕ) : Type 0 where
   pub tiling : is_tiling v T ≡ true
   pub differ : AllPairs (λ p q. p ≢ q) (names v T)

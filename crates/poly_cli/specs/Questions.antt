@@ -20,11 +20,11 @@ list_text all = flat_map tiling_text all ++ tilings_text (length all)
 abbrev pub ListSays : Layout → List (List Placement) → List ℕ → Type 0
 ListSays d all out = out ≡ list_text all
 
--- how many there are
+-- how many tilings there are
 abbrev pub CountSays : Layout → List (List Placement) → List ℕ → Type 0
 CountSays d all out = out ≡ tilings_text (length all)
 
--- how many there are up to the symmetries of the design
+-- how many tilings there are up to the symmetries of the design
 abbrev pub ClassesSay : Layout → List (List Placement) → List ℕ → Type 0
 ClassesSay d all out = (n : ℕ) × AreClasses d n × (out ≡ classes_text n)
 
@@ -38,7 +38,8 @@ answer_text forced options count = forced_text forced ++ (flat_map (λ o. item_t
 abbrev pub BrowseSays : Question → Layout → List (List Placement) → List ℕ → Type 0
 BrowseSays q d all out = (count : ℕ) × (forced : List Placement) × (options : List (Item × ℕ)) × IsAnswer d all (asked_of q) count forced options × (out ≡ answer_text forced options count)
 
--- A question about all tilings of the design is answered or refused. Even if it is refused, the search may have finished before that.
+-- A question about all tilings of the design is answered or refused. Even if it is refused, the search may have finished
+-- before that.
 abbrev pub AnswersQuestion : (Layout → List (List Placement) → List ℕ → Type 0) → State → List ℕ → State → Type 0
 AnswersQuestion Says s out t =
     ((t ≡ answered s) × ((all : List (List Placement)) × IsListOfTilings s.design all × Says s.design all out))

@@ -1,4 +1,4 @@
--- What a whole session writes: the first line is the puzzle line, and if it is refused, nothing more is written.
+-- What a whole session writes: the first line is the puzzle line, and if it is refused, nothing follows the refusal.
 use Rattle.std.specs.Prelude.{◌≡◌, ◌⊎◌, ◌≤◌, ℕ, List, [], ◌∷◌, ◌++◌, length, Option, Some, None, Result, Ok, Err}
 use Rattle.std.specs.Io.KnownBytes.{Appends, IsAtEnd}
 use Rattle.poly_grid.specs.declared.grid.Grid.{Grid}
@@ -16,7 +16,7 @@ use Rattle.poly_cli.specs.Runs.{AreReadWhole, Limits, Runs, lines_heard}
 use Rattle.poly_cli.specs.Slow.{Slow}
 use Rattle.poly_cli.specs.States.{State, opened}
 
--- an input without a line is a puzzle line of no bytes
+-- an input without lines counts as one empty line
 abbrev pub or_empty : List (Option (List ℕ)) → List (Option (List ℕ))
 or_empty [] = Some [] ∷ []
 or_empty (line ∷ lines) = line ∷ lines
@@ -35,12 +35,12 @@ Refuses line e = (e ≡ Memory) ⊎ FirstSays line (Err e)
 abbrev pub Accepts : Option (List ℕ) → State → Type 0
 Accepts line t = (design : Layout) × FirstSays line (Ok design) × (t ≡ opened design)
 
--- what the opening of a session gives, with the grid of its design
+-- what the opening of a session gives: the state that it leads to, with the grid of the design, or a refusal
 abbrev pub Opens : Option (List ℕ) → Result Grid Refusal → State → Type 0
 Opens line (Ok grid) t = Accepts line t × (grid ≡ t.design.grid)
 Opens line (Err e) t = Refuses line e
 
--- the reply to the opening: the edition is 0
+-- the reply to the opening: edition 0, or the refusal
 abbrev pub opening_text : Result Grid Refusal → List ℕ
 opening_text (Ok x) = ok_text 0
 opening_text (Err e) = refusal_text e
@@ -50,15 +50,17 @@ abbrev pub RunsRefused : List (Option (List ℕ)) → List ℕ → Type 0
 RunsRefused [] out = out ≡ refusal_text Memory
 RunsRefused (first ∷ lines) out = (e : Refusal) × Refuses first e × (out ≡ refusal_text e)
 
--- a session whose first line was accepted, or that read no whole line; `Failures` are the refusals of an engine that has failed
+-- a session whose first line was accepted, or that read no whole line; `Failures` are the refusals of an engine that has
+-- failed
 abbrev pub RunsOpened : (Refusal → Type 0) → List (Option (List ℕ)) → List ℕ → Type 0
 RunsOpened Failures [] out = out ≡ []
 RunsOpened Failures (first ∷ lines) out = (s : State) × (rest : List ℕ) × Accepts first s × Runs (Slow Failures) s lines rest × (out ≡ ok_text 0 ++ rest)
 
--- What a session writes for the bytes that it took. Done: the input ended within the limits, and the output is a run on all lines.
--- Refused: the output is the reply to the first line, which was read whole unless memory ran out before. After a read fault, it is a
--- run on the lines read whole before. After a write fault, it is the beginning of a run's output on some first lines of those read
--- whole.
+-- What a session writes for the bytes that it took. Done: the input ended within the limits, and the output is that of a
+-- run on all lines. Refused: the output is the reply to the first line, which was read whole unless memory ran out before.
+-- After a read fault, the output is that of a run on the lines read whole before the fault. After a write fault, it is a
+-- beginning of the refusal of the first line, or of the output of a run on some of the lines read whole, from the first
+-- line on.
 abbrev pub SessionSays : (Refusal → Type 0) → Limits → List ℕ → Result End Fault → Option (List ℕ) → Option (List ℕ) → Option (List ℕ) → Type 0
 SessionSays Failures m bytes (Ok Done) left old new =
     IsAtEnd left × (length bytes ≤ m.bytes) × (length (session_lines m.line bytes) ≤ m.lines) × ((out : List ℕ) × Appends old new out × RunsOpened Failures (session_lines m.line bytes) out)

@@ -31,7 +31,7 @@ Answers command.ListAll s out t = AnswersQuestion ListSays s out t
 Answers (command.Browse question) s out t = AnswersQuestion (BrowseSays question) s out t
 Answers command.Classes s out t = AnswersQuestion ClassesSay s out t
 
--- the command asks only for numbers, which every engine has
+-- the command asks only for numbers, which even an engine that has failed still has
 abbrev pub is_status : Command → Bool
 is_status command.Status = true
 is_status _ = false
@@ -40,18 +40,18 @@ is_status _ = false
 abbrev pub Fails : (Refusal → Type 0) → State → List ℕ → State → Type 0
 Fails Failures s out t = (e : Refusal) × Failures e × IsRefusal e s out t
 
--- The reply to a command that was read, or the refusal of one that was not. A failure of the engine may take the place of the
--- reply to any command that was read but `status`.
+-- The reply to a command, or the refusal of words that make no command. A failure of the engine may take the place of the
+-- reply to any command but `status`.
 abbrev pub Replies : (Refusal → Type 0) → Result Command Refusal → State → List ℕ → State → Type 0
 Replies Failures (Ok c) s out t = Answers c s out t ⊎ ((is_status c ≡ false) × Fails Failures s out t)
 Replies Failures (Err e) s out t = IsRefusal e s out t
 
--- the reply to the words of a line: none if it has no words. Running out of memory may take the place of any reply.
+-- The reply to the words of a line: none if there are no words. `Memory` may take the place of any reply.
 abbrev pub WordsSay : (Refusal → Type 0) → List (List ℕ) → State → List ℕ → State → Type 0
 WordsSay Failures [] s out t = (t ≡ s) × (out ≡ [])
 WordsSay Failures (first ∷ words) s out t = ((c : Result Command Refusal) × CommandSays s.design.grid (first ∷ words) c × Replies Failures c s out t) ⊎ IsRefusal Memory s out t
 
--- the reply to a line, given by its text; None stands for a line that is too long
+-- The reply to a line. `None` is a line that is too long, whose text isn't kept.
 abbrev pub Slow : (Refusal → Type 0) → State → Option (List ℕ) → List ℕ → State → Type 0
 Slow Failures s None out t = IsRefusal LineTooLong s out t
 Slow Failures s (Some line) out t = WordsSay Failures (words_of line) s out t

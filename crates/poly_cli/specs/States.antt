@@ -13,8 +13,8 @@ use Rattle.poly_book.specs.Amounts.{AreAllTilingsOf, AreTilingsOf, IsNarrow, IsW
 use Rattle.poly_book.specs.declared.book.Numbers.{Numbers}
 use Rattle.poly_tiling.specs.declared.lister.TheConstants.{MAX_TILINGS}
 
--- The design, how often it was changed, and the changes that can be undone and redone: each list ends with the one whose turn is next.
--- Settled says that a question about all tilings was answered since the last change.
+-- The design, how often it was changed, and the changes that can be undone and redone: each list ends with the change that is
+-- undone or redone next. `settled` says whether a question about all tilings was answered since the last change.
 pub record State : Type 0 where
   pub design : Layout
   pub edition : ℕ
@@ -26,11 +26,12 @@ pub record State : Type 0 where
 abbrev pub opened : Layout → State
 opened design = record { design = design; edition = 0; undo = []; redo = []; settled = false }
 
--- a question about all tilings was answered
+-- the state after a question about all tilings was answered
 abbrev pub answered : State → State
 answered s = record { design = s.design; edition = s.edition; undo = s.undo; redo = s.redo; settled = true }
 
--- the change is made by an edit: it can be undone, and what could be redone is dropped
+-- the state after an edit has made the change: of the changes that can be undone, this one included, the newest 256 are kept,
+-- and nothing can be redone
 abbrev pub after_edit : State → Change → State
 after_edit s change = record { design = changed s.design change; edition = s.edition + 1; undo = newest (s.undo ++ change ∷ []); redo = []; settled = false }
 
@@ -41,21 +42,21 @@ pub record Edits (s : State) (edit : Edit) (t : State) : Type 0 where
   pub narrow : IsNarrow s.design (changed s.design change)
   pub is : t ≡ after_edit s change
 
--- the last change is undone, and can be redone then
+-- the last change that can be undone is undone, and can then be redone
 pub record Undoes (s t : State) : Type 0 where
   pub change : Change
   pub left : List Change
   pub taken : s.undo ≡ left ++ change ∷ []
   pub is : t ≡ record { design = changed s.design (inverse_of change); edition = s.edition + 1; undo = left; redo = s.redo ++ change ∷ []; settled = false }
 
--- the last change that was undone is redone, and can be undone then
+-- the change that was undone last is redone, and can then be undone
 pub record Redoes (s t : State) : Type 0 where
   pub change : Change
   pub left : List Change
   pub taken : s.redo ≡ left ++ change ∷ []
   pub is : t ≡ record { design = changed s.design change; edition = s.edition + 1; undo = s.undo ++ change ∷ []; redo = left; settled = false }
 
--- The edit is refused for one of its causes. If there is none, its change may be too wide, or a counter used up.
+-- The edit is refused for one of its causes. If it has none, its change may be too wide, or a counter may be used up.
 abbrev pub EditRefused : State → Edit → Refusal → Type 0
 EditRefused s edit e = IsRefused s.design edit e ⊎ ((change : Change) × IsAccepted s.design edit change × (((e ≡ TooWide) × IsWide s.design (changed s.design change)) ⊎ (e ≡ Spent)))
 
@@ -63,21 +64,21 @@ EditRefused s edit e = IsRefused s.design edit e ⊎ ((change : Change) × IsAcc
 abbrev pub StepRefused : Layout → Refusal → Type 0
 StepRefused d e = (e ≡ Spent) ⊎ ((e ≡ CatalogueFull) × HasOverTilings MAX_TILINGS d)
 
--- why an undo is refused: there is no undo step, or the design that it leads to is refused
+-- why an undo is refused: there is no undo step, or a cause of `StepRefused` applies to the design that the undo leads to
 abbrev pub UndoRefused : State → Refusal → Type 0
 UndoRefused s e = ((e ≡ NothingToUndo) × (s.undo ≡ [])) ⊎ ((change : Change) × (left : List Change) × (s.undo ≡ left ++ change ∷ []) × StepRefused (changed s.design (inverse_of change)) e)
 
--- why a redo is refused: there is no redo step, or the design that it leads to is refused
+-- why a redo is refused: there is no redo step, or a cause of `StepRefused` applies to the design that the redo leads to
 abbrev pub RedoRefused : State → Refusal → Type 0
 RedoRefused s e = ((e ≡ NothingToRedo) × (s.redo ≡ [])) ⊎ ((change : Change) × (left : List Change) × (s.redo ≡ left ++ change ∷ []) × StepRefused (changed s.design change) e)
 
--- Why a question about all tilings of the design isn't answered: the turns or a counter are used up, memory ran out, or there are too
--- many tilings.
+-- Why a question about all tilings of the design isn't answered: the turns or a counter are used up, memory ran out, or
+-- there are too many tilings.
 abbrev pub IsUnanswered : Layout → Refusal → Type 0
 IsUnanswered d e = (e ≡ Unfinished) ⊎ (e ≡ Spent) ⊎ (e ≡ Memory) ⊎ ((e ≡ CatalogueFull) × HasOverTilings MAX_TILINGS d)
 
--- The edition, how many tilings are listed and how many tasks are pending. No more tilings are listed than the design has; if nothing
--- is pending, as in a settled state, all of them are listed.
+-- The edition, how many tilings are listed and how many tasks are pending. No more tilings are listed than the design has;
+-- if nothing is pending, as in a settled state, all of them are listed.
 pub record AreNumbers (s : State) (n : Numbers) : Type 0 where
   pub edition : n.edition ≡ s.edition
   pub some : AreTilingsOf n.listed s.design

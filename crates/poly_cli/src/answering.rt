@@ -1,7 +1,8 @@
 //! Answers to the lines after the puzzle line.
 //!
 //! Putting all tilings in order takes about as long as answering a question about them, so a session keeps the tilings
-//! from one such question to the next. Before a change it drops them, so their memory is free while the engine works.
+//! from one such question to the next. Before an edit, an undo or a redo it drops them, so their memory is free while the
+//! engine works.
 ghost use Rattle.std.specs.Prelude.{false, ◌≡◌, ◌⊎◌, ◌≤◌, ℕ, List, None, IfErr, IfOk, option_map, vec_capacity};
 ghost use Rattle.poly_text.specs.Replies.{refusal_text, step_text};
 ghost use Rattle.poly_cli.specs.Current.{IsCurrent};
@@ -19,22 +20,27 @@ use poly_text::{Command, ReplyLine, asked, refusal_line};
 use std::alloc::Global;
 use std::io::Write;
 
-// The most placements of a tiling: each covers at least one cell of the design.
+// The most placements of a tiling: each covers at least one cell of the design, and no two cover the same cell.
 const MOST_PLACED: usize = MAX_CELLS;
 
-/// Answers lines with an engine. It allocates its reply lines once, so no reply can run out of memory halfway.
+/// Answers lines with an engine. It allocates the memory for a reply line and for the placements of a tiling once, so no reply
+/// runs out of memory halfway.
 #[derive(Drop)]
 pub struct Answerer {
+    /// Allocates commands and answers.
     pub(crate) alloc: Global,
+    /// The reply line that is written next.
     pub(crate) reply: ReplyLine,
+    /// Room for the placements of one tiling.
     pub(crate) placements: Vec<Placement>,
-    // All tilings of the design, if a question asked for them since the last change.
+    /// All tilings of the design, if the engine returned them for a `list`, `browse` or `classes` after the last edit, undo or
+    /// redo, accepted or refused.
     pub(crate) kept: Option<Quiet>,
     ghost room: { MOST_PLACED ≤ vec_capacity placements },
 }
 
 impl Answerer {
-    /// An answerer that hasn't answered yet. Fails only with `Memory`.
+    /// Returns an answerer that keeps no tilings yet. Fails only with `Memory`.
     pub fn new(alloc: Global) -> Result<Answerer, Refusal>
         ensures fresh { IfOk result (λ a. a.kept ≡ None) }
         ensures why { IfErr result (λ e. e ≡ Refusal.Memory) }
@@ -47,8 +53,8 @@ impl Answerer {
         })
     }
 
-    /// Answers a line of a session on a design of the grid; `None` is a line that is too long. Writes the whole answer and flushes
-    /// it. Fails with `Write` if the writer does.
+    /// Answers a line of a session; `None` is a line that is too long. `grid` is the grid of the session's design. Writes the
+    /// whole answer and flushes it. Fails only with `Write`, if the writer fails.
     ///
     /// If tilings are kept, they must be those of the present design. This also holds after the call.
     pub fn respond<E: Engine, W: Write>(

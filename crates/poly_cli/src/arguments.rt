@@ -18,19 +18,19 @@ const EXAMPLE: &str = "Example: two dominoes on a board of two by two
 Commands (a CELL is x,y):
   add NAME required|optional on|off CELL..   adds a piece; on: it may be turned over
   drop NAME                                  drops a piece
-  need NAME required|optional                uses it exactly once, or at most once
-  copies NAME LEAST MOST                     uses it LEAST to MOST times, 0 to 16
-  mirror NAME on|off                         says whether it may be turned over
-  cell CELL required|optional|blocked        must be covered, may be, or isn't part of the board
-  pin NAME CELL..                            the piece lies here
-  unpin NAME                                 it lies anywhere again
-  forbid NAME CELL..                         the piece never lies here
-  allow NAME CELL..                          it may lie here again
+  need NAME required|optional                the piece is used exactly once, or at most once
+  copies NAME LEAST MOST                     the piece is used LEAST to MOST times, 0 to 16
+  mirror NAME on|off                         whether the piece may be turned over
+  cell CELL required|optional|blocked        the cell must be covered, may be, or isn't part of the board
+  pin NAME CELL..                            the piece lies on these cells
+  unpin NAME                                 the piece may lie anywhere again
+  forbid NAME CELL..                         the piece never lies on these cells
+  allow NAME CELL..                          the piece may lie on these cells again
   undo                                       undoes the last change
-  redo                                       makes again the change that was undone last
+  redo                                       redoes the change that was undone last
   count                                      the number of tilings
   list                                       each tiling, and their number
-  browse +NAME=CELL/CELL.. -NAME=.. @CELL @NAME   what the tilings with, without and over these share
+  browse +NAME=CELL/CELL.. -NAME=.. @CELL @NAME   how many tilings have, lack and cover these, and what they share
   classes                                    the number of tilings up to symmetry
   status                                     the edition, and what is listed and pending
 
@@ -45,23 +45,24 @@ const TURNS: &str = "turns";
 
 const WORKERS: &str = "workers";
 
-/// How many turns a search may take if the arguments don't say.
+/// The most turns that settling may take each time, if the arguments don't say.
 pub const DEFAULT_TURNS: u64 = 1_000_000;
 
 /// What the arguments say.
 #[derive(Debug, Clone, Copy, PartialEq, Eq)]
 pub struct Options {
-    /// The most turns that settling may take each time, from 1 to `MOST_TURNS`.
+    /// The most turns that settling may take each time, from 1 to `MOST_TURNS`; with workers, the most for each of them.
     pub turns: u64,
-    /// How many workers settle together, from 1 to `MOST_WORKERS`; `None` if the program settles alone.
+    /// How many workers search at the same time, from 1 to `MOST_WORKERS`; `None` if one thread searches, without a crew.
     pub workers: Option<u8>,
 }
 
 /// Reads the words of the command line, the program's own name first: `--turns N`, with N from 1 to
 /// `MOST_TURNS`, `--workers N`, with N from 1 to `MOST_WORKERS`, `--help` and `--version`.
 ///
-/// The error holds the text of the help, of the version or of a mistake, or says that memory ran out. `Error::print` writes help and
-/// version to standard output and the rest to standard error; `Error::exit_code` is 0 for help and version and 2 for the rest.
+/// The error holds the text of the help, of the version or of a mistake, or says that memory ran out. `Error::print` writes
+/// help and version to standard output and the rest to standard error; `Error::exit_code` is 0 for help and version and 2
+/// for the rest.
 pub fn read_arguments(alloc: Global, words: &[&str]) -> Result<Options, Error>
     ensures turns { IfOk result (λ o. (1 ≤ o.turns) × (o.turns ≤ MOST_TURNS)) }
     ensures workers { IfOk result (λ o. IfSome o.workers (λ n. (1 ≤ n) × (n ≤ MOST_WORKERS))) }
@@ -82,7 +83,7 @@ pub fn read_arguments(alloc: Global, words: &[&str]) -> Result<Options, Error>
 fn command<'a>(alloc: Global) -> Result<Command<'a>, Error> {
     let turns = Arg::new(alloc, TURNS)
         .long(TURNS)
-        .help("The most turns of a search: 1 to 1000000000, by default 1000000")
+        .help("The most turns of a search, or of each worker: 1 to 1000000000, by default 1000000")
         .action(ArgAction::Set)
         .value_parser(value_parser!(u64).range(1..=MOST_TURNS as i64));
     let workers = Arg::new(alloc, WORKERS)

@@ -13,16 +13,19 @@ use std::snapshot::Snapshot;
 pub(crate) enum Kept {
     /// A book that can be settled alone at any time.
     Whole(Solo),
-    /// The book is at a desk, or it is lost there.
+    /// The book is at a desk, or was lost there.
     Lost(LostBook),
 }
 
-/// What is left of a book that a desk has: its last numbers, and the refusal that each question is answered with. Contracts also
-/// see its last state.
+/// What is left of a book that a desk has: its last numbers, and the refusal that answers every command but `status`.
+/// Contracts also see the book's last state.
 #[derive(Drop)]
 pub(crate) struct LostBook {
+    /// The book's last state, for contracts only.
     pub(crate) was: Snapshot<Solo>,
+    /// The numbers of that state.
     pub(crate) numbers: Numbers,
+    /// Why the book counts as lost: an `Unsettled`.
     pub(crate) why: Refusal,
     ghost numbers_are: { AreNumbers was.value numbers },
     ghost failed: { is_unsettled why ≡ true },

@@ -1,4 +1,5 @@
-//! The session: it reads lines, and writes the replies of an engine that knows all tilings of a design under edits.
+//! The session: it reads lines, hands their commands to an engine and writes the replies. The engine keeps a design that is
+//! edited, and finds all tilings of the design.
 #![tactic(auto)]
 
 mod answering;
@@ -30,6 +31,6 @@ pub use team::Team;
 pub use lines::{INPUT_LIMIT, LINE_LIMIT};
 pub use sessions::LINE_COUNT;
 
-// The arguments of the program.
+// The arguments of the program, and the limits on their numbers.
 pub use arguments::{DEFAULT_TURNS, Options, read_arguments};
 pub use poly_crew::{MOST_TURNS, MOST_WORKERS};

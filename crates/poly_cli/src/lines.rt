@@ -1,7 +1,8 @@
-//! Cuts the bytes of any reader into lines, in memory that is taken once.
+//! Cuts the bytes of any reader into lines, in memory that is allocated once.
 //!
-//! A reader may give any number of bytes at a time, and a line may be far longer than the memory for it. So each byte passes through a
-//! chunk once, and only the first bytes of a line are kept: one more than a line may have, which is enough to tell that it is too long.
+//! A reader may give any number of bytes at a time, and a line may be far longer than the memory for it. So each byte passes
+//! through a chunk once, and only the first bytes of a line are kept: at most one more than a line may have, which is enough
+//! to tell that the line is too long.
 ghost use Rattle.std.specs.Prelude.{◌↔◌, ◌^◌, IsTrue, option_map, ◌≡◌, ◌+◌, ◌<◌, ◌≤◌, ◌++◌, ◌∷◌, [], ℕ, List, take, drop, length, IfOk, IfErr, IfSome, OnOk, MatchOption, MatchResult, vec_len, vec_capacity};
 ghost use Rattle.std.specs.Io.KnownBytes.{Consumes, IsAtEnd};
 ghost use Rattle.poly_cli.specs.Cutting.{ended, unended, without_return};
@@ -11,7 +12,7 @@ use poly_grid::Refusal;
 use std::alloc::Global;
 use std::io::Read;
 
-/// The most bytes of a line before its line feed. A longer line is a `LineTooLong`.
+/// The most bytes of a line before its line feed. A longer line is refused with `LineTooLong`.
 pub const LINE_LIMIT: usize = 65_536;
 
 /// The most bytes of an input. A further byte is a read fault.
@@ -22,11 +23,17 @@ const CHUNK: usize = 8192;
 /// The bytes that were read and not yet cut, the line that was cut last, and how many bytes may still be read.
 #[derive(Drop)]
 pub struct Lines {
+    /// The most bytes of a line before its line feed.
     limit: usize,
+    /// How many bytes may still be read.
     left: u64,
+    /// Where a read puts its bytes.
     chunk: Vec<u8>,
+    /// Where the bytes of the chunk that are not yet cut begin.
     at: usize,
+    /// Where these bytes end.
     end: usize,
+    /// The first bytes of the line that was cut last or has begun, at most `limit + 1` of them.
     line: Vec<u8>,
 }
 
@@ -42,8 +49,8 @@ pub enum Event {
 }
 
 impl Lines {
-    /// A buffer for lines of up to `limit` bytes, from an input of up to `input` bytes. Takes all memory that it ever needs; fails only
-    /// with `Memory`.
+    /// Returns a buffer for lines of up to `limit` bytes, from an input of up to `input` bytes. Allocates all memory that
+    /// it ever needs. Requires that `limit` is below `usize::MAX`. Fails only with `Memory`.
     pub fn new(alloc: Global, limit: usize, input: u64) -> Result<Lines, Refusal>
         requires { limit + 1 < 2 ^ 64 }
         ensures ready { IfOk result IsReady }
@@ -108,7 +115,7 @@ impl Lines {
         self.line.is_empty()
     }
 
-    // Cuts the bytes that were read up to the next line feed, and returns whether there is one.
+    // Cuts the bytes up to the next line feed, or all bytes that were read if there is none. Returns whether there is one.
     fn cut(&mut self) -> bool
         requires ready { IsReady self.old }
         ensures ready { IsReady self.new }
@@ -128,7 +135,7 @@ impl Lines {
         }
     }
 
-    // Reads more bytes once all earlier ones are cut: `Line` if some came.
+    // Reads more bytes, after all earlier ones are cut. Returns `Line` if some came.
     fn refill<R: Read>(&mut self, reader: &mut R) -> Event
         requires ready { IsReady self.old }
         ensures ready { IsReady self.new }
@@ -138,7 +145,7 @@ impl Lines {
     {
         self.at = 0;
         self.end = 0;
-        // Near the limit the chunk shrinks, so that a read never takes a byte past the limit together with others.
+        // Near the limit the chunk shrinks, so that no read takes both bytes within the limit and a byte past it.
         if self.left == 0 {
             self.chunk.truncate(1);
         } else if self.left < self.chunk.len() as u64 {
@@ -156,7 +163,8 @@ impl Lines {
     }
 }
 
-// Takes bytes into the line up to a line feed, and returns how many it took, the line feed included.
+// Takes bytes into the line up to the first line feed, and returns how many it took, the line feed included. If there is no
+// line feed, takes all bytes and returns `None`.
 fn gather(limit: usize, line: &mut Vec<u8>, bytes: &[u8]) -> Option<usize>
     requires room { limit + 1 ≤ vec_capacity line.old }
     ensures room { vec_capacity line.new ≡ vec_capacity line.old }
@@ -175,7 +183,7 @@ fn gather(limit: usize, line: &mut Vec<u8>, bytes: &[u8]) -> Option<usize>
     None
 }
 
-// Keeps one more byte of the line if it has room.
+// Keeps one more byte of the line, if at most `limit` bytes are kept so far.
 fn keep(limit: usize, line: &mut Vec<u8>, byte: u8)
     requires room { limit + 1 ≤ vec_capacity line.old }
     ensures room { vec_capacity line.new ≡ vec_capacity line.old }

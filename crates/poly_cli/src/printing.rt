@@ -1,4 +1,4 @@
-//! Prints tilings and answers, line by line, in memory that was taken before.
+//! Prints tilings and answers line by line, without allocating.
 ghost use Rattle.std.specs.Prelude.{◌≡◌, ◌≤◌, map};
 ghost use Rattle.std.specs.List.{All, flat_map};
 ghost use Rattle.poly_design.specs.declared.design.TheConstants.{MAX_CELLS};
@@ -16,7 +16,8 @@ use poly_tiling::{Item, Tiling, View};
 use std::io::Write;
 
 impl Answerer {
-    /// Writes a line for each tiling, and how many there are. Never allocates.
+    /// Writes a line for each tiling, and how many there are. Requires tilings of the view that each fit a reply line. Never
+    /// allocates.
     pub(crate) fn print<W: Write>(
         &mut self,
         view: &View,
@@ -59,7 +60,8 @@ impl Answerer {
         }
     }
 
-    /// Writes the forced placements, a line for each item, and how many tilings match. Never allocates.
+    /// Writes the forced placements, a line for each item, and how many tilings match. Requires forced placements with at
+    /// most 256 cells in all. Never allocates.
     pub(crate) fn print_answer<W: Write>(
         &mut self,
         answer: &Answer,

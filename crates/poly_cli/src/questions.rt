@@ -1,4 +1,5 @@
-//! Answers to questions about all tilings of the design. Nothing is written before the engine has settled and all memory is taken.
+//! Answers questions about all tilings of the design, or writes why a question is refused. No part of an answer is written
+//! before the engine has settled and all memory is allocated.
 ghost use Rattle.std.specs.Prelude.{◌≡◌, ◌⊎◌, ◌≤◌, ℕ, List, None, IfErr, IfOk, OnErr, OnOk, map};
 ghost use Rattle.poly_design.specs.declared.design.TheConstants.{MAX_CELLS};
 ghost use Rattle.poly_tiling.specs.Listings.{IsListOfTilings};
@@ -68,7 +69,8 @@ impl Answerer {
         }
     }
 
-    /// Writes what the tilings that match have in common.
+    /// Writes which placements all matching tilings have, how many different placements of these tilings cover each item, and
+    /// how many tilings match.
     pub(crate) fn browse<E: Engine, W: Write>(
         &mut self,
         engine: &mut E,
@@ -172,7 +174,8 @@ impl Answerer {
     }
 }
 
-// What the tilings that match the question have in common.
+// The answer to the question: the placements that all matching tilings have, how many different placements of these tilings
+// cover each item, and how many tilings match. Fails only with `Memory`.
 fn answer_of(alloc: Global, quiet: &Quiet, question: Question) -> Result<Answer, Refusal>
     ensures ok { IfOk result (λ a. IsAnswer quiet.now.design (map (placed quiet.now.view) quiet.now.tilings) (asked_of question) a.count a.forced.items a.options.items) }
     ensures short { IfOk result (λ a. covered a.forced.items ≤ MAX_CELLS) }

@@ -13,8 +13,9 @@ use crate::writing::Fault;
 use poly_grid::Grid;
 use std::io::{Read, Write};
 
-/// Answers the lines from here on of a session on a design of the grid, at most `most` of them. Fails with `Read` if the reader
-/// fails, if the input goes over its limit of bytes, or if it has more than `most` lines. Fails with `Write` if the writer fails.
+/// Answers the remaining lines of a session, at most `most` of them. `grid` is the grid of the session's design. Fails with
+/// `Read` if the reader fails, if the input goes over its limit of bytes, or if more than `most` lines remain. Fails with
+/// `Write` if the writer fails.
 pub fn serve<R: Read, W: Write, E: Engine>(
     most: u64,
     grid: Grid,

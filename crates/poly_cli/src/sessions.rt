@@ -1,4 +1,4 @@
-//! A whole session: the puzzle line, and a reply to each line after it.
+//! A whole session: the puzzle line, the lines after it, and the replies to them.
 ghost use Rattle.std.specs.Prelude.{◌≡◌, ◌<◌, ◌++◌, [], ℕ, List, None, IfOk, option_map};
 ghost use Rattle.std.specs.Io.KnownBytes.{Consumes};
 ghost use Rattle.poly_cli.specs.Buffered.{ahead, IsReady};
@@ -18,7 +18,7 @@ use std::io::{Read, Write};
 /// The most lines of an input. A further line is a read fault.
 pub const LINE_COUNT: u64 = 1_000_000;
 
-/// How a session ended if neither reader nor writer failed.
+/// How a session ended if it had no fault.
 #[derive(Debug, Drop, Clone, Copy, PartialEq, Eq)]
 pub enum End {
     /// The input ended.
@@ -27,12 +27,12 @@ pub enum End {
     Refused,
 }
 
-/// Runs a whole session: the first line gives the design with which the engine begins, and the engine answers each later line. Each
-/// answer is written whole and flushed before the next line is read.
+/// Runs a whole session: the first line gives the design with which the engine begins, and each later line is answered with
+/// the engine. Each answer is written whole and flushed before the next line is read.
 ///
-/// Returns `Done` at the end of the input and `Refused` after a puzzle line that was refused. Fails with `Read` if a read fails or the
-/// input goes over `INPUT_LIMIT` or `LINE_COUNT`, and with `Write` if a write or a flush fails; lines read whole before a read fault are
-/// answered.
+/// Returns `Done` at the end of the input, and `Refused` if the puzzle line is refused or memory runs out before it is
+/// read. Fails with `Read` if a read fails or the input goes over `INPUT_LIMIT` or `LINE_COUNT`, and with `Write` if a
+/// write or a flush fails; lines read whole before a read fault are answered.
 pub fn session<R: Read, W: Write, E: Engine>(
     alloc: Global,
     reader: &mut R,
@@ -63,7 +63,7 @@ pub fn session<R: Read, W: Write, E: Engine>(
     }
 }
 
-// All memory for reading and writing. Fails only with `Memory`.
+// Allocates all memory for reading and writing. Fails only with `Memory`.
 fn buffers(alloc: Global) -> Result<(Lines, Answerer), Refusal>
     ensures ready { IfOk result (λ b. IsReady b.0) }
     ensures limits { IfOk result (λ b. (b.0.limit ≡ LINE_LIMIT) × (b.0.left ≡ INPUT_LIMIT)) }
@@ -119,7 +119,8 @@ fn run<R: Read, W: Write, E: Engine>(
     }
 }
 
-// Begins with the design that the puzzle line gives, and returns its grid.
+// Lets the engine begin with the design that the puzzle line gives, and returns the design's grid. `None` is a line that is
+// too long.
 fn open<E: Engine>(alloc: Global, line: Option<&[u8]>, engine: &mut E) -> Result<Grid, Refusal>
     requires { E.ready engine.old }
     ensures ready { E.ready engine.new }

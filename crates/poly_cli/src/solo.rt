@@ -11,15 +11,19 @@ use poly_tiling::listings_show;
 use std::alloc::Global;
 use std::marker::Model;
 
-/// The most nodes that aren't Rest of a tree that one turn explores.
+/// The most nodes that the tree of one turn may have, not counting its Rest nodes.
 pub(crate) const NODES: u32 = 256;
 
 /// A book, with the most turns that settling it may take.
 #[derive(Drop)]
 pub struct Solo {
+    /// Allocates the books with which the engine begins.
     alloc: Global,
+    /// The design under edits, its listed tilings and its pending tasks.
     book: Book,
+    /// The most turns that settling may take each time.
     turns: u64,
+    /// Whether a question about all tilings was answered since the last change.
     settled: bool,
 }
 
@@ -36,8 +40,8 @@ impl Model for Solo {
 }
 
 impl Solo {
-    /// An engine whose design is a square grid without cells and pieces, until it begins with another. Settling takes at most `turns`
-    /// turns. Fails only with `Memory`.
+    /// Returns an engine whose design is a square grid without cells and pieces, until it begins with another design.
+    /// Settling takes at most `turns` turns each time. Fails only with `Memory`.
     pub fn new(alloc: Global, turns: u64) -> Result<Solo, Refusal>
         ensures ok { IfOk result (λ s. s ≡ opened (record { grid = Grid.Square; cells = []; pieces = [] })) }
         ensures why { IfErr result (λ e. e ≡ Refusal.Memory) }
@@ -45,7 +49,7 @@ impl Solo {
         Solo::on(alloc, turns, Design::empty(alloc, Grid::Square))
     }
 
-    /// An engine that has begun with the design. Fails only with `Memory`.
+    /// Returns an engine that has begun with the design. Fails only with `Memory`.
     pub(crate) fn on(alloc: Global, turns: u64, design: Design) -> Result<Solo, Refusal>
         ensures ok { IfOk result (λ s. s ≡ opened design) }
         ensures why { IfErr result (λ e. e ≡ Refusal.Memory) }
@@ -54,7 +58,7 @@ impl Solo {
         Ok(Solo::of_book(alloc, turns, book))
     }
 
-    /// An engine with the book.
+    /// Returns an engine with the book. No question counts as answered yet.
     pub(crate) fn of_book(alloc: Global, turns: u64, book: Book) -> Solo
         ensures { result ≡ session_of book false }
     {
@@ -66,7 +70,7 @@ impl Solo {
         }
     }
 
-    /// The book.
+    /// Returns the book.
     pub(crate) fn into_book(self) -> Book
         ensures { self ≡ session_of result self.settled }
     {
@@ -105,7 +109,7 @@ impl Engine for Solo {
     }
 
     fn redo(&mut self) -> Result<u64, Refusal> {
-        // The contract of this call guarantees that at most 256 changes can be undone and redone.
+        // The contract of this call guarantees that at most 256 changes in all can be undone or redone.
         self.book.whole();
         let done = match self.book.redo() {
             Ok(done) => done,
@@ -146,8 +150,8 @@ fn settle_book(book: &mut Book, turns: u64) -> Result<(), Refusal>
     if book.numbers().pending == 0 {
         return Ok(());
     }
-    // Before and after settling, the contract of this call guarantees that the steps lead to the changes that can be
-    // undone and redone.
+    // Before and after settling, the contract of `whole` guarantees that the steps determine which changes can be undone and
+    // redone.
     book.whole();
     let settled = book.settle(turns, NODES);
     book.whole();

@@ -1,7 +1,8 @@
-//! An engine with a crew: several workers search at the same time whenever all tilings are asked for.
+//! An engine with a crew: its workers search at the same time when all tilings are asked for.
 //!
-//! Between two commands it keeps a book and answers as `Solo` does. A desk lives within one call: the book goes in, the crew works, and
-//! the book comes back. If the desk can't be settled up, the book stays there, and the team has failed until it begins anew.
+//! Between two commands the team keeps a book, as `Solo` does. If tasks are pending when all tilings are asked for, the book
+//! goes to a desk, the crew works there, and the book comes back. If the desk can't be settled up, the book is lost, and the
+//! team has failed until it begins anew.
 ghost use Rattle.std.specs.Prelude.{◌≡◌, ◌≤◌, ◌⊎◌, [], IfErr, IfOk, false, true};
 ghost use Rattle.std.specs.Thread.{IsSync};
 ghost use Rattle.poly_design.specs.Layout.{Layout};
@@ -23,18 +24,23 @@ use std::snapshot::Snapshot;
 use std::sync::Wait;
 use std::thread::Threads;
 
-/// A book on which a crew of workers works whenever it is settled.
+/// A book, and how to set up the crew that works on it when all tilings are asked for and tasks are pending.
 #[derive(Drop)]
 pub struct Team<'a, R: Threads + Wait + Sync> {
+    /// Starts the threads of the workers.
     rt: &'a R,
+    /// Allocates books, desks and crews.
     alloc: Global,
+    /// The number of workers, and the most turns of each.
     crewing: Crewing,
+    /// The book, or what is left of a lost one.
     kept: Kept,
 }
 
 impl<'a, R: Threads + Wait + Sync> Team<'a, R> {
-    /// An engine whose design is a square grid without cells and pieces, until it begins with another. It has 1 to 16 workers. Each may
-    /// take at most `turns` tasks whenever the engine settles; `turns` is at most 1,000,000,000. Fails only with `Memory`.
+    /// Returns an engine whose design is a square grid without cells and pieces, until it begins with another design.
+    /// `workers` is from 1 to 16, and `turns` is at most 1,000,000,000. Each worker takes at most `turns` turns whenever the
+    /// engine settles. Fails only with `Memory`.
     pub fn new(rt: &'a R, alloc: Global, workers: usize, turns: u64) -> Result<Team<'a, R>, Refusal>
         requires some { 1 ≤ workers }
         requires few { workers ≤ MOST_WORKERS }
@@ -110,8 +116,9 @@ impl<'a, R: Threads + Wait + Sync> Engine for Team<'a, R> {
     }
 }
 
-// Lets the crew work on a book with pending tasks. If a task is still pending after that, fails as the crew did, unless `stopped_by`
-// finds that the book can be settled alone. Fails with `Unsettled` if the book doesn't come back.
+// If the team has a book with pending tasks, lets the crew work on it. If a task is still pending after that, fails as the
+// crew did, unless `stopped_by` finds that the book can be settled alone. Fails with `Unsettled` if the book doesn't come
+// back.
 fn crew_on<R: Threads + Wait + Sync>(
     rt: &R,
     alloc: Global,
@@ -139,8 +146,8 @@ fn crew_on<R: Threads + Wait + Sync>(
     end
 }
 
-// Lets the crew work on the book, for which no question is answered since its last change. Returns the book, or what is left of
-// it, and the answer of `crew_on`.
+// Lets the crew work on the book. Requires that no question was answered since the book's last change. Returns the book, or
+// what is left of it, and what `crew_on` returns.
 fn work_with<R: Threads + Wait + Sync>(
     rt: &R,
     alloc: Global,
@@ -178,7 +185,8 @@ fn lost_book_of(solo: &Solo) -> LostBook
     }
 }
 
-// How the crew ended, if a question fails for the same reason. After any other end, the book can be settled alone.
+// How the crew ended, if a question about any design may fail for that reason. After any other end, for example
+// with `CatalogueFull`, returns `Ok`: the book is then settled alone.
 fn stopped_by(end: Result<(), Refusal>) -> Result<(), Refusal>
     ensures { IfErr result (λ e. (d : Layout) → IsUnanswered d e ⊎ (is_unsettled e ≡ true)) }
 {

@@ -16,25 +16,30 @@ use std::sync::Wait;
 use std::sync::ledger::{Blank, Ledger};
 use std::thread::Threads;
 
-/// A book that a crew has worked on, and how the crew ended.
+/// A book after a crew has worked on it, or after no crew could run; and how the crew ended.
 #[derive(Drop)]
 pub(crate) struct Worked {
+    /// The book after the work.
     pub(crate) book: Book,
+    /// How the crew ended, or why no crew ran.
     pub(crate) end: Result<(), Refusal>,
 }
 
-/// How many workers a crew has, and how many tasks each may take.
+/// How many workers a crew has, and how many turns each may take.
 #[derive(Drop)]
 pub(crate) struct Crewing {
+    /// The number of workers, from 1 to `MOST_WORKERS`.
     pub(crate) workers: usize,
+    /// The most turns of each worker, at most `MOST_TURNS`.
     pub(crate) turns: u64,
     ghost some: { 1 ≤ workers },
     ghost few: { workers ≤ MOST_WORKERS },
     ghost few_turns: { turns ≤ MOST_TURNS },
 }
 
-/// Runs a crew on the book. The design, the undo steps and the redo steps don't change. If there is no memory for the desk or for
-/// a pass, no crew runs. Fails with `Unsettled` if the desk can't be settled up; the book is lost then.
+/// Runs a crew on the book. The design, the undo steps and the redo steps don't change. If there is no memory for the desk,
+/// the passes or the workers, no crew runs and `end` says why. Fails with `Unsettled` if the desk can't be settled up; the
+/// book is lost then.
 pub(crate) fn work_on<R: Threads + Wait + Sync>(
     rt: &R,
     alloc: Global,
@@ -44,7 +49,8 @@ pub(crate) fn work_on<R: Threads + Wait + Sync>(
     ensures same { IfOk result (λ w. session_of w.book false ≡ session_of book false) }
     ensures why { IfErr result (λ e. is_unsettled e ≡ true) }
 {
-    // Before and after the work, the contract of this call guarantees that the steps lead to the changes that can be undone and redone.
+    // Before and after the work, the contract of `whole` guarantees that the steps determine which changes can be undone and
+    // redone.
     book.whole();
     let changes = Blank::new(PARTS);
     let cuts = Blank::new(PARTS);
@@ -114,7 +120,7 @@ fn work_at_desk<
     }
 }
 
-// What comes back after the work: the passes and receipts that settle up the desk, and how the crew ended.
+// What comes back after the work: the passes and receipts that settle up the desk, and how the crew ended or why none ran.
 #[derive(Drop)]
 struct Returned<C: Ledger, K: Ledger, O: Opening> {
     passes: Vec<Pass<C, K, O>>,

@@ -1,5 +1,5 @@
-//! Whole sessions on a book, over a reader that gives a few bytes at a time and a writer that takes one at a time. The
-//! other answers of sessions are in the transcripts that the test command plays.
+//! Whole sessions, alone and with a team, over a reader that gives a limited number of bytes at a time and a writer that takes
+//! one at a time. The other answers of sessions are in the transcripts that the test command plays.
 
 ghost use Rattle.std.specs.Prelude.{◌≤◌};
 
@@ -12,7 +12,7 @@ use std::process::Abort;
 use std::sync::Wait;
 use std::thread::Threads;
 
-// Gives its bytes, some at a time, and then fails, or ends.
+// Gives its bytes, at most `most` at a time, and then fails or ends.
 #[derive(Drop)]
 struct Pieces<'a> {
     left: &'a [u8],
@@ -36,7 +36,7 @@ impl Read for Pieces<'_> {
     }
 }
 
-// Takes some bytes, one at a time, and then fails; it counts how often it is flushed.
+// Takes up to `room` bytes, one at a time, and then fails. Counts how often it is flushed.
 #[derive(Drop)]
 struct Small {
     taken: Vec<u8>,
@@ -59,7 +59,8 @@ impl Write for Small {
     }
 }
 
-// A session's input, how many bytes are read at a time, how the reader fails after them, and how many bytes the writer takes.
+// A session's input, how many bytes are read at a time, the fault of the reader after the input (`None` if the input just
+// ends), and how many bytes the writer takes.
 #[derive(Clone, Copy)]
 struct Devices<'a> {
     input: &'a [u8],
@@ -147,7 +148,7 @@ fn devices_fail(rt: HostRuntime) {
     expect_end(&rt, full, Err(Fault::Write), want);
 }
 
-// A session with a team of `workers` writes the same bytes as one thread.
+// Asserts that a session with a team of `workers` writes the same answers as a session on a book that is settled alone.
 fn expect_team<R: Threads + Wait + Sync + AllocGlobal + Abort>(rt: &R, workers: usize)
     requires some { 1 ≤ workers }
     requires few { workers ≤ 16 }

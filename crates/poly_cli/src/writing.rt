@@ -4,16 +4,16 @@ ghost use Rattle.poly_cli.specs.Runs.{Writes};
 
 use std::io::Write;
 
-/// Why a session ended before its input did.
+/// Why a session failed.
 #[derive(Debug, Drop, Clone, Copy, PartialEq, Eq)]
 pub enum Fault {
-    /// The reader failed, or the input is over a limit.
+    /// The reader failed, or the input has too many bytes or too many lines.
     Read,
     /// The writer failed.
     Write,
 }
 
-/// Writes all bytes. If it fails, the writer took only a beginning of them, which may be empty.
+/// Writes all bytes. Fails only with `Write`; the writer then took only a beginning of the bytes, which may be empty.
 pub fn write_bytes<W: Write>(writer: &mut W, bytes: &[u8]) -> Result<(), Fault>
     ensures { Writes result (W.contents writer.old) (W.contents writer.new) bytes.now }
 {
@@ -28,7 +28,8 @@ pub fn write_bytes<W: Write>(writer: &mut W, bytes: &[u8]) -> Result<(), Fault>
     Ok(())
 }
 
-/// Writes all bytes and flushes. If it fails, the writer took a beginning of them, which may be empty or all of them.
+/// Writes all bytes and flushes. Fails only with `Write`; the writer then took a beginning of the bytes, which may be empty or
+/// all of them.
 pub fn write_whole<W: Write>(writer: &mut W, bytes: &[u8]) -> Result<(), Fault>
     ensures { Writes result (W.contents writer.old) (W.contents writer.new) bytes.now }
 {

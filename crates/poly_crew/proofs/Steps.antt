@@ -1,4 +1,5 @@
--- Each step keeps the rule of a lane: a push, a pop, a steal, a split for a thief, the join of one that came back.
+-- The rule of a lane holds at the start, and each step keeps it: a push, a pop, a steal, the split for a thief, the join of a
+-- thief that came back. Two further lemmas say what a pop that finds nothing, and a look at the length, learn from the rule.
 use Rattle.std.proofs.Common.{◌≡◌, ◌≢◌, ◌≤◌, ℕ, zero, suc, ◌+◌, ◌-◌, ◌++◌, Bool, true, false, true≢false, List, [], ◌∷◌, length, append-nil, refl, sym, subst, ap, ◌∙◌, ⊎_elim, set, arith}
 use mathlib.Core.Option.{some, some-ne-none, some-injective}
 use lib.ListN.{get_elem?}
@@ -13,7 +14,7 @@ use Rattle.poly_crew.proofs.Sums.{weigh-append, weigh-ones, total-set, total-pus
 same_view : {owner out by : ℕ} {log : List ℕ} (v w : HandleView) → v ≡ w → Fits owner log out by v → Fits owner log out by w
 same_view {owner} {out} {by} {log} v w e = subst (λ u. Fits owner log out by u) e
 
--- a view was changed at one port
+-- after the view at the index `port` is replaced, all views fit if the new one does and the others do
 fits_set : (owner : ℕ) (log : List ℕ) (out : ℕ) (views : List HandleView) (port : ℕ) (w : HandleView) → Fits owner log out port w
     → ((by : ℕ) (u : HandleView) → by ≢ port → get_elem? views by ≡ some u → Fits owner log out by u)
     → (by : ℕ) (u : HandleView) → get_elem? (set views port w) by ≡ some u → Fits owner log out by u
@@ -22,7 +23,7 @@ fits_set owner log out views port w mine others by u at = ⊎_elim
     (λ (t : (by ≢ port) × (get_elem? views by ≡ some u)). others by u t.0 t.1)
     (at_set views port by w u at)
 
--- a view that isn't the owner's fits whatever was pushed since
+-- if a view that isn't the owner's fits, it still fits whatever else is pushed, and however many thieves are out
 fits_other : {owner : ℕ} {log : List ℕ} {out by : ℕ} (log' : List ℕ) (out' : ℕ) (u : HandleView) → by ≢ owner → Fits owner log out by u → Fits owner log' out' by u
 fits_other log' out' u apart fits = record { whole = λ p. absurd (apart (fits.whole p).0); spent = fits.spent }
 
@@ -54,7 +55,7 @@ pushes port v xs is_owner items views kept at =
       refl,
     )
 
--- hints leave at the front
+-- if a view of the lane itself or of a thief that is still out takes the hints at the front, the rule still holds
 takes_front : (port : ℕ) (v : HandleView) (xs items : List ℕ) (views : List HandleView) → (v.is_owner ≡ false → v.thief ≢ 0) → (kept : IsKept (xs ++ items) views) → get_elem? views port ≡ some v
     → IsKept items (set views port (handle_of v.is_owner v.out v.thief v.pushed (v.taken ++ xs)))
 takes_front port v xs items views live kept at =
@@ -76,14 +77,14 @@ takes_front port v xs items views live kept at =
 pub steals : (port : ℕ) (v : HandleView) (most : ℕ) → (v.is_owner ≡ false → v.thief ≢ 0) → Takes IsKept port v most (λ xs w. w ≡ handle_of v.is_owner v.out v.thief v.pushed (v.taken ++ xs))
 steals port v most live xs items views some_left few kept at = (handle_of v.is_owner v.out v.thief v.pushed (v.taken ++ xs), takes_front port v xs items views live kept at, refl)
 
--- at least as many hints left as one view took
+-- one view has taken at most as many hints as have left the lane
 behind : (port : ℕ) (v : HandleView) (items : List ℕ) (views : List HandleView) (kept : IsKept items views) → get_elem? views port ≡ some v → length v.taken ≤ length kept.gone
 behind port v items views kept at =
     let has = total_has (λ u. weigh (λ _. 1) u.taken) views port v at in
     let all = kept.taken (λ _. 1) in
     omega (arith, weigh-ones v.taken, weigh-ones kept.gone)
 
--- with no thief out, the hints that left are those that the lane itself took
+-- with no thief out, the hints that left are, in some order, those that the lane's own view has taken
 alone : (port : ℕ) (v : HandleView) (items : List ℕ) (views : List HandleView) → v.is_owner ≡ true → (kept : IsKept items views) → get_elem? views port ≡ some v → v.out ≡ 0 → SameHints kept.gone v.taken
 alone port v items views is_owner kept at none h =
     let mine = (kept.fits port v at).whole is_owner in

@@ -1,4 +1,4 @@
--- Weights of hints, and numbers of views added up.
+-- Sums over the hints of a list, and over the views of a lane.
 use Rattle.std.proofs.Common.{◌≡◌, ◌≢◌, ◌≤◌, ℕ, zero, suc, ◌+◌, ◌++◌, List, [], ◌∷◌, length, refl, sym, ap, set, arith}
 use mathlib.Core.Option.{some, some-ne-none, some-injective}
 use lib.ListN.{get_elem?}
@@ -32,7 +32,7 @@ total_none : (f : HandleView → ℕ) (views : List HandleView) → ((by : ℕ) 
 total_none f [] none = refl
 total_none f (u ∷ us) none = let here = none 0 u refl in let e = total_none f us (λ by w at. none (suc by) w at) in omega arith
 
--- if all other views have nothing, the total is what the one has
+-- if `f` is 0 for all other views, the total is what `f` is for this one
 pub total_lone : (f : HandleView → ℕ) (views : List HandleView) (port : ℕ) (v : HandleView) → get_elem? views port ≡ some v
     → ((by : ℕ) (u : HandleView) → by ≢ port → get_elem? views by ≡ some u → f u ≡ 0) → total f views ≡ f v
 total_lone f [] port v at others = absurd (some-ne-none v (sym at))

@@ -6,7 +6,7 @@ use Rattle.poly_crew.specs.Counts.{added}
 use Rattle.poly_crew.specs.Worked.{IsWorked}
 use Rattle.poly_crew.specs.declared.worker.Worker.{Worker}
 
--- two lists of the same length are related if their elements are, place by place
+-- two lists of the same length are related if at each index their elements are
 pub zipped : {X : Type 0} (R : X → X → Type 0) (xs ys : List X) → length ys ≡ length xs → ((k : ℕ) (d : X) → k < length xs → R (get_or xs k d) (get_or ys k d)) → AllZip R xs ys
 zipped R [] [] e each = tt
 zipped R [] (y ∷ ys) e each = absurd (omega arith)
@@ -37,7 +37,7 @@ cuts_grow changes cuts most (v ∷ olds) (w ∷ news) none all =
 pub all_there : {P : Type 0} (changes cuts : P → ℕ) (most : ℕ) (olds news : List (Worker P)) → AllZip (IsWorked changes cuts most) olds news → length news ≡ length olds
 all_there changes cuts most olds news all = sym (length_all_zip (IsWorked changes cuts most) olds news all)
 
--- if each worker has few receipts, all workers together have few
+-- a worker that began without receipts has at most `most` of them after its turns
 pub receipts_few : {P : Type 0} (changes cuts : P → ℕ) (most : ℕ) (olds news : List (Worker P)) → All (λ w. vec_len w.receipts ≡ 0) olds → AllZip (IsWorked changes cuts most) olds news
     → All (λ w. vec_len w.receipts ≤ most) news
 receipts_few changes cuts most olds news none all = λ k d below.

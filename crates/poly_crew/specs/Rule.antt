@@ -13,12 +13,14 @@ abbrev pub total : (HandleView → ℕ) → List HandleView → ℕ
 total f [] = 0
 total f (v ∷ vs) = f v + total f vs
 
--- the lane itself knows all that was pushed and how many thieves are out; a thief that came back has nothing
+-- only the view at `owner` may be that of the lane itself, which knows all that was pushed and how many thieves are out; the
+-- view of a thief that came back has no hints
 pub record Fits (owner : ℕ) (log : List ℕ) (out by : ℕ) (v : HandleView) : Type 0 where
   pub whole : v.is_owner ≡ true → (by ≡ owner) × (v.pushed ≡ log) × (v.out ≡ out)
   pub spent : v.is_owner ≡ false → v.thief ≡ 0 → v.taken ≡ []
 
--- the pushed hints are those that left and those that the lane holds; the lane and its thieves together took those that left
+-- the pushed hints are those that left, followed by those that the lane holds; the lane and its thieves together took those
+-- that left
 pub record IsKept (items : List ℕ) (views : List HandleView) : Type 0 where
   pub owner : ℕ
   pub log : List ℕ

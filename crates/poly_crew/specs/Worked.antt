@@ -2,7 +2,7 @@
 use Rattle.std.specs.Prelude.{ℕ, ◌+◌, ◌≡◌, ◌≤◌, vec_len}
 use Rattle.poly_crew.specs.declared.worker.Worker.{Worker}
 
--- the pass's changes stay the same; it has one more cut for each new receipt of the worker, which has at most `most`
+-- the pass has as many changes as before, and one more cut for each new receipt of the worker; the worker has at most `most`
 -- new receipts
 pub record IsWorked {P : Type 0} (changes cuts : P → ℕ) (most : ℕ) (before after : Worker P) : Type 0 where
   pub changes_stay : changes after.pass ≡ changes before.pass

@@ -23,11 +23,14 @@ pub const MOST_WORKERS: usize = 16;
 pub const MOST_TURNS: u64 = 1_000_000_000;
 
 /// Runs a worker for each pass, each in a thread of its own. A worker takes tasks of the bench, searches them and hands the
-/// results in, until no task is left to take, it has used up its `turns` turns, or a call is refused. A turn whose hint
-/// names a task that has ended, or whose report is refused with `Gone`, counts but doesn't end the worker.
+/// results in, until no task is left to take, it has used up its `turns` turns, or a refusal ends it. A turn whose hint names
+/// a task that has ended, or whose report is refused with `Gone`, counts but doesn't end the worker. If memory for the workers
+/// runs out before they begin, none of them runs.
 ///
-/// A worker first takes the tasks that its own reports opened, those of the latest report before others; then tasks that
-/// other workers' reports opened; then any. Each tree has at most `nodes` nodes that aren't Rest.
+/// A worker first tries the tasks that its own reports opened, as a rule those of the latest report before others; then a task
+/// that another worker's report opened; then any task. Each tree has at most `nodes` nodes that aren't Rest.
+///
+/// Requires 1 to [`MOST_WORKERS`] passes, at most [`MOST_TURNS`] turns, and `nodes` from 1 to 4,096.
 pub fn crew<R: Threads + Wait + Sync, B: Bench + Sync, G: Gate + Sync>(
     rt: &R,
     alloc: Global,

@@ -1,16 +1,16 @@
 //! A gate that is told before and after each search of a crew.
 
-/// A gate is told when a worker begins to search a task, and when it has searched it. Workers and their turns are
-/// counted from 0.
+/// A gate is told when a worker begins to search a task, and when the search has ended. It can hold the worker by
+/// not returning at once. Workers and their turns are counted from 0.
 pub trait Gate {
-    /// The worker is about to search the task that it took in that turn.
+    /// Called when the worker is about to search the task that it took in that turn.
     fn enter(&self, worker: u32, turn: u64);
 
-    /// The worker has searched the task, and is about to hand its report in.
+    /// Called when the search has ended, before its report is handed in. A search that ran out of memory has no report.
     fn leave(&self, worker: u32, turn: u64);
 }
 
-/// A gate that lets each worker pass at once.
+/// A gate that never holds a worker.
 #[derive(Clone, Copy, Debug)]
 pub struct OpenGate;
 

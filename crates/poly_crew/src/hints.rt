@@ -1,4 +1,4 @@
-//! The hints of one worker: its own lane, and thieves of the lanes of the others.
+//! The hints of one worker: its own lane, and a thief of each other worker's lane.
 ghost use Rattle.std.specs.Prelude.{◌≡◌, ◌<◌, IfErr, IfOk, length};
 ghost use Rattle.poly_grid.specs.declared.refusal.Refusal.TheVariants.{Memory};
 
@@ -11,12 +11,15 @@ use std::alloc::Global;
 /// A lane, and a thief of each other worker's lane.
 #[derive(Drop)]
 pub(crate) struct Hints {
+    /// The worker's own lane.
     lane: Lane,
+    /// A thief of each other worker's lane.
     thieves: Vec<Thief>,
 }
 
 impl Hints {
-    /// The task that the worker tries next: the first hint of its own lane, else one that it steals, else any.
+    /// The task that the worker tries next: the oldest hint of its own lane; if this lane has none, a hint that the worker
+    /// steals; if it steals none, any task.
     pub(crate) fn next(&mut self) -> Which {
         if let Some(task) = self.lane.pop() {
             return Which::Task(task);
@@ -29,9 +32,9 @@ impl Hints {
         Which::Any
     }
 
-    /// Pushes the tasks that a report opened, and then moves the older hints behind them, so that the worker takes its
-    /// newest tasks first. That keeps the number of pending tasks small. A task for which there is no memory gets no hint;
-    /// `Which::Any` still finds it.
+    /// Pushes a hint for each task that a report opened, and then moves the older hints behind these. So a worker takes its
+    /// newest tasks first unless a thief steals hints meanwhile, and the number of pending tasks stays small. A task for which
+    /// there is no memory gets no hint; `Which::Any` still finds it.
     pub(crate) fn push_opened(&mut self, applied: Applied) {
         if applied.opened == 0 {
             return;
@@ -46,7 +49,7 @@ impl Hints {
         self.move_behind(older);
     }
 
-    // Pops `count` hints and pushes each again. Each push finds the room that a pop has left.
+    // Pops up to `count` hints and pushes each again. Each push finds the room that a pop has left.
     fn move_behind(&mut self, count: usize) {
         for _ in 0..count {
             let Some(hint) = self.lane.pop() else {
@@ -57,7 +60,8 @@ impl Hints {
     }
 }
 
-/// Returns empty lanes for `count` workers, each with a thief of every other lane. Fails only when out of memory.
+/// Returns the hints of `count` workers: for each an empty lane, and a thief of every other lane. Fails only when out of
+/// memory.
 pub(crate) fn hints_of(alloc: Global, count: usize) -> Result<Vec<Hints>, Refusal>
     ensures count { IfOk result (λ v. length v.items ≡ count) }
     ensures why { IfErr result (λ e. e ≡ Refusal.Memory) }

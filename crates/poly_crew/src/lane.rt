@@ -12,7 +12,7 @@ use poly_grid::Refusal;
 use std::alloc::Global;
 use std::marker::Model;
 
-/// How many hints a new lane has room for; a push makes more room.
+/// How many hints a new lane has room for; a push that finds no room makes more.
 const FIRST_SLOTS: usize = 64;
 
 /// The deque of a lane, under its rule.
@@ -22,6 +22,7 @@ pub(crate) type Deque = Worker<u32, Global, HandleView, LaneRule>;
 /// hints that were taken by the lane itself and by the thieves that it took back.
 #[derive(Drop)]
 pub struct Lane {
+    /// The owner's end of the lane's deque, with the lane's view.
     worker: Deque,
 }
 
@@ -60,8 +61,8 @@ impl Lane {
         }
     }
 
-    /// Takes the oldest hint out and returns it. While no thief is out, it returns `None` only if each hint that was pushed
-    /// has been taken. Never allocates or waits.
+    /// Takes the oldest hint out and returns it. While no thief is out, the call returns `None` only if each hint that was
+    /// pushed has been taken. Never allocates or waits.
     pub fn pop(&mut self) -> Option<u32>
         ensures lane { self.new.deque ≡ self.old.deque }
         ensures taken { MatchOption result
@@ -90,7 +91,8 @@ impl Lane {
         }
     }
 
-    /// Takes a thief of this lane back, once its worker has ended, with the hints that it stole. Never allocates or waits.
+    /// Takes back a thief of this lane, with the hints that the thief stole, once the thief's worker has ended. Never
+    /// allocates or waits.
     pub fn take_back(&mut self, thief: Thief)
         requires { thief.deque ≡ self.old.deque }
         ensures { self.new ≡ lane_of self.old.deque (self.old.thieves - 1) self.old.pushed (self.old.taken ++ thief.stolen) }
@@ -100,7 +102,7 @@ impl Lane {
     }
 
     /// Returns how many hints the lane holds at one moment. They are the last of those that were pushed. While no thief is
-    /// out, the hints before them are those that were taken.
+    /// out, the hints pushed before these are those that were taken, in some order.
     pub(crate) fn left(&mut self) -> usize
         ensures same { self.new ≡ self.old }
         ensures left { (left : _) × (length left ≡ result) × Splits self.old.pushed self.old.taken self.old.thieves left }
@@ -158,7 +160,8 @@ mod tests {
             }
         }
 
-        // The owner pushes all hints and pops every third time; a thief steals at each try.
+        // The owner pushes a hint in each turn until all are pushed, and pops after every third push. A thief tries to steal
+        // in each turn.
         fn work(&mut self) {
             for turn in 0..TRIES {
                 let taken = match &mut self.end {

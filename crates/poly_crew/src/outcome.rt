@@ -12,7 +12,8 @@ pub struct Crew<P: Drop> {
     pub receipts: Vec<Vec<Receipt>>,
     /// The number of reports that were applied.
     pub applied: u64,
-    /// `Ok` if each worker ended because no task was left to take. Otherwise `Memory` if the workers couldn't be set up, or
-    /// the refusal of the first worker, in the order of the passes, that was ended by one.
+    /// `Memory` if the workers couldn't be set up. Otherwise `Ok` if each worker ended because no task was left to take.
+    /// Otherwise the end of the first worker, in the order of the passes, that ended in another way: `Unfinished` if that
+    /// worker used up its turns, or else the refusal that ended it.
     pub end: Result<(), Refusal>,
 }

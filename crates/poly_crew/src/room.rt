@@ -1,4 +1,4 @@
-//! The room that a crew needs: what is allocated before its workers begin, and how passes go in and come back.
+//! What a crew allocates before its workers begin, and how the passes go to the workers and come back.
 ghost use Rattle.std.specs.Prelude.{◌≡◌, ◌≤◌, [], All, IfErr, IfOk, length, map, sum_by, vec_capacity, vec_len};
 ghost use Rattle.poly_crew.specs.declared.crewing.TheConstants.{MOST_TURNS, MOST_WORKERS};
 ghost use Rattle.poly_grid.specs.declared.refusal.Refusal.TheVariants.{Memory};
@@ -13,9 +13,13 @@ use std::alloc::Global;
 /// The workers' hints, and empty lists with room for all workers, passes and lists of receipts.
 #[derive(Drop)]
 pub(crate) struct Room<P: Drop> {
+    /// The hints of each worker.
     pub(crate) hints: Vec<Hints>,
+    /// Room for the workers.
     pub(crate) workers: Vec<Worker<P>>,
+    /// Room for the passes that the workers give back.
     pub(crate) passes: Vec<P>,
+    /// Room for the workers' lists of receipts.
     pub(crate) receipts: Vec<Vec<Receipt>>,
 }
 
@@ -35,7 +39,7 @@ pub(crate) fn room_for<P: Drop>(alloc: Global, count: usize) -> Result<Room<P>, 
     })
 }
 
-/// A worker for each pass, without receipts.
+/// For each pass, puts a worker without receipts into `workers`.
 pub(crate) fn seat_all<P: Drop>(
     alloc: Global,
     passes: Vec<P>,
@@ -62,7 +66,7 @@ pub(crate) fn seat_all<P: Drop>(
     }
 }
 
-/// The number of reports that were applied.
+/// Returns how many reports of the workers were applied.
 pub(crate) fn applied_by<P: Drop>(workers: &[Worker<P>]) -> u64
     requires few { length workers.now ≤ MOST_WORKERS }
     requires small { All (λ w. vec_len w.receipts ≤ MOST_TURNS) workers.now }
@@ -75,7 +79,8 @@ pub(crate) fn applied_by<P: Drop>(workers: &[Worker<P>]) -> u64
     applied
 }
 
-/// The refusal that ended the first worker that met one.
+/// Succeeds if each worker ended because no task was left to take. Otherwise fails with the `end` of the first worker that
+/// ended in another way.
 pub(crate) fn first_refusal<P: Drop>(workers: &[Worker<P>]) -> Result<(), Refusal> {
     for worker in workers {
         worker.end?;
@@ -83,7 +88,7 @@ pub(crate) fn first_refusal<P: Drop>(workers: &[Worker<P>]) -> Result<(), Refusa
     Ok(())
 }
 
-/// The passes and the receipts of the workers.
+/// Moves the passes and the receipts of the workers into the two lists.
 pub(crate) fn take_apart<P: Drop>(
     workers: Vec<Worker<P>>,
     passes: &mut Vec<P>,

@@ -2,7 +2,7 @@
 //!
 //! A lane has six kinds of step: making its view, a push, a pop, a steal, the split of its view for a thief, and the join
 //! of a thief's view when the thief's worker has ended. A join leaves a spent view; the rule says only that this view has
-//! nothing. [`Lane::left`](crate::lane::Lane::left) reads a length and changes no view.
+//! taken nothing. [`Lane::left`](crate::lane::Lane::left) reads a length and changes no view.
 
 ghost use Rattle.std.specs.Prelude.{◌≡◌, ◌+◌, ◌-◌, ◌++◌, [], true, false};
 ghost use Rattle.poly_crew.specs.Hints.{IsNext, SameHints, Splits};
@@ -11,17 +11,17 @@ ghost use Rattle.poly_crew.specs.Rule.{IsKept, handle_of};
 use crossbeam_deque::protocol::{Join, Lesson, Outcome, Protocol, Split};
 use std::collections::LinkedList;
 
-/// What a lane or a thief has done. The program never makes a value of it.
+/// What a lane or a thief has done. The program never makes a value of this type.
 pub struct HandleView {
-    /// Whether it is the lane's own.
+    /// Whether this is the view of the lane itself.
     pub is_owner: bool,
-    /// How many thieves the lane has out.
+    /// How many thieves the lane has out; 0 for a thief.
     pub out: u64,
     /// 1 for a thief; 0 for the lane itself and for a thief that was taken back.
     pub thief: u64,
-    /// The hints that were pushed, oldest first.
+    /// The hints that the lane has pushed, oldest first; none for a thief.
     pub pushed: LinkedList<u32>,
-    /// The hints that were taken.
+    /// The hints that this end has taken; for the lane itself, also those of the thieves that were taken back.
     pub taken: LinkedList<u32>,
 }
 
@@ -68,7 +68,7 @@ impl Split<HandleView> for Splitting {
     ghost right = { λ _. handle_of false 0 1 [] [] };
 }
 
-/// A join: the lane has what the thief took.
+/// A join: what the thief has taken is added to what the lane has taken.
 pub struct Joining;
 
 impl Join<HandleView> for Joining {

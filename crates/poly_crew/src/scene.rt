@@ -15,8 +15,11 @@ use std::sync::Arc;
 /// The view of the design at one edition, and its cover matrix.
 #[derive(Drop)]
 pub(crate) struct Scene {
+    /// The edition of the design.
     edition: u64,
+    /// The design at that edition, by numbers.
     view: Arc<View>,
+    /// The cover matrix of the view.
     matrix: Matrix,
     ghost whole: { IsWhole (arc_value view) matrix },
 }
@@ -49,9 +52,10 @@ impl Scene {
     }
 }
 
-/// Searches the job with at most `nodes` nodes that aren't Rest, in the kept scene or else in a new one, which is then kept.
+/// Searches the job with at most `nodes` nodes that aren't Rest. Uses the kept scene if it has the job's edition, or else a
+/// new one, which is then kept. Fails only when out of memory.
 ///
-/// The kept scene can be used if it has the job's edition: the bench makes the same promises about both views.
+/// A kept scene with the job's edition can be used, since the bench promises the same of its view as of the job's.
 pub(crate) fn explore_job<B: Bench>(
     alloc: Global,
     kept: &mut Option<Scene>,

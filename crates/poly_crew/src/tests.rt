@@ -1,4 +1,5 @@
-//! Crews on the book of two dominoes on a board of two by two cells, under a lock of the tests' own.
+//! Crews at a bench that only these tests use: a lock over a book of two dominoes on a board of two by two cells. The last
+//! test needs no crew: it checks which view a worker searches.
 ghost use Rattle.std.specs.Prelude.{◌≡◌, ◌≤◌, length};
 
 mod desk;
@@ -18,7 +19,7 @@ use std::sync::{Mutex, Wait};
 use std::thread;
 use std::thread::Threads;
 
-// A book under a lock. It refuses each report if it is given a refusal.
+// A bench: a book under a lock. If `refusing` has a refusal, each report is refused with it.
 #[derive(Drop)]
 struct Shared {
     book: Mutex<Book>,
@@ -77,7 +78,7 @@ impl Bench for Shared {
     }
 }
 
-// Holds the first worker that enters until the other one has left.
+// Holds the first worker that enters until another worker has ended a search.
 #[derive(Drop)]
 struct HoldingGate {
     held: AtomicU64,
@@ -144,7 +145,7 @@ fn cell(rt: &impl Abort, x: u64, y: u64) -> Cell {
     Cell::new(x, y).expect(rt, "a coordinate below 64")
 }
 
-// Adds a required domino of the name.
+// Adds a required domino with the name.
 fn add_domino(rt: &impl Abort, design: &mut Design, name: &[u8]) {
     let shape = Shape::from_cells(Grid::Square, &[cell(rt, 0, 0), cell(rt, 1, 0)]);
     let add = Edit::Add {

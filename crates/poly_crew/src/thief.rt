@@ -8,10 +8,12 @@ use crossbeam_deque::{Pass, Steal, Stealer};
 use std::alloc::Global;
 use std::marker::Model;
 
-/// Steals the hints of another worker's lane. Contracts see which lane it is and the hints that were stolen.
+/// Steals the hints of another worker's lane. Contracts see which lane it is and the hints that this thief has stolen.
 #[derive(Drop)]
 pub struct Thief {
+    /// The thief's end of the lane's deque.
     pub(crate) stealer: Stealer<u32, Global, HandleView, LaneRule>,
+    /// The thief's view.
     pub(crate) pass: Pass<u32, HandleView>,
 }
 

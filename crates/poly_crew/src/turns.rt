@@ -16,17 +16,22 @@ use std::sync::Wait;
 /// What all workers of a crew share.
 #[derive(Drop)]
 pub(crate) struct Work<'a, B, G> {
+    /// Where memory comes from.
     pub(crate) alloc: Global,
+    /// Where tasks are taken and reports are handed in.
     pub(crate) bench: &'a B,
+    /// What is told before and after each search.
     pub(crate) gate: &'a G,
+    /// The most turns that a worker takes.
     pub(crate) turns: u64,
+    /// The most nodes that the tree of a search may have, not counting its Rest nodes.
     pub(crate) nodes: u32,
     ghost some: { 1 ≤ nodes },
     ghost few: { nodes ≤ NODES },
 }
 
-/// Lets the worker take its turns, and records in it how it ended: `Ok` if no task was left to take, `Unfinished` if it
-/// has used up its turns, or else the refusal that it met.
+/// Lets the worker take its turns, and records in it how it ended: `Ok` if no task was left to take, `Unfinished` if it has
+/// used up its turns, or else the refusal that ended it.
 pub(crate) fn run<R: Wait, B: Bench, G: Gate>(
     rt: &R,
     work: &Work<B, G>,
@@ -52,8 +57,8 @@ pub(crate) fn run<R: Wait, B: Bench, G: Gate>(
     }
 }
 
-// One turn: takes a task, searches it and hands the result in. Returns false if no task is left to take. If only the hinted
-// task is gone, the turn does nothing and returns true.
+// One turn: takes a task, searches it and hands the result in. Returns `false` if no task is left to take. If the hinted task
+// isn't pending, the turn does nothing and returns `true`.
 fn take_turn<R: Wait, B: Bench, G: Gate>(
     rt: &R,
     work: &Work<B, G>,
@@ -77,7 +82,8 @@ fn take_turn<R: Wait, B: Bench, G: Gate>(
     Ok(true)
 }
 
-// Hands in what was found, and keeps its receipt. If the task has ended in the meantime, drops what was found.
+// Hands in what was found, keeps the receipt, and pushes hints of the tasks that the report opened. If the task has ended in
+// the meantime, drops what was found.
 fn hand_in<R: Wait, B: Bench>(
     rt: &R,
     bench: &B,

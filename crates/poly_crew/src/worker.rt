@@ -16,9 +16,11 @@ pub(crate) struct Worker<P: Drop> {
     pub(crate) hints: Hints,
     /// The receipts of its reports, in the order in which they came.
     pub(crate) receipts: Vec<Receipt>,
-    /// The number of its reports that were applied. Each worker writes its own, so it has cache lines of its own.
+    /// The number of its reports that were applied. Each worker writes only its own number, so each number has cache lines of
+    /// its own.
     pub(crate) applied: CachePadded<u64>,
-    /// How it ended.
+    /// How it ended: `Ok` if no task was left to take, `Unfinished` if it has used up its turns, or else the refusal that
+    /// ended it.
     pub(crate) end: Result<(), Refusal>,
     ghost counted: { padded_value applied ≡ vec_len receipts },
 }

@@ -38,7 +38,7 @@ one_first (c ∷ cs) a b f g = elim f [
   | inr h ↦ elim g [ inl k ↦ absurd (h.0 k.1) | inr k ↦ one_first cs a b h.1 k.1 ]
 ]
 
--- a result whose refusals have their cause, and that is `Memory` only if no early cause holds
+-- a check refuses early if each refusal has its cause, and `Memory` comes only if no early cause holds
 pub refuses_early : (d : Layout) (e : Edit) (r : Result Change Refusal) → IfOk r (λ change. IsAccepted d e change) → IfErr r (λ x. (x ≡ Memory) ⊎ IsRefused d e x)
     → (r ≡ Err Memory → NoneEarly (causes d e)) → RefusesEarly d e r
 refuses_early d e (Ok change) ok why memory x early first = absurd (none_first (causes d e) x ok.free first)
@@ -56,11 +56,11 @@ past_add d name shape need mirror none grid room =
 pub past_cell : (d : Layout) (c : Spot) (before mode : Mode) → before ≡ mode_of d c → (before ≡ mode → ⊥) → length (set_mode d.cells c mode) ≤ 256 → NoneEarly (causes d (edit.Cell c mode))
 past_cell d c before mode same other room = (λ _ idle. other (same ∙ idle), (λ _ many. omega (arith, room, many), (λ late. absurd late, tt)))
 
--- cells that are not forbidden can be
+-- forbidding cells that are not forbidden changes the piece
 pub forbids_more : (s : Spec) (cells : List Spot) → (Contains s.forbidden cells → ⊥) → s ≡ record s { forbidden = insert_key cells_cmp s.forbidden cells } → ⊥
 forbids_more s cells lacks e = lacks (subst (λ (l : List (List Spot)). Contains l cells) (sym (ap (λ (v : Spec). v.forbidden) e)) (inserted_in cells_total same_cells s.forbidden cells))
 
--- cells that are forbidden can be allowed
+-- allowing cells that are forbidden changes the piece
 pub allows_more : (s : Spec) (cells : List Spot) → Contains s.forbidden cells → s ≡ record s { forbidden = remove_key (is_at (cells_cmp cells)) s.forbidden } → ⊥
 allows_more s cells here e =
     let len = removed_shorter cells_total s.forbidden cells here in

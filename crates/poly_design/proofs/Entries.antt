@@ -26,7 +26,7 @@ module _ {K X : Type 0} {R : K → K → Ordering} (o : IsTotalOrder R) where
       ap (λ r. cond (is_eq r) (Some e.1) (lookup (is_at (R k)) (f ∷ es))) lt
       ∙ none_below k f es (tail_up e (f ∷ es) up) (o.trans k e.0 f.0 lt (up zero (suc zero) k (omega arith) (omega arith)))
 
-  -- above the first key, too
+  -- a key that ties with the first key is below the second, so it is not found in the rest
   above_head : (k : K) (e : K × X) (f : K × X) (es : List (K × X)) → IsAscending R (keys_of (e ∷ f ∷ es)) → R k e.0 ≡ Equal → R k f.0 ≡ Less
   above_head k e f es up is = o.congr k e.0 f.0 is ∙ up zero (suc zero) k (omega arith) (omega arith)
 
@@ -56,7 +56,7 @@ module _ {K X : Type 0} {R : K → K → Ordering} (o : IsTotalOrder R) where
     | Greater ↦ λ is. ap (λ r. cond (is_eq r) (Some e.1) (lookup (is_at (R k)) (remove_entry (is_at (R k)) es))) is ∙ lookup_taken es k (tail_up e es up)
   ]) refl
 
-  -- what was replaced is put back
+  -- replacing a value and then putting the old value back restores the entries
   pub put_put : (es : List (K × X)) (k : K) (v w : X) → IsAscending R (keys_of es) → lookup (is_at (R k)) es ≡ Some w → insert_entry R (insert_entry R es k v) k w ≡ es
   put_put [] k v w up found = absurd (cc)
   put_put (e ∷ es) k v w up found = (elim (R k e.0) as (λ r. R k e.0 ≡ r → insert_entry R (match_ordering r ((k, v) ∷ e ∷ es) ((e.0, v) ∷ es) (e ∷ insert_entry R es k v)) k w ≡ e ∷ es) [
@@ -71,7 +71,7 @@ module _ {K X : Type 0} {R : K → K → Ordering} (o : IsTotalOrder R) where
         ∙ ap (λ l. e ∷ l) (put_put es k v w (tail_up e es up) later)
   ]) refl
 
-  -- what was put in is taken out
+  -- putting in a key that no entry has and then taking it out restores the entries
   pub put_taken : (es : List (K × X)) (k : K) (v : X) → lookup (is_at (R k)) es ≡ None → remove_entry (is_at (R k)) (insert_entry R es k v) ≡ es
   put_taken [] k v none = ap (λ r. cond (is_eq r) [] ((k, v) ∷ [])) (tied_itself o k)
   put_taken (e ∷ es) k v none = (elim (R k e.0) as (λ r. R k e.0 ≡ r → remove_entry (is_at (R k)) (match_ordering r ((k, v) ∷ e ∷ es) ((e.0, v) ∷ es) (e ∷ insert_entry R es k v)) ≡ e ∷ es) [
@@ -82,7 +82,7 @@ module _ {K X : Type 0} {R : K → K → Ordering} (o : IsTotalOrder R) where
         ap (λ r. cond (is_eq r) (insert_entry R es k v) (e ∷ remove_entry (is_at (R k)) (insert_entry R es k v))) is ∙ ap (λ l. e ∷ l) (put_taken es k v later)
   ]) refl
 
-  -- what was taken out is put back
+  -- taking out an entry and then putting it back restores the entries
   pub taken_put : ((x y : K) → R x y ≡ Equal → x ≡ y) → (es : List (K × X)) (k : K) (w : X) → IsAscending R (keys_of es) → lookup (is_at (R k)) es ≡ Some w → insert_entry R (remove_entry (is_at (R k)) es) k w ≡ es
   taken_put exact [] k w up found = absurd (cc)
   taken_put exact (e ∷ es) k w up found = (elim (R k e.0) as (λ r. R k e.0 ≡ r → insert_entry R (cond (is_eq r) es (e ∷ remove_entry (is_at (R k)) es)) k w ≡ e ∷ es) [
@@ -117,7 +117,7 @@ module _ {K X : Type 0} {R : K → K → Ordering} (o : IsTotalOrder R) where
       ap (λ r. match_ordering r ((k, v) ∷ e ∷ es) ((e.0, v) ∷ es) (e ∷ insert_entry R es k v)) above
       ∙ ap (λ l. e ∷ l) (put_last es rest k v (tail_up e (es ++ (k, v) ∷ rest) up))
 
-  -- the entries are put in one after another
+  -- the copy and the rest are still all entries after the first entry of the rest moves to the copy
   pub copied_more : (entries copy copy' rest rest' : List (K × X)) (k : K) (v : X) → IsAscending R (keys_of entries) → copy ++ rest ≡ entries → rest ≡ (k, v) ∷ rest' → copy' ≡ insert_entry R copy k v → copy' ++ rest' ≡ entries
   copied_more entries copy copy' rest rest' k v up before next is =
       let whole : copy ++ (k, v) ∷ rest' ≡ entries = ap (λ r. copy ++ r) (sym next) ∙ before in

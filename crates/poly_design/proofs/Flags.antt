@@ -47,7 +47,7 @@ flags_more cells flags cell i old lx ly at = record {
   ];
 }
 
--- what the flag of a moved cell says
+-- the flag at a moved cell says whether the cell lands on the board
 pub flag_says : (cells : List Spot) (flags : List Bool) (right down : ℕ) (c : Spot) (i : ℕ) (b : Bool) → AreFlagsOf cells flags → c.x + right < 64 → c.y + down < 64
     → i ≡ 64 * (c.y + down) + (c.x + right) → b ≡ get_or flags i b → IsTrue b ↔ LandsOn cells right down c
 flag_says cells flags right down c i b are lx ly at is =

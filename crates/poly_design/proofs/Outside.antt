@@ -93,7 +93,7 @@ both_equal Less q e = (e, absurd (cc))
 both_equal Equal q e = (refl, e)
 both_equal Greater q e = (e, absurd (cc))
 
--- a placement is its name and its cells
+-- placements that tie are equal
 pub same_placement : (a b : Placement) → placement_cmp a b ≡ Equal → a ≡ b
 same_placement a b e =
     let both = both_equal (name_cmp a.name b.name) (cells_cmp a.cells b.cells) e in
@@ -194,7 +194,7 @@ cell_recounted d c before mode n m old new count gone come sum =
     (cell_outside d c before mode)
     count gone come sum
 
--- both modes, or neither, are blocked
+-- if both modes are blocked or neither is, the same cells are unblocked before and after
 same_freedom : (d : Layout) (c : Spot) (before mode : Mode) → IsDesign d → (mode_of d c ≢ Blocked) ↔ (mode ≢ Blocked) → (x : Spot) → IsUnblocked d x ↔ IsUnblocked (changed d (Cell c before mode)) x
 same_freedom d c before mode is alike x =
     let stands : mode_at (set_mode d.cells c mode) c ≡ mode = mode_stands d.cells c mode is.cells_ascend in

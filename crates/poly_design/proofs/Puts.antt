@@ -66,7 +66,7 @@ module _ {K X : Type 0} {R : K → K → Ordering} (o : IsTotalOrder R) where
       ap (λ r. cond (is_eq r) (Some e.1) (lookup (is_at (R k)) (f ∷ es))) lt
       ∙ none_below k f es (tail_up e (f ∷ es) up) (o.trans k e.0 f.0 lt (up zero (suc zero) k (omega arith) (omega arith)))
 
-  -- a known key adds none
+  -- a key that is there already adds no entry
   pub length_known : (es : List (K × X)) (k : K) (v w : X) → IsAscending R (keys_of es) → lookup (is_at (R k)) es ≡ Some w → length (insert_entry R es k v) ≡ length es
   length_known [] k v w up found = absurd (cc)
   length_known (e ∷ es) k v w up found = (elim (R k e.0) as (λ r. R k e.0 ≡ r → length (match_ordering r ((k, v) ∷ e ∷ es) ((e.0, v) ∷ es) (e ∷ insert_entry R es k v)) ≡ length (e ∷ es)) [

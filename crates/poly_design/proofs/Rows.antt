@@ -36,7 +36,7 @@ use Rattle.poly_design.proofs.Shifts.{place_weaker}
 abbrev pub named : List ℕ → List Spot → Placement
 named name k = record { name = name; cells = k }
 
--- some entry has the placement's name, and by P it can lie on the cells
+-- some entry has the placement's name, and P says that its piece can lie on the placement's cells
 abbrev pub IsOfEntry : (Spec → List Spot → Type 0) → List (List ℕ × Spec) → Placement → Type 0
 IsOfEntry P entries p = (s : Spec) × Contains entries (p.name, s) × P s p.cells
 
@@ -172,7 +172,7 @@ none_on_blocked grid cells pieces cell none = record {
   exact = λ p. (λ h. absurd (lacks_nil p h), λ h. absurd (h.0.place.lies.free cell h.1 (ap (λ r. unwrap_or r Blocked) none)));
 }
 
--- the placements of one name
+-- if `found` lists the sets of cells that satisfy Q, `list` lists the placements named n whose cells satisfy Q
 pub named_listed : (n : List ℕ) (Q : List Spot → Type 0) (found : List (List Spot)) (list : List Placement) → IsListOf cells_cmp Q found → list ≡ [] ++ map (named n) found
     → IsListOf placement_cmp (λ p. (p.name ≡ n) × Q p.cells) list
 named_listed n Q found list of is = subst (IsListOf placement_cmp (λ p. (p.name ≡ n) × Q p.cells)) (sym is) (record {
@@ -186,7 +186,7 @@ named_listed n Q found list of is = subst (IsListOf placement_cmp (λ p. (p.name
   );
 })
 
--- the listed ones of a piece are those placements of the design that have its name
+-- a placement with the name of a piece is one of the design exactly if the piece can lie on the placement's cells
 pub placement_of_exactly : (d : Layout) (name : List ℕ) (spec : Spec) → NoneBlocked d.cells → IsAscending name_cmp (keys_of d.pieces) → lookup (is_at (name_cmp name)) d.pieces ≡ Some spec → (p : Placement)
     → ((p.name ≡ name) × IsPlace (Contains (keys_of d.cells)) spec p.cells) ↔ (IsPlacement d p × (p.name ≡ name))
 placement_of_exactly d name spec none up has p = (
@@ -204,7 +204,7 @@ placement_of_exactly d name spec none up has p = (
     same_name : (x y : List ℕ) → eq_by_cmp name_cmp x y ≡ true → x ≡ y
     same_name = tells_apart exact_bytes
 
--- if all placements are listed, no list of them is longer
+-- if a list of all placements has at most 20,000, so has every list of different placements
 pub few_from_list : (d : Layout) (list : List Placement) → IsListOf placement_cmp (IsPlacement d) list → length list ≤ 20000 → FewPlacements d
 few_from_list d list of few ys up members =
     let le = length-part placement_total ys list up of.ascending (λ v h. (of.exact v).1 (members v h)) in
@@ -217,7 +217,7 @@ few_without_pieces d none (p ∷ ps) up members =
     let m = members p (zero, omega arith, refl) in
     absurd (lacks_nil (p.name, m.spec) (subst (λ l. Contains l (p.name, m.spec)) none m.has))
 
--- within the limit, only memory is refused
+-- within the limit, the only refusal is `Memory`
 pub only_memory : {T : Type 0} (d : Layout) (r : Result T Refusal) → IfErr r (λ e. (e ≡ Memory) ⊎ ((e ≡ TooManyPlacements) × (FewPlacements d → ⊥))) → FewPlacements d → IfErr r (λ e. e ≡ Memory)
 only_memory d (Ok t) why few = tt
 only_memory d (Err e) why few = elim why [ inl is ↦ is | inr many ↦ absurd (many.1 few) ]

@@ -27,11 +27,11 @@ pub placement_itself : (a b : Placement) → a ≡ b → (pointwise nat_eq a.nam
 placement_itself a b same = subst (λ (v : Placement). (pointwise nat_eq a.name v.name && pointwise spot_eq a.cells v.cells) ≡ true) same
     (ap (λ t. t && pointwise spot_eq a.cells a.cells) (nat_list_eq_equiv.refl a.name) ∙ (lists_equiv spot_equiv).refl a.cells)
 
--- cells that are sorted and kept once each
+-- sorting sets of cells and dropping repeated ones gives the ascending list of them
 pub cells_listed_from : (P : List Spot → Type 0) (xs ys zs : List (List Spot)) → AddsAll P [] xs → IsPermutation xs ys → IsSorted cells_cmp ys → IsFiltered (DiffersFromLast (pointwise spot_eq)) [] ys zs → IsListOf cells_cmp P zs
 cells_listed_from P xs ys zs adds moved sorted kept = listed_from cells_total (lists_equiv spot_equiv) cells_ties same_from_pointwise P xs ys zs adds moved sorted kept
 
--- the test of the derived comparison, and that it is exact
+-- the test that the derived `==` makes, which holds exactly if the placements are equal
 abbrev pub placement_test : Placement → Placement → Bool
 placement_test a b = pointwise nat_eq a.name b.name && pointwise spot_eq a.cells b.cells
 

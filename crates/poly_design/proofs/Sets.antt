@@ -1,4 +1,4 @@
--- Sets as lists: places in ascending lists, members added one after another, and sorting.
+-- Sets as lists: indices in ascending lists, members added one after another, and sorting.
 use Rattle.std.proofs.Common.{◌≡◌, ◌∙◌, ℕ, zero, suc, ◌+◌, ◌-◌, ◌<◌, ◌⊎◌, ◌↔◌, Bool, true, List, [], ◌∷◌, ◌++◌, length, get_or, map, take, append_assoc, Result, Ok, Err, refl, sym, ap, subst, inl, inr, arith}
 use mathlib.Core.Bool.{true≢false}
 use Rattle.std.specs.declared.cmp.Ordering.{Ordering}
@@ -24,7 +24,7 @@ use Rattle.poly_design.specs.Listed.{IsListOf, AddsAll, TakesAway, HasAt, IsGapF
 
 -- ---- members
 
--- the first element, or one of the others
+-- what a list contains is its first element or one of the others
 pub first_or_later : {X : Type 0} (x : X) (xs : List X) (y : X) → Contains (x ∷ xs) y → Contains xs y ⊎ (x ≡ y)
 first_or_later x xs y (zero, lt, e) = inr e
 first_or_later x xs y (suc k, lt, e) = inl (k, omega arith, e)
@@ -52,7 +52,7 @@ lacks_nil x (k, lt, e) = omega arith
 pub adds_none : {X : Type 0} (P : ℕ → X → Type 0) (old : List X) → AddsAll (λ x. (i : ℕ) × (i < 0) × P i x) old old
 adds_none P old x = (λ h. inl h, λ h. elim h [ inl there ↦ there | inr p ↦ absurd (omega (arith, p.1)) ])
 
--- one more turn of a loop
+-- one more round of a loop, which adds each x that satisfies P n
 pub adds_more : {X : Type 0} (P : ℕ → X → Type 0) (n : ℕ) (old list list' : List X) → AddsAll (λ x. (i : ℕ) × (i < n) × P i x) old list → AddsAll (P n) list list'
     → AddsAll (λ x. (i : ℕ) × (i < n + 1) × P i x) old list'
 adds_more P n old list list' before more x = (
@@ -177,7 +177,7 @@ module _ {X : Type 0} {R : X → X → Ordering} (o : IsTotalOrder R) where
         ],
   )
 
--- a list is sorted, and each of its members is kept once
+-- sorting a list and dropping repeated members gives the ascending list of its members
 pub listed_from : {X : Type 0} {R : X → X → Ordering} (o : IsTotalOrder R) {E : X → X → Bool} (e : IsEquivalence E) (ties : (x y : X) → E x y ≡ eq_by_cmp R x y) (same : (x y : X) → E x y ≡ true → x ≡ y)
     (P : X → Type 0) (xs ys zs : List X) → AddsAll P [] xs → IsPermutation xs ys → IsSorted R ys → IsFiltered (DiffersFromLast E) [] ys zs → IsListOf R P zs
 listed_from {X} {R} o {E} e ties same P xs ys zs adds moved sorted kept =

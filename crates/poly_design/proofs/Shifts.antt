@@ -12,7 +12,7 @@ use Rattle.poly_design.specs.Moved.{IsShift, IsShifted, IsSomewhere, LandsOn}
 use Rattle.poly_design.proofs.Sets.{contains_map, contains_map_from}
 
 module _ (F : Spot → Type 0) (forbidden : List (List Spot)) where
-  -- a shift is known by where it leads
+  -- only one shift moves `from` onto `to`
   pub shifted_by : (image : List Spot) (from to : Spot) (right down : ℕ) → IsShift right down from to → (k : List Spot) → IsShifted F forbidden image from to k → IsMovedTo F forbidden image right down k
   shifted_by image from to right down shift k s =
       let er : s.right ≡ right = omega (arith, s.shift.x, shift.x) in
@@ -26,7 +26,7 @@ module _ (F : Spot → Type 0) (forbidden : List (List Spot)) where
   pub moved_from : (image : List Spot) (right down : ℕ) (k : List Spot) (c : Spot) → IsMovedTo F forbidden image right down k → Contains k c → (b : Spot) × Contains image b × (spot_moved right down b ≡ c)
   moved_from image right down k c lies here = contains_map_from (spot_moved right down) image c (subst (λ l. Contains l c) lies.moved here)
 
-  -- the image is moved so that its first cell comes to lie on one of the cells of the board
+  -- the positions where the image can lie with `first` on a cell of the board are all positions where it can lie
   pub somewhere_by_first : (board image : List Spot) (first d : Spot) → ((c : Spot) → F c → Contains board c) → Contains image first → (k : List Spot)
       → ((i : ℕ) × (i < length board) × IsShifted F forbidden image first (get_or board i d) k) ↔ IsSomewhere F forbidden image k
   somewhere_by_first board image first d free here k = (
@@ -39,7 +39,7 @@ module _ (F : Spot → Type 0) (forbidden : List (List Spot)) where
         (at.0, at.1, record { right = s.right; down = s.down; shift = subst (IsShift s.right s.down first) e shift; lies = s.lies }),
   )
 
-  -- the image is moved so that one of its cells comes to lie on the cell
+  -- the positions where the image can lie with one of its cells on `cell` are those where it can lie and cover `cell`
   pub somewhere_on : (image : List Spot) (cell d : Spot) (k : List Spot)
       → ((i : ℕ) × (i < length image) × IsShifted F forbidden image (get_or image i d) cell k) ↔ (IsSomewhere F forbidden image k × Contains k cell)
   somewhere_on image cell d k = (
@@ -57,7 +57,7 @@ module _ (F : Spot → Type 0) (forbidden : List (List Spot)) where
         (b.1.0, b.1.1, record { right = s.right; down = s.down; shift = subst (λ v. IsShift s.right s.down v cell) e shift; lies = s.lies }),
   )
 
--- an image lies on the board exactly if each of its cells lands on the board
+-- if an image lies on the board, each of its cells lands on the board
 pub lands : (board : List Spot) (forbidden : List (List Spot)) (image : List Spot) (right down : ℕ) (k : List Spot) → IsMovedTo (Contains board) forbidden image right down k → All (LandsOn board right down) image
 lands board forbidden image right down k lies i d lt =
     let c = get_or image i d in
@@ -74,7 +74,7 @@ lies_from board forbidden image right down k land is allowed = record {
   allowed = allowed;
 }
 
--- the places of a piece are those of its orientations
+-- a piece can lie on cells exactly if one of its orientations can
 pub place_by_orientation : (F : Spot → Type 0) (spec : Spec) (list : List (List Spot)) → AreOrientations spec.shape spec.mirror list → (k : List Spot)
     → ((i : ℕ) × (i < length list) × IsSomewhere F spec.forbidden (get_or list i []) k) ↔ IsPlace F spec k
 place_by_orientation F spec list are k = (

@@ -12,13 +12,13 @@ use Rattle.poly_design.specs.declared.change.Change.{Change}
 use Rattle.poly_design.specs.declared.change.Change.TheVariants.{Cell, Piece}
 use Rattle.poly_design.specs.Layout.{Layout, mode_of, spec_of}
 
--- the entries with that mode for the cell; a blocked cell has none
+-- the entries, with that mode for the cell; a blocked cell has no entry
 abbrev pub set_mode : List (Spot × Mode) → Spot → Mode → List (Spot × Mode)
 set_mode cells c Required = insert_entry spot_cmp cells c Required
 set_mode cells c Optional = insert_entry spot_cmp cells c Optional
 set_mode cells c Blocked = remove_entry (is_at (spot_cmp c)) cells
 
--- the entries with that piece under the name, or with none
+-- the entries, with that piece under the name; without a piece the name has no entry
 abbrev pub set_spec : List (List ℕ × Spec) → List ℕ → Option Spec → List (List ℕ × Spec)
 set_spec pieces name None = remove_entry (is_at (name_cmp name)) pieces
 set_spec pieces name (Some spec) = insert_entry name_cmp pieces name spec

@@ -1,4 +1,4 @@
--- The design after each edit, and why an edit is refused.
+-- The change that an edit asks for, and why an edit is refused.
 use Rattle.std.specs.Prelude.{◌≡◌, ◌≢◌, ◌⊎◌, ℕ, ◌<◌, Bool, List, [], ◌∷◌, Option, None, Some, Result, Err, length}
 use Rattle.std.specs.BTreeMap.{is_at}
 use Rattle.std.specs.BTreeSet.{insert_key}
@@ -30,7 +30,7 @@ copies_of Optional = record { least = 0; most = 1 }
 abbrev pub new_spec : Figure → Need → Bool → Spec
 new_spec shape need mirror = record { shape = shape; copies = copies_of need; mirror = mirror; pin = None; forbidden = [] }
 
--- a piece that the design has, replaced by f of it
+-- what f makes of the piece, if there is a piece
 abbrev pub replaced : (Spec → Spec) → Option Spec → Option Spec
 replaced f None = None
 replaced f (Some s) = Some (f s)
@@ -51,7 +51,7 @@ change_of d (edit.Unpin name) = change_by d name (λ s. record s { pin = None })
 change_of d (edit.Forbid name cells) = change_by d name (λ s. record s { forbidden = insert_key cells_cmp s.forbidden cells })
 change_of d (edit.Allow name cells) = change_by d name (λ s. record s { forbidden = remove_key (is_at (cells_cmp cells)) s.forbidden })
 
--- both sides are the same
+-- both sides of the change are the same
 abbrev pub IsIdle : Change → Type 0
 IsIdle (change.Cell cell before after) = before ≡ after
 IsIdle (change.Piece name before after) = before ≡ after
@@ -99,16 +99,16 @@ abbrev pub NoneEarly : List (Refusal × Type 0) → Type 0
 NoneEarly [] = Unit {0}
 NoneEarly (c ∷ cs) = (IsEarly c.0 → ¬ c.1) × NoneEarly cs
 
--- the change is what the edit asks for, no cause refuses it, and it makes a design
+-- the change is what the edit asks for, no cause to refuse the edit holds, and the result is a design
 pub record IsAccepted (d : Layout) (e : Edit) (step : Change) : Type 0 where
   pub is : step ≡ change_of d e
   pub free : NoneHolds (causes d e)
   pub design : IsDesign (changed d step)
 
--- why a check may refuse the edit
+-- the refusal is that of the first cause to refuse the edit that holds
 abbrev pub IsRefused : Layout → Edit → Refusal → Type 0
 IsRefused d e refusal = IsFirst (causes d e) refusal
 
--- if the first cause is one that is detected without allocating, it is the answer, so no other refusal takes its place
+-- if the first cause that holds is detected without allocating, its refusal is the answer
 abbrev pub RefusesEarly : Layout → Edit → Result Change Refusal → Type 0
 RefusesEarly d e answer = (refusal : Refusal) → IsEarly refusal → IsRefused d e refusal → answer ≡ Err refusal

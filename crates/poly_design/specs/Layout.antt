@@ -10,7 +10,7 @@ use Rattle.poly_design.specs.declared.mode.Mode.{Mode}
 use Rattle.poly_design.specs.declared.mode.Mode.TheVariants.{Blocked}
 use Rattle.poly_design.specs.declared.spec.Spec.{Spec}
 
--- the grid, the unblocked cells, each with its mode, and the pieces by name; both lists ascend by their keys
+-- the grid, the unblocked cells, each with its mode, and the pieces by name; in a design both lists ascend by their keys
 pub record Layout : Type 0 where
   pub grid : Grid
   pub cells : List (Spot × Mode)

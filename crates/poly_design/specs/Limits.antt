@@ -24,7 +24,7 @@ IsInRange c = (c.x < SIDE) × (c.y < SIDE)
 abbrev pub NoneBlocked : List (Spot × Mode) → Type 0
 NoneBlocked cells = (c : Spot) (m : Mode) → Contains cells (c, m) → m ≢ Blocked
 
--- each shape is one of the grid
+-- each shape is a shape of the grid
 abbrev pub AreOfGrid : Grid → List (List ℕ × Spec) → Type 0
 AreOfGrid grid pieces = (name : List ℕ) (spec : Spec) → Contains pieces (name, spec) → spec.shape.grid ≡ grid
 

@@ -5,7 +5,7 @@ use Rattle.std.specs.declared.cmp.Ordering.TheVariants.{Less, Greater}
 use Rattle.std.specs.List.{AllWithin, Contains}
 use Rattle.poly_shape.specs.Order.{IsAscending}
 
--- the list has each x that satisfies P, once, in ascending order
+-- the list has exactly the x that satisfy P, each once, in ascending order
 pub record IsListOf {X : Type 0} (cmp : X → X → Ordering) (P : X → Type 0) (list : List X) : Type 0 where
   pub ascending : IsAscending cmp list
   pub exact : (x : X) → Contains list x ↔ P x
@@ -16,20 +16,20 @@ pub record IsCount {X : Type 0} (cmp : X → X → Ordering) (P : X → Type 0) 
   pub listed : IsListOf cmp P list
   pub whole : length list ≡ count
 
--- the new list has what the old one has, and each x that satisfies P
+-- the new list has exactly what the old one has, and each x that satisfies P
 abbrev pub AddsAll : {X : Type 0} → (X → Type 0) → List X → List X → Type 0
 AddsAll {X} P old new = (x : X) → Contains new x ↔ (Contains old x ⊎ P x)
 
--- the new list has what the old one has, but not x
+-- the new list has exactly what the old one has, except x
 abbrev pub TakesAway : {X : Type 0} → X → List X → List X → Type 0
 TakesAway {X} x old new = (y : X) → Contains new y ↔ (Contains old y × (¬ (x ≡ y)))
 
--- the list has x at that place
+-- the list has x at that index
 pub record HasAt {X : Type 0} (list : List X) (at : ℕ) (x : X) : Type 0 where
   pub within : at < length list
   pub is : (d : X) → slice_index_or list at d ≡ x
 
--- the elements before that place are below x, and those from there on are above it
+-- the elements before that index are below x, and those from the index on are above x
 pub record IsGapFor {X : Type 0} (cmp : X → X → Ordering) (x : X) (list : List X) (at : ℕ) : Type 0 where
   pub within : at ≤ length list
   pub below : AllWithin (λ y. cmp y x ≡ Less) list 0 at

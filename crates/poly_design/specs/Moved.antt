@@ -6,7 +6,7 @@ use Rattle.poly_grid.specs.declared.cell.TheConstants.{SIDE}
 use Rattle.poly_shape.specs.Moves.{spot_moved}
 use Rattle.poly_design.specs.Placements.{IsMovedTo}
 
--- the cell, moved right and down, stays in the range and is one of the board
+-- the cell, moved right and down, stays in the range and is then a cell of the board
 pub record LandsOn (board : List Spot) (right down : ℕ) (c : Spot) : Type 0 where
   pub in_width : c.x + right < SIDE
   pub in_height : c.y + down < SIDE

@@ -20,7 +20,7 @@ pub record IsMovedTo (IsFree : Spot → Type 0) (forbidden : List (List Spot)) (
   pub free : (c : Spot) → Contains cells c → IsFree c
   pub allowed : ¬ Contains forbidden cells
 
--- the piece can lie on the cells: they are an orientation of its shape, moved to where it can lie
+-- the piece can lie on the cells: they are an orientation of its shape, moved, all of them are free, and they aren't forbidden
 pub record IsPlace (IsFree : Spot → Type 0) (spec : Spec) (cells : List Spot) : Type 0 where
   pub turn : ℕ
   pub image : List Spot
@@ -33,13 +33,13 @@ pub record IsPlace (IsFree : Spot → Type 0) (spec : Spec) (cells : List Spot) 
 abbrev pub IsUnblocked : Layout → Spot → Type 0
 IsUnblocked d c = mode_of d c ≢ Blocked
 
--- one of the design's pieces can lie on the cells
+-- the design has a piece of the placement's name, and this piece can lie on the placement's cells
 pub record IsPlacement (d : Layout) (p : Placement) : Type 0 where
   pub spec : Spec
   pub has : Contains d.pieces (p.name, spec)
   pub place : IsPlace (IsUnblocked d) spec p.cells
 
--- the placements of a piece that may be missing
+-- p is a placement of the piece of this name; a piece that is missing has none
 abbrev pub IsOfPiece : (Spot → Type 0) → List ℕ → Option Spec → Placement → Type 0
 IsOfPiece IsFree name spec p = (p.name ≡ name) × ((s : Spec) × (spec ≡ Some s) × IsPlace IsFree s p.cells)
 

@@ -1,4 +1,5 @@
-//! The cells of a board that are not blocked, with a flag for each cell, so that testing a cell is one look-up.
+//! The cells of a board that are not blocked, and a flag for every cell that a board can have, so that testing a cell is
+//! one look-up.
 ghost use Rattle.std.specs.Prelude.{◌≡◌, ◌↔◌, ◌++◌, ◌∷◌, [], IsTrue, OnOk, IfOk, IfErr, replicate, false};
 ghost use Rattle.std.specs.BTreeMap.{keys};
 ghost use Rattle.poly_shape.specs.Order.{IsAscending, spot_cmp};
@@ -12,9 +13,12 @@ use std::alloc::Global;
 use std::collections::BTreeMap;
 use std::marker::Model;
 
+/// The unblocked cells of a board. Contracts see them as a list.
 #[derive(Drop)]
 pub(crate) struct Board {
+    /// The unblocked cells, in the order in which they were added.
     cells: Vec<Cell>,
+    /// For each cell from 0,0 to 63,63, row by row, whether it is unblocked.
     flags: Vec<bool>,
 }
 
@@ -32,7 +36,7 @@ impl Model for Board {
 }
 
 impl Board {
-    /// The board of the cells that have an entry.
+    /// The board of the cells that have an entry in `modes`.
     pub(crate) fn of(alloc: Global, modes: &BTreeMap<Cell, Mode>) -> Result<Board, Refusal>
         ensures ok { IfOk result (λ board. board ≡ keys modes.now) }
         ensures ascending { OnOk result (IsAscending spot_cmp (keys modes.now)) }

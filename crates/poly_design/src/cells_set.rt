@@ -15,7 +15,9 @@ use std::marker::Model;
 /// A set of sets of cells, kept in ascending order.
 #[derive(Drop)]
 pub struct CellsSet {
+    /// The allocator of copies.
     alloc: Global,
+    /// The members, in ascending order.
     list: Vec<Cells>,
 }
 
@@ -55,11 +57,11 @@ impl CellsSet {
         ensures found { IsTrue result ↔ Contains self.now cells.now }
         ensures ascending { IsAscending cells_cmp self.now }
     {
-        self.place(cells).is_ok()
+        self.index_of(cells).is_ok()
     }
 
-    // The index of the cells, or the index at which they would be inserted.
-    fn place(&self, cells: &Cells) -> Result<usize, usize>
+    // `Ok` with the index of the cells if they are a member, or else `Err` with the index at which to insert them.
+    fn index_of(&self, cells: &Cells) -> Result<usize, usize>
         ensures found { IfOk result (λ at. HasAt self.now at cells.now) }
         ensures gap { IfErr result (λ at. IsGapFor cells_cmp cells.now self.now at) }
         ensures ascending { IsAscending cells_cmp self.now }
@@ -75,7 +77,7 @@ impl CellsSet {
         ensures err { OnErr result (self.new ≡ self.old) }
         ensures why { IfErr result (λ e. e ≡ Refusal.Memory) }
     {
-        match self.place(&cells) {
+        match self.index_of(&cells) {
             Ok(_) => Ok(()),
             Err(at) => Ok(self.list.insert(at, cells)?),
         }
@@ -87,7 +89,7 @@ impl CellsSet {
         ensures list { self.new ≡ remove_key (is_at (cells_cmp cells.now)) self.old }
         ensures ascending { IsAscending cells_cmp self.new }
     {
-        match self.place(cells) {
+        match self.index_of(cells) {
             Ok(at) => {
                 self.list.remove(at);
             }

@@ -10,19 +10,25 @@ use crate::name::Name;
 use crate::spec::{Spec, copy_of};
 use poly_grid::{Cell, Refusal};
 
-/// A change of one cell or of one piece: what it was before and what it is after.
+/// A change of one cell or of one piece: the cell's mode or the piece, before and after.
 #[derive(Drop)]
 pub enum Change {
     /// The modes of a cell before and after.
     Cell {
+        /// The cell that changes.
         cell: Cell,
+        /// Its mode before the change.
         before: Mode,
+        /// Its mode after the change.
         after: Mode,
     },
-    /// The piece of a name before and after. `None` if there is no such piece.
+    /// The piece of a name before and after.
     Piece {
+        /// The name of the piece that changes.
         name: Name,
+        /// The piece before the change, or `None` if there was none.
         before: Option<Spec>,
+        /// The piece after the change, or `None` if there is none.
         after: Option<Spec>,
     },
 }
@@ -30,7 +36,7 @@ pub enum Change {
 impl Change {
     /// The change with its sides exchanged.
     ///
-    /// Made after the change, it restores every design that had the change's before side.
+    /// If a design has the change's before side, making the change and then its inverse restores the design.
     pub fn inverse(self) -> Change
         ensures value { result ≡ inverse_of self }
         ensures restores { (d : Layout) → IsDesign d → HasBefore d self → changed (changed d self) result ≡ d }

@@ -3,10 +3,12 @@ ghost use Rattle.std.specs.Prelude.{◌≡◌, ◌≤◌, SomeIff};
 
 use std::marker::Model;
 
-/// The least and the most copies of a piece that a tiling may use: 0 to 16, the least at most the most.
+/// How many copies of a piece a tiling uses, at least and at most. Both are 0 to 16, and the least isn't above the most.
 #[derive(Clone, Copy, Debug, PartialEq, Eq)]
 pub struct Copies {
+    /// The least number of copies, at most `most`.
     least: u8,
+    /// The most copies, at most 16.
     most: u8,
 }
 

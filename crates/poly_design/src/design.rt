@@ -38,11 +38,15 @@ pub const MAX_PIECES: usize = 64;
 /// its shapes are shapes of its grid.
 #[derive(Drop)]
 pub struct Design {
+    /// The allocator of copies and lists.
     alloc: Global,
+    /// The grid that the cells and the shapes belong to.
     grid: Grid,
+    /// The cells that are not blocked, with their modes.
     cells: BTreeMap<Cell, Mode>,
+    /// The pieces by name.
     pieces: BTreeMap<Name, Spec>,
-    // The number of all placements, kept so that a change lists only those of its own cell or piece.
+    /// The number of all placements. With it, a change lists only the placements of its own cell or piece.
     placement_count: usize,
 }
 
@@ -73,7 +77,7 @@ impl Design {
 
     /// The design of these parts.
     ///
-    /// Fails with `TooManyPlacements` if it would have over 20,000 placements, or with `Memory`. Requires at most 256 cells,
+    /// Fails with `TooManyPlacements` if there would be over 20,000 placements, or with `Memory`. Requires at most 256 cells,
     /// none of them blocked, and at most 64 pieces, all with shapes of the grid.
     pub fn of_parts(
         alloc: Global,
@@ -127,7 +131,7 @@ impl Design {
         &self.pieces
     }
 
-    /// The mode of the cell. A cell that is not listed in `cells()` is blocked.
+    /// The mode of the cell. A cell without an entry in `cells()` is blocked.
     pub fn mode(&self, cell: Cell) -> Mode
         ensures { result ≡ mode_of self.now cell }
     {
@@ -173,7 +177,7 @@ impl Design {
     }
 
     /// Makes the change: its cell or piece gets the change's after side, whatever it was before. Requires that the result
-    /// keeps the limits.
+    /// keeps the limits, and that its shapes are shapes of its grid.
     ///
     /// Fails only when out of memory, and then leaves the design unchanged.
     pub fn make(&mut self, change: &Change) -> Result<(), Refusal>

@@ -1,4 +1,4 @@
-//! Tests whether designs, or parts of designs, are equal. Nothing here takes memory.
+//! Tests whether designs, or parts of designs, are equal. Nothing here allocates.
 ghost use Rattle.std.specs.Prelude.{◌≡◌, ◌↔◌, IsTrue};
 
 use crate::cells_set::CellsSet;

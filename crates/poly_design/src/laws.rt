@@ -1,4 +1,4 @@
-//! The limits of a design, each said by the contract of a function that does nothing.
+//! The limits of a design, stated by the contract of a function that does nothing.
 ghost use Rattle.std.specs.Prelude.{◌≡◌};
 
 use crate::design::{MAX_CELLS, MAX_PIECES};

@@ -2,11 +2,12 @@
 //!
 //! - [`Design`]: the cells and the pieces, within limits that its type keeps. It lists placements, checks edits and makes
 //!   changes.
-//! - [`Edit`]: a request to change a design. [`Design::check`] answers with the change that it makes, or with a refusal.
+//! - [`Edit`]: a request to change a design. [`Design::check`] returns the change that the edit makes, or a refusal.
 //! - [`Change`]: a change of one cell or one piece, which has an inverse.
 //! - [`Placement`]: a piece's name with the cells that it covers. [`Mode`]: what a tiling does with a cell.
-//! - [`Name`], [`Spec`], [`Copies`], [`Need`], [`CellsSet`]: a piece and its parts.
-//! - Limits of a design: [`MAX_CELLS`], [`MAX_PIECES`], [`MAX_PLACEMENTS`]; [`limits_of_designs`] says their numbers.
+//! - [`Name`], [`Spec`], [`Copies`], [`CellsSet`]: a piece and its parts. [`Need`]: how an edit asks for exactly one copy of a
+//!   piece, or for at most one.
+//! - Limits of a design: [`MAX_CELLS`], [`MAX_PIECES`], [`MAX_PLACEMENTS`]; [`limits_of_designs`] states their values.
 #![tactic(auto)]
 
 mod board;

@@ -1,4 +1,4 @@
-//! The placements of all pieces.
+//! The placements of all pieces, of one piece, and on one cell.
 ghost use Rattle.std.specs.Prelude.{◌≡◌, ◌⊎◌, ◌≤◌, ◌++◌, length, map, OnOk, IfOk, IfErr};
 ghost use Rattle.std.specs.List.{All, Contains};
 ghost use Rattle.std.specs.BTreeMap.{keys};

@@ -11,7 +11,9 @@ use std::marker::Model;
 /// comes first.
 #[derive(Clone, Copy, Debug)]
 pub struct Name {
+    /// The bytes of the name, and after them zeros up to the end.
     bytes: [u8; 16],
+    /// How many bytes the name has, 1 to 16.
     len: usize,
 }
 

@@ -1,4 +1,4 @@
-//! The two maps of a design: putting in what a change says, and copying.
+//! The two maps of a design: updating the entry of one cell or of one piece, and copying.
 ghost use Rattle.std.specs.Prelude.{◌≡◌, IfOk, IfErr, OnOk, OnErr};
 ghost use Rattle.std.specs.List.{All};
 ghost use Rattle.std.specs.BTreeMap.{keys};

@@ -1,7 +1,8 @@
 //! Where one piece can lie.
 //!
 //! The first cell of a placement lies on an unblocked cell. So each orientation is tried once for each unblocked cell,
-//! moved so that its first cell lies there. The placements that fit are sorted once at the end.
+//! moved so that its first cell lies there. If the piece has to cover a given cell, each orientation is instead tried once
+//! for each of its own cells, moved so that this cell lies on the given one. What fits is sorted once at the end.
 ghost use Rattle.std.specs.Prelude.{◌≡◌, ◌↔◌, ℕ, IsTrue, OnOk, IfOk, IfErr, IfSome, IfNone};
 ghost use Rattle.std.specs.List.{All, Contains};
 ghost use Rattle.poly_grid.specs.Spot.{Spot};
@@ -52,7 +53,7 @@ pub(crate) fn places_on(
     Ok(list)
 }
 
-// Adds every place where the cells can lie.
+// Adds the cells, moved to each position at which they can lie.
 fn add_all(
     list: &mut Vec<Cells>,
     board: &Board,
@@ -69,7 +70,7 @@ fn add_all(
     Ok(())
 }
 
-// Adds every place where the cells can lie and cover the cell.
+// Adds the cells, moved to each position at which they can lie and cover `cell`.
 fn add_on(
     list: &mut Vec<Cells>,
     board: &Board,
@@ -86,7 +87,7 @@ fn add_on(
     Ok(())
 }
 
-// Adds the cells, moved so that the cell `from` of them lies on `to`, if they can lie there.
+// Adds the cells, moved so that their cell `from` lies on `to`, if they can lie there.
 fn add_shifted(
     list: &mut Vec<Cells>,
     board: &Board,
@@ -114,7 +115,7 @@ fn add_shifted(
     Ok(())
 }
 
-// How far right and down one cell lies from another.
+// How far `to` lies to the right of `from` and below it, or `None` if it lies to the left of `from` or above it.
 fn shift(from: Cell, to: Cell) -> Option<(u8, u8)>
     ensures some { IfSome result (λ by. IsShift by.0 by.1 from to) }
     ensures none { IfNone result ((right down : ℕ) → ¬ IsShift right down from to) }

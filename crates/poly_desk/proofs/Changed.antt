@@ -30,7 +30,7 @@ cuts_within [] = omega arith
 cuts_within (Cut k ∷ es) = omega (arith, cuts_within es)
 cuts_within (Hopeless k n ∷ es) = omega (arith, cuts_within es)
 
--- one task that may be hopeless
+-- whether or not one more task is hopeless, the endings have equally many cuts
 no_cut_one : (n : ℕ) (t : Task) (b : Bool) (F : List Task) → cut_count (map (λ (u : Task). Hopeless u.number n) (cond b (t ∷ F) F)) ≡ cut_count (map (λ (u : Task). Hopeless u.number n) F)
 no_cut_one n t true F = omega arith
 no_cut_one n t false F = omega arith

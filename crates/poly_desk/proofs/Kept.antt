@@ -1,4 +1,4 @@
--- What a floor keeps over a change and a cut.
+-- What holds of a floor after a change or a cut if it held before.
 use Rattle.std.proofs.Common.{List, [], ap, arith, drop, inr, length, subst, suc, sym, ℕ, ◌+◌, ◌∙◌, ◌∷◌, ◌≡◌, ◌≤◌}
 use Rattle.std.proofs.lemmas.List.{length_push}
 use Rattle.poly_grid.specs.declared.refusal.Refusal.{Refusal}
@@ -57,7 +57,7 @@ cut_shows posts s t task x m n a b e p = record {
   endings = omega (arith, b, ap length p.endings, length_push s.endings (Cut task));
 }
 
--- after a change the edition is above the opening one
+-- after a change the edition is above the opening one, so the book may have any view
 pub change_views : (ss : List Step) (v : View) (o : Layout) (k : ℕ) (s t : State) (d : Done) (changes cuts : ℕ) → Counts o ss k s changes cuts → OneChange s t d → IsViewAt ss v (length t.steps) t.view
 change_views ss v o k s t d changes cuts c p = λ e. absurd (omega (arith, e, ap length p.last, c.changes_are))
 

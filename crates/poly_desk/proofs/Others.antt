@@ -13,7 +13,7 @@ use Rattle.poly_book.specs.Refused.{IsNotApplied, IsNotEdited, IsNotMade, IsNotR
 use Rattle.poly_book.specs.States.{State}
 use Rattle.poly_desk.specs.Seen.{is_unsettled}
 
--- it is a refusal that isn't `Unsettled`
+-- a refusal that equals one other than `Unsettled` isn't `Unsettled`
 pub other : (e x : Refusal) → e ≡ x → is_unsettled x ≡ false → is_unsettled e ≡ false
 other e x h k = ap is_unsettled h ∙ k
 

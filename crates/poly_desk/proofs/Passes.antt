@@ -1,4 +1,4 @@
--- What the contracts of a floor's calls say of the pass alone.
+-- What follows from the contracts of a floor's calls for what a worker has: the pass, a receipt, a job, all tilings.
 use Rattle.std.proofs.Common.{Bool, List, None, Option, Some, [], ap, arith, false, inl, inr, length, refl, subst, sym, true, ℕ, ◌<◌, ◌∙◌, ◌∷◌, ◌≡◌, ◌≤◌, ◌⊎◌}
 use Rattle.std.specs.Arc.{arc_value}
 use Rattle.std.specs.Prelude.{IfSome, MatchOption}
@@ -89,7 +89,7 @@ changed_made k s t p q place st h c e = (
   omega (arith, c.place, ap (λ (z : Held). z.noted.edition) h.pass),
 )
 
--- the newest step, or another one
+-- the first of the steps, or `d` if there is none
 first_or : Step → List Step → Step
 first_or d [] = d
 first_or d (x ∷ xs) = x

@@ -21,7 +21,8 @@ or_false false = refl
 taken_push : (rs : List Receipt) (r q : Receipt) → is_taken (rs ++ r ∷ []) q ≡ (is_taken rs q || same_place r q)
 taken_push rs r q = list_any-append (λ x. same_place x q) rs (r ∷ []) ∙ ap (λ b. is_taken rs q || b) (or_false (same_place r q))
 
--- a right receipt whose flag is down is ticked off: its flag is raised, and no other changes
+-- if the flag of a right receipt was down, and then this flag is raised and no other changes, the receipt is taken like those
+-- before it
 pub taken_more : (b : State) (m n : Marks) (rs : List Receipt) (r : Receipt) → Taken b m rs → IsRightReceipt b r → flag_of m r ≡ false →
     ((q : Receipt) → flag_of n q ≡ (flag_of m q || same_place r q)) → Taken b n (rs ++ r ∷ [])
 taken_more b m n rs r t s first up = record {
@@ -37,7 +38,7 @@ taken_more b m n rs r t s first up = record {
         let same : length rs ≡ k = omega (arith, l, h, length_push rs r) in
         ap (λ z. is_taken z (slice_index_or (rs ++ r ∷ []) k d)) (take_at rs (r ∷ []) k same) ∙ ap (λ x. is_taken rs x) (get_or_at rs r [] d k same) ∙ sym (t.ticked r) ∙ first
 
--- a receipt that isn't right, or whose flag is up already, makes the whole list bad
+-- a receipt that isn't right, or whose flag is up already, is the one that the refusal names
 pub bad_here : (b : State) (m : Marks) (before after : List Receipt) (r : Receipt) (e : Refusal) → Taken b m before →
     ((e ≡ Unsettled (place_of r) (entries b r)) × (¬ IsRightReceipt b r)) ⊎ ((e ≡ Unsettled (place_of r) 2) × IsRightReceipt b r × (flag_of m r ≡ true)) → IsBadReceipt b (before ++ r ∷ after) e
 bad_here b m before after r e t (inl h) = (before, r, after, refl, inl h)
@@ -49,7 +50,7 @@ cut_at xs i x h e = sym (take-append-drop i xs) ∙ ap (λ z. take i xs ++ z) (d
 more_at : {X : Type 0} (xs : List X) (i : ℕ) (x : X) → i < length xs → x ≡ slice_index_or xs i x → take (i + 1) xs ≡ take i xs ++ x ∷ []
 more_at xs i x h e = take_more xs i x h ∙ ap (λ y. take i xs ++ y ∷ []) (sym e)
 
--- the middle one of three lists is split at its item `i`
+-- the middle one of three lists is split at its element `i`
 pub split_at : {X : Type 0} (rs xs more : List X) (i : ℕ) (x : X) → i < length xs → x ≡ slice_index_or xs i x → (rs ++ xs) ++ more ≡ (rs ++ take i xs) ++ x ∷ (drop (i + 1) xs ++ more)
 split_at rs xs more i x h e =
     ap (λ z. (rs ++ z) ++ more) (cut_at xs i x h e) ∙ ap (λ z. z ++ more) (sym (append_assoc rs (take i xs) (x ∷ drop (i + 1) xs))) ∙ append_assoc (rs ++ take i xs) (x ∷ drop (i + 1) xs) more

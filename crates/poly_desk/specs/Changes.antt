@@ -31,7 +31,7 @@ pub record OneChange (s t : State) (done : Done) : Type 0 where
   pub more : length s.endings ≤ length t.endings
   pub few : length t.endings ≤ length s.endings + length s.pending
 
--- the book has one more cut, and the same steps and view
+-- the book has one more ending, the cut of task `k`, and the same steps and view
 pub record OneCut (k : ℕ) (s t : State) (a : Applied) : Type 0 where
   pub opened : t.opened ≡ s.opened
   pub view : t.view ≡ s.view

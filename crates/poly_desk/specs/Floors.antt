@@ -9,7 +9,7 @@ use Rattle.poly_book.specs.States.{State}
 use Rattle.poly_desk.specs.Changes.{cut_count}
 use Rattle.poly_desk.specs.Noted.{numbers_of}
 
--- a floor as contracts see it: its book, and how many passes there are
+-- a floor as contracts see it: its book, and how many passes were made
 pub record OnFloor : Type 0 where
   pub book : State
   pub passes : ℕ
@@ -17,14 +17,14 @@ pub record OnFloor : Type 0 where
 abbrev pub on_floor : State → ℕ → OnFloor
 on_floor book passes = record { book = book; passes = passes }
 
--- the book began with this opening, and the totals are its steps and cuts since then
+-- the desk began with this opening of the book, and the totals are how many steps and cuts the book has had since then
 pub record Counts (o : Layout) (ss : List Step) (k : ℕ) (b : State) (changes cuts : ℕ) : Type 0 where
   pub opened : b.opened ≡ o
   pub begins : drop changes b.steps ≡ ss
   pub changes_are : length b.steps ≡ length ss + changes
   pub cuts_are : cut_count b.endings ≡ k + cuts
 
--- the last post is the book's, and each step and ending has a flag
+-- the last post has the book's numbers, and each step and ending has a flag
 pub record Shows (b : State) (posts : List Posted) (step_flags ending_flags : ℕ) : Type 0 where
   pub posted : last_of posts ≡ numbers_of b
   pub steps : length b.steps ≤ step_flags

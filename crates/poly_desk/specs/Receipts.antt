@@ -13,7 +13,7 @@ use Rattle.poly_desk.specs.declared.receipt.Receipt.TheVariants.{Changed, Cut}
 abbrev pub IsAt : {X : Type 0} → List X → ℕ → X → Type 0
 IsAt xs place x = (i : ℕ) × (place ≡ i + 1) × (slice_get xs i ≡ Some x)
 
--- the book has what the receipt says at its place: among the steps, the oldest first, or among the endings
+-- at the receipt's place, the book has what the receipt says: among the steps, the oldest first, or among the endings
 abbrev pub IsRightReceipt : State → Receipt → Type 0
 IsRightReceipt b (Changed place step) = IsAt (reverse b.steps) place step
 IsRightReceipt b (Cut place task) = IsAt b.endings place (ending.Cut task)
@@ -22,7 +22,7 @@ abbrev pub place_of : Receipt → ℕ
 place_of (Changed place step) = place
 place_of (Cut place task) = place
 
--- how many entries of its kind there are
+-- how many steps the book has, for a change; how many endings, for a cut
 abbrev pub entries : State → Receipt → ℕ
 entries b (Changed place step) = length b.steps
 entries b (Cut place task) = length b.endings
@@ -38,16 +38,16 @@ same_place (Cut place task) (Cut other t) = place == other
 abbrev pub is_taken : List Receipt → Receipt → Bool
 is_taken rs r = list_any (λ q. same_place q r) rs
 
--- none of them has the kind and the place of one before it
+-- no receipt has the kind and the place of one before it
 abbrev pub HaveDistinctPlaces : List Receipt → Type 0
 HaveDistinctPlaces rs = (k : ℕ) (d : Receipt) → k < length rs → is_taken (take k rs) (slice_index_or rs k d) ≡ false
 
--- each receipt is right, and no two of one kind have the same place
+-- each receipt is right, and no two receipts of one kind have the same place
 pub record AreReceipts (b : State) (rs : List Receipt) : Type 0 where
   pub right : All (IsRightReceipt b) rs
   pub distinct : HaveDistinctPlaces rs
 
--- one of the receipts isn't right, or it is the second of its kind for its place
+-- the refusal names a receipt that isn't right, or one that has the kind and the place of a receipt before it
 abbrev pub IsBadReceipt : State → List Receipt → Refusal → Type 0
 IsBadReceipt b rs e = (before : List Receipt) × (r : Receipt) × (after : List Receipt) × (rs ≡ before ++ r ∷ after) ×
     (((e ≡ Unsettled (place_of r) (entries b r)) × (¬ IsRightReceipt b r))

@@ -1,4 +1,4 @@
--- What a locked call says about its pass.
+-- What the contracts of a desk say about a pass and about a receipt.
 use Rattle.std.specs.Prelude.{Bool, false, true, ℕ, ◌+◌, ◌<◌, ◌≡◌, ◌≤◌, ◌⊎◌}
 use Rattle.poly_grid.specs.declared.refusal.Refusal.{Refusal}
 use Rattle.poly_grid.specs.declared.refusal.Refusal.TheVariants.{Unsettled}
@@ -21,14 +21,15 @@ pub record IsLaterOf (noted given later : Posted) : Type 0 where
   pub noted_up_to : IsUpTo noted later
   pub given_up_to : IsUpTo given later
 
--- the pass has noted an edition that isn't below the earlier one, and it has made this many more changes and cuts
+-- the pass has noted an edition that isn't below the one it had noted before, it has made this many more changes and cuts, and
+-- its look knows the same posts
 pub record Later (p q : Held) (changes cuts : ℕ) : Type 0 where
   pub edition : p.noted.edition ≤ q.noted.edition
   pub changes_are : q.changes ≡ p.changes + changes
   pub cuts_are : q.cuts ≡ p.cuts + cuts
   pub posts : q.posts ≡ p.posts
 
--- the edition found is below the pass's, and the pass stays as it was
+-- the edition found is below the one that the pass has noted, and the pass stays as it was
 pub record IsUnsettled (p q : Held) (e : Refusal) : Type 0 where
   pub found : ℕ
   pub why : e ≡ Unsettled p.noted.edition found
@@ -39,11 +40,13 @@ abbrev pub is_unsettled : Refusal → Bool
 is_unsettled (Unsettled seen found) = true
 is_unsettled _ = false
 
--- the call was refused because the edition is below the pass's, or else without making a change or a cut
+-- the call was refused because the edition found is below the one that the pass has noted, or else for another cause; it made
+-- no change and no cut
 abbrev pub IsRefusedAtDesk : Held → Held → Refusal → Type 0
 IsRefusedAtDesk p q e = IsUnsettled p q e ⊎ (Later p q 0 0 × (is_unsettled e ≡ false))
 
--- the place of the change is above the edition that the pass had noted, and not above the one that it has noted since
+-- the receipt is of a change of the kind, and its place is above the edition that the pass had noted before the call, and not
+-- above the one that it has noted now
 abbrev pub IsMade : Kind → Held → Held → Receipt → Type 0
 IsMade k p q (receipt.Changed place step) = (step.kind ≡ k) × (p.noted.edition < place) × (place ≤ q.noted.edition)
 IsMade k p q (receipt.Cut place task) = ⊥

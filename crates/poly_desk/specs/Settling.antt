@@ -17,13 +17,15 @@ saturated sum = min sum 18446744073709551615
 abbrev pub IsWrongSum : ℕ → ℕ → Refusal → Type 0
 IsWrongSum sum total e = (e ≡ Unsettled (saturated sum) total) × (¬ (sum ≡ total))
 
--- the shares of changes don't add up to the total; or they do, and those of cuts don't; or both do, and a receipt is bad
+-- the refusal names what doesn't fit: the shares of changes don't add up to the total; or they do, and those of cuts don't; or
+-- both do, and a receipt isn't right or has the kind and place of one before it
 abbrev pub HasMismatch : State → ℕ → ℕ → ℕ → ℕ → List Receipt → Refusal → Type 0
 HasMismatch b changes cuts changes_given cuts_given rs e =
     IsWrongSum changes_given changes e
     ⊎ ((changes_given ≡ changes) × (IsWrongSum cuts_given cuts e ⊎ ((cuts_given ≡ cuts) × IsBadReceipt b rs e)))
 
--- `e` is such a cause for a book that began with this opening, if the passes' shares add up to `changes_given` and `cuts_given`
+-- the refusal names such a mismatch, for some book of a desk that began with this opening and for passes whose shares add up
+-- to `changes_given` and `cuts_given`
 pub record IsNotSettled (o : Layout) (ss : List Step) (k changes_given cuts_given : ℕ) (rs : List Receipt) (e : Refusal) : Type 0 where
   pub book : State
   pub changes : ℕ

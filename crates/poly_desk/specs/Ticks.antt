@@ -1,4 +1,4 @@
--- Flags for places, and the receipts for which they were put up.
+-- Flags for places, and the receipts for which they are raised.
 use Rattle.std.specs.Prelude.{Bool, List, false, length, slice_index_or, suc, zero, ℕ, ◌≡◌, ◌≤◌}
 use Rattle.poly_book.specs.States.{State}
 use Rattle.poly_desk.specs.Receipts.{AreReceipts, is_taken}
@@ -20,7 +20,7 @@ flag_of m (Cut place task) = flag_at m.endings.items place
 abbrev pub HasFlags : State → Marks → Type 0
 HasFlags b m = (length b.steps ≤ length m.steps.items) × (length b.endings ≤ length m.endings.items)
 
--- the receipts are right, and exactly their flags are up
+-- the receipts are right, no two of one kind have the same place, and exactly their flags are up
 pub record Taken (b : State) (m : Marks) (rs : List Receipt) : Type 0 where
   pub receipts : AreReceipts b rs
   pub ticked : (r : Receipt) → flag_of m r ≡ is_taken rs r

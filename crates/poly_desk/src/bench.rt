@@ -14,9 +14,9 @@ use poly_report::Report;
 use std::sync::Wait;
 use std::sync::ledger::Ledger;
 
-/// Where a worker takes tasks and hands reports in. A [`Desk`] is one; tests have others.
+/// Where a worker takes tasks and hands reports in. A [`Desk`] is a bench; tests have others.
 pub trait Bench {
-    /// The right to use it.
+    /// The right to use the bench.
     type Pass: Drop;
 
     /// How many changes a pass has made.
@@ -25,10 +25,11 @@ pub trait Bench {
     /// How many cuts a pass has made.
     ghost cuts: { Self.Pass → ℕ };
 
-    /// Whether the design may have this view at this edition. The bench promises that of each job and requires it of a search.
+    /// Whether the design may have this view at this edition. The bench promises this of each job's view and requires it of
+    /// each search's view.
     ghost is_view_at: { ℕ → ViewOf → Type 0 };
 
-    /// Any pending task, or the one of a given number. `None` only if no task is pending, or that one isn't.
+    /// Returns any pending task, or the one with the given number. Returns `None` only if there is no such task.
     fn take<R: Wait>(
         &self,
         rt: &R,
@@ -39,7 +40,8 @@ pub trait Bench {
         ensures cuts { cuts pass.new ≡ cuts pass.old }
         ensures view { IfOk result (λ o. IfSome o (λ j. is_view_at j.edition (arc_value j.view))) };
 
-    /// Hands the report in. Its receipt counts as a cut of the pass.
+    /// Hands the report in, and returns what the report changed, with the receipt of its cut. The pass then has one more cut.
+    /// If the report is refused, the pass has as many cuts as before.
     fn hand_in<R: Wait>(
         &self,
         rt: &R,

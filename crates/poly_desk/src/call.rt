@@ -1,4 +1,4 @@
-//! What comes before and after a call of the book.
+//! What a floor does before and after a call of its book.
 ghost use Rattle.std.specs.Prelude.{◌≡◌, ◌≤◌, ◌<◌, ◌+◌, IfErr, OnErr, OnOk, length, vec_len};
 ghost use Rattle.poly_grid.specs.declared.refusal.Refusal.TheVariants.{Memory};
 ghost use Rattle.poly_board.specs.Posts.{NoneFalls, last_of};
@@ -27,7 +27,8 @@ pub(crate) fn numbers_of_book(book: &Book) -> Posted
     }
 }
 
-/// Notes the book's numbers in the pass, unless the book's edition is below the one that the pass has noted.
+/// Notes the book's numbers in the pass. If the book's edition is below the one that the pass has noted, fails with
+/// `Unsettled` and leaves the pass as it was.
 pub(crate) fn note_numbers<C: Ledger, K: Ledger, O: Opening>(
     book: &Book,
     pass: &mut Pass<C, K, O>,
@@ -47,7 +48,8 @@ pub(crate) fn note_numbers<C: Ledger, K: Ledger, O: Opening>(
     Ok(())
 }
 
-/// Makes flags for one more change or one more report. Fails only when out of memory.
+/// Makes enough flags for the steps and endings that the book has after one more change or report. Fails only when out of
+/// memory.
 pub(crate) fn make_room(book: &Book, marks: &mut Marks) -> Result<(), Refusal>
     ensures steps { OnOk result (length book.now.steps + 1 ≤ vec_len marks.new.steps) }
     ensures endings { OnOk result (length book.now.endings + length book.now.pending + 1 ≤ vec_len marks.new.endings) }
@@ -63,7 +65,7 @@ pub(crate) fn make_room(book: &Book, marks: &mut Marks) -> Result<(), Refusal>
     marks.reach(steps as usize, endings as usize)
 }
 
-/// Posts, counts and notes a change that was made.
+/// Posts, counts and notes a change that was made, and returns its receipt.
 pub(crate) fn note_change<C: Ledger, K: Ledger, O: Opening>(
     book: &Book,
     poster: &mut Poster,

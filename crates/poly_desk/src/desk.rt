@@ -1,7 +1,8 @@
-//! The desk: a floor under one lock. Each call locks, runs the floor's call of its name and unlocks.
+//! The desk: a floor under one lock. Each call but `begin`, `look` and `settle_up` locks, runs the floor's call of the same
+//! name, unlocks, and fails as the floor's call does.
 //!
-//! What a lock protects can't be named after it is unlocked. So these contracts say what is known of the pass: what it has
-//! noted and what it has counted.
+//! A contract can't name what a lock protects. So the contracts of the calls that lock don't describe the book. They say what
+//! the pass has noted and counted, and what is known of the answer.
 ghost use Rattle.std.specs.Prelude.{◌≡◌, ◌≤◌, ◌∷◌, [], IfErr, IfOk, IfSome, OnOk};
 ghost use Rattle.std.specs.Arc.{arc_value};
 ghost use Rattle.poly_grid.specs.declared.refusal.Refusal.TheVariants.{Memory};
@@ -31,25 +32,27 @@ use std::sync::{Mutex, Wait};
 /// A floor under one lock.
 #[derive(Drop)]
 pub struct Desk<C: Ledger, K: Ledger, O: Opening> {
+    /// The floor and its lock.
     pub(crate) floor: Mutex<Floor<C, K, O>>,
 }
 
-/// A desk that wasn't settled up, with all that was handed in.
+/// A desk that wasn't settled up, with everything that the call was given.
 #[derive(Drop)]
 pub struct NotSettled<C: Ledger, K: Ledger, O: Opening> {
     /// The desk, with the book as it was.
     pub desk: Desk<C, K, O>,
-    /// The passes.
+    /// The passes, in the order in which they were given.
     pub passes: Vec<Pass<C, K, O>>,
-    /// The receipts.
+    /// The receipts, in the order in which they were given.
     pub receipts: Vec<Vec<Receipt>>,
-    /// Why it wasn't settled up.
+    /// Why the desk wasn't settled up: `Unsettled`, with the numbers that [`Desk::settle_up`] names.
     pub why: Refusal,
 }
 
 impl<C: Ledger, K: Ledger, O: Opening> Desk<C, K, O> {
-    /// A desk with the book, and a first pass, which has noted the book's numbers. Requires that the book has what the
-    /// opening names. Fails only when out of memory, and then hands the book back.
+    /// Returns a desk with the book, and a first pass, which has noted the book's numbers. The book must have what the
+    /// opening `O` names. The blank ledgers must be those that `C` and `K` name, each with [`PARTS`](crate::PARTS) parts.
+    /// Fails only when out of memory, and then hands the book back.
     pub fn begin(
         alloc: Global,
         changes: Blank,
@@ -77,7 +80,8 @@ impl<C: Ledger, K: Ledger, O: Opening> Desk<C, K, O> {
         }
     }
 
-    /// The floor's `pass`: a further pass, which has noted the same numbers as the given one has after the call.
+    /// Runs [`Floor::pass`] under the lock. Returns a further pass, which has noted the same numbers as the given one has
+    /// after the call.
     #[tactic(auto, using(crate::proofs::Passes::noted_later, crate::proofs::Passes::pass_refused))]
     pub fn pass<R: Wait>(
         &self,
@@ -96,7 +100,7 @@ impl<C: Ledger, K: Ledger, O: Opening> Desk<C, K, O> {
         }
     }
 
-    /// The floor's `edit`.
+    /// Runs [`Floor::edit`] under the lock. Returns the receipt of the change.
     #[tactic(auto, using(crate::proofs::Passes::edited_later, crate::proofs::Passes::edited_made, crate::proofs::Passes::edited_asked, crate::proofs::Passes::edit_refused))]
     pub fn edit<R: Wait>(
         &self,
@@ -116,7 +120,7 @@ impl<C: Ledger, K: Ledger, O: Opening> Desk<C, K, O> {
         }
     }
 
-    /// The floor's `undo`.
+    /// Runs [`Floor::undo`] under the lock. Returns the receipt of the change.
     #[tactic(auto, using(crate::proofs::Passes::undone_later, crate::proofs::Passes::undone_made, crate::proofs::Passes::undo_refused))]
     pub fn undo<R: Wait>(&self, rt: &R, pass: &mut Pass<C, K, O>) -> Result<Receipt, Refusal>
         ensures later { OnOk result (Later pass.old pass.new 1 0) }
@@ -130,7 +134,7 @@ impl<C: Ledger, K: Ledger, O: Opening> Desk<C, K, O> {
         }
     }
 
-    /// The floor's `redo`.
+    /// Runs [`Floor::redo`] under the lock. Returns the receipt of the change.
     #[tactic(auto, using(crate::proofs::Passes::redone_later, crate::proofs::Passes::redone_made, crate::proofs::Passes::redo_refused))]
     pub fn redo<R: Wait>(&self, rt: &R, pass: &mut Pass<C, K, O>) -> Result<Receipt, Refusal>
         ensures later { OnOk result (Later pass.old pass.new 1 0) }
@@ -144,7 +148,7 @@ impl<C: Ledger, K: Ledger, O: Opening> Desk<C, K, O> {
         }
     }
 
-    /// The floor's `hand_in`.
+    /// Runs [`Floor::hand_in`] under the lock. Returns what the report changed, and the receipt of its cut.
     #[tactic(auto, using(crate::proofs::Passes::applied_later, crate::proofs::Passes::report_refused))]
     pub fn hand_in<R: Wait>(
         &self,
@@ -163,7 +167,7 @@ impl<C: Ledger, K: Ledger, O: Opening> Desk<C, K, O> {
         }
     }
 
-    /// The floor's `hand_in_found`.
+    /// Runs [`Floor::hand_in_found`] under the lock. Returns what the report changed, and the receipt of its cut.
     #[tactic(auto, using(crate::proofs::Passes::applied_later, crate::proofs::Passes::report_refused))]
     pub fn hand_in_found<R: Wait>(
         &self,
@@ -183,7 +187,8 @@ impl<C: Ledger, K: Ledger, O: Opening> Desk<C, K, O> {
         }
     }
 
-    /// The floor's `next`. Refused only with `Unsettled`. Never allocates.
+    /// Runs [`Floor::next`] under the lock. Returns the least number of a pending task that is at least `from`, or `None` if
+    /// there is none. Refused only with `Unsettled`. Never allocates.
     #[tactic(auto, using(crate::proofs::Passes::noted_later, crate::proofs::Passes::behind_unsettled))]
     pub fn next<R: Wait>(
         &self,
@@ -202,8 +207,9 @@ impl<C: Ledger, K: Ledger, O: Opening> Desk<C, K, O> {
         }
     }
 
-    /// The floor's `take`. The job's edition isn't below the one that the pass had noted. A job of the opening edition has
-    /// the opening view.
+    /// Runs [`Floor::take`] under the lock. Returns the newest pending task, or the one with the given number, as a job;
+    /// `None` only if there is no such task. The job's edition isn't below the one that the pass had noted. A job of the
+    /// opening edition has the opening view.
     #[tactic(auto, using(crate::proofs::Passes::noted_later, crate::proofs::Passes::taken_later, crate::proofs::Passes::memory_refused))]
     pub fn take<R: Wait>(
         &self,
@@ -223,7 +229,8 @@ impl<C: Ledger, K: Ledger, O: Opening> Desk<C, K, O> {
         }
     }
 
-    /// The floor's `browse`: what the tilings that are listed at that moment and meet the query have in common.
+    /// Runs [`Floor::browse`] under the lock. Returns the answer to the query about the tilings that are listed at that
+    /// moment.
     #[tactic(auto, using(crate::proofs::Passes::noted_later, crate::proofs::Passes::memory_refused))]
     pub fn browse<R: Wait>(
         &self,
@@ -242,7 +249,8 @@ impl<C: Ledger, K: Ledger, O: Opening> Desk<C, K, O> {
         }
     }
 
-    /// The floor's `quiet`. Its edition isn't below the one that the pass had noted.
+    /// Runs [`Floor::quiet`] under the lock. Returns all tilings of the design, with the edition, which isn't below the one
+    /// that the pass had noted.
     #[tactic(auto, using(crate::proofs::Passes::noted_later, crate::proofs::Passes::quiet_later, crate::proofs::Passes::quiet_refused))]
     pub fn quiet<R: Wait>(&self, rt: &R, pass: &mut Pass<C, K, O>) -> Result<Quiet, Refusal>
         ensures later { OnOk result (Later pass.old pass.new 0 0) }
@@ -256,7 +264,8 @@ impl<C: Ledger, K: Ledger, O: Opening> Desk<C, K, O> {
         }
     }
 
-    /// The later of the last post and what the pass has noted, by edition and then endings. Never allocates or waits.
+    /// Returns the last post, or what the pass has noted if that is later. The later of two posts is the one with the higher
+    /// edition or, if the editions are equal, with more endings. Never allocates or waits.
     pub fn look(&self, pass: &mut Pass<C, K, O>) -> Posted
         ensures edition { pass.old.noted.edition ≤ result.edition }
         ensures value { IsLaterOf pass.old.noted (last_of pass.new.posts) result }
@@ -270,7 +279,7 @@ impl<C: Ledger, K: Ledger, O: Opening> Desk<C, K, O> {
     }
 }
 
-// The later of the two, by edition and then endings.
+// The later of two posts: by edition and, if the editions are equal, by endings.
 fn later(noted: Posted, given: Posted) -> Posted
     ensures value { IsLaterOf noted given result }
     ensures edition { noted.edition ≤ result.edition }

@@ -26,16 +26,23 @@ use std::alloc::Global;
 use std::marker::{Model, PhantomData};
 use std::sync::ledger::{Blank, Ledger};
 
-/// A book, with the number of its opening steps, its poster, the totals of changes and cuts, the parts of the totals that
-/// no pass has, and flags for settling up. Contracts see the book and the number of passes.
+/// What the lock of a desk protects: a book, and what the desk posts and counts. Contracts see the book and how
+/// many passes were made.
 #[derive(Drop)]
 pub struct Floor<C: Ledger, K: Ledger, O: Opening> {
+    /// The book.
     pub(crate) book: Book,
+    /// The edition at which the desk began: the number of the opening steps.
     pub(crate) opened: u64,
+    /// Posts the numbers of the book.
     pub(crate) poster: Poster,
+    /// How many changes and cuts all passes have made.
     pub(crate) totals: Totals<C, K>,
+    /// The parts of the totals that no pass has.
     pub(crate) spare: Spare<C, K>,
+    /// The flags for settling up.
     pub(crate) marks: Marks,
+    /// Names what the book had when the desk began.
     pub(crate) opening: PhantomData<O>,
 }
 
@@ -56,13 +63,14 @@ impl<C: Ledger, K: Ledger, O: Opening> Model for Floor<C, K, O> {
 pub struct NotBegun {
     /// The book as it was.
     pub book: Book,
-    /// `Memory`.
+    /// Why the floor or desk wasn't begun: always `Memory`.
     pub why: Refusal,
 }
 
 impl<C: Ledger, K: Ledger, O: Opening> Floor<C, K, O> {
-    /// A floor with the book, and a first pass, which has noted the book's numbers. Requires that the book has what the
-    /// opening names. Fails only when out of memory, and then hands the book back.
+    /// Returns a floor with the book, and a first pass, which has noted the book's numbers. The book must have what the
+    /// opening `O` names. The blank ledgers must be those that `C` and `K` name, each with [`PARTS`](crate::PARTS) parts.
+    /// Fails only when out of memory, and then hands the book back.
     pub fn begin(
         alloc: Global,
         changes: Blank,
@@ -112,10 +120,11 @@ impl<C: Ledger, K: Ledger, O: Opening> Floor<C, K, O> {
         Ok((floor, pass))
     }
 
-    /// A further pass, which has noted the same numbers as the given one has after the call.
+    /// Returns a further pass, which has noted the same numbers as the given one has after the call.
     ///
-    /// Like every call, fails with `Unsettled` if the book's edition is below the one that the pass has noted. Then fails with
-    /// `Spent` if there are 10,000 passes, and with `Memory`.
+    /// Like each other call of a floor that is given a pass, fails with `Unsettled` if the book's edition is below the one
+    /// that the pass has noted. Otherwise fails with `Spent` if 10,000 passes were made already, even if some of them were
+    /// dropped. Apart from these, fails only with `Memory`.
     pub fn pass(
         &mut self,
         alloc: Global,
@@ -141,7 +150,8 @@ impl<C: Ledger, K: Ledger, O: Opening> Floor<C, K, O> {
         })
     }
 
-    /// The book's `edit`. Fails with `Unsettled` as every call does, otherwise as the book's `edit` does.
+    /// Makes the change that the edit asks for, by the book's `edit`, and returns the receipt of the change. Fails with
+    /// `Unsettled` as `pass` does, otherwise as the book's `edit` does. `Memory` may come in place of any refusal of the book.
     pub fn edit(&mut self, pass: &mut Pass<C, K, O>, edit: Edit) -> Result<Receipt, Refusal>
         ensures noted { OnOk result (HasNoted self.old.book self.new.book pass.old pass.new 1 0) }
         ensures ok { IfOk result (λ r. IsChanged (λ done. IsEdited edit self.old.book self.new.book done) r) }
@@ -155,8 +165,8 @@ impl<C: Ledger, K: Ledger, O: Opening> Floor<C, K, O> {
         Ok(note_change(&self.book, &mut self.poster, &mut self.totals, pass, done))
     }
 
-    /// The book's `undo`. Fails with `Unsettled` as every call does, otherwise as the book's `undo` does. `Memory` may come
-    /// before any other refusal of the book.
+    /// Undoes the last change that can be undone, by the book's `undo`, and returns the receipt. Fails with `Unsettled` as
+    /// `pass` does, otherwise as the book's `undo` does. `Memory` may come in place of any refusal of the book.
     pub fn undo(&mut self, pass: &mut Pass<C, K, O>) -> Result<Receipt, Refusal>
         ensures noted { OnOk result (HasNoted self.old.book self.new.book pass.old pass.new 1 0) }
         ensures ok { IfOk result (λ r. IsChanged (λ done. IsUndone self.old.book self.new.book done) r) }
@@ -170,8 +180,8 @@ impl<C: Ledger, K: Ledger, O: Opening> Floor<C, K, O> {
         Ok(note_change(&self.book, &mut self.poster, &mut self.totals, pass, done))
     }
 
-    /// The book's `redo`. Fails with `Unsettled` as every call does, otherwise as the book's `redo` does. `Memory` may come
-    /// before any other refusal of the book.
+    /// Redoes the change that was undone last, by the book's `redo`, and returns the receipt. Fails with `Unsettled` as `pass`
+    /// does, otherwise as the book's `redo` does. `Memory` may come in place of any refusal of the book.
     pub fn redo(&mut self, pass: &mut Pass<C, K, O>) -> Result<Receipt, Refusal>
         ensures noted { OnOk result (HasNoted self.old.book self.new.book pass.old pass.new 1 0) }
         ensures ok { IfOk result (λ r. IsChanged (λ done. IsRedone self.old.book self.new.book done) r) }
@@ -185,7 +195,9 @@ impl<C: Ledger, K: Ledger, O: Opening> Floor<C, K, O> {
         Ok(note_change(&self.book, &mut self.poster, &mut self.totals, pass, done))
     }
 
-    /// The book's `hand_in`. Fails with `Unsettled` as every call does, otherwise as the book's `hand_in` does.
+    /// Applies the report, by the book's `hand_in`, and returns what the report changed, with the receipt of its cut. Fails
+    /// with `Unsettled` as `pass` does, otherwise as the book's `hand_in` does. `Memory` may come in place of any refusal of
+    /// the book.
     pub fn hand_in(
         &mut self,
         pass: &mut Pass<C, K, O>,

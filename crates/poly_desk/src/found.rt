@@ -1,4 +1,4 @@
-//! The event of a report that a search made.
+//! The event `hand_in_found`: a report that a search made is applied.
 ghost use Rattle.std.specs.Prelude.{◌≡◌, IfErr, IfOk, OnErr, OnOk, length};
 ghost use Rattle.std.specs.Arc.{arc_value};
 ghost use Rattle.poly_report.specs.Shapes.{plan_of};
@@ -17,9 +17,9 @@ use poly_grid::Refusal;
 use std::sync::ledger::Ledger;
 
 impl<C: Ledger, K: Ledger, O: Opening> Floor<C, K, O> {
-    /// The book's `hand_in` for a report that a search made. A search of the opening edition, at which the desk began, must
-    /// have used the opening view. If the search and the book both have that edition, the tree is applied without a check,
-    /// unless the task's atoms differ from those that were searched. Otherwise it is checked. Fails as `hand_in` does.
+    /// Like `hand_in`, for a report that a search made. A search of the opening edition, at which the desk began, must have
+    /// used the opening view. If the search and the book are both at that edition, and the task still has the atoms that were
+    /// searched, the report's tree is applied without a check. Otherwise the tree is checked. Fails as `hand_in` does.
     pub fn hand_in_found(
         &mut self,
         pass: &mut Pass<C, K, O>,
@@ -46,8 +46,8 @@ impl<C: Ledger, K: Ledger, O: Opening> Floor<C, K, O> {
     }
 }
 
-// Applies what was found. If the book and the search have the opening edition, their views are equal, so the tree needs no
-// check.
+// Applies what was found. If the book and the search are both at the opening edition, their views are equal, as the book's
+// `hand_in_found` requires. Otherwise the tree is checked.
 fn apply_found<O: Opening>(book: &mut Book, opened: u64, found: Found) -> Result<Applied, Refusal>
     requires opened { opened ≡ length O.steps }
     requires view { IsViewAt O.steps O.view (length book.old.steps) book.old.view }

@@ -5,18 +5,22 @@ ghost use Rattle.poly_desk.specs.declared.ledgers.TheConstants.{PARTS};
 
 use std::sync::ledger::{Blank, Book, Ledger, Share};
 
-/// The number of passes that a desk can have.
+/// The most passes that a desk can make. A pass that is dropped still counts.
 pub const MOST_PASSES: u64 = 10_000;
 
-/// The parts of each ledger of a desk: one for each pass, and one that no pass ever has.
+/// The number of parts of each ledger of a desk: one for each pass that the desk can make, and one that no pass ever has.
 pub const PARTS: u64 = MOST_PASSES + 1;
 
 /// How many changes and cuts all passes have made.
 #[derive(Drop)]
 pub(crate) struct Totals<C: Ledger, K: Ledger> {
+    /// The changes of all passes.
     pub changes: u64,
+    /// The cuts of all passes.
     pub cuts: u64,
+    /// The ledger of changes.
     book_of_changes: Book<C>,
+    /// The ledger of cuts.
     book_of_cuts: Book<K>,
     ghost changes_are: { book_of_changes.total ≡ changes },
     ghost cuts_are: { book_of_cuts.total ≡ cuts },
@@ -27,9 +31,13 @@ pub(crate) struct Totals<C: Ledger, K: Ledger> {
 /// How many changes and cuts one pass has made.
 #[derive(Drop)]
 pub(crate) struct Shares<C: Ledger, K: Ledger> {
+    /// The changes of the pass.
     pub changes: u64,
+    /// The cuts of the pass.
     pub cuts: u64,
+    /// The pass's share of the ledger of changes.
     share_of_changes: Share<C>,
+    /// The pass's share of the ledger of cuts.
     share_of_cuts: Share<K>,
     ghost changes_are: { share_of_changes.amount ≡ changes },
     ghost cuts_are: { share_of_cuts.amount ≡ cuts },
@@ -40,9 +48,11 @@ pub(crate) struct Shares<C: Ledger, K: Ledger> {
 /// The parts of both totals that no pass has.
 #[derive(Drop)]
 pub(crate) struct Spare<C: Ledger, K: Ledger> {
-    /// How many passes there are.
+    /// How many passes were made.
     pub passes: u64,
+    /// The share of the ledger of changes that is left. It has no changes.
     spare_changes: Share<C>,
+    /// The share of the ledger of cuts that is left. It has no cuts.
     spare_cuts: Share<K>,
     ghost changes_left: { spare_changes.parts + passes ≡ PARTS },
     ghost cuts_left: { spare_cuts.parts + passes ≡ PARTS },
@@ -50,7 +60,7 @@ pub(crate) struct Spare<C: Ledger, K: Ledger> {
     ghost no_cuts: { spare_cuts.amount ≡ 0 },
 }
 
-/// Opens both ledgers. Returns the totals, which are 0, and the parts of them that no pass has.
+/// Opens both ledgers. Returns the totals, which are 0, and all parts of them, since there is no pass yet.
 pub(crate) fn open<C: Ledger, K: Ledger>(changes: Blank, cuts: Blank) -> (Totals<C, K>, Spare<C, K>)
     requires changes { (changes.name ≡ C.name) × (changes.parts ≡ C.parts) × (changes.parts ≡ PARTS) }
     requires cuts { (cuts.name ≡ K.name) × (cuts.parts ≡ K.parts) × (cuts.parts ≡ PARTS) }
@@ -75,7 +85,7 @@ pub(crate) fn open<C: Ledger, K: Ledger>(changes: Blank, cuts: Blank) -> (Totals
 }
 
 impl<C: Ledger, K: Ledger> Spare<C, K> {
-    /// The shares of a further pass, with no changes and no cuts yet.
+    /// Splits off the shares of a further pass, with no changes and no cuts yet.
     pub fn split_off(&mut self) -> Shares<C, K>
         requires { self.old.passes < MOST_PASSES }
         ensures passes { self.new.passes ≡ self.old.passes + 1 }

@@ -1,15 +1,16 @@
-//! A desk: a book that several workers share under one lock. Each of them has a pass, which knows what it has seen and
-//! counts what it has done.
+//! A desk: a book that several workers share under one lock. Each worker has a pass, which notes what the worker has seen
+//! and counts what the worker has done.
 //!
-//! - [`Opening`]: a type that names what a desk began with.
+//! - [`Opening`]: a trait; each type that implements it names what a desk began with.
 //! - [`Desk`]: `begin`, `pass`; `edit`, `undo`, `redo`, `hand_in`, `hand_in_found`; `next`, `take`, `browse`, `quiet`;
 //!   `look`; `settle_up`.
-//! - [`Pass`]: the right to use a desk. [`Receipt`]: says at which place the desk's book has a change or the end of a
-//!   task.
-//! - [`Floor`]: what the lock protects. It does the whole work of a desk and never waits.
+//! - [`Pass`]: the right to use a desk. [`Receipt`]: a change, or the end of a task by a report, and its place among the steps
+//!   or the endings of the desk's book.
+//! - [`Floor`]: what the lock protects. A floor does the work of each call under the lock, and never waits.
 //! - [`Bench`]: a desk as a worker sees it.
-//! - [`NotBegun`], [`NotSettled`]: hand back what a refused call was given.
-//! - [`MOST_PASSES`]: how many passes a desk can have. [`PARTS`]: how many parts its ledgers have.
+//! - [`NotBegun`], [`NotSettled`]: what `begin` and `settle_up` hand back if they fail.
+//! - [`MOST_PASSES`]: the most passes that a desk can make. [`PARTS`]: how many parts each of the two blank ledgers that
+//!   `begin` takes must have.
 #![tactic(auto)]
 
 mod bench;

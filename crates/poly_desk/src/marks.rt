@@ -1,14 +1,17 @@
-//! Flags for steps and endings. They are made before a change, so that settling up takes no memory.
+//! Flags for steps and endings. The flags that a change or a report may need are made before it, so that settling up takes no
+//! memory.
 ghost use Rattle.std.specs.Prelude.{◌≡◌, ◌≤◌, IfErr, IfOk, OnOk, All, false, length, vec_len};
 ghost use Rattle.poly_grid.specs.declared.refusal.Refusal.TheVariants.{Memory};
 
 use poly_grid::Refusal;
 use std::alloc::Global;
 
-/// A flag for each step and each ending.
+/// A flag for each step and each ending, and perhaps some more.
 #[derive(Drop)]
 pub(crate) struct Marks {
+    /// A flag for each step, the oldest first.
     pub steps: Vec<bool>,
+    /// A flag for each ending, the oldest first.
     pub endings: Vec<bool>,
 }
 
@@ -63,7 +66,6 @@ fn lengthen(flags: &mut Vec<bool>, count: usize) -> Result<(), Refusal>
     Ok(())
 }
 
-// Takes the flags down.
 fn take_down(flags: &mut [bool])
     ensures length { length flags.new ≡ length flags.old }
     ensures down { All (λ flag. flag ≡ false) flags.new }

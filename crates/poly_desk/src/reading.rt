@@ -1,4 +1,4 @@
-//! The readers of a floor: the calls that leave its book as it is.
+//! The calls that only read a floor: `next`, `take`, `browse` and `quiet`.
 ghost use Rattle.std.specs.Prelude.{◌≡◌, ◌<◌, ◌⊎◌, [], IfErr, IfOk, IfSome, MatchOption, OnOk, length, map};
 ghost use Rattle.std.specs.Arc.{arc_value};
 ghost use Rattle.poly_grid.specs.declared.refusal.Refusal.TheVariants.{Busy, Memory};
@@ -21,7 +21,8 @@ use std::alloc::Global;
 use std::sync::ledger::Ledger;
 
 impl<C: Ledger, K: Ledger, O: Opening> Floor<C, K, O> {
-    /// The book's `next`. Refused only with `Unsettled`. Never allocates.
+    /// Returns the least number of a pending task that is at least `from`, or `None` if there is none. Fails only with
+    /// `Unsettled`, if the book's edition is below the one that the pass has noted. Never allocates.
     pub fn next(&self, pass: &mut Pass<C, K, O>, from: u32) -> Result<Option<u32>, Refusal>
         ensures noted { OnOk result (HasNoted self.now.book self.now.book pass.old pass.new 0 0) }
         ensures ok { IfOk result (λ o. MatchOption o (NoneFrom from self.now.book.pending) (λ n. IsLeastFrom from self.now.book.pending n)) }
@@ -31,8 +32,8 @@ impl<C: Ledger, K: Ledger, O: Opening> Floor<C, K, O> {
         Ok(self.book.next(from))
     }
 
-    /// The book's `take`. A job of the opening edition has the opening view. Fails with `Unsettled` as every call does,
-    /// otherwise only with `Memory`.
+    /// Returns the newest pending task with its atoms, or the one with the given number; `None` only if there is no such task.
+    /// A job of the opening edition has the opening view. Fails with `Unsettled` as `next` does, otherwise only with `Memory`.
     pub fn take(&self, pass: &mut Pass<C, K, O>, which: Which) -> Result<Option<Job>, Refusal>
         ensures noted { OnOk result (HasNoted self.now.book self.now.book pass.old pass.new 0 0) }
         ensures ok { IfOk result (λ o. MatchOption o (IsMissing self.now.book which) (λ j. IsTaken self.now.book which j)) }
@@ -43,8 +44,8 @@ impl<C: Ledger, K: Ledger, O: Opening> Floor<C, K, O> {
         self.book.take(which)
     }
 
-    /// What the listed tilings that meet the query have in common. Fails with `Unsettled` as every call does, otherwise only
-    /// with `Memory`.
+    /// Returns the answer to the query about the listed tilings. Fails with `Unsettled` as `next` does, otherwise only with
+    /// `Memory`.
     pub fn browse(
         &self,
         alloc: Global,
@@ -65,8 +66,8 @@ impl<C: Ledger, K: Ledger, O: Opening> Floor<C, K, O> {
         )
     }
 
-    /// The book's `quiet`: all tilings of its design. Fails with `Unsettled` as every call does, then with `Busy` if tasks are
-    /// pending, and otherwise only with `Memory`.
+    /// Returns all tilings of the book's design. Fails with `Unsettled` as `next` does, then with `Busy` if tasks are pending,
+    /// and otherwise only with `Memory`.
     pub fn quiet(&self, pass: &mut Pass<C, K, O>) -> Result<Quiet, Refusal>
         ensures noted { OnOk result (HasNoted self.now.book self.now.book pass.old pass.new 0 0) }
         ensures ok { IfOk result (λ q. IsQuietOf self.now.book q) }

@@ -7,16 +7,16 @@ use poly_book::Step;
 pub enum Receipt {
     /// A change was made.
     Changed {
-        /// The edition after it.
+        /// The edition after the change.
         place: u64,
         /// What was changed.
         step: Step,
     },
     /// A report was applied.
     Cut {
-        /// The number of endings after it.
+        /// How many endings the book had once the report was applied.
         place: u64,
-        /// The task that it ended.
+        /// The task that the report ended.
         task: u32,
     },
 }

@@ -17,7 +17,7 @@ impl Receipt {
         }
     }
 
-    /// How many steps the book has, for a change, or how many endings, for a cut.
+    /// For a change, how many steps the book has; for a cut, how many endings.
     pub(crate) fn entries(&self, book: &Book) -> u64
         ensures { result ≡ entries book.now self.now }
     {

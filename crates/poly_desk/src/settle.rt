@@ -17,15 +17,15 @@ use std::sync::Mutex;
 use std::sync::ledger::Ledger;
 
 impl<C: Ledger, K: Ledger, O: Opening> Desk<C, K, O> {
-    /// Returns the book if the passes made all changes and cuts since the desk began, each receipt is right, and no two of
-    /// one kind have the same place. Never allocates or waits.
+    /// Returns the book if the passes made all changes and cuts since the desk began, each receipt is right, and no two
+    /// receipts of one kind have the same place. Never allocates or waits.
     ///
     /// Fails only with `Unsettled`, and then hands everything back. The refusal names the first cause that applies:
     ///
     /// 1. the sum of the passes' changes (`seen`) isn't the total (`found`);
     /// 2. the sum of the passes' cuts (`seen`) isn't the total (`found`);
-    /// 3. a receipt, with its place as `seen`, isn't right (`found`: how many steps or endings the book has), or is the second
-    ///    of its kind for its place (`found`: 2).
+    /// 3. a receipt isn't right (`found` is how many steps or endings the book has), or an earlier receipt has the same kind
+    ///    and the same place (`found` is 2); `seen` is the receipt's place.
     ///
     /// Sums saturate at 2^64 - 1.
     pub fn settle_up(
@@ -56,7 +56,8 @@ impl<C: Ledger, K: Ledger, O: Opening> Desk<C, K, O> {
 }
 
 impl<C: Ledger, K: Ledger, O: Opening> Floor<C, K, O> {
-    /// Whether the passes made all changes and cuts, and the receipts are right.
+    /// Succeeds if the passes made all changes and cuts, each receipt is right, and no two receipts of one kind have the same
+    /// place.
     fn check_all(
         &mut self,
         passes: &[Pass<C, K, O>],
@@ -72,7 +73,6 @@ impl<C: Ledger, K: Ledger, O: Opening> Floor<C, K, O> {
         check_receipts(&self.book, &mut self.marks, receipts)
     }
 
-    // The book.
     fn into_book(self) -> Book
         ensures { result ≡ self.book }
     {

@@ -8,8 +8,8 @@ use crate::pass::Pass;
 use poly_grid::Refusal;
 use std::sync::ledger::Ledger;
 
-/// Succeeds if the passes made this many changes and cuts. If not, the refusal names the sum that differs and what was
-/// expected.
+/// Succeeds if the passes made this many changes and cuts. If not, the refusal names the first sum that differs (changes come
+/// before cuts) and what was expected.
 pub(crate) fn check_shares<C: Ledger, K: Ledger, O: Opening>(
     passes: &[Pass<C, K, O>],
     changes: u64,

@@ -1,4 +1,4 @@
-//! Goes through receipts. Each must be right, and the flag of its place must be down; then that flag is raised.
+//! Ticks receipts off. Each must be right, and the flag of its kind and place must be down. Then that flag is raised.
 ghost use Rattle.std.specs.Prelude.{◌≡◌, ◌<◌, ◌≤◌, ◌++◌, ◌||◌, ◌==◌, ◌⊎◌, ℕ, Bool, List, All, IfErr, OnOk, false, length, true};
 ghost use Rattle.poly_grid.specs.declared.refusal.Refusal.TheVariants.{Unsettled};
 ghost use Rattle.poly_desk.specs.Receipts.{AreReceipts, IsBadReceipt, IsRightReceipt, all_of, entries, place_of, same_place};
@@ -10,8 +10,8 @@ use crate::receipt::Receipt;
 use poly_book::Book;
 use poly_grid::Refusal;
 
-/// Succeeds if each receipt is right, and no two of one kind have the same place. If not, the refusal names one of them.
-/// Requires that all flags are down.
+/// Succeeds if each receipt is right, and no two receipts of one kind have the same place. If not, the refusal gives the place
+/// of a receipt at fault. Requires a flag for each step and each ending, all of them down.
 pub(crate) fn check_receipts(
     book: &Book,
     marks: &mut Marks,
@@ -67,7 +67,7 @@ fn tick_off(book: &Book, marks: &mut Marks, receipt: &Receipt) -> Result<(), Ref
     Ok(())
 }
 
-// Raises the flag of the receipt's kind and place, and returns whether it was up.
+// Raises the flag of the receipt's kind and place, and returns whether the flag was up before.
 fn raise(marks: &mut Marks, receipt: &Receipt) -> bool
     requires place { 0 < place_of receipt.now }
     requires step { (place : ℕ) (step : _) → receipt.now ≡ Receipt.Changed place step → place ≤ length marks.old.steps.items }
@@ -82,7 +82,7 @@ fn raise(marks: &mut Marks, receipt: &Receipt) -> bool
     }
 }
 
-// Raises the flag of the place, and returns whether it was up.
+// Raises the flag of the place, and returns whether the flag was up before.
 fn raise_at(flags: &mut [bool], place: u64) -> bool
     requires { (0 < place) × (place ≤ length flags.old) }
     ensures length { length flags.new ≡ length flags.old }

@@ -1,25 +1,27 @@
-//! Waiting for a lock. The calls of workers take less time than waking a thread that sleeps. So before it sleeps, a worker
-//! tries for a while to lock without waiting.
+//! Waiting for a lock. The calls of workers usually take less time than waking a thread that sleeps. So a worker tries for a
+//! while to lock without waiting, before it sleeps.
 
 use std::hint::spin_loop;
 use std::sync::{Mutex, MutexGuard, Wait};
 use std::thread;
 
-/// How many times a thread tries to lock before it yields its processor, and how many pauses it makes after each try.
+/// How many times a thread tries to lock before it yields its processor, and how many pauses it makes after each failed try.
 #[derive(Clone, Copy, Debug)]
 pub(crate) struct Tries {
+    /// The number of tries.
     count: u32,
+    /// The number of pauses after each failed try.
     pauses: u32,
 }
 
-/// For a short call. A worker tries so often for its next task that, right after it has handed a report in, it gets the lock
-/// before those that wait with a report.
+/// For a short call: taking a task. These tries are so close together that a worker that has just handed a report in usually
+/// gets the lock for its next task before the workers that wait with reports.
 pub(crate) const OFTEN: Tries = Tries {
     count: 512,
     pauses: 20,
 };
 
-/// For a long call.
+/// For a long call: handing a report in.
 pub(crate) const SELDOM: Tries = Tries {
     count: 64,
     pauses: 250,

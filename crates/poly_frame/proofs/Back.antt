@@ -1,4 +1,4 @@
--- A step that is taken back leaves no trace.
+-- A step that is undone leaves no trace.
 use Rattle.std.proofs.Common.{List, [], ap, arith, length, length-append, ◌++◌, ◌-◌, ◌∙◌, ◌∷◌, ◌≡◌}
 use Rattle.std.proofs.Math.Seq.{take-append_seam}
 use Rattle.poly_tiling.specs.Lists.{tally}
@@ -7,11 +7,11 @@ use Rattle.poly_atom.specs.Hopeless.{base}
 use Rattle.poly_frame.specs.Laws.{StepsComeBack}
 use Rattle.poly_frame.specs.Walk.{Walk, backtrack_to, is_option, step_back, with_step}
 
--- back to the level before the step
+-- backtracking to the level before a step undoes the step
 pub back_to_level : (w : Walk) (a : Atom) → backtrack_to (with_step w a) (length w.atoms) ≡ w
 back_to_level w a = ap (λ (A : List Atom). let x : Walk = record { scene = w.scene; atoms = A; given = w.given } in x) (take-append_seam w.atoms (a ∷ []))
 
--- the last step alone
+-- going one step back undoes the last step
 pub step_undone : (w : Walk) (a : Atom) → step_back (with_step w a) ≡ w
 step_undone w a =
     let more = length-append w.atoms (a ∷ []) in

@@ -11,7 +11,7 @@ use Rattle.poly_atom.specs.declared.atom.Atom.TheVariants.{AtLeast, AtMost, Has,
 use Rattle.poly_frame.specs.Open.{least_at}
 use Rattle.poly_frame.specs.Plain.{least_for, of_asked}
 
--- an item that neither the design nor an atom names isn't asked for
+-- if an item isn't in the view and no atom asks for it, no member has to have the item
 least_none : (v : View) (A : List Atom) (i : Item) → list_any (λ b. same_item b.item i) v.bounds ≡ false → list_any (least_for i) A ≡ false → least_at v A i ≡ 0
 least_none v [] i n m = bound_none v.bounds i (λ b. b.least) n
 least_none v (Has p ∷ A) i n m = least_none v A i n m
@@ -27,7 +27,7 @@ leasts_one f i (Lacks p) s h = absurd (cc)
 leasts_one f i (AtLeast j n) s h = subst (λ k. f k ≡ true) (same_item_is j i s) h
 leasts_one f i (AtMost j n) s h = absurd (cc)
 
--- if no item of the design and none that an atom asks for is due, no item is
+-- if no item of the view is due, and no item that an atom asks for, then no item is due
 pub none_due : (v : View) (A : List Atom) (T : List ℕ) →
     list_all (λ b. not (nat_lt (count v T b.item) (least_at v A b.item))) v.bounds ≡ true →
     list_all (of_asked (λ i. not (nat_lt (count v T i) (least_at v A i)))) A ≡ true →

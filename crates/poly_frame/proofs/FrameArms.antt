@@ -1,4 +1,4 @@
--- What the rows say about the arms of a Branch, about dead placements and about a base that is short.
+-- What the rows say about the arms of a Branch, about dead placements and about a base with a due item.
 use Rattle.std.proofs.Common.{◌≡◌, ℕ, zero, suc, ◌+◌, ◌-◌, ◌*◌, ◌<◌, ◌≤◌, Bool, true, false, max, not, ◌&&◌, ◌||◌, ltb, leb, List, [], ◌∷◌, ◌++◌, sym, ap, ◌∙◌, arith, length, get_or, take}
 use Rattle.std.specs.List.{list_any}
 use Rattle.std.proofs.lemmas.Bool.{and_from, and_parts, false_from_ne_true, ltb-true, not-true, or_parts}
@@ -24,7 +24,7 @@ use Rattle.poly_frame.proofs.Ruled.{least_is}
 use Rattle.poly_frame.proofs.FrameSteps.{top_have, top_level}
 use Rattle.poly_frame.proofs.FrameQueries.{open_first, row_says}
 
--- an open placement is not dead
+-- an open placement of the design is not dead
 pub open_lives : (v : View) (A : List Atom) (p : ℕ) → mem v.live p ≡ true → open_in v A p ≡ true → dead v A p ≡ false
 open_lives v A p m o =
     let free = not-true _ (and_parts (not (mem (base v A) p)) (not (ruled_out v A p)) o).1 in
@@ -37,7 +37,7 @@ open_lives v A p m o =
 pub open_right : (v : View) (A : List Atom) (p : ℕ) → mem v.live p ≡ true → open_in v A p ≡ true → (mem v.live p && not (ruled_out v A p)) ≡ true
 open_right v A p m o = and_from _ _ m (and_parts (not (mem (base v A) p)) (not (ruled_out v A p)) o).1
 
--- a base that is short isn't a tiling that meets the atoms
+-- if too few numbers of a set have some item, the set isn't a tiling that meets the atoms
 pub short_none : (v : View) (A : List Atom) (T : List ℕ) (i : Item) → ltb (count v T i) (least_at v A i) ≡ true → in_family v A T ≡ false
 short_none v A T i h = false_from_ne_true (in_family v A T) (λ f.
     let fs = and_parts (is_tiling v T) (meets_all v T A) f in
@@ -79,7 +79,7 @@ pub apart : (f g : ℕ → Bool) (xs : List ℕ) → tally f xs ≡ tally (λ p.
 apart f g [] = omega arith
 apart f g (x ∷ xs) = omega (arith, parted (f x) (g x), apart f g xs)
 
--- what is not ruled out is open, or it is a member of the base
+-- the placements that have the item and are not ruled out are counted in two parts: those that are open, and those in the base
 pub loose_parts : (v : View) (A : List Atom) (first : ℕ) (matrix : Matrix) (t : Table) (live have raised marks : List ℕ) → Kept v A first matrix t live have raised marks → (i : Item) →
     tally (λ p. open_in v A p && has_item v p i) matrix.numbers.items + tally (λ p. has_item v p i && (mem v.live p && not (ruled_out v A p))) (base v A)
     ≡ tally (λ p. has_item v p i && not (ruled_out v A p)) v.live
@@ -139,14 +139,14 @@ loose_parts v A first matrix t live have raised marks K i =
         let one' = and_parts (has_item v x i) (not (ruled_out v A x)) three.0 in
         (mem_in T x three.1, and_from _ _ one'.0 (and_from _ _ (in_mem v.live x k) one'.1))
 
--- a number that is in both rows
+-- the row of what is open and the item's row have in common exactly the open placements that have the item
 pub loose_says : (v : View) (A : List Atom) (first : ℕ) (matrix : Matrix) (t : Table) (live have raised marks : List ℕ) → Kept v A first matrix t live have raised marks → (i : Item) (at b : ℕ) → at ≡ length live - matrix.width → b < length v.bounds → same_item (item_of v b) i ≡ true →
     (j : ℕ) → j < length matrix.numbers.items → (open_in v A (get_or matrix.numbers.items j 0) && has_item v (get_or matrix.numbers.items j 0) i) ≡ in_both live at matrix.rows.items (matrix.width * b) j
 loose_says v A first matrix t live have raised marks K i at b e l s j h =
     ap (λ k. open_in v A (get_or matrix.numbers.items j 0) && has_item v (get_or matrix.numbers.items j 0) k) (sym (same_item_is (item_of v b) i s))
     ∙ row_says v A first matrix t live have raised marks K at b e l j h
 
--- what a Branch needs is the greater of what is asked for and what the base has
+-- `least_with_base` is the greater of the item's entries in `leasts` and `have`
 pub with_base_says : (v : View) (A : List Atom) (first : ℕ) (matrix : Matrix) (t : Table) (live have raised marks : List ℕ) → Kept v A first matrix t live have raised marks → (i : Item) (b : ℕ) → b < length v.bounds → same_item (item_of v b) i ≡ true →
     max (get_or t.leasts.items b 0) (get_or have b 0) ≡ least_with_base v A i
 with_base_says v A first matrix t live have raised marks K i b h s =

@@ -1,4 +1,4 @@
--- Steps that keep the base consistent, and a consistent base that is not short: it is a tiling.
+-- Which steps keep the base consistent, and that a consistent base is a tiling that meets the atoms if no item is due.
 use Rattle.std.proofs.Common.{◌≡◌, ℕ, zero, suc, ◌+◌, ◌-◌, ◌<◌, ◌≤◌, Bool, true, false, cond, max, not, ◌&&◌, ◌||◌, eqb, get_or, ltb, leb, List, [], ◌∷◌, ◌++◌, inl, inr, refl, sym, ap, subst, ◌∙◌, arith, length, slice_get, take, length-append, length-take}
 use Rattle.std.specs.List.{list_all, list_any}
 use Rattle.std.proofs.lemmas.Bool.{and_from, and_parts, both_ways, cases_Bool, cases_lt, eq-eqb, eqb-true, false_from_ne_true, le-leb, leb-true, lt-ltb, ne_eqb, not_from_false, not-true, or_cases, or_from, or_parts}
@@ -67,7 +67,7 @@ conflicts_swapped v p q n = false_from_ne_true (conflicts v q p) (λ t.
 conflict_self : (v : View) (p : ℕ) → conflicts v p p ≡ false
 conflict_self v p = ap (λ b. not b && share_cell (slice_get v.placements p) (slice_get v.placements p)) (eq-eqb p p refl)
 
--- the base with one more placement, which was open
+-- the base with one more placement, which was not ruled out
 module _ (v : View) (A : List Atom) (p : ℕ) (m : mem (base v A) p ≡ false) (fp : Free v A p) where
   own_free : Free v (A ++ Has p ∷ []) p
   own_free =
@@ -138,7 +138,7 @@ consistent_leave v A p s o =
       },
     ))
 
--- counts of a list that has a member once
+-- in a list without repeats, leaving out one number lowers a count by at most one
 others_one : (v : View) (q : ℕ) (i : Item) (xs : List ℕ) → distinct xs ≡ true → count v xs i ≤ others v xs q i + 1
 others_one v q i [] d = omega arith
 others_one v q i (x ∷ xs) d = elim (cases_Bool (eqb x q)) [
@@ -210,7 +210,7 @@ module _ (v : View) (A : List Atom) (s : is_consistent v A ≡ true) where
     met (AtLeast i n) k = le-leb _ _ (omega (arith, atom_asked i n A k, enough_all i))
     met (AtMost i n) k = le-leb _ _ (omega (arith, most_le_atom v i n A k, few_all i))
 
-    -- a consistent base that is not short is a tiling that meets the atoms
+    -- if no item is due, a consistent base is a tiling that meets the atoms
     pub consistent_family : in_family v A (base v A) ≡ true
     consistent_family =
         and_from (is_tiling v (base v A)) (meets_all v (base v A) A)
@@ -224,7 +224,7 @@ module _ (v : View) (A : List Atom) (s : is_consistent v A ≡ true) where
         }))
         (all_from (λ a. meets v (base v A) a) A met)
 
--- two members that have the item
+-- if two different members pass a test, the count is at least 2
 two_have : (f : ℕ → Bool) (xs : List ℕ) (p q : ℕ) → In p xs → In q xs → f p ≡ true → f q ≡ true → eqb q p ≡ false → 2 ≤ tally f xs
 two_have f xs p q i j h k n = omega (arith, tally_fewer f xs p i h, some_have (λ x. f x && not (eqb x p)) xs q j (and_from (f q) _ k (not_from_false _ n)))
   where
@@ -233,7 +233,8 @@ two_have f xs p q i j h k n = omega (arith, tally_fewer f xs p i h, some_have (�
     some_have g (x ∷ ys) y (inl e) h = omega (arith, ap one (ap g e ∙ h))
     some_have g (x ∷ ys) y (inr i) h = omega (arith, some_have g ys y i h)
 
--- a base whose items all fit, and whose members are placements that no atom lacks
+-- if no item has more members of the base than it may, and the members are placements of the design that no atom lacks, the
+-- base is consistent
 module _ (v : View) (A : List Atom) (us hs : List ℕ) (well : WellNamed v) (mosts : MostsShow v A us) (have : HaveShows v (base v A) hs) (fit : AllFit v.bounds us hs) where
   fit_item : (q : ℕ) → In q v.live → (i : Item) → In i (items v q) → (count v (base v A) i ≤ most_at v A i) × (is_piece i ≡ false → count v (base v A) i ≤ 1)
   fit_item q l i k =
@@ -271,7 +272,7 @@ consistent_one v A s = record {
   levels = λ k h. ap (λ (B : List Atom). is_consistent v B) (take_all (length A + k) A (omega arith)) ∙ s;
 }
 
--- steps that keep the base consistent are counted
+-- if all levels are counted so far, a step that keeps the base consistent is counted too
 pub consistent_more : (v : View) (A : List Atom) (first consistent : ℕ) (a : Atom) → ConsistentShows v A first consistent → length A - first < consistent → first ≤ length A → (is_consistent v A ≡ true → is_consistent v (A ++ a ∷ []) ≡ true) → ConsistentShows v (A ++ a ∷ []) first (consistent + 1)
 consistent_more v A first consistent a S top low keep =
     let more = length-append A (a ∷ []) in
@@ -308,7 +309,7 @@ consistent_back v A first consistent low S some h l =
 pub consistent_top : (v : View) (A : List Atom) (first consistent : ℕ) → ConsistentShows v A first consistent → first ≤ length A → length A - first < consistent → is_consistent v A ≡ true
 consistent_top v A first consistent S low h = ap (λ (B : List Atom). is_consistent v B) (sym (take_all (first + (length A - first)) A (omega (arith, low)))) ∙ S.levels (length A - first) h
 
--- what is in a part of the design is in the design
+-- if all numbers of `ns` are the design's, a list whose numbers are all in `ns` has only numbers of the design
 pub all_kept : (ns live : List ℕ) (f : ℕ → Bool) → ((q : ℕ) → mem ns q ≡ true → mem live q ≡ true) → (xs : List ℕ) → list_all (λ p. mem ns p && f p) xs ≡ true → list_all (λ p. mem live p && f p) xs ≡ true
 all_kept ns live f among [] h = refl
 all_kept ns live f among (x ∷ xs) h =

@@ -34,7 +34,7 @@ head_apart x bs b up h e =
     both_ways (is_lt (item_cmp x.item x.item)) (never_below x.item)
     (subst (λ i. is_lt (item_cmp x.item i) ≡ true) e (all_in (λ c. is_lt (item_cmp x.item c.item)) bs (and_parts _ (items_ascend bs) up).0 (get_or bs b no_bound) (bound_in_list bs b h)))
 
--- an item has one index
+-- if the items ascend, two indices with the same item are equal
 pub item_once : (bs : List Bound) (a b : ℕ) → items_ascend bs ≡ true → a < length bs → b < length bs → item_at bs a ≡ item_at bs b → a ≡ b
 item_once [] a b up h k e = absurd (omega arith)
 item_once (x ∷ bs) zero zero up h k e = refl
@@ -46,7 +46,7 @@ or_false : (b : Bool) → (b || false) ≡ b
 or_false true = refl
 or_false false = refl
 
--- one item that has an index
+-- if the items ascend, the indices of one item that has an index are this index alone
 pub noted_one : (bs : List Bound) (i : Item) (a : ℕ) → items_ascend bs ≡ true → (a < length bs) × (same_item (item_at bs a) i ≡ true) → Noted bs (i ∷ []) (a ∷ [])
 noted_one bs i a up w = record {
   few = omega arith;
@@ -58,7 +58,7 @@ noted_one bs i a up w = record {
       omega (arith, ap one (e ∙ sym (or_false (same_item i (item_at bs b)))));
 }
 
--- one item that has no index
+-- the indices of one item that has no index: none
 pub noted_none : (bs : List Bound) (i : Item) → ((b : ℕ) → b < length bs → same_item (item_at bs b) i ≡ false) → Noted bs (i ∷ []) []
 noted_none bs i n = record {
   few = omega arith;
@@ -74,7 +74,7 @@ one_or false b n = omega arith
 pub noted_nothing : (bs : List Bound) → Noted bs [] []
 noted_nothing bs = record { few = omega arith; low = refl; once = λ b h. refl }
 
--- the indices of two lists that share no item
+-- if two lists share no item, their indices joined are those of the joined lists
 pub noted_join : (bs : List Bound) (is js : List Item) (xs ys : List ℕ) → Noted bs is xs → Noted bs js ys →
     ((b : ℕ) → b < length bs → list_any (λ i. same_item i (item_at bs b)) is ≡ true → list_any (λ i. same_item i (item_at bs b)) js ≡ true → ⊥) → Noted bs (is ++ js) (xs ++ ys)
 noted_join bs is js xs ys p q apart = record {
@@ -83,7 +83,7 @@ noted_join bs is js xs ys p q apart = record {
   once = λ b h. tally_append (λ x. eqb x b) xs ys ∙ omega (arith, p.once b h, q.once b h, one_or _ _ (apart b h)) ∙ sym (ap one (any_append (λ i. same_item i (item_at bs b)) is js));
 }
 
--- more indices of a list
+-- how often an index occurs if one more entry is counted
 pub times_more : (xs : List ℕ) (k b : ℕ) → k < length xs → times (take (k + 1) xs) b ≡ times (take k xs) b + one (eqb (get_or xs k 0) b)
 times_more xs k b h = ap (λ ys. times ys b) (take_more xs k 0 h) ∙ tally_append (λ x. eqb x b) (take k xs) (get_or xs k 0 ∷ []) ∙ omega arith
 
@@ -108,7 +108,7 @@ changed_same xs a x b h e = ap (λ m. get_or (set xs a x) m 0) (sym e) ∙ rw ge
 changed_other : (xs : List ℕ) (a x b : ℕ) → (b ≡ a → ⊥) → get_or (set xs a x) b 0 ≡ get_or xs b 0
 changed_other xs a x b n = rw get_or-set_other refl
 
--- a count of one index changes
+-- raising the count at index a by one changes no other count
 pub change_at : (xs : List ℕ) (a x b : ℕ) → a < length xs → get_or (set xs a (get_or xs a 0 + 1)) b 0 ≡ get_or xs b 0 + one (eqb a b)
 change_at xs a x b h = elim (cases_eq a b) [
   | inl e ↦ changed_same xs a (get_or xs a 0 + 1) b h e ∙ omega (arith, ap (λ m. get_or xs m 0) e, ap one (eq-eqb a b e))
@@ -156,7 +156,7 @@ cell_new cells k d up h i =
 cell_inside : (c d : Spot) → Cell c ≡ Cell d → c ≡ d
 cell_inside c d e = cc
 
--- one more cell noted
+-- the indices of the first k cells and of the next cell are those of the first k + 1
 pub noted_cell : (bs : List Bound) (cells : List Spot) (k : ℕ) (x : Spot) (ps qs : List ℕ) → IsAscending spot_cmp cells → k < length cells → x ≡ get_or cells k x →
     Noted bs (map (λ c. Cell c) (take k cells)) ps → Noted bs (Cell x ∷ []) qs → Noted bs (map (λ c. Cell c) (take (k + 1) cells)) (ps ++ qs)
 noted_cell bs cells k x ps qs up h e p q =
@@ -172,7 +172,7 @@ noted_cell bs cells k x ps qs up h e p q =
     only_one i j (inl e) = e
     only_one i j (inr n) = absurd n
 
--- the piece and the cells
+-- the indices of a piece and of some cells are those of the placement with this piece and these cells
 pub noted_piece : (bs : List Bound) (n : List ℕ) (cells : List Spot) (ps qs : List ℕ) → Noted bs (Piece n ∷ []) ps → Noted bs (map (λ c. Cell c) cells) qs → Noted bs (Piece n ∷ map (λ c. Cell c) cells) (ps ++ qs)
 noted_piece bs n cells ps qs p q = noted_join bs (Piece n ∷ []) (map (λ c. Cell c) cells) ps qs p q (λ b l y z.
     let s = any_in (λ i. same_item i (item_at bs b)) (map (λ c. Cell c) cells) z in
@@ -187,6 +187,6 @@ noted_piece bs n cells ps qs p q = noted_join bs (Piece n ∷ []) (map (λ c. Ce
     apart : (c : Spot) → Cell c ≡ Piece n → ⊥
     apart c e = cc
 
--- what was read from a list of bounds, at any default
+-- a bound that was read at an index of the list does not depend on the default
 pub read_bound : (bs : List Bound) (b : ℕ) (x : Bound) → b < length bs → x ≡ get_or bs b x → x ≡ get_or bs b no_bound
 read_bound bs b x h e = get_or_read bs b x h e no_bound

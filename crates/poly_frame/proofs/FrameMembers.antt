@@ -1,4 +1,4 @@
--- The base, as steps put members in and take them out again.
+-- The base: steps put members in, and undoing the steps takes them out.
 use Rattle.std.proofs.Common.{◌≡◌, ℕ, zero, suc, ◌+◌, ◌-◌, ◌<◌, ◌≤◌, Bool, true, false, cond, ◌||◌, eqb, ltb, List, [], ◌∷◌, ◌++◌, inl, inr, refl, sym, ap, ◌∙◌, arith, length, get_or, take, drop, length-append, length-take}
 use Rattle.std.proofs.lemmas.Bool.{both_ways, cases_Bool, cases_lt, eq-eqb, ne_eqb}
 use Rattle.std.proofs.lemmas.List.{take-append-le, take_all, take_more}
@@ -11,7 +11,7 @@ use Rattle.poly_frame.specs.FrameMembers.{SizesShow, without}
 use Rattle.poly_frame.proofs.Steps.{base_leave, base_pick}
 use Rattle.poly_frame.proofs.FramePicks.{base_again}
 
--- the first index of a number
+-- removing the first occurrence of a number leaves what is before and after its index
 where_it_stands : (p : ℕ) (xs : List ℕ) (k : ℕ) → k < length xs → ((j : ℕ) → j < k → eqb p (get_or xs j 0) ≡ false) → eqb p (get_or xs k 0) ≡ true → without p xs ≡ take k xs ++ drop (suc k) xs
 where_it_stands p [] k h out e = absurd (omega arith)
 where_it_stands p (x ∷ xs) zero h out e = ap (λ b. cond b xs (x ∷ without p xs)) e
@@ -35,7 +35,7 @@ or_parts false b e = (refl, e)
 turned : (p q : ℕ) → eqb q p ≡ false → eqb p q ≡ false
 turned p q n = ne_eqb p q (λ e. both_ways (eqb q p) n (eq-eqb q p (sym e)))
 
--- a number that was put in is taken out again
+-- if a list doesn't have a number, putting the number in and removing it gives the same list
 pub without_put : (p : ℕ) (xs : List ℕ) → mem xs p ≡ false → without p (put p xs) ≡ xs
 without_put p [] m = ap (λ b. cond b [] (p ∷ [])) (eq-eqb p p refl)
 without_put p (x ∷ xs) m =
@@ -157,7 +157,7 @@ module _ (v : View) (A : List Atom) (first : ℕ) (sizes : List ℕ) (S : SizesS
   back_other : (a : Atom) → a ≡ get_or A (length A - 1) a → ((p : ℕ) → a ≡ Has p → ⊥) → base v A ≡ base v (take (length A - 1) A)
   back_other a at n = ap (λ (X : List Atom). base v X) (last_of A a (omega arith) at) ∙ base_other v (take (length A - 1) A) a n
 
-  -- the members that are left when the last atom's own is taken out
+  -- if the last step changed the base, the base without the last atom's placement is the base before that step
   pub back_left : (a : Atom) → a ≡ get_or A (length A - 1) a → (get_or sizes (length sizes - 1) 0 ≡ length (base v A) → ⊥) → (old new : List ℕ) → old ≡ base v A →
       ((p : ℕ) → a ≡ Has p → new ≡ without p old) → (((p : ℕ) → a ≡ Has p → ⊥) → new ≡ old) → new ≡ base v (take (length A - 1) A)
   back_left (Has p) at n old new is asked other = asked p refl ∙ ap (λ xs. without p xs) is ∙ back_gone p at n
@@ -188,7 +188,7 @@ module _ (v : View) (A : List Atom) (first : ℕ) (sizes : List ℕ) (S : SizesS
       take_less (suc n) (suc m) [] h = refl
       take_less (suc n) (suc m) (x ∷ xs) h = ap (λ ys. x ∷ ys) (take_less n m xs (omega arith))
 
--- one more step
+-- the sizes after one more step
 pub sizes_more : (v : View) (A : List Atom) (first : ℕ) (sizes : List ℕ) (a : Atom) (n : ℕ) → SizesShow v A first sizes → n ≡ length (base v A) → SizesShow v (A ++ a ∷ []) first (sizes ++ n ∷ [])
 sizes_more v A first sizes a n S e =
     record {

@@ -1,4 +1,4 @@
--- How the rows of a matrix are made.
+-- How the rows and the `stands` of a matrix are made, and how a row is cut off.
 use Rattle.std.proofs.Common.{◌≡◌, ℕ, zero, suc, ◌+◌, ◌*◌, ◌<◌, ◌≤◌, Bool, true, false, max, not, ◌&&◌, ◌||◌, eqb, ltb, List, [], ◌∷◌, inl, inr, refl, sym, ap, subst, ◌∙◌, arith, length, get_or, take, replicate}
 use Rattle.std.specs.List.{list_any, list_all}
 use Rattle.std.proofs.Math.ListN.{set}
@@ -84,7 +84,7 @@ size_step ns k s u h e a = ap (λ xs. list_all (λ p. ltb p u) xs) (take_more ns
 pub rows_start : (rows : List ℕ) (n x i : ℕ) (h : Bool) → rows ≡ replicate n 0 → has_bit rows x ≡ (ltb i 0 && h)
 rows_start rows n x i h e = ap (λ ws. has_bit ws x) e ∙ no_bits n x ∙ sym (ap (λ b. b && h) (false_from_ne_true (ltb i 0) (λ y. let l = ltb-true i 0 y in absurd (omega arith))))
 
--- one more number cut off
+-- cutting off number j keeps the numbers before it
 pub cut_kept : (old new : List ℕ) (j i : ℕ) → ((x : ℕ) → has_bit new x ≡ (has_bit old x && not (eqb (64 * 0 + j) x))) → i < j → has_bit new i ≡ has_bit old i
 cut_kept old new j i taken h = taken i ∙ own_spared (has_bit old i) (eqb (64 * 0 + j) i) (ne_eqb (64 * 0 + j) i (λ e. absurd (omega (arith, e, h))))
 

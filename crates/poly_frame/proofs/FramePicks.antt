@@ -1,4 +1,4 @@
--- What taking or leaving a placement closes, item by item.
+-- What taking a placement closes, item by item, and what is closed at a list of atoms.
 use Rattle.std.proofs.Common.{◌≡◌, ℕ, zero, suc, ◌+◌, ◌<◌, ◌≤◌, Bool, true, false, not, ◌&&◌, ◌||◌, eqb, leb, ltb, List, [], ◌∷◌, ◌++◌, inl, inr, refl, sym, ap, subst, ◌∙◌, arith, length, get_or, Option, None, Some, slice_get}
 use Rattle.std.specs.List.{list_any, list_all}
 use Rattle.std.proofs.lemmas.Bool.{eq-eqb, ne_eqb, and_parts, and_from, or_parts, or_cases, or_left, or_right, both_ways, not-true, not_from_false, false_from_ne_true, le-leb, ltb-true, lt-ltb, cases_Bool, cases_eq, true≢false}
@@ -104,14 +104,15 @@ module _ (v : View) (A : List Atom) (p q : ℕ) (m : mem (base v A) p ≡ false)
             (and_from _ _ (in_has v p r.0 r.1) (subst (λ k. leb (most_at v A r.0) (k + 1) ≡ true) (sym (others_all v (base v A) q r.0 mq)) f)))
       ])
 
-  -- taking p closes what has an item of p that p shuts
+  -- taking p, which is not in the base, closes an open placement q other than p exactly if q has an item of p that one
+  -- more member shuts
   pub pick_open : open_in v (A ++ Has p ∷ []) q ≡ (open_in v A q && not (list_any (λ i. has_item v q i && shuts v A i) (items v p)))
   pick_open = open_pick v A p q m n ∙ (elim (cases_Bool (open_in v A q)) [
     | inl o ↦ ap (λ b. open_in v A q && b) (both_closed _ _ _ (closed_by (open_base v A q o)))
     | inr c ↦ and_first _ _ _ c
   ])
 
--- a member is not open
+-- a placement is not open once it is taken
 pub pick_self : (v : View) (A : List Atom) (p : ℕ) → open_in v (A ++ Has p ∷ []) p ≡ false
 pick_self v A p = false_from_ne_true _ (λ o. both_ways (mem (base v (A ++ Has p ∷ [])) p) (open_base v (A ++ Has p ∷ []) p o) (in_mem _ p (subst (λ xs. In p xs) (sym (base_pick v A p)) (in_put_self p (base v A)))))
 
@@ -121,7 +122,7 @@ base_again v A p m = base_pick v A p ∙ ascending_same (put p (base v A)) (base
     (λ x i. elim (put_in p (base v A) x i) [ inl e ↦ subst (λ y. In y (base v A)) e (mem_in (base v A) p m) | inr j ↦ j ])
     (λ x i. in_put p (base v A) x i)
 
--- one more Has of a member changes nothing
+-- taking a member again does not change what is open
 pub open_again : (v : View) (A : List Atom) (p q : ℕ) → mem (base v A) p ≡ true → open_in v (A ++ Has p ∷ []) q ≡ open_in v A q
 open_again v A p q m =
     let b = base_again v A p m in
@@ -175,7 +176,7 @@ pub one_true : (b : Bool) → 1 ≤ one b → b ≡ true
 one_true true h = refl
 one_true false h = absurd (omega arith)
 
--- the indices say the same as the items
+-- the indices of p's items tell whether q has an item of p that one more member shuts
 pub indices_say : (v : View) (A : List Atom) (p q j w : ℕ) (ns rows limits have2 rs : List ℕ) → WellNamed v → In q v.live → Noted v.bounds (items v p) rs → RowsShow v ns w rows → j < length ns → get_or ns j 0 ≡ q →
     ((b : ℕ) → b < length v.bounds → get_or limits b 0 ≡ limit_at (item_of v b) (most_at v A (item_of v b))) →
     ((b : ℕ) → b < length v.bounds → get_or have2 b 0 ≡ count v (base v A) (item_of v b) + times rs b) →
@@ -204,7 +205,7 @@ indices_say v A p q j w ns rows limits have2 rs well live noted shown h e lim co
     ∙ limit_cases (item_of v b.0) (most_at v A (item_of v b.0)) (count v (base v A) (item_of v b.0) + 1) ∙ ap (λ i. shuts v A i) b.2 ∙ rs2.1)
     (shown b.0 j b.1 h ∙ ap (λ n. has_item v n (item_of v b.0)) e ∙ ap (λ i. has_item v q i) b.2 ∙ rs2.0)))
 
--- an item with its counts closes the placements that have it
+-- the members of the base that have the item close all other placements that have it
 abbrev pub is_shut : View → List Atom → Item → Bool
 is_shut v A i = shut_at i (most_at v A i) (count v (base v A) i)
 
@@ -248,6 +249,6 @@ free_at true l c f s h = and_no (not s)
 free_at false true c f s h = and_no (not s)
 free_at false false c f s h = ap not (h refl) ∙ sym (and_yes (not s))
 
--- open by items
+-- a placement is open exactly if none of its items is shut, it is not a member, and no atom lacks it
 pub open_is_free : (v : View) (A : List Atom) (q : ℕ) → open_in v A q ≡ (not (list_any (is_shut v A) (items v q)) && (not (mem (base v A) q) && not (list_any (λ a. lacks a q) A)))
 open_is_free v A q = free_at (mem (base v A) q) (list_any (λ a. lacks a q) A) (list_any (λ r. conflicts v q r) (base v A)) (list_any (λ i. leb (most_at v A i) (others v (base v A) q i)) (items v q)) (list_any (is_shut v A) (items v q)) (no_conflict v A q)

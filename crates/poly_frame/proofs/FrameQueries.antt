@@ -33,7 +33,7 @@ all_bounds : (bs : List Bound) (f : Bound → Bool) → ((b : ℕ) → b < lengt
 all_bounds [] f h = refl
 all_bounds (x ∷ bs) f h = and_from _ _ (h zero (omega arith)) (all_bounds bs f (λ b l. h (suc b) (omega arith)))
 
--- if no item of the view is due, and none that an atom asks for is both due and elsewhere, the atoms ask for none that is due
+-- if no item of the view is due, and no item outside the view that an atom asks for, then no item that an atom asks for is due
 none_elsewhere : (v : View) (A : List Atom) (T : List ℕ) (X : List Atom) → ((b : ℕ) → b < length v.bounds → nat_lt (count v T (item_of v b)) (least_at v A (item_of v b)) ≡ false) →
     list_all (of_asked (λ i. list_any (λ b. same_item b.item i) v.bounds || not (nat_lt (count v T i) (least_at v A i)))) X ≡ true → list_all (of_asked (λ i. not (nat_lt (count v T i) (least_at v A i)))) X ≡ true
 none_elsewhere v A T [] n h = refl
@@ -56,7 +56,7 @@ none_asked v A T e h n i =
     let h2 = subst (λ (xs : List ℕ). list_all (of_asked (λ i. list_any (λ b. same_item b.item i) v.bounds || not (nat_lt (count v xs i) (least_at v A i)))) A ≡ true) e h in
     none_due v A (base v A) (all_bounds v.bounds (λ b. not (nat_lt (count v (base v A) b.item) (least_at v A b.item))) (λ b l. not_from_false _ (n b l))) (none_elsewhere v A (base v A) A n h2) i
 
--- no item at all is due if none of the view's is
+-- `next_due` may look only at the items of the view, if no other item is due when none of these is
 pub all_due : (v : View) (A : List Atom) (o : Option Item) → MatchOption o ((b : ℕ) → b < length v.bounds → nat_lt (count v (base v A) (item_of v b)) (least_at v A (item_of v b)) ≡ false) (λ i. nat_lt (count v (base v A) i) (least_at v A i) ≡ true) →
     (((b : ℕ) → b < length v.bounds → nat_lt (count v (base v A) (item_of v b)) (least_at v A (item_of v b)) ≡ false) → (i : Item) → nat_lt (count v (base v A) i) (least_at v A i) ≡ false) →
     MatchOption o ((i : Item) → nat_lt (count v (base v A) i) (least_at v A i) ≡ false) (λ i. nat_lt (count v (base v A) i) (least_at v A i) ≡ true)
@@ -84,7 +84,7 @@ filter_yes f xs k h y = ap (λ ys. filter f ys) (take_more xs k 0 h) ∙ filter_
 pub filter_no : (f : ℕ → Bool) (xs : List ℕ) (k : ℕ) → k < length xs → f (get_or xs k 0) ≡ false → filter f (take (k + 1) xs) ≡ filter f (take k xs)
 filter_no f xs k h n = ap (λ ys. filter f ys) (take_more xs k 0 h) ∙ filter_append f (take k xs) (get_or xs k 0 ∷ []) ∙ ap (λ b. filter f (take k xs) ++ cond b (get_or xs k 0 ∷ []) []) n ∙ nothing_more (filter f (take k xs))
 
--- numbers that fail between two indices are not listed
+-- if the entries from index `low` up to `low + d` fail the test, they add nothing to the filtered list
 gap : (f : ℕ → Bool) (xs : List ℕ) (low d : ℕ) → low + d ≤ length xs → ((x : ℕ) → low ≤ x → x < low + d → f (get_or xs x 0) ≡ false) → filter f (take (low + d) xs) ≡ filter f (take low xs)
 gap f xs low zero h out = ap (λ n. filter f (take n xs)) (omega arith)
 gap f xs low (suc d) h out =
@@ -99,7 +99,7 @@ filter_gap f xs low j h l out =
 pub filter_rest : (f : ℕ → Bool) (xs : List ℕ) (low : ℕ) → low ≤ length xs → ((x : ℕ) → low ≤ x → x < length xs → f (get_or xs x 0) ≡ false) → filter f (take low xs) ≡ filter f xs
 filter_rest f xs low h out = sym (filter_gap f xs low (length xs) h (omega arith) out) ∙ ap (λ ys. filter f ys) (take_all (length xs) xs (omega arith))
 
--- a number that one row has twice
+-- a row compared with itself has its own numbers
 pub in_row : (ws : List ℕ) (at j : ℕ) → in_both ws at ws at j ≡ has_bit ws (64 * at + j)
 in_row ws at j = twice (has_bit ws (64 * at + j))
   where
@@ -108,14 +108,14 @@ in_row ws at j = twice (has_bit ws (64 * at + j))
     twice false = refl
 
 module _ (v : View) (A : List Atom) (first : ℕ) (matrix : Matrix) (t : Table) (live have raised marks : List ℕ) (K : Kept v A first matrix t live have raised marks) where
-  -- the row on top
+  -- the last row has the open numbers
   pub top_row : (at j : ℕ) → at ≡ length live - matrix.width → j < length matrix.numbers.items → has_bit live (64 * at + j) ≡ open_in v A (get_or matrix.numbers.items j 0)
   top_row at j e h = ap (λ x. has_bit live x) (omega (arith, K.live_len)) ∙ (top_level v A first matrix t live have raised marks K).row.opened j h
 
   pub top_room : matrix.width ≤ length live
   top_room = let m = mul-le-mul_left {m = 1} {n = length marks + 1} matrix.width (omega arith) in omega (arith, K.live_len)
 
-  -- the row on top, cut out
+  -- the last row, cut out of the list, has `width` words
   pub top_slice : (ws : List ℕ) (at : ℕ) → ws ≡ live → at ≡ length live - matrix.width → length (take (length ws - at) (drop at ws)) ≡ matrix.width
   top_slice ws at e f = ap length (take_rest ws at) ∙ length-drop at ws ∙ omega (arith, ap length e, f, top_room)
 
@@ -172,11 +172,11 @@ module _ (v : View) (A : List Atom) (first : ℕ) (matrix : Matrix) (t : Table) 
     pub one_at : (j p : ℕ) → j < length matrix.numbers.items → in_both ws at rs at j ≡ true → p ≡ get_or matrix.numbers.items j 0 → (mem v.live p ≡ true) × (open_in v A p ≡ true)
     one_at j p h is at' = subst (λ (q : ℕ). (mem v.live q ≡ true) × (open_in v A q ≡ true)) (sym at') (open_one j h (row_alone j h ∙ is))
 
-  -- too few of the item at an index
+  -- the lists tell whether too few members have the item at an index
   pub due_says : (b : ℕ) → b < length v.bounds → nat_lt (count v (base v A) (item_of v b)) (least_at v A (item_of v b)) ≡ nat_lt (get_or have b 0) (get_or t.leasts.items b 0)
   due_says b h = ap (λ n. nat_lt n (least_at v A (item_of v b))) (sym (top_have v A first matrix t live have raised marks K b h)) ∙ ap (λ n. nat_lt (get_or have b 0) n) ((top_level v A first matrix t live have raised marks K).leasts (item_of v b) ∙ sym (K.table.leasts b h))
 
-  -- none is due from the index on where none is asked for
+  -- if no item below `leasts_end` is due, no item of the view is
   pub none_short : (n : ℕ) → min t.leasts_end (length have) ≤ n → ((b : ℕ) → b < n → nat_lt (get_or have b 0) (get_or t.leasts.items b 0) ≡ false) → (b : ℕ) → b < length v.bounds → nat_lt (count v (base v A) (item_of v b)) (least_at v A (item_of v b)) ≡ false
   none_short n l h b m = due_says b m ∙ elim (cases_lt b t.leasts_end) [
     | inl i ↦ h b (omega (arith, l, i, m, K.have_len))
@@ -190,6 +190,6 @@ module _ (v : View) (A : List Atom) (first : ℕ) (matrix : Matrix) (t : Table) 
       (all_bounds v.bounds (λ b. not (nat_lt (count v (base v A) b.item) (least_at v (take first A) b.item))) (λ b h. not_from_false _ (ap (λ m. nat_lt (count v (base v A) (item_of v b)) m) (sym (same (item_of v b))) ∙ n b h)))
       (due_atoms v (λ k. not (nat_lt (count v (base v A) k) (least_at v (take first A) k))) (take first A) (K.table.listed y) (λ k w. not_from_false _ (subst (λ j. nat_lt (count v (base v A) j) (least_at v (take first A) j) ≡ false) w.2 (ap (λ m. nat_lt (count v (base v A) (item_of v w.0)) m) (sym (same (item_of v w.0))) ∙ n w.0 w.1)))) i
 
--- some placement is open
+-- if a placement of the design is open, the test that none is open fails
 pub some_open : (v : View) (A : List Atom) (p : ℕ) → mem v.live p ≡ true → open_in v A p ≡ true → list_all (λ q. not (open_in v A q)) v.live ≡ false
 some_open v A p m o = false_from_ne_true _ (λ h. both_ways (open_in v A p) (not-true _ (all_in (λ q. not (open_in v A q)) v.live h p (mem_in v.live p m))) o)

@@ -41,7 +41,7 @@ pub none_and : (a b : Bool) → a ≡ false → (a && b) ≡ false
 none_and true b e = absurd (true≢false e)
 none_and false b e = refl
 
--- number j is p
+-- the number at index j is p
 abbrev pub is_own : List ℕ → ℕ → ℕ → Bool
 is_own ns p j = eqb p (get_or ns j 0)
 
@@ -59,7 +59,7 @@ least_leave v (Lacks q ∷ A) p i = least_leave v A p i
 least_leave v (AtLeast k n ∷ A) p i = ap (λ u. cond (same_item k i) (max n u) u) (least_leave v A p i)
 least_leave v (AtMost k n ∷ A) p i = least_leave v A p i
 
--- the columns of a row's numbers
+-- the bits of row k come before row m if k is below m
 pub row_below : (w k m j : ℕ) → k < m → j < 64 * w → bit_index w k j < 64 * (w * m)
 row_below w k m j h l = let a = mul-le-mul_left {m = k + 1} {n = m} w (omega arith) in omega (arith, a)
 
@@ -93,7 +93,7 @@ pub record Stepped (v : View) (A : List Atom) (a : Atom) (matrix : Matrix) (t : 
   pub leasts : (i : Item) → least_at v (A ++ a ∷ []) i ≡ least_at v A i
 
 module _ (v : View) (A : List Atom) (first : ℕ) (matrix : Matrix) (t : Table) (live have raised marks : List ℕ) (K : Kept v A first matrix t live have raised marks) where
-  -- the level on top
+  -- what the lists keep for the last level
   pub top_level : LevelShows v (take first A) A matrix t live have raised marks (length marks)
   top_level = subst (λ (B : List Atom). LevelShows v (take first A) B matrix t live have raised marks (length marks)) (take_all (first + length marks) A (omega (arith, K.steps))) (K.levels (length marks) (omega arith))
 
@@ -103,7 +103,7 @@ module _ (v : View) (A : List Atom) (first : ℕ) (matrix : Matrix) (t : Table) 
   pub raised_few : length raised ≤ 17 * length marks
   raised_few = omega (arith, top_level.few, mark_top marks raised)
 
-  -- counts stay far below what a word holds
+  -- each count stays below a bound that fits into a word
   pub have_small : (b : ℕ) → b < length v.bounds → get_or have b 0 < 2 ^ 63 + 17 * length marks
   have_small b h =
       let l = K.levels 0 (omega arith) in
@@ -174,7 +174,7 @@ module _ (v : View) (A : List Atom) (first : ℕ) (matrix : Matrix) (t : Table) 
         ]);
       }
 
--- the lists that the code made
+-- `Kept` for equal lists
 pub kept_as : (v : View) (A : List Atom) (first : ℕ) (matrix : Matrix) (t : Table) (live have raised marks raised2 marks2 : List ℕ) → raised2 ≡ raised → marks2 ≡ marks → Kept v A first matrix t live have raised marks → Kept v A first matrix t live have raised2 marks2
 kept_as v A first matrix t live have raised marks raised2 marks2 e f K = subst (λ (xs : List ℕ). Kept v A first matrix t live have xs marks2) (sym e) (subst (λ (xs : List ℕ). Kept v A first matrix t live have raised xs) (sym f) K)
 
@@ -201,7 +201,7 @@ distinct_at (x ∷ xs) zero (suc k) d h l e = absurd (not_head x xs d (subst (λ
 distinct_at (x ∷ xs) (suc j) zero d h l e = absurd (not_head x xs d (subst (λ z. In z xs) e (at_in xs j (omega arith))))
 distinct_at (x ∷ xs) (suc j) (suc k) d h l e = ap suc (distinct_at xs j k (distinct_rest x xs d) (omega arith) (omega arith) e)
 
--- what the row after a step is before anything is taken out
+-- one more row, equal to the last one
 pub record Copied (w : ℕ) (live live2 : List ℕ) : Type 0 where
   pub len : length live2 ≡ length live + w
   pub before : (x : ℕ) → x < 64 * length live → has_bit live2 x ≡ has_bit live x
@@ -226,7 +226,7 @@ module _ (v : View) (A : List Atom) (first : ℕ) (matrix : Matrix) (t : Table) 
   none_raised : (b : ℕ) → b < length v.bounds → get_or have b 0 ≡ get_or have b 0 + times [] b
   none_raised b h = omega arith
 
-  -- nothing but the row's own change: a step that leaves the base as it is
+  -- `Kept` after a step that does not change the base: only the new row differs
   quiet : (a : Atom) (live2 : List ℕ) → length live2 ≡ length live1 → ((x : ℕ) → x < 64 * length live → has_bit live2 x ≡ has_bit live1 x) →
       ((j : ℕ) → j < length matrix.numbers.items → has_bit live2 (64 * length live + j) ≡ open_in v (A ++ a ∷ []) (get_or matrix.numbers.items j 0)) →
       ((j : ℕ) → length matrix.numbers.items ≤ j → j < 64 * matrix.width → has_bit live2 (64 * length live + j) ≡ false) →
@@ -257,7 +257,7 @@ module _ (v : View) (A : List Atom) (first : ℕ) (matrix : Matrix) (t : Table) 
   apart_at : (j : ℕ) (q : ℕ) → mem matrix.numbers.items q ≡ false → j < length matrix.numbers.items → eqb q (get_or matrix.numbers.items j 0) ≡ false
   apart_at j q m h = ne_eqb q _ (λ e. both_ways (mem matrix.numbers.items q) m (ap (λ n. mem matrix.numbers.items n) e ∙ listed_at matrix.numbers.items j h))
 
-  -- leaving a number that was not open at the start
+  -- leaving a number that has no column
   pub leave_other : (p : ℕ) → mem matrix.numbers.items p ≡ false → Kept v (A ++ Lacks p ∷ []) first matrix t live1 have raised (marks ++ length raised ∷ [])
   leave_other p m = quiet (Lacks p) live1 refl (λ x h. refl)
       (λ j h. copied_open j h ∙ sym (open_leave v A p (get_or matrix.numbers.items j 0) ∙ ap (λ b. open_in v A (get_or matrix.numbers.items j 0) && not b) (apart_at j p m h) ∙ yes_and (open_in v A (get_or matrix.numbers.items j 0))))
@@ -268,7 +268,7 @@ module _ (v : View) (A : List Atom) (first : ℕ) (matrix : Matrix) (t : Table) 
       (λ e. eq-eqb p _ (sym own ∙ ap (λ n. get_or matrix.numbers.items n 0) (eqb-true i j e)))
       (λ e. eq-eqb i j (distinct_at matrix.numbers.items i j K.table.matrix.once low h (own ∙ eqb-true p _ e)))
 
-  -- leaving number i
+  -- leaving the number of column i
   pub leave_own : (p i : ℕ) (live2 : List ℕ) → i < length matrix.numbers.items → get_or matrix.numbers.items i 0 ≡ p → length live2 ≡ length live1 → ((x : ℕ) → has_bit live2 x ≡ (has_bit live1 x && not (eqb (64 * length live + i) x))) →
       Kept v (A ++ Lacks p ∷ []) first matrix t live2 have raised (marks ++ length raised ∷ [])
   leave_own p i live2 low own len taken = quiet (Lacks p) live2 len
@@ -284,7 +284,7 @@ module _ (v : View) (A : List Atom) (first : ℕ) (matrix : Matrix) (t : Table) 
       (λ j h. copied_open j h ∙ sym (open_again v A p (get_or matrix.numbers.items j 0) m))
       copied_past (λ i. ap (λ xs. count v xs i) (base_again v A p m)) (λ i. most_pick v A p i) (λ i. least_pick v A p i)
 
-  -- picking another number
+  -- picking a number that is not in the base
   pub pick_new : (p : ℕ) (live2 live3 have2 rs : List ℕ) → mem (base v A) p ≡ false → Noted v.bounds (items v p) rs → length rs ≤ 17 → length have2 ≡ length have →
       ((b : ℕ) → b < length v.bounds → get_or have2 b 0 ≡ get_or have b 0 + times rs b) →
       length live2 ≡ length live1 → ((x : ℕ) → x < 64 * length live → has_bit live2 x ≡ has_bit live1 x) →
@@ -331,7 +331,7 @@ take_take (suc m) zero xs h = absurd (omega arith)
 take_take (suc m) (suc n) [] h = refl
 take_take (suc m) (suc n) (x ∷ xs) h = ap (λ ys. x ∷ ys) (take_take m n xs (omega arith))
 
--- taking steps back
+-- undoing all steps but the first n
 module _ (v : View) (A : List Atom) (first : ℕ) (matrix : Matrix) (t : Table) (live have raised marks : List ℕ) (K : Kept v A first matrix t live have raised marks) (n : ℕ) (h : n < length marks) where
   front_mark : (m : ℕ) → m ≡ mark_of marks raised n → (k : ℕ) → k ≤ n → mark_of (take n marks) (take m raised) k ≡ mark_of marks raised k
   front_mark m e k l = elim (cases_eq k n) [
@@ -385,7 +385,7 @@ module _ (v : View) (A : List Atom) (first : ℕ) (matrix : Matrix) (t : Table) 
             }));
       }
 
--- the lists that the code made
+-- `Kept` after all steps but the first n are undone
 pub back_made : (v : View) (A : List Atom) (first : ℕ) (matrix : Matrix) (t : Table) (live have raised marks : List ℕ) → Kept v A first matrix t live have raised marks → (n m : ℕ) (live2 have2 raised2 marks2 : List ℕ) → n < length marks → m ≡ mark_of marks raised n →
     live2 ≡ take (matrix.width * (n + 1)) live → raised2 ≡ take m raised → marks2 ≡ take n marks → length have2 ≡ length have → ((b : ℕ) → b < length have → get_or have2 b 0 + times (drop m raised) b ≡ get_or have b 0) → Kept v (take (first + n) A) first matrix t live2 have2 raised2 marks2
 back_made v A first matrix t live have raised marks K n m live2 have2 raised2 marks2 h e el er em len less =
@@ -405,14 +405,15 @@ marks_from marks raised marks2 k e f = f ∙ ap (λ n. marks ++ n ∷ []) e
 pub added : (xs ys all : List ℕ) (k : ℕ) → all ≡ xs ++ ys → k ≡ length xs → take (length all - k) (drop k all) ≡ ys
 added xs ys all k e f = take_rest all k ∙ ap (λ n. drop n all) f ∙ ap (λ zs. drop (length xs) zs) e ∙ drop-append_seam xs ys
 
--- a number that has no column
+-- a number for which `stands` shows no column has none
 pub not_listed : (ns stands : List ℕ) (p : ℕ) → StandsShow ns stands → ((j : ℕ) → j < length ns → p < length stands → get_or stands p 0 ≡ j → get_or ns j 0 ≡ p → ⊥) → mem ns p ≡ false
 not_listed ns stands p s n = false_from_ne_true _ (λ m.
     let w = index_in ns p m in
     let h = s w.0 w.1 in
     n w.0 w.1 (subst (λ q. q < length stands) w.2 h.0) (ap (λ q. get_or stands q 0) (sym w.2) ∙ h.1) w.2)
 
--- what the code closes, with its own names for where the row begins and for the lists
+-- the row at word `at` loses exactly the placements that have an item of one of the indices, if the count of that item has
+-- reached its limit
 abbrev pub Closes : Matrix → Table → List ℕ → List ℕ → ℕ → List ℕ → List ℕ → Type 0
 Closes matrix t hs rs at live1 live2 = (j : ℕ) → j < 64 * matrix.width → has_bit live2 (64 * at + j) ≡ (has_bit live1 (64 * at + j) && not (list_any (λ b. leb (get_or t.limits.items b 0) (get_or hs b 0) && has_bit matrix.rows.items (bit_index matrix.width b j)) rs))
 
@@ -434,7 +435,7 @@ pick_made v A first matrix t live have raised marks live1 K C p at mk T live2 li
     (subst (λ (n : ℕ). (j : ℕ) → j < length matrix.numbers.items → has_bit live3 (64 * n + j) ≡ (has_bit live2 (64 * n + j) && not (is_own matrix.numbers.items p j))) ea own)
     (subst (λ (n : ℕ). (j : ℕ) → has_bit live2 (64 * n + j) ≡ false → has_bit live3 (64 * n + j) ≡ false) ea past))
 
--- the own bit taken out at i
+-- taking out bit i takes out number p alone, if i is the column of p
 pub own_taken : (v : View) (A : List Atom) (first : ℕ) (matrix : Matrix) (t : Table) (live have raised marks : List ℕ) → Kept v A first matrix t live have raised marks → (p i at : ℕ) (live2 live3 : List ℕ) → (i < length matrix.numbers.items) × (get_or matrix.numbers.items i 0 ≡ p) →
     ((x : ℕ) → has_bit live3 x ≡ (has_bit live2 x && not (eqb (64 * at + i) x))) → (j : ℕ) → j < length matrix.numbers.items → has_bit live3 (64 * at + j) ≡ (has_bit live2 (64 * at + j) && not (is_own matrix.numbers.items p j))
 own_taken v A first matrix t live have raised marks K p i at live2 live3 w taken j h = taken (64 * at + j) ∙ ap (λ b. has_bit live2 (64 * at + j) && not b) (same_in_row at i j ∙ same_truth _ _
@@ -450,7 +451,7 @@ taken_before live2 live3 at i taken x h = taken x ∙ own_spared (has_bit live2 
 pub taken_past : (live2 live3 : List ℕ) (at i : ℕ) → ((x : ℕ) → has_bit live3 x ≡ (has_bit live2 x && not (eqb (64 * at + i) x))) → (j : ℕ) → has_bit live2 (64 * at + j) ≡ false → has_bit live3 (64 * at + j) ≡ false
 taken_past live2 live3 at i taken j e = taken (64 * at + j) ∙ none_and _ _ e
 
--- the given atoms alone
+-- `Kept` for the given atoms alone
 pub kept_start : (v : View) (A : List Atom) (matrix : Matrix) (t : Table) (live have raised marks : List ℕ) → TableShows v A matrix t → HaveShows v (base v A) have → length have ≡ length v.bounds → length live ≡ matrix.width → raised ≡ [] → marks ≡ [] →
     RowOf (λ p. open_in v A p) matrix live → Kept v A (length A) matrix t live have raised marks
 kept_start v A matrix t live have raised marks T H len wide er em R =

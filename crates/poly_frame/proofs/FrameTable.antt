@@ -61,7 +61,7 @@ mosts_start v A us up e b h = ap (λ xs. get_or xs b 0) e ∙ map_at (λ b. b.mo
 pub leasts_start : (v : View) (A : List Atom) (us : List ℕ) → items_ascend v.bounds ≡ true → us ≡ map (λ b. b.least) v.bounds → LeastsShow v (drop (length A) A) us
 leasts_start v A us up e b h = ap (λ xs. get_or xs b 0) e ∙ map_at (λ b. b.least) v.bounds b h ∙ sym (ap (λ B. least_at v B (item_of v b)) (drop_end A) ∙ bound_at v.bounds b (λ b. b.least) up h)
 
--- a write at the item's own index
+-- writing at the index of an item changes the entry of that item alone
 module _ (bs : List Bound) (us : List ℕ) (a x : ℕ) (i : Item) (up : items_ascend bs ≡ true) (len : length us ≡ length bs) (w : (a < length bs) × (same_item (item_at bs a) i ≡ true)) where
   pub written : (f : ℕ → ℕ) → x ≡ f (get_or us a 0) → (b : ℕ) → b < length bs → get_or (set us a x) b 0 ≡ cond (same_item i (item_at bs b)) (f (get_or us b 0)) (get_or us b 0)
   written f e b h = elim (cases_eq a b) [
@@ -78,7 +78,7 @@ module _ (bs : List Bound) (us : List ℕ) (a x : ℕ) (i : Item) (up : items_as
 pub nowhere : (bs : List Bound) (i : Item) (f : ℕ → ℕ) (us : List ℕ) → ((b : ℕ) → b < length bs → same_item (item_at bs b) i ≡ false) → (b : ℕ) → b < length bs → get_or us b 0 ≡ cond (same_item i (item_at bs b)) (f (get_or us b 0)) (get_or us b 0)
 nowhere bs i f us n b h = sym (cond-false (same_item i (item_at bs b)) (f (get_or us b 0)) (get_or us b 0) (false_from_ne_true _ (λ e. both_ways _ (n b h) (subst (λ j. same_item j i ≡ true) (same_item_is _ _ e) (same_item_self i)))))
 
--- one more atom from the end
+-- the atoms from index k on are atom k and those after it
 drop_more : (A : List Atom) (k : ℕ) (d : Atom) → k < length A → drop k A ≡ get_or A k d ∷ drop (k + 1) A
 drop_more [] k d h = absurd (omega arith)
 drop_more (a ∷ A) zero d h = refl
@@ -90,7 +90,7 @@ mosts_more v A k a us new h e shown step b l = step b l ∙ ap (λ n. most_by a 
 pub leasts_more : (v : View) (A : List Atom) (k : ℕ) (a : Atom) (us new : List ℕ) → k < length A → get_or A k a ≡ a → LeastsShow v (drop (k + 1) A) us → ((b : ℕ) → b < length v.bounds → get_or new b 0 ≡ least_by a (item_of v b) (get_or us b 0)) → LeastsShow v (drop k A) new
 leasts_more v A k a us new h e shown step b l = step b l ∙ ap (λ n. least_by a (item_of v b) n) (shown b l) ∙ sym (ap (λ B. least_at v B (item_of v b)) (drop_more A k a h ∙ ap (λ x. x ∷ drop (k + 1) A) e) ∙ least_by_is v a (drop (k + 1) A) (item_of v b))
 
--- one more member counted
+-- raising the counts at the items of member k counts one more member
 pub counted_more : (v : View) (T : List ℕ) (k : ℕ) (have new indices : List ℕ) → k < length T → HaveShows v (take k T) have → Noted v.bounds (items v (get_or T k 0)) indices → ((b : ℕ) → b < length v.bounds → get_or new b 0 ≡ get_or have b 0 + times indices b) → HaveShows v (take (k + 1) T) new
 counted_more v T k have new indices h shown noted step b l =
     step b l ∙ omega (arith, shown b l, noted.once b l, tally_append (λ p. has_item v p (item_of v b)) (take k T) (get_or T k 0 ∷ [])) ∙ sym (ap (λ xs. count v xs (item_of v b)) (take_more T k 0 h))

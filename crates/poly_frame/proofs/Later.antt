@@ -27,7 +27,7 @@ pub record Later (v : View) (A : List Atom) (w : View) (B : List Atom) : Type 0 
   pub conflicting : (p q : ℕ) → conflicts v p q ≡ true → conflicts w p q ≡ true
   pub once : distinct w.live ≡ true
 
--- with more atoms on both
+-- `Later` still holds if the same atoms are added to both lists
 pub later_push : (v w : View) (A B X : List Atom) → Later v A w B → Later v (A ++ X) w (B ++ X)
 later_push v w A B X l = record {
   atoms = λ b i. elim (in_append_cases b A X i) [ inl j ↦ in_append_left b B X (l.atoms b j) | inr j ↦ in_append_right b B X j ];

@@ -40,7 +40,7 @@ module _ (v : View) (ns starts indices new : List ℕ) (k : ℕ) (L : ListsTo v 
   new_start : get_or starts2 (k + 1) 0 ≡ length (indices ++ new)
   new_start = ap (λ n. get_or starts2 n 0) (sym L.len) ∙ get_or-append_seam starts (length (indices ++ new)) [] 0
 
-  -- after one more list
+  -- the list of one more number, appended to the others
   pub lists_more : ListsTo v ns starts2 (indices ++ new) (k + 1)
   lists_more = record {
     len = omega (arith, length-append starts (length (indices ++ new) ∷ []), L.len);
@@ -79,7 +79,7 @@ lists_none v ns starts indices e f = record {
   each = λ j h. absurd (omega (arith, h));
 }
 
--- a number that has a column has the one that the list says
+-- a number that has a column has the one that `stands` says
 pub stand_of : (ns stands : List ℕ) (p : ℕ) → StandsShow ns stands → mem ns p ≡ true → (p < length stands) × (get_or stands p 0 < length ns) × (get_or ns (get_or stands p 0) 0 ≡ p)
 stand_of ns stands p s m =
     let w = index_in ns p m in
@@ -87,11 +87,11 @@ stand_of ns stands p s m =
     let at : get_or stands p 0 ≡ w.0 = ap (λ q. get_or stands q 0) (sym w.2) ∙ h.1 in
     (subst (λ q. q < length stands) w.2 h.0, subst (λ k. k < length ns) (sym at) w.1, ap (λ k. get_or ns k 0) at ∙ w.2)
 
--- the lists that the code made
+-- `ListsTo` for equal lists
 pub lists_as : (v : View) (ns s1 p1 s2 p2 : List ℕ) (k : ℕ) → s1 ≡ s2 → p1 ≡ p2 → ListsTo v ns s1 p1 k → ListsTo v ns s2 p2 k
 lists_as v ns s1 p1 s2 p2 k e f L = subst (λ xs. ListsTo v ns xs p2 k) e (subst (λ xs. ListsTo v ns s1 xs k) f L)
 
--- some number below
+-- if some number below n passes, here is one
 pub below_any : (f : ℕ → Bool) (n : ℕ) → any_below f n ≡ true → (b : ℕ) × (b < n) × (f b ≡ true)
 below_any f zero h = absurd cc
 below_any f (suc n) h = elim (or_cases (any_below f n) (f n) h) [
@@ -121,7 +121,7 @@ and_spared a b c e = sym (yes (a && not b)) ∙ ap (λ x. (a && not b) && not x)
     yes true = refl
     yes false = refl
 
--- one row more is taken out, or none
+-- after row n, which is shut, is taken out too, exactly what is in no shut row up to n is left
 pub shut_more : (f : ℕ → Bool) (old cur new r s : Bool) (n : ℕ) → cur ≡ (old && not (any_below f n)) → new ≡ (cur && not r) → f n ≡ (s && r) → s ≡ true → new ≡ (old && not (any_below f (n + 1)))
 shut_more f old cur new r s n h e g y = e ∙ ap (λ b. b && not r) h ∙ and_more old (any_below f n) r ∙ ap (λ b. old && not (any_below f n || b)) (ap (λ b. b && r) (sym y) ∙ sym g) ∙ ap (λ b. old && not b) (sym (below_more f n))
 
@@ -132,7 +132,7 @@ pub shut_none : (f : ℕ → Bool) (old : Bool) → old ≡ (old && not (any_bel
 shut_none f true = refl
 shut_none f false = refl
 
--- one more of a list is taken out
+-- if the first k entries were taken out and entry k is taken out too, the first k + 1 are out
 pub out_more : {X : Type 0} (f : X → Bool) (xs : List X) (k : ℕ) (d : X) (old cur new : Bool) → k < length xs → cur ≡ (old && not (list_any f (take k xs))) → new ≡ (cur && not (f (get_or xs k d))) → new ≡ (old && not (list_any f (take (k + 1) xs)))
 out_more f xs k d old cur new h e g =
     g ∙ ap (λ b. b && not (f (get_or xs k d))) e ∙ and_more old (list_any f (take k xs)) (f (get_or xs k d))
@@ -143,7 +143,7 @@ out_more f xs k d old cur new h e g =
     or_false true = refl
     or_false false = refl
 
--- a placement has an item that is shut if and only if some row that is shut has it
+-- a placement of the design has an item that is shut if and only if the row of some shut item has the placement
 pub shut_says : (v : View) (A : List Atom) (q : ℕ) (us hs T : List ℕ) (g : ℕ → Bool) → WellNamed v → mem v.live q ≡ true → T ≡ base v A → MostsShow v A us → HaveShows v T hs →
     ((b : ℕ) → b < length v.bounds → g b ≡ (shut_at (item_of v b) (get_or us b 0) (get_or hs b 0) && has_item v q (item_of v b))) → any_below g (length v.bounds) ≡ list_any (is_shut v A) (items v q)
 shut_says v A q us hs T g well live e mosts have says = same_truth _ _
@@ -159,7 +159,7 @@ shut_says v A q us hs T g well live e mosts have says = same_truth _ _
     counts : (b : ℕ) → b < length v.bounds → shut_at (item_of v b) (get_or us b 0) (get_or hs b 0) ≡ is_shut v A (item_of v b)
     counts b h = ap (λ n. shut_at (item_of v b) n (get_or hs b 0)) (mosts b h) ∙ ap (λ n. shut_at (item_of v b) (most_at v A (item_of v b)) n) (have b h ∙ ap (λ xs. count v xs (item_of v b)) e)
 
--- what is left is open
+-- what is left without shut items, lacked numbers and members is what is open
 pub left_open : (v : View) (A : List Atom) (q : ℕ) (T : List ℕ) (full shut r1 r2 r3 : Bool) → T ≡ base v A → full ≡ true → shut ≡ list_any (is_shut v A) (items v q) → r1 ≡ (full && not shut) → r2 ≡ (r1 && not (list_any (λ a. lacks a q) A)) → r3 ≡ (r2 && not (mem T q)) → r3 ≡ open_in v A q
 left_open v A q T full shut r1 r2 r3 e f s a b c =
     c ∙ ap (λ x. x && not (mem T q)) (b ∙ ap (λ x. x && not (list_any (λ a. lacks a q) A)) (a ∙ ap (λ x. x && not shut) f ∙ ap not s))

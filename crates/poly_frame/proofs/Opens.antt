@@ -1,4 +1,4 @@
--- Which placements stay open as the trail grows.
+-- As the trail grows, no placement of the design becomes open.
 use Rattle.std.proofs.Common.{◌≡◌, ℕ, true, not, List, ◌++◌, inl, refl, arith}
 use Rattle.std.proofs.lemmas.Bool.{and_parts, and_from, both_ways, not-true, not_from_false, false_from_ne_true}
 use Rattle.poly_atom.specs.declared.atom.Atom.{Atom}
@@ -10,7 +10,7 @@ use Rattle.poly_frame.specs.Open.{ruled_out, open_in}
 use Rattle.poly_tiling.proofs.Lists.{In, mem_in, in_mem, in_append_left}
 use Rattle.poly_frame.proofs.Later.{Later, later_base, later_ruled}
 
--- if only atoms are added and the design stays, the later list is a `Later` one
+-- `Later` holds if the design stays and atoms are added
 pub same_later : (v : View) (A B : List Atom) → distinct v.live ≡ true → Later v A v (A ++ B)
 same_later v A B d = record {
   atoms = λ a i. in_append_left a A B i;
@@ -24,7 +24,7 @@ same_later v A B d = record {
   once = d;
 }
 
--- what is open with more atoms was open before
+-- a placement of the design that is open with more atoms is open without them too
 pub open_before : (v : View) (A B : List Atom) (p : ℕ) → distinct v.live ≡ true → In p v.live → open_in v (A ++ B) p ≡ true → open_in v A p ≡ true
 open_before v A B p d i h =
     let l = same_later v A B d in

@@ -1,4 +1,4 @@
--- What no member of a family can have.
+-- What no tiling of a family can have.
 use Rattle.std.proofs.Common.{List, [], arith, eqb, false, inl, inr, leb, max, min, not, subst, true, ℕ, ◌&&◌, ◌||◌, ◌∷◌, ◌≡◌, ◌≤◌}
 use Rattle.std.proofs.lemmas.Bool.{and_parts, both_ways, cond_both, false_from_ne_true, leb-true, not-true, or_cases}
 use Rattle.std.specs.List.{list_any}
@@ -39,7 +39,7 @@ least_is v T i h (AtLeast j n ∷ A) m =
     (λ e. let here = subst (λ k. n ≤ count v T k) (same_item_is j i e) (leb-true _ _ ms.0) in omega arith)
     (λ e. rest)
 
--- no member of a member of the family is ruled out
+-- no placement of a tiling of the family is ruled out
 pub not_ruled_out : (v : View) (T : List ℕ) (A : List Atom) → IsTiling v T → meets_all v T A ≡ true → (p : ℕ) → In p T → ruled_out v A p ≡ false
 not_ruled_out v T A t m p i = false_from_ne_true (ruled_out v A p) (λ r. elim (or_cases (list_any (λ a. lacks a p) A || list_any (λ q. conflicts v p q) (base v A)) (list_any (λ i. leb (most_at v A i) (others v (base v A) p i)) (items v p)) r) [
   | inl e ↦ elim (or_cases (list_any (λ a. lacks a p) A) (list_any (λ q. conflicts v p q) (base v A)) e) [

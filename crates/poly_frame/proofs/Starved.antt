@@ -32,7 +32,7 @@ left_at true true q = refl
 left_at true false true = refl
 left_at true false false = refl
 
--- one more item
+-- after one more item, what is left has none of the items so far
 pub left_more : (f : ℕ → Bool) (a l r : Bool) (xs : List ℕ) (k : ℕ) → k < length xs → l ≡ (a && not (list_any f (take k xs))) → r ≡ (l && not (f (get_or xs k 0))) → r ≡ (a && not (list_any f (take (k + 1) xs)))
 left_more f a l r xs k h e s =
     s ∙ ap (λ b. b && not (f (get_or xs k 0))) e ∙ left_at a (list_any f (take k xs)) (f (get_or xs k 0))
@@ -48,7 +48,7 @@ none_counted f (x ∷ xs) q e (inl s) h = absurd (omega (arith, e, ap one (ap f 
 none_counted f (x ∷ xs) q e (inr i) h = none_counted f xs q (omega (arith, e)) i h
 
 module _ (v : View) (A : List Atom) (first : ℕ) (matrix : Matrix) (t : Table) (live have raised marks : List ℕ) (K : Kept v A first matrix t live have raised marks) where
-  -- an item of p with one more member shuts what has it
+  -- if one more member fills an item of p, taking p shuts what has that item
   shut_by : (p q c : ℕ) (indices : List ℕ) → Noted v.bounds (items v p) indices → In c indices → leb (get_or t.limits.items c 0 - 1) (get_or have c 0) ≡ true → has_item v q (item_of v c) ≡ true → list_any (λ i. has_item v q i && shuts v A i) (items v p) ≡ true
   shut_by p q c indices noted k less has =
       let l = low_in (length v.bounds) indices c noted.low k in
@@ -72,7 +72,7 @@ module _ (v : View) (A : List Atom) (first : ℕ) (matrix : Matrix) (t : Table) 
     lacking : has_item v p (item_of v b) ≡ false
     lacking = sym (K.table.matrix.rows b j l h) ∙ without
 
-    -- an open number that has the item is shut
+    -- taking p shuts each open number that has the item
     shut_at : (x : ℕ) → x < length matrix.numbers.items → open_in v A (get_or matrix.numbers.items x 0) ≡ true → has_item v (get_or matrix.numbers.items x 0) (item_of v b) ≡ true →
         list_any (λ i. has_item v (get_or matrix.numbers.items x 0) i && shuts v A i) (items v p) ≡ true
     shut_at x m o i =
@@ -89,7 +89,7 @@ module _ (v : View) (A : List Atom) (first : ℕ) (matrix : Matrix) (t : Table) 
         let c = low_in (length v.bounds) indices r.0 noted.low r.1 in
         shut_by p (get_or matrix.numbers.items x 0) r.0 indices noted r.1 both.0 (sym (K.table.matrix.rows r.0 x c m) ∙ in_word rows (w * r.0) x ∙ both.1)
 
-    -- so none that has it is open once p is taken
+    -- no placement of the design that has the item is open once p is taken
     closed : (q : ℕ) → mem v.live q ≡ true → has_item v q (item_of v b) ≡ true → open_in v (A ++ Has p ∷ []) q ≡ false
     closed q m i = false_from_ne_true _ (λ o.
         let out = open_base v (A ++ Has p ∷ []) q o in
@@ -99,7 +99,7 @@ module _ (v : View) (A : List Atom) (first : ℕ) (matrix : Matrix) (t : Table) 
         let yes = shut_at x.0 x.1 (ap (λ y. open_in v A y) x.2 ∙ both.0) (ap (λ y. has_item v y (item_of v b)) x.2 ∙ i) in
         both_ways (list_any (λ i. has_item v q i && shuts v A i) (items v p)) (not-true _ both.1) (subst (λ y. list_any (λ i. has_item v y i && shuts v A i) (items v p) ≡ true) x.2 yes))
 
-    -- nor is a member that has it
+    -- no placement that has the item is in the base once p is taken
     unheld : (q : ℕ) → has_item v q (item_of v b) ≡ true → mem (base v (A ++ Has p ∷ [])) q ≡ false
     unheld q i = false_from_ne_true _ (λ m. elim (put_in p (base v A) q (subst (λ xs. In q xs) (base_pick v A p) (mem_in _ q m))) [
       | inl s ↦ both_ways (has_item v p (item_of v b)) lacking (subst (λ y. has_item v y (item_of v b) ≡ true) (sym s) i)
@@ -128,7 +128,7 @@ and_true true true = refl
 and_true true false = refl
 and_true false b = refl
 
--- without arms, no placement of the item is excepted
+-- if there are no arms, leaving the arms out doesn't change the count
 pub without_arms : (v : View) (A : List Atom) (i : Item) (xs : List ℕ) → tally (λ p. has_item v p i && not (ruled_out v A p)) xs ≡ tally (λ p. has_item v p i && not (ruled_out v A p) && not (mem [] p)) xs
 without_arms v A i [] = refl
 without_arms v A i (x ∷ xs) = omega (arith, ap one (and_true (has_item v x i) (not (ruled_out v A x))), without_arms v A i xs)

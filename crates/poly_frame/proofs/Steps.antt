@@ -1,4 +1,4 @@
--- What one more step closes: the rule that a frame closes placements by.
+-- What one more step closes: the rule by which a frame closes placements.
 use Rattle.std.proofs.Common.{◌≡◌, ℕ, ◌+◌, Bool, true, false, cond, not, min, ltb, ◌&&◌, ◌||◌, eqb, leb, List, [], ◌∷◌, ◌++◌, inl, inr, refl, sym, ap, subst, ◌∙◌, arith}
 use Rattle.std.specs.List.{list_any}
 use Rattle.std.proofs.lemmas.Bool.{eqb-true, eq-eqb, or_left, or_right, or_cases, both_ways, false_from_ne_true, leb-true, le-leb}
@@ -63,7 +63,7 @@ open_leave v A p q =
     ∙ ap (λ x. not (mem (base v A) q) && not (((list_any (λ a. lacks a q) A || eqb p q) || list_any (λ r. conflicts v q r) (base v A)) || x)) full
     ∙ leave_at (mem (base v A) q) (list_any (λ a. lacks a q) A) (list_any (λ r. conflicts v q r) (base v A)) (list_any (λ i. leb (most_at v A i) (others v (base v A) q i)) (items v q)) (eqb p q)
 
--- the base with one more member
+-- taking p puts p into the base
 pub base_pick : (v : View) (A : List Atom) (p : ℕ) → base v (A ++ Has p ∷ []) ≡ put p (base v A)
 base_pick v A p = ascending_same (base v (A ++ Has p ∷ [])) (put p (base v A)) (base_up v (A ++ Has p ∷ [])) (put_up p (base v A) (base_up v A))
     (λ x i. elim (base_in v (A ++ Has p ∷ []) x i) [
@@ -84,7 +84,7 @@ tally_put_at f p q qs ih true c e m = absurd (both_ways (mem (q ∷ qs) p) m (or
 tally_put_at f p q qs ih false true e m = omega arith
 tally_put_at f p q qs ih false false e m = let r = ih (false_from_ne_true (mem qs p) (λ y. both_ways (mem (q ∷ qs) p) m (or_right (eqb q p) (mem qs p) y))) in omega arith
 
--- a count with one more number
+-- putting a new number into a list raises the count by one if the number passes the test
 pub tally_put : (f : ℕ → Bool) (p : ℕ) (qs : List ℕ) → mem qs p ≡ false → tally f (put p qs) ≡ tally f qs + one (f p)
 tally_put f p [] m = omega arith
 tally_put f p (q ∷ qs) m = tally_put_at f p q qs (tally_put f p qs) (eqb p q) (ltb p q) refl m
@@ -120,7 +120,7 @@ pick_at false false false true f g = refl
 pick_at false false false false true g = refl
 pick_at false false false false false g = refl
 
--- taking p closes p, what is in conflict with it, and what it makes full
+-- taking p, which is not in the base, closes p, what is in conflict with p, and what has an item that p fills
 pub open_pick : (v : View) (A : List Atom) (p q : ℕ) → mem (base v A) p ≡ false → eqb p q ≡ false →
     open_in v (A ++ Has p ∷ []) q ≡ (open_in v A q && (not (conflicts v q p) && not (list_any (λ i. has_item v p i && leb (most_at v A i) (others v (base v A) q i + 1)) (items v q))))
 open_pick v A p q m n =

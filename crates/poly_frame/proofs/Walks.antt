@@ -1,4 +1,4 @@
--- Lemmas for the plain frame.
+-- Lemmas on lists that are mapped or filtered, and on `&&` and `||`.
 use Rattle.std.proofs.Common.{◌≡◌, ℕ, Bool, true, false, cond, ◌&&◌, ◌||◌, eqb, List, [], ◌∷◌, refl, ap, sym, subst, map}
 use Rattle.std.specs.List.{list_any, list_all, filter}
 use Rattle.std.proofs.lemmas.Bool.{true≢false, and_from, and_parts, ne_eqb}

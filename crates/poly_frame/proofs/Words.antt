@@ -1,4 +1,4 @@
--- Bits of words: one put in, one taken out, all of a row taken out.
+-- Rows of bits: putting a number in, taking out one number or those of another row, and searching two rows.
 use Rattle.std.proofs.Common.{◌≡◌, ℕ, zero, suc, ◌+◌, ◌-◌, ◌*◌, ◌/◌, ◌%◌, ◌^◌, ◌<◌, ◌≤◌, min, Bool, true, false, not, ◌&&◌, ◌||◌, eqb, List, inl, inr, refl, sym, ap, ◌∙◌, arith, length, take, drop, replicate, get_or, get_or-set_other, get_or-set_same, w64, bit_and, bit_or}
 use Rattle.std.proofs.Math.ListN.{set}
 use Rattle.std.proofs.lemmas.Bool.{cases_eq, cases_lt, eq-eqb, ne_eqb, or_right}
@@ -107,7 +107,7 @@ clear_bit ws at j x h =
     ∙ ap (λ k. has_bit (set ws k (bit_and (get_or ws k 0) (bit_not w64 (1 * 2 ^ ((64 * at + j) % 64) % 2 ^ 64)))) x) (sym (row_word at j))
     ∙ clear_one ws (64 * at + j) x (omega (arith, row_word at j))
 
--- a bit by its word and its position in it
+-- whether a row has number j is told by one bit of one word
 pub in_word : (ws : List ℕ) (at j : ℕ) → has_bit ws (64 * at + j) ≡ eqb (bit_at (get_or ws (at + j / 64) 0) (j % 64)) 1
 unfolding has_bit
 in_word ws at j = ap (λ k. eqb (bit_at (get_or ws k 0) ((64 * at + j) % 64)) 1) (row_word at j) ∙ ap (λ t. eqb (bit_at (get_or ws (at + j / 64) 0) t) 1) (row_index at j)
@@ -119,7 +119,7 @@ pub same_word : (ws new : List ℕ) (x : ℕ) → get_or new (x / 64) 0 ≡ get_
 unfolding has_bit
 same_word ws new x e = ap (λ w. eqb (bit_at w (x % 64)) 1) e
 
--- rows in the same words
+-- if the words of two rows for number j are equal, both rows have j or both lack it
 pub same_row : (ws new : List ℕ) (at to j : ℕ) → get_or new (to + j / 64) 0 ≡ get_or ws (at + j / 64) 0 → has_bit new (64 * to + j) ≡ has_bit ws (64 * at + j)
 same_row ws new at to j e = in_word new to j ∙ ap (λ w. eqb (bit_at w (j % 64)) 1) e ∙ sym (in_word ws at j)
 
@@ -127,7 +127,7 @@ pub row_less : (ws rs new : List ℕ) (at from j : ℕ) → ((t : ℕ) → t < 6
     has_bit new (64 * at + j) ≡ (has_bit ws (64 * at + j) && not (has_bit rs (64 * from + j)))
 row_less ws rs new at from j h = in_word new at j ∙ h (j % 64) (omega arith) ∙ ap (λ b. b && not (eqb (bit_at (get_or rs (from + j / 64) 0) (j % 64)) 1)) (sym (in_word ws at j)) ∙ ap (λ b. has_bit ws (64 * at + j) && not b) (sym (in_word rs from j))
 
--- a word of no bits
+-- a number whose word is 0 is not in the set
 pub past_none : (ws : List ℕ) (x : ℕ) → get_or ws (x / 64) 0 ≡ 0 → has_bit ws x ≡ false
 unfolding has_bit
 past_none ws x e = ap (λ w. eqb (bit_at w (x % 64)) 1) e ∙ ap (λ y. eqb y 1) (bit_at-zero (x % 64))
@@ -149,7 +149,7 @@ drop_bits ws n j =
 pub no_bits : (n x : ℕ) → has_bit (replicate n 0) x ≡ false
 no_bits n x = past_none (replicate n 0) x (get_same n (x / 64) 0)
 
--- the bits of a word from a position on
+-- shifting a word right by `low` moves bit `low + t` to bit `t`
 shifted : (w low t : ℕ) → bit_at (w / 2 ^ low) t ≡ bit_at w (low + t)
 shifted w low t = ap (λ x. x % 2) (shr-shr w low t)
 
@@ -191,7 +191,7 @@ and_both (suc (suc x)) y h k = absurd (omega arith)
 pub bit_both : (w r t : ℕ) → eqb (bit_at (bit_and w r) t) 1 ≡ (eqb (bit_at w t) 1 && eqb (bit_at r t) 1)
 bit_both w r t = ap (λ x. eqb x 1) (bit_at_and w r t) ∙ and_both (bit_at w t) (bit_at r t) (bit_at-lt w t) (bit_at-lt r t)
 
--- the numbers of two rows by the words that have both
+-- bit t of the bits that two words share says whether both rows have number `64 * k + t`
 pub both_word : (ws : List ℕ) (at : ℕ) (rs : List ℕ) (from k w t : ℕ) →
     ((u : ℕ) → eqb (bit_at w u) 1 ≡ (eqb (bit_at (get_or ws (at + k) 0) u) 1 && eqb (bit_at (get_or rs (from + k) 0) u) 1)) → t < 64 →
     in_both ws at rs from (64 * k + t) ≡ eqb (bit_at w t) 1
@@ -203,7 +203,7 @@ both_word ws at rs from k w t h l =
         in_word xs o (64 * k + t) ∙ ap (λ n. eqb (bit_at (get_or xs (o + n) 0) ((64 * k + t) % 64)) 1) (omega arith)
         ∙ ap (λ n. eqb (bit_at (get_or xs (o + k) 0) n) 1) (omega arith)
 
--- one word of two rows, when the numbers before bit `past` of it are known
+-- searching word k of two rows, if the rows share no number from `low` on that comes before bit `past` of that word
 module _ (ws : List ℕ) (at : ℕ) (rs : List ℕ) (from low k past w : ℕ)
     (same : (u : ℕ) → eqb (bit_at w u) 1 ≡ (eqb (bit_at (get_or ws (at + k) 0) u) 1 && eqb (bit_at (get_or rs (from + k) 0) u) 1))
     (passed : NoneIn (in_both ws at rs from) low (64 * k + past)) where
@@ -229,7 +229,7 @@ full_at zero x k h = absurd (omega arith)
 full_at (suc n) x zero h = refl
 full_at (suc n) x (suc k) h = full_at n x k (omega arith)
 
--- words that have all their bits
+-- n words with all bits set have each number below `64 * n`
 pub full_bits : (n x j : ℕ) → ((t : ℕ) → t < 64 → bit_at x t ≡ 1) → j < 64 * n → has_bit (replicate n x) j ≡ true
 unfolding has_bit
 full_bits n x j ones h = ap (λ w. eqb (bit_at w (j % 64)) 1) (full_at n x (j / 64) (omega arith)) ∙ ap (λ b. eqb b 1) (ones (j % 64) (omega arith))

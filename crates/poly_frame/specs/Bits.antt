@@ -6,7 +6,7 @@ use Rattle.std.specs.Int.{bit_at}
 unfoldable pub has_bit : List ℕ → ℕ → Bool
 has_bit words x = bit_at (slice_index words (x / 64)) (x % 64) == 1
 
--- the number j is in the row of `words` at word `at`, and in that of `rows` at word `from`
+-- the number j is both in the row of `words` that begins at word `at` and in the row of `rows` that begins at word `from`
 abbrev pub in_both : List ℕ → ℕ → List ℕ → ℕ → ℕ → Bool
 in_both words at rows from j = has_bit words (64 * at + j) && has_bit rows (64 * from + j)
 

@@ -1,4 +1,4 @@
--- When the base of a frame's atoms is consistent: it is a tiling that meets them as soon as no item is due.
+-- Whether the base of a frame's atoms is consistent. If so, it is a tiling that meets the atoms as soon as no item is due.
 use Rattle.std.specs.Prelude.{Bool, List, length, nat_le, not, slice_index, take, true, ℕ, ◌&&◌, ◌+◌, ◌<◌, ◌||◌, ◌≡◌, ◌≤◌}
 use Rattle.std.specs.List.{list_all}
 use Rattle.poly_tiling.specs.Lists.{mem}
@@ -19,7 +19,7 @@ pub record ConsistentShows (v : View) (A : List Atom) (first consistent : ℕ) :
   pub few : consistent + first ≤ length A + 1
   pub levels : (k : ℕ) → k < consistent → is_consistent v (take (first + k) A) ≡ true
 
--- an item has at most as many members as it may, and a cell at most one
+-- at most as many members have the item as may have it, and at most one if it is a cell
 abbrev pub fits_at : Item → ℕ → ℕ → Bool
 fits_at i most have = nat_le have most && (is_piece i || nat_le have 1)
 

@@ -1,4 +1,4 @@
--- What a frame keeps while it moves. Level `k` is here the node after the first `k` steps.
+-- What a frame keeps while it moves. In this file, level `k` is the node after the first `k` steps.
 use Rattle.std.specs.Prelude.{List, false, length, nat_lt, slice_index, slice_index_or, take, drop, true, ℕ, ◌*◌, ◌+◌, ◌<◌, ◌≡◌, ◌≤◌}
 use Rattle.std.specs.List.{list_all}
 use Rattle.std.specs.Vec.{vec_capacity}
@@ -18,11 +18,11 @@ use Rattle.poly_frame.specs.declared.frame.node.Node.{Node}
 use Rattle.poly_frame.specs.declared.frame.table.Table.{Table}
 use Rattle.poly_frame.specs.declared.frame.steps.Steps.{Steps}
 
--- the length of `raised` before the step after level `k`
+-- the length that `raised` had at level `k`
 abbrev pub mark_of : List ℕ → List ℕ → ℕ → ℕ
 mark_of marks raised k = slice_index_or marks k (length raised)
 
--- row k is what is open at the atoms
+-- row k has the columns that are open at the atoms, and no others
 abbrev pub RowShows : View → List Atom → List ℕ → ℕ → List ℕ → ℕ → Type 0
 RowShows v A ns w live k = record {
   opened : (j : ℕ) → j < length ns → has_bit live (bit_index w k j) ≡ open_in v A (slice_index ns j);
@@ -53,7 +53,7 @@ pub record Kept (v : View) (A : List Atom) (first : ℕ) (matrix : Matrix) (t : 
   pub up : (k l : ℕ) → k ≤ l → l ≤ length marks → mark_of marks raised k ≤ mark_of marks raised l
   pub levels : (k : ℕ) → k ≤ length marks → LevelShows v (take first A) (take (first + k) A) matrix t live have raised marks k
 
--- the parts of a frame that move
+-- `Kept` for the lists of the steps
 abbrev pub StepsKeep : View → List Atom → ℕ → Matrix → Table → Steps → Type 0
 StepsKeep v A first m t s = Kept v A first m t s.live.items s.have.items s.raised.items s.marks.items
 

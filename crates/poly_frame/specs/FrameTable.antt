@@ -1,4 +1,4 @@
--- What the words of a frame's table mean.
+-- What the lists of a frame's table mean.
 use Rattle.std.specs.Prelude.{Bool, List, length, nat_le, nat_lt, not, slice_index, true, ℕ, ◌&&◌, ◌<◌, ◌^◌, ◌||◌, ◌≡◌, ◌≤◌, cond}
 use Rattle.std.specs.List.{list_all, list_any}
 use Rattle.poly_tiling.specs.declared.item.Item.{Item}
@@ -22,19 +22,21 @@ MostsShow v A mosts = (b : ℕ) → b < length v.bounds → slice_index mosts b 
 abbrev pub LeastsShow : View → List Atom → List ℕ → Type 0
 LeastsShow v A leasts = (b : ℕ) → b < length v.bounds → slice_index leasts b ≡ least_at v A (item_of v b)
 
--- whether an item closes the placements that have it, if it may be in `most` members and is in `have` members of the base
+-- whether the placements outside the base that have the item are closed, if at most `most` members may have it and `have`
+-- members of the base have it
 abbrev pub shut_at : Item → ℕ → ℕ → Bool
 shut_at i most have = nat_le most have || (not (is_piece i) && nat_lt 0 have)
 
--- if at least this many members have the item, a new one included, all other placements that have it are closed
+-- once a member that has the item is added, and at least this many members have it, all other placements that have it are
+-- closed
 abbrev pub limit_at : Item → ℕ → ℕ
 limit_at i most = cond (is_piece i) most 0
 
--- each placement that is open at the atoms has a column
+-- each placement of the design that is open at the atoms has a column
 abbrev pub HasOpen : View → List Atom → Matrix → Type 0
 HasOpen v A m = (q : ℕ) → mem v.live q ≡ true → open_in v A q ≡ true → mem m.numbers.items q ≡ true
 
--- the parts of a frame that stay while it moves, at the atoms that were given
+-- the matrix and the table of a frame are right for the given atoms; both stay the same while the frame moves
 pub record TableShows (v : View) (A : List Atom) (m : Matrix) (t : Table) : Type 0 where
   pub matrix : IsMatrix v m
   pub all : HasOpen v A m

@@ -13,7 +13,8 @@ use Rattle.poly_frame.specs.declared.frame.matrix.Matrix.{Matrix}
 use Rattle.poly_frame.specs.declared.frame.table.Table.{Table}
 use Rattle.poly_frame.specs.declared.frame.steps.Steps.{Steps}
 
--- the given atoms and at most 4,096 steps are on the trail; each list has room for these; the members are the base
+-- the trail is the given atoms and at most 4,096 steps, with room for 4,096; the members are the base, with room for the pins,
+-- and for one member for each given atom and each of 4,096 steps; the options have room for all placements of the design
 pub record IsKept (v : View) (trail : Vec Atom Global) (given : ℕ) (members options : Vec ℕ Global) : Type 0 where
   pub begun : given ≤ vec_len trail
   pub few : vec_len trail ≤ given + STEPS
@@ -22,7 +23,7 @@ pub record IsKept (v : View) (trail : Vec Atom Global) (given : ℕ) (members op
   pub room : length v.pins + (given + STEPS) ≤ vec_capacity members
   pub answers : length v.live ≤ vec_capacity options
 
--- the trail and the base are kept, and so are the levels, with room for more
+-- the lists, the sizes, the consistent levels and the steps are right for the trail, with room for 4,096 steps
 pub record IsFrame (v : View) (trail : Vec Atom Global) (given : ℕ) (members sizes : Vec ℕ Global) (consistent : ℕ) (options : Vec ℕ Global) (matrix : Matrix) (t : Table) (s : Steps) : Type 0 where
   pub lists : IsKept v trail given members options
   pub grown : SizesShow v trail.items given sizes.items

@@ -1,4 +1,4 @@
--- What is proved of walks.
+-- What is proved of a frame's steps.
 use Rattle.std.specs.Prelude.{length, ℕ, ◌≡◌}
 use Rattle.poly_tiling.specs.Lists.{tally}
 use Rattle.poly_tiling.specs.declared.item.Item.{Item}

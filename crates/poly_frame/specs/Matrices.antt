@@ -11,30 +11,30 @@ use Rattle.poly_frame.specs.declared.frame.matrix.Columns.TheVariants.{Own, Lent
 use Rattle.poly_frame.specs.declared.frame.matrix.Lists.{Lists}
 use Rattle.poly_frame.specs.declared.frame.matrix.Matrix.{Matrix}
 
--- the bit of number j of row b, if a row has w words
+-- the index of the bit of row b for column j, if a row has w words
 abbrev pub bit_index : ℕ → ℕ → ℕ → ℕ
 bit_index w b j = 64 * (w * b) + j
 
--- row b has the numbers that have the item at b
+-- the bit of row b for a column is set exactly if the number of that column has the item at b
 abbrev pub RowsShow : View → List ℕ → ℕ → List ℕ → Type 0
 RowsShow v ns w rows = (b j : ℕ) → b < length v.bounds → j < length ns → has_bit rows (bit_index w b j) ≡ has_item v (slice_index ns j) (item_of v b)
 
--- each number has the column that the list says
+-- `stands` has the column of each number
 abbrev pub StandsShow : List ℕ → List ℕ → Type 0
 StandsShow ns stands = (j : ℕ) → j < length ns → (slice_index ns j < length stands) × (slice_index stands (slice_index ns j) ≡ j)
 
--- list j, from where it starts to where the next one does
+-- list j: the entries from its start to the start of the next list
 abbrev pub list_at : List ℕ → List ℕ → ℕ → List ℕ
 list_at starts indices j = take (slice_index starts (j + 1) - slice_index starts j) (drop (slice_index starts j) indices)
 
--- list j has the indices of the items of number j
+-- list j has the indices of the items of the number p
 pub record ListShows (v : View) (p : ℕ) (starts indices : List ℕ) (j : ℕ) : Type 0 where
   pub up : slice_index starts j ≤ slice_index starts (j + 1)
   pub end : slice_index starts (j + 1) ≤ length indices
   pub noted : Noted v.bounds (items v p) (list_at starts indices j)
   pub short : length (list_at starts indices j) ≤ PLACEMENT_ITEMS
 
--- the lists of the first k numbers
+-- there are k lists, and they are right for the first k numbers
 pub record ListsTo (v : View) (ns starts indices : List ℕ) (k : ℕ) : Type 0 where
   pub len : length starts ≡ k + 1
   pub last : slice_index starts k ≡ length indices
@@ -43,7 +43,7 @@ pub record ListsTo (v : View) (ns starts indices : List ℕ) (k : ℕ) : Type 0 
 abbrev pub ListsShow : View → List ℕ → Lists → Type 0
 ListsShow v ns l = ListsTo v ns l.starts.items l.indices.items (length ns)
 
--- some columns of the cover matrix of a view
+-- the matrix is the cover matrix of the view, or has some of its columns
 pub record IsMatrix (v : View) (m : Matrix) : Type 0 where
   pub well : WellNamed v
   pub once : distinct m.numbers.items ≡ true
@@ -71,7 +71,7 @@ abbrev pub matrix_of : Columns → Matrix
 matrix_of (Own m) = m
 matrix_of (Lent m) = m.now
 
--- a row with a bit for each column whose number passes a test
+-- the bits that are set in the row are those of the columns whose number passes the test
 pub record RowOf (f : ℕ → Bool) (m : Matrix) (row : List ℕ) : Type 0 where
   pub inside : (j : ℕ) → j < length m.numbers.items → has_bit row j ≡ f (slice_index m.numbers.items j)
   pub past : (j : ℕ) → length m.numbers.items ≤ j → j < 64 * m.width → has_bit row j ≡ false

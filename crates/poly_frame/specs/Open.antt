@@ -25,7 +25,7 @@ least_at v (Lacks p ∷ A) i = least_at v A i
 least_at v (AtLeast j n ∷ A) i = cond (same_item j i) (max n (least_at v A i)) (least_at v A i)
 least_at v (AtMost j n ∷ A) i = least_at v A i
 
--- `least_at`, raised to the number of members of the base that have the item
+-- `least_at`, or the number of members of the base that have the item if that is more
 abbrev pub least_with_base : View → List Atom → Item → ℕ
 least_with_base v A i = max (least_at v A i) (count v (base v A) i)
 
@@ -33,8 +33,8 @@ least_with_base v A i = max (least_at v A i) (count v (base v A) i)
 abbrev pub others : View → List ℕ → ℕ → Item → ℕ
 others v T p i = tally (λ q. has_item v q i && not (q == p)) T
 
--- the placement can't be a member: an atom lacks it, it is in conflict with a member of the base, or one of its items has
--- as many other members as it may have
+-- no tiling that meets the atoms has the placement, because an atom lacks it, it is in conflict with a member of the base, or
+-- the other members of the base cover one of its items as often as they may
 abbrev pub ruled_out : View → List Atom → ℕ → Bool
 ruled_out v A p =
     list_any (λ a. lacks a p) A
@@ -49,7 +49,8 @@ open_in v A p = not (mem (base v A) p) && not (ruled_out v A p)
 abbrev pub dead : View → List Atom → ℕ → Bool
 dead v A p = not (mem v.live p) || list_any (λ a. lacks a p) A
 
--- a Branch on the item may have these arms: all have the item, and too few other placements that have it are left
+-- a Branch on the item may have these arms: they differ, each has the item, and of the other placements of the design too few
+-- have the item and are not ruled out
 abbrev pub arms_fit : View → List Atom → Item → List ℕ → Bool
 arms_fit v A i ps =
     distinct ps

@@ -1,4 +1,4 @@
--- Words of the plain walk over a view.
+-- What one atom says about an item.
 use Rattle.std.specs.Prelude.{ℕ, Bool, cond, false, max, min, true}
 use Rattle.poly_tiling.specs.declared.item.Item.{Item}
 use Rattle.poly_tiling.specs.Puzzle.{same_item}
@@ -19,14 +19,14 @@ least_by (Lacks p) i n = n
 least_by (AtLeast j k) i n = cond (same_item j i) (max k n) n
 least_by (AtMost j k) i n = n
 
--- an atom that asks for the item
+-- the atom asks for the item
 abbrev pub least_for : Item → Atom → Bool
 least_for i (Has p) = false
 least_for i (Lacks p) = false
 least_for i (AtLeast j n) = same_item j i
 least_for i (AtMost j n) = false
 
--- a test of the item that an atom asks for
+-- the item that the atom asks for passes the test, if the atom asks for one
 abbrev pub of_asked : (Item → Bool) → Atom → Bool
 of_asked f (Has p) = true
 of_asked f (Lacks p) = true

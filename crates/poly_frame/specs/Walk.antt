@@ -7,7 +7,7 @@ use Rattle.poly_tiling.specs.Puzzle.{View, has_item, count}
 use Rattle.poly_atom.specs.Hopeless.{base}
 use Rattle.poly_frame.specs.Open.{least_at, open_in}
 
--- the atoms are the first `given` ones, and the steps that were not undone
+-- of the atoms, the first `given` are those that the frame began with, and the others are the steps that were not undone
 pub record Walk : Type 0 where
   pub scene : View
   pub atoms : List Atom
@@ -34,6 +34,6 @@ is_open w p = open_in w.scene w.atoms p
 abbrev pub is_option : Walk → Item → ℕ → Bool
 is_option w i p = is_open w p && has_item w.scene p i
 
--- how many placements are open
+-- how many placements of the design are open
 abbrev pub open_count : View → List Atom → ℕ
 open_count v A = tally (λ p. open_in v A p) v.live

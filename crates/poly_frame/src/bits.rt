@@ -46,7 +46,7 @@ pub(crate) fn less(word: u64, row: u64) -> u64
     word & !row
 }
 
-/// Removes all numbers of a row of `rows` from the row that begins at word `at`.
+/// Removes from the row of `words` at word `at` all numbers that the row of `rows` at word `from` has.
 pub(crate) fn take_out_row(words: &mut Vec<u64>, at: usize, rows: &[u64], from: usize, width: usize)
     requires words { at + width ≤ length words.old.items }
     requires rows { from + width ≤ length rows.now }
@@ -60,7 +60,7 @@ pub(crate) fn take_out_row(words: &mut Vec<u64>, at: usize, rows: &[u64], from: 
     }
 }
 
-/// Appends the last `width` words once more.
+/// Appends a copy of the last `width` words.
 pub(crate) fn copy_last(words: &mut Vec<u64>, width: usize)
     requires some { width ≤ vec_len words.old }
     requires room { vec_len words.old + width ≤ vec_capacity words.old }
@@ -83,7 +83,7 @@ pub(crate) fn both(word: u64, row: u64) -> u64
     word & row
 }
 
-// The first bit of a word from `low` on.
+// The first bit from `low` on that is set in a word; `None` if no bit is set there.
 fn next_bit(word: u64, low: usize) -> Option<usize>
     requires { low < 64 }
     ensures { MatchOption result (NoneIn (λ t. bit_at word t == 1) low 64) (λ t. FirstIn (λ t. bit_at word t == 1) low 64 t) }
@@ -95,7 +95,8 @@ fn next_bit(word: u64, low: usize) -> Option<usize>
     Some(low + rest.trailing_zeros() as usize)
 }
 
-/// The first number from `low` on that is in the row of `words` at word `at` and in that of `rows` at word `from`.
+/// The first number from `low` on that is both in the row of `words` at word `at` and in the row of `rows` at word `from`;
+/// `None` if there is no such number.
 pub(crate) fn next_both(
     words: &[u64],
     at: usize,

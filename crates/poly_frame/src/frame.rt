@@ -1,6 +1,6 @@
 //! A node of a search, kept as bits: rows of words with a bit for each column of a matrix. A step copies the last row and
-//! removes what it closes, so it needs no search and, after the start, no memory. These bits replace the linked
-//! lists of Knuth's dancing links (The Art of Computer Programming, volume 4B, section 7.2.2.1).
+//! removes from the copy what the step closes. It doesn't search for the placements to close, and it allocates nothing. These
+//! bits replace the linked lists of Knuth's dancing links (The Art of Computer Programming, volume 4B, section 7.2.2.1).
 ghost use Rattle.std.specs.Prelude.{IfErr, IfOk, IfSome, MatchOption, [], false, length, not, true, ℕ, ◌&&◌, ◌++◌, ◌+◌, ◌-◌, ◌<◌, ◌∷◌, ◌≡◌, ◌≤◌};
 ghost use Rattle.std.specs.List.{list_all};
 ghost use Rattle.poly_tiling.specs.Lists.{distinct, mem, tally};
@@ -46,21 +46,32 @@ use poly_tiling::{Item, View};
 use std::alloc::Global;
 use std::marker::Model;
 
-/// The most steps that a frame has at one time.
+/// The most steps that a frame can have at one time.
 pub const STEPS: usize = 4096;
 
-/// A node of a search. Taking and undoing steps takes no memory.
+/// A node of a search. Taking and undoing steps never allocates.
 #[derive(Drop)]
 pub struct Frame<'a> {
+    /// The view that is searched.
     view: &'a View,
+    /// The given atoms, then one atom for each step that was not undone.
     trail: Vec<Atom>,
+    /// How many atoms were given.
     given: usize,
+    /// The base of the atoms on the trail, ascending.
     members: Vec<u32>,
+    /// How many members the base had before each step.
     sizes: Vec<usize>,
+    /// At how many levels, counted from the given atoms on, the base is known to be consistent: each member is a placement of
+    /// the design that is not ruled out.
     consistent: usize,
+    /// The list that `options` answers with.
     options: Vec<u32>,
+    /// The matrix that the frame reads.
     columns: Columns<'a>,
+    /// What stays the same while the frame moves.
     table: Table,
+    /// What each step changes.
     steps: Steps,
 }
 
@@ -80,7 +91,7 @@ impl<'a> Frame<'a> {
     ghost use Rattle.std.specs.Borrow.{sem};
     ghost use Rattle.poly_frame.specs.Lending.{StaysSame};
 
-    /// A frame of the view with these atoms and no step. It makes the view's matrix for itself.
+    /// A frame of the view with these atoms and no step. It makes the view's matrix for itself. Fails only when out of memory.
     pub fn new(alloc: Global, view: &'a View, atoms: &[Atom]) -> Result<Frame<'a>, Refusal>
         ensures made { IfOk result (λ f. f ≡ record { scene = view.now; atoms = atoms.now; given = length atoms.now }) }
         ensures why { IfErr result (λ e. e ≡ Refusal.Memory) }
@@ -92,8 +103,9 @@ impl<'a> Frame<'a> {
         Ok(frame)
     }
 
-    /// A frame of the view with these atoms and no step, from the view's matrix. If at least about three quarters of the
-    /// matrix's placements are open at the atoms, the frame reads that matrix; otherwise it makes a smaller one.
+    /// A frame of the view with these atoms and no step. Requires that `whole` is the view's matrix, from [`Matrix::new`].
+    /// If at least about three quarters of the matrix's placements are open at the atoms, the frame reads that matrix;
+    /// otherwise it makes a smaller one. Fails only when out of memory.
     pub fn over(
         alloc: Global,
         view: &'a View,
@@ -110,8 +122,9 @@ impl<'a> Frame<'a> {
         Ok(frame)
     }
 
-    /// A new frame that begins at this node, if it would be much smaller than this one and there is still much to search:
-    /// this frame was made for many placements, fewer than a third of them are open, and some dozens are still open.
+    /// A new frame that begins at this node, if it would be much smaller than this one and there is still much to search: this
+    /// frame's matrix has at least 768 placements, at least 32 of them are open, and the open ones are fewer than a third of
+    /// all (rounded down). Otherwise `None`. Fails only when out of memory.
     pub fn narrower(&self, alloc: Global) -> Result<Option<Frame<'a>>, Refusal>
         ensures made { IfOk result (λ o. IfSome o (λ f. f ≡ record { scene = self.now.scene; atoms = self.now.atoms; given = length self.now.atoms })) }
         ensures why { IfErr result (λ e. e ≡ Refusal.Memory) }
@@ -192,7 +205,7 @@ impl<'a> Frame<'a> {
         self.trail.as_slice()
     }
 
-    /// Takes the placement: adds the atom `Has(placement)`.
+    /// Takes the placement: adds the atom `Has(placement)`. Requires that the frame has fewer than [`STEPS`] steps.
     pub fn pick(&mut self, placement: u32)
         requires { length self.old.atoms < self.old.given + STEPS }
         ensures { self.new ≡ with_step self.old (Atom.Has placement) }
@@ -211,7 +224,7 @@ impl<'a> Frame<'a> {
         self.trail.push_reserved(Atom::Has(placement));
     }
 
-    /// Leaves the placement out: adds the atom `Lacks(placement)`.
+    /// Leaves the placement out: adds the atom `Lacks(placement)`. Requires that the frame has fewer than [`STEPS`] steps.
     pub fn leave(&mut self, placement: u32)
         requires { length self.old.atoms < self.old.given + STEPS }
         ensures { self.new ≡ with_step self.old (Atom.Lacks placement) }
@@ -230,7 +243,7 @@ impl<'a> Frame<'a> {
         self.trail.push_reserved(Atom::Lacks(placement));
     }
 
-    /// Undoes the last step.
+    /// Undoes the last step. Requires that there is one.
     pub fn back(&mut self)
         requires { self.old.given < length self.old.atoms }
         ensures { self.new ≡ step_back self.old }
@@ -249,7 +262,8 @@ impl<'a> Frame<'a> {
         self.trail.truncate(level);
     }
 
-    /// Undoes the steps after a level.
+    /// Undoes the steps after a level. Does nothing if the frame is not beyond that level. Requires that the level is at least
+    /// the number of given atoms.
     pub fn backtrack_to(&mut self, level: usize)
         requires { self.old.given ≤ level }
         ensures { self.new ≡ backtrack_to self.old level }
@@ -259,8 +273,8 @@ impl<'a> Frame<'a> {
         }
     }
 
-    /// The open placements that have the item, each once, in any order. They are read before the frame is used again;
-    /// the frame stays as it was.
+    /// The open placements of the design that have the item, each once, in any order. The list borrows the frame,
+    /// which stays as it was.
     pub fn options(&mut self, item: Item) -> &[u32]
         ensures* same { sem 𝓛 (StaysSame self.entry) }
         ensures once { distinct result.now ≡ true }
@@ -277,7 +291,7 @@ impl<'a> Frame<'a> {
         &self.options
     }
 
-    /// Some open placement; none if no placement is open.
+    /// Some open placement of the design; `None` if there is none.
     pub fn first_open(&self) -> Option<u32>
         ensures { MatchOption result (list_all (λ p. not (is_open self.now p)) self.now.scene.live ≡ true) (λ p. (mem self.now.scene.live p ≡ true) × (is_open self.now p ≡ true)) }
     {
@@ -291,7 +305,7 @@ impl<'a> Frame<'a> {
         queries::first_open(&node, &self.steps)
     }
 
-    /// Whether no placement is open.
+    /// Whether no placement of the design is open.
     pub fn none_open(&self) -> bool
         ensures { result ≡ list_all (λ p. not (is_open self.now p)) self.now.scene.live }
     {
@@ -301,9 +315,9 @@ impl<'a> Frame<'a> {
         }
     }
 
-    /// An item that the base covers less often than the design and the atoms ask for; `None` if there is no such item. An
-    /// item that an atom asks for and the view does not have comes first, since it has no option. Of the others, the item
-    /// has the fewest options beyond what it still needs.
+    /// An item that the base covers less often than the design and the atoms ask for; `None` if there is no such item. Of
+    /// these items, one that the view does not have comes first, since it has no option. Then comes one that has fewer options
+    /// than it still needs, and then one with the fewest options beyond those that it still needs.
     pub fn next_due(&self) -> Option<Item>
         ensures { MatchOption result ((i : Item) → is_due self.now i ≡ false) (λ i. is_due self.now i ≡ true) }
     {
@@ -361,8 +375,8 @@ impl<'a> Frame<'a> {
         allowed::count(&node, &self.steps, &self.members, &item)
     }
 
-    /// How many members with the item each tiling that meets the atoms has at least: what the design and the atoms ask
-    /// for, or what the base has if that is more.
+    /// Each tiling that meets the atoms has at least this many members with the item: as many as the design and the atoms ask
+    /// for, or as many as the base has, whichever is more.
     pub fn least(&self, item: Item) -> usize
         ensures { result ≡ least_with_base self.now.scene self.now.atoms item }
     {
@@ -377,7 +391,7 @@ impl<'a> Frame<'a> {
     }
 
     /// Whether too few placements that have the item are left once the placement is taken. If so, no tiling that meets the
-    /// atoms has the placement. The frame stays as it was.
+    /// atoms has the placement. The frame stays as it was. Requires that the frame has fewer than [`STEPS`] steps.
     pub fn starves(&mut self, placement: u32, item: Item) -> bool
         requires { length self.old.atoms < self.old.given + STEPS }
         ensures same { self.new ≡ self.old }
@@ -399,7 +413,8 @@ impl<'a> Frame<'a> {
         few
     }
 
-    /// The base, ascending, if it is a tiling that meets the atoms: the only tiling of a Found.
+    /// The base, ascending, if it is a tiling that meets the atoms, otherwise `None`. If no placement is open, no other tiling
+    /// meets the atoms.
     pub fn found(&self) -> Option<&[u32]>
         ensures { MatchOption result (in_family self.now.scene self.now.atoms (base self.now.scene self.now.atoms) ≡ false) (λ t. (t.now ≡ base self.now.scene self.now.atoms) × (in_family self.now.scene self.now.atoms (base self.now.scene self.now.atoms) ≡ true)) }
     {
@@ -417,7 +432,7 @@ impl<'a> Frame<'a> {
         }
     }
 
-    // `found` for a base that the rows do not decide: checks it against the view.
+    // `found` if the rows do not decide: checks the base against the view and the atoms.
     fn found_plainly(&self) -> Option<&[u32]>
         ensures { MatchOption result (in_family self.now.scene self.now.atoms (base self.now.scene self.now.atoms) ≡ false) (λ t. (t.now ≡ base self.now.scene self.now.atoms) × (in_family self.now.scene self.now.atoms (base self.now.scene self.now.atoms) ≡ true)) }
     {

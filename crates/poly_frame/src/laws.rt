@@ -9,7 +9,8 @@ pub fn steps_are_4096()
     ensures { STEPS ≡ 4096 }
 {}
 
-/// After a step that is undone, the base, the options of each item and their number are the same as before.
+/// If a step is taken and then undone, the trail, the base, the options of each item and their number are the same as before
+/// the step.
 pub fn steps_come_back()
     ensures { StepsComeBack }
 {}

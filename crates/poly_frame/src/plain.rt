@@ -1,5 +1,5 @@
-//! What is open, due and found after a list of atoms, read from the view placement by placement. `members` is the base
-//! of the atoms throughout.
+//! What is open, dead, due and found at a list of atoms, read from the view placement by placement. `members` is the
+//! base of the atoms; `make_base` makes it.
 ghost use Rattle.std.specs.Prelude.{MatchOption, false, if◌then◌else◌, length, map, nat_le, nat_lt, not, true, vec_len, ◌&&◌, ◌||◌, ◌+◌, ◌==◌, ◌<◌, ◌≡◌, ◌≤◌, ◌∷◌};
 ghost use Rattle.std.specs.List.{filter, list_all, list_any};
 ghost use Rattle.std.specs.Vec.{vec_capacity};
@@ -64,7 +64,7 @@ fn put_asked(atoms: &[Atom], onto: &mut Vec<u32>)
     }
 }
 
-/// Makes a list the base of the atoms. It has room for the pins and a number for each atom.
+/// Overwrites `members` with the base of the atoms. Requires room for the pins and for one number for each atom.
 pub fn make_base(view: &View, atoms: &[Atom], members: &mut Vec<u32>)
     requires { length view.now.pins + length atoms.now ≤ vec_capacity members.old }
     ensures items { members.new.items ≡ base view.now atoms.now }
@@ -84,7 +84,7 @@ fn names(atom: &Atom, number: u32) -> bool
     }
 }
 
-/// Whether an atom lacks the number.
+/// Whether at least one of the atoms lacks the number.
 pub(crate) fn any_lacks(atoms: &[Atom], number: u32) -> bool
     ensures { result ≡ list_any (λ a. lacks a number) atoms.now }
 {
@@ -98,7 +98,7 @@ pub fn is_dead(view: &View, atoms: &[Atom], number: u32) -> bool
     !has_number(view.live(), number) || any_lacks(atoms, number)
 }
 
-// What one more atom lets an item have at most.
+// The most of an item after one more atom.
 fn under(atom: &Atom, item: &Item, most: u8) -> u8
     ensures { result ≡ most_by atom.now item.now most }
 {
@@ -120,7 +120,7 @@ fn most_of(view: &View, atoms: &[Atom], item: &Item) -> u8
     most
 }
 
-// What one more atom asks an item to have at least.
+// The least of an item after one more atom.
 fn over(atom: &Atom, item: &Item, least: u8) -> u8
     ensures { result ≡ least_by atom.now item.now least }
 {
@@ -130,6 +130,7 @@ fn over(atom: &Atom, item: &Item, least: u8) -> u8
     }
 }
 
+/// How many members must have the item at least: its least in the view, raised by the `AtLeast` atoms.
 pub(crate) fn least_of(view: &View, atoms: &[Atom], item: &Item) -> u8
     ensures { result ≡ least_at view.now atoms.now item.now }
 {
@@ -203,7 +204,7 @@ pub fn is_ruled_out(view: &View, atoms: &[Atom], members: &[u32], number: u32) -
         || is_full_somewhere(view, atoms, members, number)
 }
 
-/// Whether the number's placement can still be taken or left.
+/// Whether the number's placement is open: neither in the base nor ruled out.
 pub fn is_open(view: &View, atoms: &[Atom], members: &[u32], number: u32) -> bool
     requires { members.now ≡ base view.now atoms.now }
     ensures { result ≡ open_in view.now atoms.now number }
@@ -211,7 +212,7 @@ pub fn is_open(view: &View, atoms: &[Atom], members: &[u32], number: u32) -> boo
     !has_number(members, number) && !is_ruled_out(view, atoms, members, number)
 }
 
-// Whether the members have too few of the item.
+// Whether too few members have the item.
 fn is_due(view: &View, atoms: &[Atom], members: &[u32], item: &Item) -> bool
     ensures { result ≡ nat_lt (count view.now members.now item.now) (least_at view.now atoms.now item.now) }
 {
@@ -224,7 +225,8 @@ fn is_listed(view: &View, item: &Item) -> bool
     view.items().iter().any(|b| b.item.is(item))
 }
 
-/// An item that an atom asks for, that is not in the view, and that the members don't cover often enough. It has no option.
+/// An item that an atom asks for, that is not in the view, and that the members don't cover often enough; `None` if there is
+/// no such item. Such an item has no option.
 pub(crate) fn due_elsewhere(view: &View, atoms: &[Atom], members: &[u32]) -> Option<Item>
     ensures { MatchOption result (list_all (of_asked (λ i. list_any (λ b. same_item b.item i) view.now.bounds || not (nat_lt (count view.now members.now i) (least_at view.now atoms.now i)))) atoms.now ≡ true) (λ i. nat_lt (count view.now members.now i) (least_at view.now atoms.now i) ≡ true) }
 {
@@ -238,7 +240,7 @@ pub(crate) fn due_elsewhere(view: &View, atoms: &[Atom], members: &[u32]) -> Opt
     None
 }
 
-/// How many placements have the item and are not ruled out.
+/// How many placements of the design have the item and are not ruled out.
 pub(crate) fn count_allowed(view: &View, atoms: &[Atom], members: &[u32], item: &Item) -> usize
     requires { members.now ≡ base view.now atoms.now }
     ensures { result ≡ tally (λ p. has_item view.now p item.now && not (ruled_out view.now atoms.now p)) view.now.live }
@@ -252,7 +254,8 @@ pub(crate) fn count_allowed(view: &View, atoms: &[Atom], members: &[u32], item: 
     n
 }
 
-/// How many members with the item a tiling of the family has at least.
+/// Each tiling of the family has at least this many members with the item: as many as the view and the atoms ask for, or as
+/// many as the base has, whichever is more.
 pub(crate) fn least_with_base(view: &View, atoms: &[Atom], members: &[u32], item: &Item) -> usize
     requires { members.now ≡ base view.now atoms.now }
     ensures { result ≡ least_with_base view.now atoms.now item.now }

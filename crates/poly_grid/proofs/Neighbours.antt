@@ -1,4 +1,4 @@
--- Neighbours are mutual, and each turn carries them to neighbours.
+-- Neighbours are mutual, and each turn carries neighbours, and only neighbours, to neighbours.
 use Rattle.std.proofs.Common.{◌≡◌, ℕ, ◌+◌, ◌-◌, ◌%◌, ◌/◌, ◌<◌, nat_lt, if◌then◌else◌, true, length, ap, subst, ◌∙◌, arith}
 use Rattle.std.proofs.lemmas.Int.{ints}
 use Rattle.poly_grid.specs.declared.grid.Grid.{Grid}
@@ -10,7 +10,7 @@ use Rattle.poly_grid.proofs.Points.{same_point}
 use Rattle.poly_grid.proofs.EachBelow.{EachBelow, at_below, at_both_below}
 use Rattle.poly_grid.proofs.Turns.{first_turn_stays, turns_are_undone}
 
--- the direction half a round further on leads back
+-- the direction half a circle further, which leads back
 abbrev opposite : Grid → ℕ → ℕ
 opposite g d = (d + length (steps g) / 2) % length (steps g)
 
@@ -28,7 +28,8 @@ neighbours_are_mutual g p q (d, lt, e) =
     let at = at_below (LeadsBack g p) (length (steps g)) (each_leads_back g p) d lt in
     subst (λ (z : Point). AreNeighbours g z p) e (opposite g d, at.0, same_point _ _ at.1 at.2)
 
--- where a turn takes a direction: a rotation adds to it, and the first reflection subtracts it from a constant
+-- the direction to which turn t takes direction d, counted round the circle: a rotation adds t to d, a reflection subtracts d
+-- from 6 + t on the square grid and from 7 + t on the hexagonal one
 abbrev direction_after : Grid → ℕ → ℕ → ℕ
 direction_after Square t d = if nat_lt t 4 then (d + t) % 4 else ((6 - d + t) % 4)
 direction_after Hex t d = if nat_lt t 6 then (d + t) % 6 else ((7 - d + t) % 6)
@@ -48,7 +49,7 @@ carried g t p q a (d, b, e) =
     let at = at_both_below (Carries g p) (turn_count g true) (length (steps g)) (each_carried g p) t d a b in
     (direction_after g t d, at.0, same_point _ _ at.1 at.2 ∙ ap (turned_of g t) e)
 
--- points that a turn takes to neighbours are neighbours, as its inverse shows
+-- points that turn t takes to neighbours are neighbours: the turn u, which undoes t, shows it
 brought : (g : Grid) (t u : ℕ) (p q : Point) → u < turn_count g true → IsComposite g t u 0
     → AreNeighbours g (turned_of g t p) (turned_of g t q) → AreNeighbours g p q
 brought g t u p q b back near =

@@ -1,4 +1,4 @@
--- The order of cells is that of rows and then of columns.
+-- Cells are ordered by row, then by column.
 use Rattle.std.proofs.Common.{◌≡◌, ◌<◌, ◌≤◌, ◌↔◌, inl, inr, refl, ap, arith}
 use Rattle.std.specs.declared.cmp.Ordering.{Ordering}
 use Rattle.std.specs.declared.cmp.Ordering.TheVariants.{Less, Equal, Greater}
@@ -11,7 +11,7 @@ not_before : (a b : Spot) → b.y ≤ a.y → (a.y ≡ b.y → b.x ≤ a.x) → 
 not_before a b row column (inl h) = omega arith
 not_before a b row column (inr h) = omega (arith, column h.0)
 
--- by what the comparisons of the rows and of the columns answer
+-- the order of a and b, given the results of comparing their rows and their columns
 by_answers : (row column : Ordering) (a b : Spot)
     → MatchOrdering row (a.y < b.y) (a.y ≡ b.y) (b.y < a.y) → MatchOrdering column (a.x < b.x) (a.x ≡ b.x) (b.x < a.x)
     → ((ordering_then row column ≡ Less) ↔ IsBefore a b) × ((ordering_then row column ≡ Equal) ↔ (a ≡ b))

@@ -1,4 +1,5 @@
--- The turns form a group of 8 or 12, shown turn by turn.
+-- The laws of turns, shown turn by turn: the turns form a group, no two are the same, the rotations are the powers of turn 1,
+-- and each reflection is the first one followed by a rotation.
 use Rattle.std.proofs.Common.{◌≡◌, ℕ, pos, ◌+◌, ◌-◌, ◌%◌, ◌<◌, nat_lt, if◌then◌else◌, true, false, Bool, refl, ap, arith}
 use Rattle.std.proofs.lemmas.Int.{ints}
 use Rattle.poly_grid.specs.declared.grid.Grid.{Grid}
@@ -9,14 +10,14 @@ use Rattle.poly_grid.specs.Laws.{FirstTurnStays, TurnsCompose, TurnsAreUndone, T
 use Rattle.poly_grid.proofs.Points.{same_point}
 use Rattle.poly_grid.proofs.EachBelow.{EachBelow, at_below, at_both_below}
 
--- by coordinates: turn t and then turn u are the turn `both`, one of the first n
+-- turn t followed by turn u takes p to the same coordinates as the turn `both`, which is one of the first n
 abbrev Makes : Grid → Point → ℕ → ℕ → ℕ → ℕ → Type 0
 Makes g p n t u both =
     let q = turned_of g u (turned_of g t p) in
     let r = turned_of g both p in
     (both < n) × (q.x ≡ r.x) × (q.y ≡ r.y)
 
--- the number of the turn t followed by the turn u, if the first n turns are the rotations
+-- which turn has the same effect as the turn t and then the turn u, if the first n turns are the rotations
 abbrev composed : ℕ → ℕ → ℕ → ℕ
 composed n t u =
     if nat_lt u n then (if nat_lt t n then (t + u) % n else (n + (t - n + u) % n))
@@ -42,7 +43,7 @@ turns_compose g mirror t u a b =
     let at = composes g mirror t u a b in
     (composed (turn_count g false) t u, (at origin).0, λ p. same_point _ _ (at p).1 (at p).2)
 
--- the turn that undoes the turn t
+-- the number of the turn that undoes the turn t, if the first n turns are the rotations
 abbrev undone : ℕ → ℕ → ℕ
 undone n t = if nat_lt t n then (n - t) % n else t
 
@@ -68,7 +69,7 @@ pub turns_are_undone : TurnsAreUndone
 turns_are_undone Square mirror t lt = let at = undoes Square mirror t lt in (undone 4 t, (at origin).0, λ p. same_point _ _ (at p).1 (at p).2)
 turns_are_undone Hex mirror t lt = let at = undoes Hex mirror t lt in (undone 6 t, (at origin).0, λ p. same_point _ _ (at p).1 (at p).2)
 
--- the twelve images of (1, 2) differ
+-- if the turns t and u take (1, 2) to the same point, they are the same turn
 abbrev AreTold : Grid → ℕ → ℕ → Type 0
 AreTold g t u =
     let p = turned_of g t (record { x = pos 1; y = pos 2 }) in

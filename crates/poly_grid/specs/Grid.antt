@@ -1,15 +1,15 @@
--- The tables of the two grids. A number below zero is written by `negsuc`: `negsuc 0` is -1, `negsuc 999` is -1,000.
+-- The tables of the two grids. A number below zero is written with `negsuc`: `negsuc 0` is -1, `negsuc 999` is -1,000.
 use Rattle.std.specs.Prelude.{◌≡◌, ◌<◌, ℕ, ℤ, pos, negsuc, ◌+ℤ◌, ◌≤ℤ◌, neg_ℤ, Bool, List, [], ◌∷◌, length, slice_index_or, if◌then◌else◌}
 use Rattle.poly_grid.specs.declared.grid.Grid.{Grid}
 use Rattle.poly_grid.specs.declared.grid.Grid.TheVariants.{Square, Hex}
 use Rattle.poly_grid.specs.declared.grid.Point.{Point}
 
--- the steps to the neighbours, in the order of the directions; of hexagons in axial coordinates
+-- the steps to the neighbours, in the order of the directions; those of hexagons are in axial coordinates
 abbrev pub steps : Grid → List (ℤ × ℤ)
 steps Square = (pos 1, pos 0) ∷ (pos 0, pos 1) ∷ (negsuc 0, pos 0) ∷ (pos 0, negsuc 0) ∷ []
 steps Hex = (pos 1, pos 0) ∷ (pos 0, pos 1) ∷ (negsuc 0, pos 1) ∷ (negsuc 0, pos 0) ∷ (pos 0, negsuc 0) ∷ (pos 1, negsuc 0) ∷ []
 
--- the point that lies one step in a direction from a point
+-- the point that lies one step from p in direction d; p itself if there is no such direction
 abbrev pub neighbour_of : Grid → ℕ → Point → Point
 neighbour_of g d p =
     let step = slice_index_or (steps g) d (pos 0, pos 0) in
@@ -29,12 +29,12 @@ turn_table Hex =
     ∷ (λ q r. (r, neg_ℤ (q +ℤ r))) ∷ (λ q r. (q +ℤ r, neg_ℤ q)) ∷ (λ q r. (r, q)) ∷ (λ q r. (neg_ℤ q, q +ℤ r))
     ∷ (λ q r. (neg_ℤ (q +ℤ r), r)) ∷ (λ q r. (neg_ℤ r, neg_ℤ q)) ∷ (λ q r. (q, neg_ℤ (q +ℤ r))) ∷ (λ q r. (q +ℤ r, neg_ℤ r)) ∷ []
 
--- how many turns there are: the rotations, and with the mirror as many reflections
+-- how many turns there are: the rotations, and if mirror is on, as many reflections
 abbrev pub turn_count : Grid → Bool → ℕ
 turn_count Square mirror = if mirror then 8 else 4
 turn_count Hex mirror = if mirror then 12 else 6
 
--- the image of a point under a turn
+-- the image of p under turn t; p itself if there is no such turn
 abbrev pub turned_of : Grid → ℕ → Point → Point
 turned_of g t p =
     let image = slice_index_or (turn_table g) t (λ x y. (x, y)) p.x p.y in

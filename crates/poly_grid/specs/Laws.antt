@@ -31,11 +31,11 @@ abbrev pub TurnsDiffer : Type 0
 TurnsDiffer = (g : Grid) (t u : ℕ) → t < turn_count g true → u < turn_count g true
     → ((p : Point) → turned_of g t p ≡ turned_of g u p) → t ≡ u
 
--- a rotation and then turn 1 are the next rotation, and after the last comes turn 0
+-- a rotation followed by turn 1 is the next rotation; the last rotation followed by turn 1 is turn 0
 abbrev pub RotationsArePowers : Type 0
 RotationsArePowers = (g : Grid) (t : ℕ) → t < turn_count g false → IsComposite g t 1 ((t + 1) % turn_count g false)
 
--- the first reflection, followed by rotation t, is the reflection t places after the first
+-- the first reflection followed by rotation t is reflection t, if the reflections are counted from 0
 abbrev pub ReflectionsFollow : Type 0
 ReflectionsFollow = (g : Grid) (t : ℕ) → t < turn_count g false
     → IsComposite g (turn_count g false) t (turn_count g false + t)
@@ -53,10 +53,10 @@ TurnsKeepNeighbours = (g : Grid) (t : ℕ) (p q : Point) → t < turn_count g tr
 abbrev cell_cmp : Spot → Spot → Ordering
 cell_cmp = (cell_ord.ghosts).cmp
 
--- a's row is before b's, or in the same row a's column is
+-- a's row is before b's, or the rows are the same and a's column is before b's
 abbrev pub IsBefore : Spot → Spot → Type 0
 IsBefore a b = (a.y < b.y) ⊎ ((a.y ≡ b.y) × (a.x < b.x))
 
--- cells are ordered by row, then by column, and no two tie
+-- cells are ordered by row, then by column, and no two different cells compare as equal
 abbrev pub CellsGoByRow : Type 0
 CellsGoByRow = (a b : Spot) → ((cell_cmp a b ≡ Less) ↔ IsBefore a b) × ((cell_cmp a b ≡ Equal) ↔ (a ≡ b))

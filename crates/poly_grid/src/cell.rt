@@ -9,13 +9,14 @@ use std::marker::Model;
 /// The number of columns, and of rows, in which a cell can lie.
 pub const SIDE: usize = 64;
 
-/// A cell: its column x and its row y, each 0 to 63, of squares or of hexagons in axial coordinates.
+/// A cell: its column x and its row y, each 0 to 63. For a hexagon these are the axial coordinates q and r.
 ///
 /// Cells are ordered by row, then by column.
 #[derive(Clone, Copy, Debug, PartialEq, Eq, PartialOrd, Ord)]
 pub struct Cell {
-    // the derived order compares the row first
+    /// The row, 0 to 63. It is the first field, since the derived order compares the first field first.
     y: u8,
+    /// The column, 0 to 63.
     x: u8,
 }
 

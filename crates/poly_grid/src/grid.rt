@@ -1,16 +1,18 @@
-//! The two grids: the neighbours of a point, and its images under the turns of the plane.
+//! The two grids: the neighbours of a point, and the images of a point under the turns of the plane. A turn is a
+//! rotation about the point (0, 0), or a reflection in a line through it.
 //!
 //! A square has the coordinates (x, y): x grows to the right and y downwards. A hexagon has the
 //! axial coordinates (q, r), kept in the fields x and y: two of the three cube coordinates q, r and
-//! s, whose sum is always 0. Each step and each turn is a sum of such coordinates, so the tables
-//! below are all the geometry there is. Both grids are endless: turns are about the point (0, 0),
-//! and shapes are moved back into the board's range afterwards.
+//! s, whose sum is always 0. A step to a neighbour adds constants to the coordinates. A turn permutes
+//! the coordinates (for hexagons, the cube coordinates) and may change signs. So the tables below are
+//! all the geometry there is. Both grids are endless. A turn can make coordinates negative, so a turned
+//! shape is moved back into the board's range afterwards.
 
 ghost use Rattle.std.specs.Prelude.{◌≡◌, ◌<◌, ◌≤ℤ◌, pos, negsuc, true, length, slice_index_or};
 ghost use Rattle.poly_grid.specs.declared.grid.Grid.TheVariants.{Square, Hex};
 ghost use Rattle.poly_grid.specs.Grid.{neighbour_of, steps, turn_count, turned_of, IsNear};
 
-/// The tiling of the plane that cells belong to.
+/// The grid that cells belong to: the plane divided into squares or into hexagons.
 #[derive(Clone, Copy, Debug, PartialEq, Eq)]
 pub enum Grid {
     /// Squares, each with four neighbours, in coordinates (x, y).
@@ -29,7 +31,7 @@ pub struct Point {
 }
 
 impl Grid {
-    /// How many neighbours each point has: 4 squares or 6 hexagons.
+    /// How many neighbours each point has: 4 on the square grid, 6 on the hexagonal one.
     pub fn directions(self) -> u8
         ensures { result ≡ length (steps self) }
     {
@@ -41,9 +43,9 @@ impl Grid {
 
     /// The neighbour of the point in a direction, a number below `directions()`.
     ///
-    /// Squares: right, down, left, up. Hexagons: by (1, 0), (0, 1), (-1, 1), (-1, 0), (0, -1), (1, -1),
-    /// in circular order. The direction half a circle further leads back. Requires coordinates from -1,000 to
-    /// 1,000, so that no sum overflows.
+    /// The directions go round in a circle. Squares: right, down, left, up. Hexagons: (1, 0), (0, 1), (-1, 1),
+    /// (-1, 0), (0, -1), (1, -1). The direction half a circle further leads back. Requires coordinates from
+    /// -1,000 to 1,000, so that no sum overflows.
     pub fn neighbour(self, direction: u8, point: Point) -> Point
         requires known { direction < length (steps self) }
         requires near { IsNear point }
@@ -76,7 +78,7 @@ impl Grid {
         }
     }
 
-    /// How many turns there are: 4 or 6 rotations, or with `mirror` all 8 or 12 symmetries.
+    /// How many turns there are: the rotations, 4 or 6 of them, or with `mirror` the rotations and reflections, 8 or 12.
     ///
     /// The rotations come first, so that a piece that may not be turned over uses the numbers below
     /// `turns(false)`.
@@ -93,9 +95,9 @@ impl Grid {
 
     /// The image of the point under a turn, a number below `turns(true)`. Every turn fixes (0, 0).
     ///
-    /// Turn 0 is the identity, and turn 1 is a quarter or a sixth of a full turn. The rotations are its
-    /// powers. The first reflection takes (x, y) to (-x, y), or (q, r) to (r, q), and each further one is
-    /// the first followed by a rotation. Requires coordinates from -1,000 to 1,000, so that no sum overflows.
+    /// Turn 0 is the identity, and turn 1 is a quarter or a sixth of a full turn. The rotations are the powers
+    /// of turn 1. The first reflection takes (x, y) to (-x, y), or (q, r) to (r, q). Each further reflection is
+    /// the first one followed by a rotation. Requires coordinates from -1,000 to 1,000, so that no sum overflows.
     pub fn turned(self, turn: u8, point: Point) -> Point
         requires known { turn < turn_count self true }
         requires near { IsNear point }

@@ -1,14 +1,15 @@
-//! What is true of turns and neighbours at every point, and of the order of cells.
+//! What is true of turns and neighbours at every point, and of the order of cells; and the value of `SIDE`.
 //!
-//! Each law is the contract of a function that does nothing: it holds for all points, so no call
-//! could test it. The laws are about the tables from which the functions of `Grid` read.
+//! Each law is the contract of a function that does nothing. The laws of turns and neighbours hold at every
+//! point of an endless grid, so no test could try every point. These laws are about the tables that
+//! the contracts of `Grid` cite.
 
 ghost use Rattle.std.specs.Prelude.{◌≡◌};
 ghost use Rattle.poly_grid.specs.Laws.{FirstTurnStays, TurnsCompose, TurnsAreUndone, TurnsDiffer, RotationsArePowers, ReflectionsFollow, NeighboursAreMutual, TurnsKeepNeighbours, CellsGoByRow};
 
 use crate::cell::SIDE;
 
-/// A board has at most 64 columns and 64 rows.
+/// `SIDE` is 64: a board has at most 64 columns and 64 rows.
 pub fn side_is_64()
     ensures { SIDE ≡ 64 }
 {}
@@ -28,17 +29,18 @@ pub fn turns_are_undone()
     ensures { TurnsAreUndone }
 {}
 
-/// No two turns of a grid agree on every point: the square grid has eight, the hexagonal one twelve.
+/// No two of the eight turns of the square grid agree on every point, and no two of the twelve of the hexagonal grid.
 pub fn turns_differ()
     ensures { TurnsDiffer }
 {}
 
-/// The rotations are the powers of turn 1: by a quarter on the square grid, by a sixth on the hexagonal one.
+/// The rotations are the powers of turn 1, which is a quarter of a full turn on the square grid, and a sixth on the
+/// hexagonal one.
 pub fn rotations_are_powers()
     ensures { RotationsArePowers }
 {}
 
-/// The reflections are the first reflection followed by each rotation in turn.
+/// The reflections are the first reflection followed by each of the rotations, in the order of the rotations.
 pub fn reflections_follow()
     ensures { ReflectionsFollow }
 {}

@@ -1,5 +1,5 @@
 //! Why a call was refused: one type for all crates, so that a refusal keeps its number and its name on the
-//! way from the layer that found it to the line that is printed.
+//! way from the layer that refuses to the line that is printed.
 
 ghost use Rattle.std.specs.Prelude.{◌≡◌};
 ghost use Rattle.poly_grid.specs.Refusal.{code_of, name_of};
@@ -8,61 +8,93 @@ ghost use Rattle.poly_grid.specs.declared.refusal.Refusal.TheVariants.{Memory};
 use std::alloc::{AllocError, AllocFailed};
 use thiserror::Error;
 
-/// Why a call was refused. A refusal is displayed as its cause.
+/// Why a call was refused. A refusal is displayed as the text in the `error` attribute of its variant, with the
+/// variant's fields filled in.
 #[derive(Clone, Copy, Debug, PartialEq, Eq, Error)]
 pub enum Refusal {
+    /// The puzzle line is not valid JSON, or is nested more than 127 deep.
     #[error("the puzzle line is not valid JSON")]
     BadJson,
+    /// The puzzle line is not an object; or a key of the line or of a piece is missing though it is required, is
+    /// unknown, or has a value of the wrong kind; or a piece's `need`, `least` or `most` is not valid.
     #[error("a key is missing, unknown, or has a value of the wrong kind")]
     BadField,
+    /// The format of the puzzle line is neither 1 nor 2.
     #[error("the format number is neither 1 nor 2")]
     BadFormat,
+    /// The grid of the puzzle line is neither `square` nor `hex`.
     #[error("the grid is neither square nor hex")]
     BadGrid,
+    /// The board has over 64 rows, a row of over 64 characters, or a character other than `#`, `+` and `.`.
     #[error("the board has too many rows, too long a row, or an unknown character")]
     BadBoard,
+    /// The name is not 1 to 16 characters of `A-Z a-z 0-9 _`.
     #[error("a name must have 1 to 16 characters of A-Z a-z 0-9 _")]
     BadName,
+    /// There is no cell, there are over 16 cells, a cell is repeated, the cells of a piece are not connected, or a
+    /// shape belongs to the other grid.
     #[error("the cells are not a shape of this grid")]
     BadShape,
+    /// A piece of that name exists already.
     #[error("a piece of that name exists already")]
     NameTaken,
+    /// No piece has that name.
     #[error("there is no piece of that name")]
     NoSuchPiece,
+    /// A column or a row is outside 0 to 63.
     #[error("a coordinate is outside 0 to 63")]
     BadCell,
+    /// There would be over 256 unblocked cells.
     #[error("there would be over 256 unblocked cells")]
     TooManyCells,
+    /// There would be over 64 pieces.
     #[error("there would be over 64 pieces")]
     TooManyPieces,
+    /// There would be over 20,000 placements.
     #[error("there would be over 20,000 placements")]
     TooManyPlacements,
+    /// The piece on these cells is not a placement of the design.
     #[error("the cells are not a placement of the piece")]
     NotAPlacement,
+    /// The edit would change nothing.
     #[error("the edit would change nothing")]
     NoChange,
+    /// No step can be undone.
     #[error("there is no step to undo")]
     NothingToUndo,
+    /// No step can be redone.
     #[error("there is no step to redo")]
     NothingToRedo,
+    /// There would be over 1,000,000 listed tilings.
     #[error("there would be over 1,000,000 listed tilings")]
     CatalogueFull,
+    /// The line is not a command; or a word of it is malformed in a part that isn't a name; or the first number of
+    /// `copies` is above the second, or the second is over 16.
     #[error("the line is not a command")]
     BadCommand,
+    /// The line has over 65,536 bytes.
     #[error("the line has over 65,536 bytes")]
     LineTooLong,
+    /// The search turns that the caller allowed are used up, and work is left. A search turn searches one task; it isn't a
+    /// turn of a grid.
     #[error("the turns are used up while work is left")]
     Unfinished,
+    /// An allocation failed.
     #[error("out of memory")]
     Memory,
+    /// No task with that number is pending.
     #[error("the task is not pending")]
     Gone,
+    /// The report's tree does not hold for its task.
     #[error("the report's tree does not hold for its task")]
     DoesNotHold,
+    /// The report's tree has over 4,096 nodes or is over 512 levels deep.
     #[error("the report's tree is over a limit")]
     TooLarge,
+    /// A counter, such as the number of the next task, has reached its last value.
     #[error("a counter has reached its last value")]
     Spent,
+    /// The passes or receipts of a desk don't agree with its book.
     #[error("seen {seen}, found {found}")]
     Unsettled {
         /// What the caller had seen, or handed in.
@@ -70,8 +102,10 @@ pub enum Refusal {
         /// What was found instead.
         found: u64,
     },
+    /// The change or its inverse has over 20,000 guards.
     #[error("the change or its inverse has over 20,000 guards")]
     TooWide,
+    /// Tasks are pending, so some tilings may not be listed yet.
     #[error("{pending} tasks are pending")]
     Busy {
         /// How many tasks are pending, at least one.
@@ -117,7 +151,7 @@ impl Refusal {
         }
     }
 
-    /// The name of the refusal, which is that of its variant.
+    /// The name of the refusal, which is the name of its variant.
     pub fn name(self) -> &'static str
         ensures { result.now ≡ name_of self }
     {

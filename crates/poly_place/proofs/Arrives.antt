@@ -1,4 +1,4 @@
--- The only item that may arrive with a change is its own.
+-- The only item that a change may add to a design is the change's cell or piece.
 use Rattle.std.proofs.Common.{Bool, List, Option, ap, false, inl, inr, map, refl, subst, sym, true, ℕ, ◌∙◌, ◌≡◌, ◌≢◌}
 use Rattle.std.proofs.lemmas.Bool.{both_ways}
 use Rattle.std.specs.Cmp.Lexicographic.{bytes_decides, nat_list_eq_equiv, pointwise}

@@ -22,7 +22,8 @@ use Rattle.poly_place.specs.Right.{IsRight}
 use Rattle.poly_place.specs.declared.delta.Delta.{Delta}
 use Rattle.poly_place.proofs.Differences.{in_order_filter}
 
--- the numbers of the placements that satisfy P and not Q
+-- if A names what satisfies P, and B names what satisfies Q, then a list that names what satisfies P and not Q has exactly
+-- the numbers that A has and B lacks
 pub differ : (v : View) → WellNamed v → (A B list : List ℕ) (P Q : Placement → Type 0) → ((p : Placement) → IsNamed v A p ↔ P p) → ((p : Placement) → IsNamed v B p ↔ Q p) →
     ((p : Placement) → IsNamed v list p ↔ (P p × (¬ Q p))) → given v A ≡ true → given v list ≡ true → (n : ℕ) → mem list n ≡ (mem A n && not (mem B n))
 differ v wn A B list P Q a b l ga gl n = same_truth (mem list n) (mem A n && not (mem B n))
@@ -50,7 +51,7 @@ differ v wn A B list P Q a b l ga gl n = same_truth (mem list n) (mem A n && not
 pub later : (t v : View) → Names t v → (n : ℕ) (p : Placement) → slice_get t.placements n ≡ Some p → slice_get v.placements n ≡ Some p
 later t v names n p e = ap (λ xs. slice_get xs n) names.1 ∙ slice_get_front t.placements names.0 n (get_low t.placements n p e) ∙ e
 
--- what old numbers name is the same in the later view
+-- old numbers name the same placements in the later view
 pub carried : (t v : View) → Names t v → (ns : List ℕ) → ((n : ℕ) → In n ns → (x : Placement) × (slice_get t.placements n ≡ Some x)) → (P : Placement → Type 0) →
     ((p : Placement) → IsNamed t ns p ↔ P p) → (p : Placement) → IsNamed v ns p ↔ P p
 carried t v names ns low P h p = (
@@ -66,7 +67,8 @@ carried t v names ns low P h p = (
 pub carried_given : (t v : View) → Names t v → (ns : List ℕ) → ((n : ℕ) → In n ns → (x : Placement) × (slice_get t.placements n ≡ Some x)) → given v ns ≡ true
 carried_given t v names ns low = all_from (λ n. ltb n (length v.placements)) ns (λ n i. let x = low n i in lt-ltb n (length v.placements) (get_low v.placements n x.0 (later t v names n x.0 x.1)))
 
--- the numbers that the first list has and the second doesn't, in order, are those of the placements that satisfy P and not Q
+-- if A names what satisfies P, and B names what satisfies Q, then the numbers of the placements that satisfy P and not Q, in
+-- order, are the numbers that A has and B lacks
 rest_is : (v : View) → WellNamed v → (A B list : List ℕ) (P Q : Placement → Type 0) → ((p : Placement) → IsNamed v A p ↔ P p) → ((p : Placement) → IsNamed v B p ↔ Q p) →
     AreNumbersFor v (λ p. P p × (¬ Q p)) list → given v A ≡ true → in_order v A ≡ true → list ≡ filter (λ n. not (mem B n)) A
 rest_is v wn A B list P Q a b l ga up =
@@ -103,7 +105,7 @@ module _ (v w : View) (x : Delta) (c : IsChangeOf v w x) where
   unpinned_is = rest_is w c.updated.well v.pins w.pins x.unpinned.items (IsPin c.before) (IsPin c.after) was_pinned c.updated.shows.pins c.delta.unpinned low_pins
       (order_kept v w c.names v.pins c.shown.well.pins_named c.shown.well.pins_up)
 
--- a plan of the table, by a view that the table has grown from
+-- if a table has grown from a view, a plan of the table describes the change from this view to the plan's view
 pub planned_change : (v t w : View) (before after : Layout) (x : Delta) → IsRight v before → Grown v t → IsDesign before → IsDesign after → IsPlanFor t before after w x → IsChangeOf v w x
 planned_change v t w before after x right grown d e plan = record {
   before = before;

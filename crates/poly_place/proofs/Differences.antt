@@ -42,7 +42,8 @@ in_order_filter v f (n ∷ ns) up =
     let parts = and_parts (list_all (λ m. below v n m) ns) (in_order v ns) up in
     in_order_at v f n ns parts.0 (in_order_filter v f ns parts.1) (f n)
 
--- the numbers of the first list that the second doesn't have
+-- if xs names what satisfies P, and ys names what satisfies Q, then the numbers that xs has and ys lacks name the placements
+-- that satisfy P and not Q
 pub others : (v : View) → AllPairs (λ x y. x ≢ y) v.placements → (xs ys : List ℕ) (P Q : Placement → Type 0) → ((p : Placement) → IsNamed v xs p ↔ P p) → ((p : Placement) → IsNamed v ys p ↔ Q p)
     → given v xs ≡ true → in_order v xs ≡ true → AreNumbersFor v (λ p. P p × (¬ Q p)) (filter (λ n. not (mem ys n)) xs)
 others v apart xs ys P Q isP isQ low up =

@@ -1,4 +1,4 @@
--- The numbers of the placements that a change lists again are those of its cell or piece.
+-- The numbers of the placements that a change lists again are the numbers of the change's cell or piece.
 use Rattle.std.proofs.Common.{Bool, List, Some, [], ap, inl, inr, slice_get, subst, sym, true, ℕ, ◌++◌, ◌∙◌, ◌≡◌}
 use Rattle.std.specs.List.Sorted.{IsPermutation}
 use Rattle.std.proofs.lemmas.Bool.{both_ways}

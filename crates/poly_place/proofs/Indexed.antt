@@ -1,4 +1,5 @@
--- Scattered numbers are an index: of a whole design, and after a change of one cell or one piece.
+-- Scattering numbers makes an index: over empty rows, the index of a design; over the rows of an old index without the marked
+-- numbers, the index after a change of one cell or one piece.
 use Rattle.std.proofs.Common.{Bool, List, None, Option, Some, [], ap, false, inl, inr, length, map, not, refl, slice_get, subst, sym, true, ℕ, ◌&&◌, ◌||◌, ◌++◌, ◌∙◌, ◌∷◌, ◌≡◌, ◌≢◌}
 use Rattle.std.specs.Prelude.{filter, nat_eq, nat_lt, slice_index_or}
 use Rattle.std.specs.Cmp.Lexicographic.{pointwise}
@@ -57,7 +58,7 @@ all_with v w i =
     let has : ℕ → Bool = λ n. has_item v n i in
     with_from v i (filter has v.live) (λ n j. filter_in has v.live n j) (λ n j h. in_filter has v.live n j h) (AllPairs-filter (λ x y. x ≢ y) has v.live (apart_list v.live (live_once v w)))
 
--- the rows of the items, grown by numbers
+-- the row of an item of the view has the unmarked numbers of the item's old row, and then the new numbers that have the item
 grown_row : (v : View) (marked : ℕ → Bool) (old : List Row) (ns : List ℕ) (rows : List Row) (i : Item) → rows ≡ with_numbers (has_of v.placements) ns (rows_without marked old v.bounds) →
     list_any (λ b. same_item b.item i) v.bounds ≡ true → row_in rows i ≡ filter (λ n. not (marked n)) (row_in old i) ++ filter (λ n. has_item v n i) ns
 grown_row v marked old ns rows i e t =
@@ -88,7 +89,7 @@ no_piece : (name : List ℕ) (cells : List Spot) → list_any (λ j. same_item j
 no_piece name [] = refl
 no_piece name (k ∷ cells) = no_piece name cells
 
--- a change touches what has the cell or the piece that changes
+-- a change touches exactly the placements that have the cell or the piece that changes
 pub touched_has : (x : Change) (o : Option Placement) → touches_named x o ≡ list_any (λ j. same_item j (item_of x)) (items_of o)
 touched_has (CellChange c before after) None = refl
 touched_has (PieceChange name before after) None = refl
@@ -99,7 +100,7 @@ touched_has (PieceChange name before after) (Some p) = sym (or_false (pointwise 
 pub row_marked : (v : View) (rows : List Row) (x : Change) (marks : List Bool) → IsIndex v rows → ((n : ℕ) → slice_index_or marks n false ≡ mem (row_in rows (item_of x)) n) → AreMarked v x marks
 row_marked v rows x marks index is n live = is n ∙ (index.numbers (item_of x)).exact n ∙ ap (λ b. b && has_item v n (item_of x)) live ∙ sym (touched_has x (slice_get v.placements n))
 
--- a number whose placement stays stays live
+-- a live number is still live if the later design still has the placement that the number names
 crosses : (v u : View) (d e : Layout) → v.placements ≡ u.placements → WellNamed v → Shows v d → Shows u e → (n : ℕ) → In n v.live →
     ((p : Placement) → slice_get v.placements n ≡ Some p → IsPlacement d p → IsPlacement e p) → In n u.live
 crosses v u d e same w s t n i stays =

@@ -57,6 +57,6 @@ marks_more xs i marks marks' count are lt low is = record {
 pub marks_all : (xs : List ℕ) (i : ℕ) (marks : List Bool) (count : ℕ) → AreMarks (take i xs) marks count → length xs ≤ i → (n : ℕ) → get_or marks n false ≡ mem xs n
 marks_all xs i marks count are le n = are.exact n ∙ ap (λ l. mem l n) (take_all i xs le)
 
--- the marks say which numbers go
+-- if exactly the numbers of ys are marked, the numbers of xs without a mark are those that ys lacks
 pub unmarked_are : (marks : List Bool) (ys xs : List ℕ) → ((n : ℕ) → get_or marks n false ≡ mem ys n) → filter (λ n. not (get_or marks n false)) xs ≡ filter (λ n. not (mem ys n)) xs
 unmarked_are marks ys xs exact = λ i. filter (λ n. not (exact n i)) xs

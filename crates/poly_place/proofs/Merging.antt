@@ -1,4 +1,4 @@
--- Two lists in order become one, piece by piece.
+-- Two lists in order are merged into one, part by part.
 use Rattle.std.proofs.Common.{Bool, List, [], ap, drop, false, get_or, inl, inr, length, refl, subst, sym, take, true, ℕ, ◌++◌, ◌+◌, ◌<◌, ◌∙◌, ◌∷◌, ◌≡◌, ◌≤◌, append_assoc, arith}
 use Rattle.std.specs.Cmp.{IsStrictWeakOrder}
 use Rattle.std.specs.List.{AllPairs, AllWithin}
@@ -36,7 +36,7 @@ module _ {X : Type 0} (R : X → X → Type 0) where
 
 -- ---- merging
 
--- the merged part of both lists is in order, and comes before all that is left
+-- the merged part of both lists is in order, and nothing that is left comes before any of it
 pub record IsMerging (lt : ℕ → ℕ → Bool) (kept fresh : List ℕ) (i : ℕ) (rest live : List ℕ) : Type 0 where
   pub done : List ℕ
   pub all : kept ≡ done ++ rest
@@ -53,7 +53,7 @@ merging_begins lt kept fresh live none a b = record {
   before_fresh = subst (λ l. AllPairs (λ m n. lt n m ≡ false) (l ++ fresh)) (sym none) b;
 }
 
--- the same elements, if the middle two parts change places
+-- swapping the middle two parts keeps the elements
 swapped : (a b c d : List ℕ) → IsPermutation ((a ++ b) ++ (c ++ d)) ((a ++ c) ++ (b ++ d))
 swapped a b c d =
     let inner : IsPermutation ((b ++ c) ++ d) ((c ++ b) ++ d) = IsPermutation-append (b ++ c) (c ++ b) d d (IsPermutation-append_comm b c) (IsPermutation-refl d) in
@@ -62,7 +62,7 @@ swapped a b c d =
     let to : a ++ ((c ++ b) ++ d) ≡ (a ++ c) ++ (b ++ d) = ap (λ l. a ++ l) (append_assoc c b d) ∙ sym (append_assoc a c (b ++ d)) in
     subst (λ l. IsPermutation ((a ++ b) ++ (c ++ d)) l) to (subst (λ l. IsPermutation l (a ++ ((c ++ b) ++ d))) from outer)
 
--- the kept numbers before the next fresh one are moved, and then that one
+-- one step moves the kept numbers that come before the next fresh number, and then the fresh number
 pub merging_goes_on : (lt : ℕ → ℕ → Bool) → IsStrictWeakOrder lt → (kept fresh : List ℕ) (i : ℕ) (rest live : List ℕ) (n : ℕ) (chunk after live' : List ℕ) → IsMerging lt kept fresh i rest live →
     i < length fresh → n ≡ get_or fresh i n → rest ≡ chunk ++ after → ((x : ℕ) → In x chunk → lt x n ≡ true) → ((y : ℕ) → In y after → lt y n ≡ false) → live' ≡ (live ++ chunk) ++ n ∷ [] →
     IsMerging lt kept fresh (i + 1) after live'
@@ -102,7 +102,7 @@ merging_goes_on lt o kept fresh i rest live n chunk after live' w low is parts s
       ]));
     }
 
--- the rest is moved
+-- the last step moves the kept numbers that are left
 pub merging_ends : (lt : ℕ → ℕ → Bool) (kept fresh : List ℕ) (i : ℕ) (rest live live' : List ℕ) → IsMerging lt kept fresh i rest live → length fresh ≤ i → live' ≡ live ++ rest →
     IsPermutation (kept ++ fresh) live' × AllPairs (λ m n. lt n m ≡ false) live'
 merging_ends lt kept fresh i rest live live' w le grows =

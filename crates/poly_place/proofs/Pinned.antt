@@ -29,7 +29,7 @@ pins_in (e ∷ es) = pin_list e ++ pins_in es
 abbrev pinned : List ℕ → List Spot → Placement
 pinned name k = record { name = name; cells = k }
 
--- one more piece
+-- the pin of one more piece is added
 pub pins_more : (pins pins' : List Placement) (rest rest' whole : List Entry) (e : Entry) → pins ++ pins_in rest ≡ pins_in whole → rest ≡ e ∷ rest' → pins' ≡ pins ++ pin_list e → pins' ++ pins_in rest' ≡ pins_in whole
 pins_more pins pins' rest rest' whole e before is added = ap (λ l. l ++ pins_in rest') added ∙ append_assoc pins (pin_list e) (pins_in rest') ∙ ap (λ r. pins ++ pins_in r) (sym is) ∙ before
 

@@ -1,4 +1,4 @@
--- The differences by numbers are those of the designs.
+-- The differences between two numbered designs are the differences between the designs.
 use Rattle.std.proofs.Common.{List, ap, filter, map, refl, subst, sym, true, ℕ, ◌∙◌, ◌≡◌, ◌↔◌}
 use Rattle.std.specs.Prelude.{nat_lt}
 use Rattle.std.specs.List.{filter_map}

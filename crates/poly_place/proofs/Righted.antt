@@ -148,7 +148,7 @@ right_at v d places pins parts ok live pinned = record {
   };
 }
 
--- the pins got their numbers after the placements
+-- the table is right if the pins get their numbers after the placements
 pub right_from : (d : Layout) (places pins : List Placement) (bounds : List Bound) (between more all : List Placement) (live pinned : List ℕ) → ArePartsOf d places pins bounds → AreNumbered all →
     AreNumbersOf between live places → all ≡ between ++ more → AreNumbersOf all pinned pins → IsRight (record { placements = all; live = live; bounds = bounds; pins = pinned }) d
 right_from d places pins bounds between more all live pinned parts ok named grows pinned_named =

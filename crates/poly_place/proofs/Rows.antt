@@ -68,7 +68,7 @@ items_in (s ∷ rows) [] e r i = absurd (cons_none s.0 (keys rows) e)
 items_in (s ∷ rows) (b ∷ bs) e r (inl same) = (b, inl refl, sym (cons_head s.0 b.item (keys rows) (items_of_bounds bs) e) ∙ ap (λ (z : Row). z.0) same)
 items_in (s ∷ rows) (b ∷ bs) e r (inr i) = let t = items_in rows bs (cons_tail s.0 b.item (keys rows) (items_of_bounds bs) e) r i in (t.0, inr t.1, t.2)
 
--- rows of the items of ascending bounds
+-- rows for the items of ascending bounds are in item order
 pub rows_up : (rows : List Row) (bs : List Bound) → map (λ r. r.0) rows ≡ map (λ b. b.item) bs → items_ascend bs ≡ true → AreRows rows
 rows_up [] bs e up = pairs_none before
 rows_up (r ∷ rows) [] e up = absurd (cons_none r.0 (keys rows) e)
@@ -233,7 +233,8 @@ joined_by : (xs : List ℕ) (n : ℕ) (a b : Bool) → (a ≡ true → b ≡ fal
 joined_by xs n true b h = ap (λ c. (xs ++ n ∷ []) ++ cond c (n ∷ []) []) (h refl) ∙ append-nil (xs ++ n ∷ [])
 joined_by xs n false b h = ap (λ l. l ++ cond b (n ∷ []) []) (append-nil xs)
 
--- first to the items of one test, then to those of another
+-- if no item passes both tests, adding a number to the rows whose items pass f, and then to those whose items pass g, adds it
+-- to all rows whose items pass f or g
 pub joined : (f g : Item → Bool) (n : ℕ) (rows : List Row) → ((i : Item) → f i ≡ true → g i ≡ false) →
     with_numbers (λ m i. g i) (n ∷ []) (with_numbers (λ m i. f i) (n ∷ []) rows) ≡ with_numbers (λ m i. f i || g i) (n ∷ []) rows
 joined f g n [] h = refl
@@ -250,7 +251,7 @@ no_cell name cells (Cell d) h = cc
 no_cell name [] (Piece m) h = refl
 no_cell name (c ∷ cells) (Piece m) h = no_cell name cells (Piece m) h
 
--- a number to its placement's piece and then to its cells
+-- adding a number to the row of a piece, and then to the rows of cells, adds it to the rows of all these items
 pub to_items : (name : List ℕ) (cells : List Spot) (n : ℕ) (rows : List Row) →
     with_numbers (λ m i. list_any (λ c. same_item (Cell c) i) cells) (n ∷ []) (with_numbers (λ m i. same_item (Piece name) i) (n ∷ []) rows)
     ≡ with_numbers (λ m i. same_item (Piece name) i || list_any (λ j. same_item j i) (map (λ c. Cell c) cells)) (n ∷ []) rows
@@ -279,13 +280,14 @@ one_more : (cells : List Spot) (k : ℕ) (c : Spot) → k < length cells → c �
 one_more cells k c lt is i = sym (ap (λ l. any_of l i) (take_more cells k c lt) ∙ any_append (λ d. same_item (Cell d) i) (take k cells) (get_or cells k c ∷ [])
     ∙ ap (λ z. any_of (take k cells) i || (same_item (Cell z) i || false)) (sym is) ∙ ap (λ b. any_of (take k cells) i || b) (or_false (same_item (Cell c) i)))
 
--- a number to the cells before one and then to this one
+-- adding a number to the rows of the first k cells, and then to the row of the next cell, adds it to the rows of the first
+-- k + 1 cells
 pub to_next : (cells : List Spot) (k : ℕ) (c : Spot) (n : ℕ) (rows : List Row) → IsAscending spot_cmp cells → k < length cells → c ≡ get_or cells k c →
     with_numbers (λ m i. same_item (Cell c) i) (n ∷ []) (with_numbers (λ m i. any_of (take k cells) i) (n ∷ []) rows) ≡ with_numbers (λ m i. any_of (take (k + 1) cells) i) (n ∷ []) rows
 to_next cells k c n rows up lt is = joined (λ i. any_of (take k cells) i) (λ i. same_item (Cell c) i) n rows (earlier_apart cells k c up lt is)
     ∙ (λ j. with_numbers (λ m i. one_more cells k c lt is i j) (n ∷ []) rows)
 
--- a number to no cell
+-- adding a number to the rows of no cells changes nothing
 pub to_no_cell : (n : ℕ) (rows : List Row) → rows ≡ with_numbers (λ m i. any_of [] i) (n ∷ []) rows
 to_no_cell n rows = sym (all_none (λ i. false) n rows (λ r j. refl))
 
@@ -334,7 +336,7 @@ pub no_row_in : (rows : List Row) (i : Item) → list_any (λ r. same_item r.0 i
 no_row_in [] i e = refl
 no_row_in (r ∷ rows) i e = no_row_by_item r rows i (no_row_in rows i) (same_item r.0 i) e
 
--- rows of the same items
+-- if rows and bounds have the same items in the same order, a row has an item exactly if a bound has it
 pub same_rows : (rows : List Row) (bs : List Bound) (i : Item) → map (λ r. r.0) rows ≡ map (λ b. b.item) bs → list_any (λ r. same_item r.0 i) rows ≡ list_any (λ b. same_item b.item i) bs
 same_rows [] [] i e = refl
 same_rows [] (b ∷ bs) i e = absurd (none_cons b.item (items_of_bounds bs) e)
@@ -344,7 +346,7 @@ same_rows (r ∷ rows) (b ∷ bs) i e =
     let rest = same_rows rows bs i (cons_tail r.0 b.item (keys rows) (items_of_bounds bs) e) in
     ap (λ k. same_item k i || list_any (λ s. same_item s.0 i) rows) first ∙ ap (λ t. same_item b.item i || t) rest
 
--- ---- rows that were lent
+-- ---- rows that are lent to a call and written back
 
 many_rows : (has : ℕ → Item → Bool) (ns : List ℕ) (rows : List Row) → length (with_numbers has ns rows) ≡ length rows
 many_rows has ns [] = refl

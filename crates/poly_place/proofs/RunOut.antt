@@ -1,4 +1,5 @@
--- If numbers run out for a design's placements, or after these for its pins, they run out for the design.
+-- If numbers run out for a design's placements, or for its pins after these, then the design and the placements that have
+-- numbers need more numbers than there are.
 use Rattle.std.proofs.Common.{List, inl, inr, subst}
 use Rattle.std.specs.List.{Contains}
 use Rattle.std.proofs.lemmas.List.Elements.{Contains-append_cases}

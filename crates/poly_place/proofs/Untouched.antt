@@ -1,4 +1,4 @@
--- Whatever a change doesn't touch is a placement after it exactly if it was one before.
+-- If a change doesn't touch a placement, the design after the change has the placement exactly if the design before has it.
 use Rattle.std.proofs.Common.{Bool, List, None, Option, Some, [], ap, cond, false, inl, inr, refl, subst, sym, true, ℕ, ◌∙◌, ◌∷◌, ◌≡◌, ◌≢◌}
 use Rattle.std.specs.Prelude.{nat_eq}
 use Rattle.std.specs.List.{Contains, list_any}

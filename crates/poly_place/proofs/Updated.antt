@@ -1,4 +1,5 @@
--- The numbers after a change of one cell or one piece: those that it leaves alone, and those of the placements listed again.
+-- The numbers after a change of one cell or one piece: those that the change leaves alone, and those of the placements that
+-- are listed again.
 use Rattle.std.proofs.Common.{Bool, Less, List, None, Option, Some, [], ap, arith, eqb, false, get_or, inl, inr, length, map, not, refl, slice_get, subst, suc, sym, true, zero, ℕ, ◌++◌, ◌+◌, ◌<◌, ◌∙◌, ◌∷◌, ◌≡◌, ◌≢◌, ◌⊎◌}
 use Rattle.std.specs.Prelude.{filter, slice_index_or}
 use Rattle.std.specs.List.{AllPairs, Contains, cons_option, filter_map, list_all}
@@ -77,7 +78,7 @@ as_many all [] (p ∷ ps) e = cc
 as_many all (n ∷ ns) [] e = cc
 as_many all (n ∷ ns) (p ∷ ps) e = let r = as_many all ns ps (rest_named all ps n ns p e) in omega arith
 
--- what sorted numbers name ascends
+-- if numbers are in order, each once, then the placements that they name are in ascending order
 names_up : (all : List Placement) (ns : List ℕ) (ps : List Placement) → AllPairs (λ x y. x ≢ y) all → AreNumbersOf all ns ps → AllPairs (λ x y. x ≢ y) ns → AreInOrder all ns → IsAscending placement_cmp ps
 names_up all ns ps apart e once up = steps_ascend placement_total ps (λ k d l.
     let n = as_many all ns ps e in
@@ -127,13 +128,13 @@ order_pairs v (n ∷ ns) h =
     let p = and_parts (list_all (λ q. below v n q) ns) (in_order v ns) h in
     pairs_cons (λ m n. below v m n ≡ true) n ns (λ m i. all_in (λ q. below v n q) ns p.0 m i) (order_pairs v ns p.1)
 
--- the live numbers that stay
+-- the live numbers without a mark are in order
 pub kept_up : (v : View) (new found : List Placement) (marks : List Bool) → WellNamed v → GoesOnWith v.placements found new → AreInOrder new (unmarked_in v marks)
 kept_up v new found marks w g = AllPairs-filter (λ m n. comes_before new n m ≡ false) (λ n. not (slice_index_or marks n false)) v.live (λ i j d l low.
     let r = placed (slice_get v.placements (get_or v.live i d)) (slice_get v.placements (get_or v.live j d)) (order_pairs v v.live w.live_up i j d l low) in
     names_before new (get_or v.live i d) (get_or v.live j d) r.0 r.1 (stays_named v.placements new found g (get_or v.live i d) r.0 r.2) (stays_named v.placements new found g (get_or v.live j d) r.1 r.3) r.4)
 
--- the numbers of a list that ascends
+-- the numbers of ascending placements are in order
 pub numbers_up : (all : List Placement) (ns : List ℕ) (ps : List Placement) → AreNumbersOf all ns ps → IsAscending placement_cmp ps → AreInOrder all ns
 numbers_up all [] ps e up = pairs_none (λ m n. comes_before all n m ≡ false)
 numbers_up all (n ∷ ns) [] e up = cc

@@ -55,7 +55,8 @@ pub record GivesInOrder (d : Layout) (old new : List Placement) : Type 0 where
   pub pins_up : IsAscending placement_cmp pins
   pub are_pins : (p : Placement) → Contains pins p → IsPin d p
 
--- what a plan says, if the table was right for the first design
+-- what a plan promises: its view is right for the second design and keeps the table's numbers, new numbers are given in
+-- order, and the delta has the differences between the two designs
 pub record IsPlanFor (t : View) (before after : Layout) (v : View) (x : Delta) : Type 0 where
   pub right : IsRight v after
   pub names : Names t v

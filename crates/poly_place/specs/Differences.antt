@@ -1,4 +1,4 @@
--- The differences of two designs by numbers, list by list.
+-- The differences between two designs that are given by numbers, list by list.
 use Rattle.std.specs.Prelude.{◌≡◌, filter, map, nat_lt, not}
 use Rattle.std.specs.List.{filter_map}
 use Rattle.poly_tiling.specs.Lists.{mem}

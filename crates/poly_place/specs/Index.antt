@@ -13,7 +13,7 @@ use Rattle.poly_tiling.specs.Lists.{mem}
 use Rattle.poly_tiling.specs.Names.{WellNamed, item_cmp}
 use Rattle.poly_tiling.specs.Puzzle.{View, has_item, items_of, same_item}
 
--- an item and numbers
+-- an item, and the numbers in its row
 abbrev pub Row : Type 0
 Row = Item × List ℕ
 
@@ -22,7 +22,7 @@ abbrev pub row_in : List Row → Item → List ℕ
 row_in [] i = []
 row_in (r ∷ rs) i = cond (same_item r.0 i) r.1 (row_in rs i)
 
--- the index of the item's row
+-- the index of the item's row; none if it has no row
 abbrev pub row_index : List Row → Item → Option ℕ
 row_index [] i = None
 row_index (r ∷ rs) i = cond (same_item r.0 i) (Some 0) (option_map suc (row_index rs i))
@@ -41,7 +41,7 @@ pub record IsIndex (v : View) (rows : List Row) : Type 0 where
   pub items : map (λ r. r.0) rows ≡ map (λ b. b.item) v.bounds
   pub numbers : (i : Item) → AreNumbersWith v i (row_in rows i)
 
--- what a table keeps: numbers in order, and their index
+-- what holds of every table: its view is well named, and its rows are the index of this view
 pub record IsIndexed (v : View) (rows : List Row) : Type 0 where
   pub well : WellNamed v
   pub index : IsIndex v rows

@@ -13,7 +13,7 @@ use Rattle.poly_tiling.specs.declared.bound.Bound.{Bound}
 use Rattle.poly_tiling.specs.Shows.{item_bounds}
 use Rattle.poly_tiling.specs.Tilings.{IsPin}
 
--- the least is at most the most, and the most at most 16
+-- in each bound, the least is at most the most, and the most is at most 16
 abbrev pub are_small : List Bound → Bool
 are_small bounds = list_all (λ b. nat_le b.least b.most && nat_le b.most 16) bounds
 

@@ -4,8 +4,8 @@ use Rattle.poly_tiling.specs.Names.{WellNamed}
 use Rattle.poly_tiling.specs.Puzzle.{View}
 use Rattle.poly_tiling.specs.Shows.{Shows}
 
--- The table's live numbers name exactly the design's placements, its pins the design's pins, each once and in placement
--- order, and its bounds are the design's.
+-- The table's live numbers name exactly the design's placements, and the table's pins name exactly the design's pins: each
+-- once, in placement order. The bounds of the table are those of the design's items.
 pub record IsRight (t : View) (d : Layout) : Type 0 where
   pub well : WellNamed t
   pub shows : Shows t d

@@ -6,7 +6,7 @@ use Rattle.poly_design.specs.Placements.{IsPlacement}
 use Rattle.poly_design.specs.declared.placement.Placement.{Placement}
 use Rattle.poly_tiling.specs.Tilings.{IsPin}
 
--- the placements that have numbers and the design's placements and pins are, together, more than there are numbers
+-- together, the placements that have numbers and the design's placements and pins are more than there are numbers
 pub record IsSpent (given : List Placement) (d : Layout) : Type 0 where
   pub all : List Placement
   pub apart : AllPairs (λ x y. x ≢ y) all

@@ -30,10 +30,10 @@ AreMarked v x marks = (n : ℕ) → mem v.live n ≡ true → slice_index_or mar
 abbrev pub number_cmp : List Placement → ℕ → ℕ → Ordering
 number_cmp all m n = option_cmp placement_cmp (slice_get all m) (slice_get all n)
 
--- whether what the first number names comes before what the second names
+-- whether the placement of the first number comes before the placement of the second number
 abbrev pub comes_before : List Placement → ℕ → ℕ → Bool
 comes_before all m n = is_lt (number_cmp all m n)
 
--- no number comes before an earlier one
+-- the numbers are in the order of their placements: no number comes before one that is earlier in the list
 abbrev pub AreInOrder : List Placement → List ℕ → Type 0
 AreInOrder all numbers = AllPairs (λ m n. comes_before all n m ≡ false) numbers

@@ -29,9 +29,9 @@ pub struct Delta {
     pub narrowed: Vec<Name>,
     /// The pieces of both designs whose `most` rose.
     pub widened: Vec<Name>,
-    /// The pins that were set.
+    /// The numbers that are pinned now and weren't before.
     pub pinned: Vec<u32>,
-    /// The pins that are no longer set.
+    /// The numbers that were pinned before and aren't now.
     pub unpinned: Vec<u32>,
 }
 
@@ -49,7 +49,7 @@ impl Delta {
     }
 }
 
-// The numbers of the first list that are not in the second. All numbers are below the count.
+// The numbers of the first list that are not in the second. All numbers of the second must be below the count.
 fn without(
     alloc: Global,
     count: usize,
@@ -89,7 +89,8 @@ fn is_marked(marks: &[bool], number: u32) -> bool
     }
 }
 
-/// A mark for each number of the list. All numbers are below the count.
+/// For each number below the count, whether the list has it. All numbers of the list must be below the count. The only
+/// refusal is `Memory`.
 pub(crate) fn marks_of(alloc: Global, count: usize, numbers: &[u32]) -> Result<Vec<bool>, Refusal>
     requires { list_all (λ n. nat_lt n count) numbers.now ≡ true }
     ensures ok { IfOk result (λ marks. (n : ℕ) → slice_index_or marks.items n false ≡ mem numbers.now n) }
@@ -128,7 +129,7 @@ fn least_in(bounds: &[Bound], item: &Item) -> u8
     }
 }
 
-// Whether the list has the item with a lower most.
+// Whether the list has the item with a most below the given one.
 fn is_lower(bounds: &[Bound], item: &Item, most: u8) -> bool
     requires { items_ascend bounds.now ≡ true }
     ensures { result ≡ (list_any (λ b. same_item b.item item.now) bounds.now && nat_lt (bound_in bounds.now item.now (λ b. b.most)) most) }
@@ -167,7 +168,7 @@ fn fallen(alloc: Global, from: &[Bound], to: &[Bound]) -> Result<Vec<Name>, Allo
     Ok(list)
 }
 
-// The piece of the bound, if the list has it with a lower most.
+// The name of the bound's piece, if the list has the piece with a lower most; none for the bound of a cell.
 fn falls(to: &[Bound], bound: &Bound) -> Option<Name>
     requires { items_ascend to.now ≡ true }
     ensures { result ≡ falls to.now bound.now }
@@ -184,7 +185,8 @@ fn falls(to: &[Bound], bound: &Bound) -> Option<Name>
     }
 }
 
-/// The differences of two designs by numbers, all of them below the count.
+/// The differences between two designs that are given by numbers. All their numbers must be below the count, and their items
+/// must be in item order. The only refusal is `Memory`.
 pub(crate) fn differences(
     alloc: Global,
     count: usize,

@@ -28,13 +28,16 @@ use std::marker::Model;
 /// A row for each item of a design, in item order: the numbers of the design's placements that have the item.
 #[derive(Drop)]
 pub(crate) struct Index {
+    /// The rows, in item order.
     pub(crate) rows: Vec<Row>,
 }
 
-/// An item and numbers.
+/// An item, and the numbers in its row.
 #[derive(Drop)]
 pub(crate) struct Row {
+    /// The item.
     item: Item,
+    /// The numbers.
     numbers: Vec<u32>,
 }
 
@@ -76,7 +79,7 @@ impl Row {
 }
 
 impl Index {
-    /// The index of a whole design. The only refusal is `Memory`.
+    /// The index of a design by numbers. The only refusal is `Memory`.
     pub(crate) fn of(alloc: Global, names: &Interner, numbered: &Numbered) -> Result<Index, Refusal>
         requires { WellNamed (numbered_view names.now numbered.now) }
         ensures ok { IfOk result (λ x. IsIndex (numbered_view names.now numbered.now) x.rows.items) }
@@ -104,8 +107,8 @@ impl Index {
         Ok(marks)
     }
 
-    /// The index after a change of one cell or one piece of this index's design: without the marked numbers, and with those
-    /// that were found. The only refusal is `Memory`.
+    /// The index after a change of one cell or one piece of this index's design: without the marked numbers, and with the
+    /// numbers in `update.found`. The only refusal is `Memory`.
     pub(crate) fn changed_by(
         &self,
         alloc: Global,
@@ -142,7 +145,7 @@ fn changed_item(change: &Change) -> Item
     }
 }
 
-// The index of the item's row.
+// The index of the item's row; none if the item has no row.
 fn find(rows: &[Row], item: &Item) -> Option<usize>
     requires { AreRows rows.now }
     ensures index { result ≡ row_index rows.now item.now }

@@ -14,7 +14,9 @@ use std::marker::Model;
 /// A number for each placement that was ever given one. Numbers count up from 0, and a number never changes its placement.
 #[derive(Drop)]
 pub struct Interner {
+    /// The allocator.
     alloc: Global,
+    /// All placements that have numbers. A placement's number is its index.
     all: IndexSet<Placement>,
 }
 
@@ -43,7 +45,7 @@ impl Interner {
         }
     }
 
-    /// How many numbers were given out, which is the next number.
+    /// How many numbers were given out, at most 2^32. This is also the next number, if any number is left.
     pub fn len(&self) -> usize
         ensures value { result ≡ length self.now }
         ensures numbered { AreNumbered self.now }
@@ -58,7 +60,7 @@ impl Interner {
         self.all.is_empty()
     }
 
-    /// The number of the placement, if it has one.
+    /// The number of the placement; none if the placement has no number.
     pub fn number(&self, placement: &Placement) -> Option<u32>
         ensures found { IfSome result (λ n. slice_get self.now n ≡ Some placement.now) }
         ensures none { IsNone result ↔ (¬ Contains self.now placement.now) }
@@ -70,14 +72,14 @@ impl Interner {
         }
     }
 
-    /// The placement of the number, if it was given out.
+    /// The placement of the number; none if the number was not given out.
     pub fn placement(&self, number: u32) -> Option<Placement>
         ensures { result ≡ slice_get self.now number }
     {
         self.all.get_index(number as usize).copied()
     }
 
-    // How the placements of two numbers compare. A number that was not given out comes first.
+    /// How the placements of two numbers compare. A number that was not given out comes first.
     pub(crate) fn compare(&self, first: u32, second: u32) -> Ordering
         ensures { result ≡ number_cmp self.now first second }
     {
@@ -94,8 +96,8 @@ impl Interner {
 
     /// The number of the placement. If it has none yet, it gets the next one.
     ///
-    /// Fails with `Spent` if the placement has no number and all are in use, and otherwise only with `Memory`. A refused
-    /// call gives nothing out.
+    /// Fails with `Spent` if the placement has no number and all 2^32 numbers are in use, and otherwise only with `Memory`. A
+    /// refused call gives out no number.
     pub fn give(&mut self, placement: &Placement) -> Result<u32, Refusal>
         ensures ok { IfOk result (λ n. slice_get self.new n ≡ Some placement.now) }
         ensures gives { OnOk result (Gives self.old placement.now self.new) }
@@ -138,10 +140,10 @@ impl Interner {
         Ok(at as u32)
     }
 
-    /// The numbers of the placements, in their order. Those that have none yet are given the next numbers.
+    /// The numbers of the placements, in the order of the list. Placements that have no number yet are given the next numbers.
     ///
-    /// Fails with `Spent` if there are more placements than numbers, and otherwise only with `Memory`. A refused call gives
-    /// nothing out.
+    /// Fails only with `Memory`, or with `Spent` if these placements, and those that have numbers already, are together more
+    /// than there are numbers. A refused call gives out no number.
     pub fn give_all(&mut self, placements: &[Placement]) -> Result<Vec<u32>, Refusal>
         ensures ok { IfOk result (λ numbers. AreNumbersOf self.new numbers.items placements.now) }
         ensures gives { OnOk result (GoesOnWith self.old placements.now self.new) }

@@ -16,15 +16,19 @@ use poly_tiling::Bound;
 /// order.
 #[derive(Drop)]
 pub(crate) struct Numbered {
+    /// The numbers of the placements.
     pub(crate) live: Vec<u32>,
+    /// The items with their bounds.
     pub(crate) bounds: Vec<Bound>,
+    /// The numbers of the pins.
     pub(crate) pins: Vec<u32>,
 }
 
 impl Numbered {
-    /// The parts by numbers. New numbers go to placements first, then to pins.
+    /// The design of these parts, by numbers. New numbers go to placements first, then to pins.
     ///
-    /// Fails with `Spent` if there are more placements than numbers, and otherwise only with `Memory`.
+    /// Fails only with `Memory`, or with `Spent` if the placements that have numbers already, and the placements and pins of
+    /// the parts, are together more than there are numbers.
     pub(crate) fn of(names: &mut Interner, parts: Parts) -> Result<Numbered, Refusal>
         ensures right { (d : Layout) → ArePartsOf d parts.places.items parts.pins.items parts.bounds.items → IfOk result (λ s. IsRight (record { placements = names.new; live = s.live.items; bounds = s.bounds.items; pins = s.pins.items }) d) }
         ensures grows { GoesOn names.old names.new }

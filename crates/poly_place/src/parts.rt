@@ -16,8 +16,11 @@ use std::alloc::Global;
 /// A design's placements and pins, both in placement order, and its items with their bounds, in item order.
 #[derive(Drop)]
 pub(crate) struct Parts {
+    /// The placements.
     pub(crate) places: Vec<Placement>,
+    /// The pins, whether or not they are placements of the design.
     pub(crate) pins: Vec<Placement>,
+    /// The items with their bounds.
     pub(crate) bounds: Vec<Bound>,
 }
 

@@ -15,9 +15,11 @@ use std::sync::Arc;
 pub struct Plan {
     /// The differences between the design before and the design after.
     pub delta: Delta,
-    /// The design after.
+    /// The view of the design after.
     pub view: Arc<View>,
+    /// The design after, by numbers.
     pub(crate) numbered: Numbered,
+    /// The index of the design after.
     pub(crate) index: Index,
     ghost well: { WellNamed (arc_value view) },
     ghost shown: { arc_value view ≡ record { placements = (arc_value view).placements; live = numbered.live.items; bounds = numbered.bounds.items; pins = numbered.pins.items } },

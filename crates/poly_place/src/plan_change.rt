@@ -25,7 +25,8 @@ use std::sync::Arc;
 
 /// The plan of a change of the design that `numbered` shows; `after` is the design after the change.
 ///
-/// Fails with `Spent` if there are more placements than numbers, and otherwise only with `Memory`.
+/// Fails only with `Memory`, or with `Spent` if the placements that have numbers, and the placements and pins of the design
+/// after the change, are together more than there are numbers.
 pub(crate) fn plan_change(
     alloc: Global,
     names: &mut Interner,

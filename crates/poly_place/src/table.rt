@@ -25,9 +25,13 @@ use std::marker::Model;
 /// A design by numbers. A number that was given out names its placement forever, even after the placement has gone.
 #[derive(Drop)]
 pub struct Table {
+    /// The allocator.
     alloc: Global,
+    /// The placement of each number that was given out.
     names: Interner,
+    /// The design now, by numbers.
     numbered: Numbered,
+    /// The numbers of the design's placements, item by item.
     index: Index,
 }
 
@@ -44,7 +48,7 @@ impl Model for Table {
 }
 
 impl Table {
-    /// The table of the design. Numbers go to the placements first, in their order, then to pins that aren't placements.
+    /// The table of the design. Numbers go to the placements first, in placement order, then to pins that aren't placements.
     ///
     /// The only refusal is `Memory`.
     pub fn of(alloc: Global, design: &Design) -> Result<Table, Refusal>
@@ -84,9 +88,10 @@ impl Table {
 
     /// The plan of a change of the design that the table is right for.
     ///
-    /// Fails with `Spent` if the placements that have numbers, and the placements and pins of the design after the change,
-    /// are together more than there are numbers, and otherwise only with `Memory`. The call leaves the table right for the
-    /// design before, even if it is refused. The numbers that it assigned stay in use, whether or not the plan is applied.
+    /// Fails only with `Memory`, or with `Spent` if the placements that have numbers, and the placements and pins of the
+    /// design after the change, are together more than there are numbers. The call leaves the table right for the
+    /// design before the change, even if the call is refused. Numbers that the call assigned stay in use, whether or not the
+    /// plan is applied.
     pub fn plan(&mut self, design: &Design, change: &Change) -> Result<Plan, Refusal>
         requires standing { IsRight self.old design.now }
         requires limits { IsDesign (changed design.now change.now) }
@@ -103,7 +108,8 @@ impl Table {
         }
     }
 
-    /// Does what `plan` does, for a caller that has already made `after`, the design after the change. It copies no design.
+    /// Does what `plan` does, and fails as `plan` does, for a caller that has already made `after`, the design after the
+    /// change. Copies no design.
     pub fn plan_by(
         &mut self,
         design: &Design,

@@ -1,7 +1,7 @@
 //! A design by numbers after a change of one cell or one piece.
 //!
-//! A placement that neither covers the changed cell nor belongs to the changed piece stays what it was. So only the
-//! placements over the cell or of the piece are listed again, and their numbers are merged with the others.
+//! A change touches the placements that cover its cell or belong to its piece. It adds and removes no other placements. So
+//! only the placements that it touches are listed again, and their numbers are merged with those of the other placements.
 ghost use Rattle.std.specs.Prelude.{◌≡◌, ◌⊎◌, ◌++◌, Err, IfErr, IfOk, IsSome, OnOk, false, length, nat_eq, true, ◌≤◌};
 ghost use Rattle.std.specs.Cmp.Lexicographic.{pointwise};
 ghost use Rattle.std.specs.List.{list_any};
@@ -34,15 +34,17 @@ use std::alloc::{AllocError, Global};
 /// A design after a change of one cell or one piece, by numbers.
 #[derive(Drop)]
 pub(crate) struct Update {
+    /// The design after the change.
     pub(crate) numbered: Numbered,
-    /// The numbers of its placements that the change touches, each once.
+    /// The numbers of the placements that the change touches and that the design has after the change, each once.
     pub(crate) found: Vec<u32>,
 }
 
-/// The design after the change. The marks tell which numbers of the design before are touched by the change. New numbers go
-/// to placements first, then to pins.
+/// The design after the change. The marks tell which numbers of the design before the change name placements that the change
+/// touches. New numbers go to placements first, then to pins.
 ///
-/// Fails with `Spent` if there are more placements than numbers, and otherwise only with `Memory`.
+/// Fails only with `Memory`, or with `Spent` if the placements that have numbers, and the placements and pins of the design
+/// after the change, are together more than there are numbers.
 pub(crate) fn updated(
     alloc: Global,
     names: &mut Interner,
@@ -72,7 +74,7 @@ pub(crate) fn updated(
     })
 }
 
-// The placements of the design after the change that the change touches, in ascending order.
+// The placements that the change touches and that the design has after the change, in ascending order.
 fn found(alloc: Global, change: &Change, after: &Design) -> Result<Vec<Placement>, Refusal>
     ensures ok { IfOk result (λ list. IsListOf placement_cmp (λ p. IsPlacement after.now p × (touches change.now p ≡ true)) list.items) }
     ensures why { IfErr result (λ e. e ≡ Refusal.Memory) }
@@ -113,7 +115,8 @@ fn found_there(name: Name, after: &Design) -> Result<Vec<Placement>, Refusal>
     }
 }
 
-// Merges both lists. Binary search finds where each fresh number belongs, so few of the kept ones are looked at.
+// Merges the kept and the fresh numbers, in the order of their placements. Binary search finds where each fresh number
+// belongs, so few of the kept numbers are compared.
 fn merged(
     alloc: Global,
     names: &Interner,

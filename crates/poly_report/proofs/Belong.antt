@@ -14,7 +14,7 @@ use Rattle.poly_report.specs.Leaves.{tilings, arms_tilings}
 use Rattle.poly_report.specs.Laws.{TreeTilingsBelong}
 use Rattle.poly_tiling.proofs.Lists.{all_in, all_from, all_append}
 
--- members of a smaller family are members
+-- members of the family of `A ++ B` are members of the family of `A`
 weaker : (v : View) (A B : List Atom) (Ts : List (List ℕ)) → list_all (λ T. in_family v (A ++ B) T) Ts ≡ true → list_all (λ T. in_family v A T) Ts ≡ true
 weaker v A B Ts h = all_from (λ T. in_family v A T) Ts (λ T i.
     let e = and_parts (is_tiling v T) (meets_all v T (A ++ B)) (all_in (λ U. in_family v (A ++ B) U) Ts h T i) in

@@ -24,7 +24,7 @@ use Rattle.poly_frame.proofs.Walks.{or_false}
 pub fit_once : (v : View) (A : List Atom) (i : Item) (ps : List ℕ) → arms_fit v A i ps ≡ true → distinct ps ≡ true
 fit_once v A i ps h = (and_parts (distinct ps) _ (and_parts (distinct ps && _) _ h).0).0
 
--- the Lacks atoms of the arms before leave out exactly their placements
+-- the Lacks atoms of earlier arms lack exactly the placements of these arms
 lacked_any : (before : List ℕ) (p : ℕ) → list_any (λ a. lacks a p) (map (λ q. Lacks q) before) ≡ mem before p
 lacked_any [] p = refl
 lacked_any (q ∷ before) p = ap (λ b. eqb q p || b) (lacked_any before p)
@@ -37,7 +37,7 @@ dead_behind v A before p n =
 atoms_behind : (A : List Atom) (before : List ℕ) (p : ℕ) → (A ++ map (λ q. Lacks q) before) ++ Has p ∷ [] ≡ A ++ arm_atoms before p
 atoms_behind A before p = append_assoc A (map (λ q. Lacks q) before) (Has p ∷ [])
 
--- an arm's tree, after the arms before it are left
+-- whether an arm's tree holds, and its leaves, once the placements of the arms before it are left out
 pub arm_holds : (v : View) (A : List Atom) (before : List ℕ) (p : ℕ) (t : Plan) → mem before p ≡ false →
     taken_holds v (A ++ map (λ q. Lacks q) before) p t ≡ (dead v A p || holds v (A ++ arm_atoms before p) t)
 arm_holds v A before p t n = ap (λ b. b || holds v ((A ++ map (λ q. Lacks q) before) ++ Has p ∷ []) t) (dead_behind v A before p n) ∙ ap (λ B. dead v A p || holds v B t) (atoms_behind A before p)
@@ -52,7 +52,7 @@ pub arm_rests : (v : View) (A : List Atom) (before : List ℕ) (p : ℕ) (t : Pl
 arm_rests v A before p t n =
     ap (λ b. cond b [] (rests v ((A ++ map (λ q. Lacks q) before) ++ Has p ∷ []) t)) (dead_behind v A before p n) ∙ ap (λ B. cond (dead v A p) [] (rests v B t)) (atoms_behind A before p)
 
--- the numbers before p in a list without repeats don't have p
+-- in a list without repeats, p isn't among the numbers before it
 pub apart_from : (xs : List ℕ) (p : ℕ) (ys : List ℕ) → distinct (xs ++ p ∷ ys) ≡ true → mem xs p ≡ false
 apart_from [] p ys d = refl
 apart_from (x ∷ xs) p ys d =
@@ -60,7 +60,7 @@ apart_from (x ∷ xs) p ys d =
     let new : eqb x p ≡ false = ne_eqb x p (λ e. not_head x (xs ++ p ∷ ys) d (in_append_right x xs (p ∷ ys) (inl (sym e)))) in
     ap (λ b. b || mem xs p) new ∙ rest
 
--- the placements of the arms that were walked, and the arms that are left
+-- the placements of the first k arms, which were walked, and the arms that are still to be walked
 abbrev pub walked : List Arm → ℕ → List ℕ
 walked arms k = map (λ a. a.placement) (take k arms)
 
@@ -145,7 +145,7 @@ pub branch_says : (v : View) (A : List Atom) (t : Plan) (i : Item) (arms : List 
     holds v A t ≡ (fit && arms_hold v A [] (arms_list arms))
 branch_says v A t i arms e fit h = ap (λ x. holds v A x) e ∙ ap (λ b. b && arms_hold v A [] (arms_list arms)) (sym h)
 
--- how many atoms there are at the k-th arm
+-- at most k atoms are added before the k-th arm
 pub length_at : (A : List Atom) (arms : List Arm) (k : ℕ) → length (A ++ map (λ q. Lacks q) (walked arms k)) ≤ length A + k
 length_at A arms k =
     let lacked : List Atom = map (λ q. Lacks q) (walked arms k) in
@@ -155,7 +155,7 @@ length_at A arms k =
     let e = length-take k arms in
     omega arith
 
--- a Branch without arms, under a placement that is not dead: only the count matters, and the Branch leaves nothing
+-- a Branch without arms, under a placement that is not dead: it holds exactly if an empty list of arms fits; it has no leaves
 bare : (x : Bool) → x ≡ (x && true)
 bare true = refl
 bare false = refl

@@ -1,4 +1,4 @@
--- The placements of arms, as the code tests them.
+-- The code's tests of a Branch's arms decide whether the arms fit.
 use Rattle.std.proofs.Common.{Bool, List, [], ap, arith, false, ltb, not, refl, sym, true, ℕ, ◌&&◌, ◌+◌, ◌-◌, ◌∙◌, ◌∷◌, ◌≡◌}
 use Rattle.std.proofs.lemmas.Bool.{and_from, and_parts}
 use Rattle.std.specs.List.{list_all}
@@ -18,7 +18,7 @@ pub all_heads : (f : ℕ → Bool) (arms : List Arm) → list_all f (heads (arms
 all_heads f [] = refl
 all_heads f (a ∷ arms) = ap (λ b. f a.placement && b) (all_heads f arms)
 
--- a Branch's arms that repeat, or lack the item, do not fit
+-- the arms of a Branch don't fit if two have the same placement, or if one has a placement without the item
 pub not_once : (v : View) (A : List Atom) (i : Item) (arms : List Arm) → distinct (heads (arms_list arms)) ≡ false → false ≡ arms_fit v A i (heads (arms_list arms))
 not_once v A i arms n =
     let ps = heads (arms_list arms) in
@@ -31,7 +31,7 @@ not_all v A i arms d n =
     let few = ltb (tally (λ p. has_item v p i && not (ruled_out v A p) && not (mem ps p)) v.live) (least_with_base v A i) in
     ap (λ b. b && few) (sym (all_heads (λ p. has_item v p i) arms ∙ n)) ∙ ap (λ b. b && list_all (λ p. has_item v p i) ps && few) (sym d)
 
--- other arms fit if the count does
+-- if the placements of the arms differ and all have the item, the arms fit exactly if too few other placements are left
 few_fit : (v : View) (A : List Atom) (i : Item) (arms : List Arm) (loose low : ℕ) → distinct (heads (arms_list arms)) ≡ true → list_all (λ a. has_item v a.placement i) arms ≡ true →
     loose ≡ tally (λ p. has_item v p i && not (ruled_out v A p) && not (mem (heads (arms_list arms)) p)) v.live → low ≡ least_with_base v A i →
     ltb loose low ≡ arms_fit v A i (heads (arms_list arms))
@@ -45,7 +45,7 @@ tally_heads : (f : ℕ → Bool) (arms : List Arm) → tally f (heads (arms_list
 tally_heads f [] = refl
 tally_heads f (a ∷ arms) = ap (λ n. one (f a.placement) + n) (tally_heads f arms)
 
--- the placements that are not ruled out, split into these placements and the others
+-- the item's placements that are not ruled out are those outside the list and those in the list
 allowed_apart : (v : View) (A : List Atom) (i : Item) (ps : List ℕ) → distinct v.live ≡ true → distinct ps ≡ true → list_all (λ p. has_item v p i) ps ≡ true →
     tally (λ p. has_item v p i && not (ruled_out v A p) && not (mem ps p)) v.live + tally (λ p. mem v.live p && not (ruled_out v A p)) ps
     ≡ tally (λ p. has_item v p i && not (ruled_out v A p)) v.live
@@ -71,7 +71,8 @@ allowed_apart v A i ps once d h =
         let two = and_parts (f x) (mem ps x) e in
         (mem_in ps x two.1, and_from _ _ (in_mem v.live x k) (and_parts (has_item v x i) (not (ruled_out v A x)) two.0).1)
 
--- so three counts decide whether arms fit: the placements of the item that are not ruled out, the arms among these, and what is needed
+-- so if the placements of the arms differ and all have the item, three counts decide whether the arms fit: the item's
+-- placements that are not ruled out, the arms among these, and how many are needed
 pub rest_fits : (v : View) (A : List Atom) (i : Item) (arms : List Arm) (all taken rest low : ℕ) → distinct v.live ≡ true → distinct (heads (arms_list arms)) ≡ true → list_all (λ a. has_item v a.placement i) arms ≡ true →
     all ≡ tally (λ p. has_item v p i && not (ruled_out v A p)) v.live → taken ≡ tally (λ a. mem v.live a.placement && not (ruled_out v A a.placement)) arms → rest ≡ all - taken → low ≡ least_with_base v A i →
     ltb rest low ≡ arms_fit v A i (heads (arms_list arms))

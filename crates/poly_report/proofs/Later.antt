@@ -33,7 +33,7 @@ later_found v w A B l h = all_from (λ p. not (open_in w B p)) w.live (λ p i. n
       | inr j ↦ both_ways (ruled_out w B p) (not-true _ os.1) (lacks_rules v w A B l p j)
     ])))
 
--- what hangs under a placement that may have died
+-- the tree under a placement keeps holding, even if the placement is dead later
 later_child : (d e h k : Bool) → (d ≡ true → e ≡ true) → (h ≡ true → k ≡ true) → (d || h) ≡ true → (e || k) ≡ true
 later_child d e h k dies keeps o = elim (or_cases d h o) [ inl a ↦ or_left e k (dies a) | inr b ↦ or_right e k (keeps b) ]
 
@@ -67,7 +67,7 @@ named_conflict old new names p q h =
     let b = slice_get_more (λ o. share_cell (slice_get (old.placements ++ names.0) p) o) old.placements names.0 q (share_none _) a in
     and_from _ _ hs.0 (ap (λ xs. share_cell (slice_get xs p) (slice_get xs q)) names.1 ∙ b)
 
--- a change and its guards
+-- the design after a change is a later one, with the guards of the change added to the atoms
 pub later_change : (old new : View) (A : List Atom) → WellNamed old → WellNamed new → Names old new → Later old A new (A ++ guards old new)
 later_change old new A wn wm names = record {
   atoms = λ a i. in_append_left a A (guards old new) i;

@@ -1,4 +1,4 @@
--- How large plans are at least, and what makes one too large.
+-- The least size of a plan, and when a plan fits.
 use Rattle.std.proofs.Common.{arith, false, leb, true, ℕ, ◌&&◌, ◌<◌, ◌≡◌, ◌≤◌}
 use Rattle.std.proofs.lemmas.Bool.{and_from, and_parts, false_from_ne_true, le-leb, leb-true}
 use Rattle.poly_report.specs.Trees.{Branches, Finds, Plan, Rests, Splits}

@@ -1,4 +1,5 @@
--- What a tree's path adds to the atoms of its task, and that a path of open placements adds nothing hopeless.
+-- What the path to a rest adds to the atoms of the task. If the path takes and leaves only open placements of the
+-- design, the rest is hopeless exactly if the atoms of the task are.
 use Rattle.std.proofs.Common.{Bool, List, [], ap, append_assoc, arith, cond, eqb, false, inl, inr, leb, map, not, subst, sym, true, ℕ, ◌&&◌, ◌++◌, ◌≤◌, ◌||◌, ◌∙◌, ◌∷◌, ◌≡◌, ◌⊎◌}
 use Rattle.std.specs.List.{list_any}
 use Rattle.std.proofs.lemmas.Bool.{and_from, and_parts, both_ways, cases_lt, le-leb, leb-true, ne_eqb, not-true, not_from_false, or_parts}
@@ -26,7 +27,7 @@ under : (d : Bool) (xs ys : List (List Atom)) (B : List Atom) → In B (cond d [
 under true xs ys B i = inr i
 under false xs ys B i = in_append_cases B xs ys i
 
--- a rest is the atoms given, followed by the path's
+-- a rest consists of the given atoms, followed by those of the path
 mutual
   pub rest_after : (v : View) (t : Plan) (A B : List Atom) → In B (rests v A t) → (X : List Atom) × (B ≡ A ++ X)
   rest_after v Rests A B (inl e) = ([], sym e ∙ sym (append-nil A))
@@ -45,16 +46,16 @@ mutual
     | inr j ↦ arms_after v arms A (before ++ p ∷ []) B j
   ]
 
--- so a rest has each of the atoms given
+-- so a rest has each of the given atoms
 pub rest_has : (v : View) (t : Plan) (A B : List Atom) → In B (rests v A t) → (a : Atom) → In a A → In a B
 rest_has v t A B i a k = let r = rest_after v t A B i in subst (λ C. In a C) (sym r.1) (in_append_left a A r.0 k)
 
--- if p isn't in the base, all members of the base are others than p
+-- if p isn't in the base, no member of the base that has the item is p
 count_others : (v : View) (A : List Atom) (p : ℕ) (i : Item) → mem (base v A) p ≡ false → count v (base v A) i ≤ others v (base v A) p i
 count_others v A p i out = tally_within (λ q. has_item v q i) (λ q. has_item v q i && not (eqb q p)) (base v A) (base v A) (ascending_distinct (base v A) (base_up v A))
     (λ q k e. (k, and_from _ _ e (not_from_false _ (ne_eqb q p (λ s. both_ways (mem (base v A) p) out (in_mem (base v A) p (subst (λ z. In z (base v A)) s k)))))))
 
--- a placement that is open there may join each member of the family
+-- a placement of the design that is open may join the base
 open_for : (v : View) (A : List Atom) (p : ℕ) → can_take v A p ≡ true → IsOpenFor v A p
 open_for v A p h =
     let hs = and_parts (mem v.live p) (open_in v A p) h in
@@ -78,7 +79,7 @@ open_for v A p h =
           ]);
     }
 
--- so taking or leaving it doesn't change whether a list is hopeless
+-- so taking or leaving an open placement of the design doesn't change whether the atoms are hopeless
 hopeless_pick : (v : View) (A : List Atom) (p : ℕ) → can_take v A p ≡ true → hopeless v (A ++ Has p ∷ []) ≡ hopeless v A
 hopeless_pick v A p h = taking_keeps_hope_lem v A p (open_for v A p h)
 
@@ -88,7 +89,7 @@ hopeless_leave v A p h = leaving_keeps_hope_lem v A p (open_for v A p h).outside
 behind : (A : List Atom) (before : List ℕ) (p : ℕ) → (A ++ map (λ q. Lacks q) before) ++ Lacks p ∷ [] ≡ A ++ map (λ q. Lacks q) (before ++ p ∷ [])
 behind A before p = append_assoc A (map (λ q. Lacks q) before) (Lacks p ∷ []) ∙ ap (λ xs. A ++ xs) (sym (map-append (λ q. Lacks q) before (p ∷ [])))
 
--- each rest of a tree of open placements is hopeless exactly if the atoms are
+-- if a tree takes and leaves only open placements of the design, each of its rests is hopeless exactly if the atoms are
 mutual
   pub rest_as_hopeless : (v : View) (t : Plan) (A B : List Atom) → opened v A t ≡ true → In B (rests v A t) → hopeless v B ≡ hopeless v A
   rest_as_hopeless v Rests A B o (inl e) = ap (hopeless v) (sym e)

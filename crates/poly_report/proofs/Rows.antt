@@ -1,4 +1,4 @@
--- The plan of a Branch, by the items of its vector.
+-- The plan of a Branch, by the elements of its vector of arms.
 use Rattle.std.proofs.Common.{Global, Vec, ap, refl, ◌∙◌, ◌≡◌}
 use mathlib.Core.Former.{Count}
 use Rattle.poly_tiling.specs.declared.item.Item.{Item}

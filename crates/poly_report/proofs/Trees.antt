@@ -24,7 +24,7 @@ use Rattle.poly_tiling.proofs.Tilings.{IsTiling, parts}
 use Rattle.poly_atom.proofs.Bases.{base_up, base_within, base_fewer}
 use Rattle.poly_frame.proofs.Ruled.{not_ruled_out, dead_is_out, least_is}
 
--- a member that is open nowhere is in the base
+-- if no placement is open, each tiling of the family is the base
 found_same : (v : View) (T : List ℕ) (A : List Atom) → IsTiling v T → meets_all v T A ≡ true → holds v A Finds ≡ true → base v A ≡ T
 found_same v T A t m h = ascending_same (base v A) T (base_up v A) t.up (base_within v T A t m)
     (λ p i. mem_in (base v A) p (elim (cases_Bool (mem (base v A) p)) [
@@ -45,7 +45,7 @@ found_at v T A t h true f false m = omega (
 found_at v T A t h false f true m = absurd (both_ways (in_family v A T) (subst (λ U. in_family v A U ≡ false) (found_same v T A (parts v T t) m h) f) (and_from (is_tiling v T) (meets_all v T A) t m))
 found_at v T A t h false f false m = refl
 
--- the placement of some arm is a member of the tiling
+-- if the arms fit, each tiling of the family has the placement of some arm
 some_arm : (v : View) (T : List ℕ) (A : List Atom) (i : Item) (ps : List ℕ) → IsTiling v T → meets_all v T A ≡ true → arms_fit v A i ps ≡ true → list_any (λ p. mem T p) ps ≡ true
 some_arm v T A i ps t m f = elim (cases_Bool (list_any (λ p. mem T p) ps)) [
   | inl y ↦ y
@@ -64,7 +64,7 @@ some_arm v T A i ps t m f = elim (cases_Bool (list_any (λ p. mem T p) ps)) [
       absurd (omega arith)
 ]
 
--- the Lacks atoms of the arms before
+-- the tiling has none of the placements of the earlier arms
 none_of : View → List ℕ → List ℕ → Bool
 none_of v T before = meets_all v T (map (λ q. Lacks q) before)
 
@@ -79,7 +79,7 @@ arm_split true false true a = refl
 arm_split true false false a = refl
 arm_split false n h a = refl
 
--- what hangs under one placement
+-- the leaves under one placement; a dead placement has none
 child : (f : List ℕ → Bool) (g : List Atom → Bool) (d : Bool) (Us : List (List ℕ)) (Bs : List (List Atom)) (m : Bool) → (d ≡ true → m ≡ false) → (d ≡ false → tally f Us + tally g Bs ≡ one m) →
     tally f (cond d [] Us) + tally g (cond d [] Bs) ≡ one m
 child f g true Us Bs m none some = sym (ap one (none refl))

@@ -13,7 +13,8 @@ use Rattle.poly_report.specs.Leaves.{rests, tilings}
 abbrev pub lists : {X : Type 0} → List (Vec X Global) → List (List X)
 lists xs = map (λ v. v.items) xs
 
--- the tree under a placement that is taken; it is not looked at if the placement is dead
+-- whether a tree holds once a placement is taken, and the leaves that the tree then has; under a dead placement, any tree
+-- counts as one that holds and has no leaves
 abbrev pub taken_holds : View → List Atom → ℕ → Plan → Bool
 taken_holds v A p t = dead v A p || holds v (A ++ Has p ∷ []) t
 

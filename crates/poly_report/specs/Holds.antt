@@ -7,7 +7,7 @@ use Rattle.poly_atom.specs.declared.atom.Atom.TheVariants.{Has, Lacks}
 use Rattle.poly_frame.specs.Open.{open_in, dead, arms_fit}
 use Rattle.poly_report.specs.Trees.{Plan, Rests, Finds, Branches, Splits, Arms, NoArms, OneArm, heads}
 
--- what an arm adds: it is taken, and those before it are not
+-- the atoms that an arm adds: its placement `p` is taken, and the placements of the arms before it are left out
 abbrev pub arm_atoms : List ℕ → ℕ → List Atom
 arm_atoms before p = map (λ q. Lacks q) before ++ Has p ∷ []
 

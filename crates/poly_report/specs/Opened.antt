@@ -1,4 +1,5 @@
--- Trees that take and leave only placements that are open there, like those that `explore` grows.
+-- Trees that take and leave only open placements of the design, like the trees that `explore` grows. The placement of an arm
+-- is open once the placements of the earlier arms are left out.
 use Rattle.std.specs.Prelude.{Bool, List, [], cond, map, not, true, ℕ, ◌&&◌, ◌++◌, ◌∷◌}
 use Rattle.std.specs.List.{list_all}
 use Rattle.poly_tiling.specs.Lists.{mem}

@@ -1,4 +1,4 @@
--- How large a tree is, and what it leaves open.
+-- How large a tree is, and trees whose rests have fewer open placements than the atoms that the trees are for.
 use Rattle.std.specs.Prelude.{ℕ, ◌+◌, ◌≡◌, ◌≤◌, Bool, true, false, ◌&&◌, ◌||◌, max, nat_lt, nat_le, List, []}
 use Rattle.std.specs.List.{list_all}
 use Rattle.poly_atom.specs.declared.atom.Atom.{Atom}
@@ -20,7 +20,7 @@ abbrev mutual
   arms_total NoArms = 0
   arms_total (OneArm p t arms) = total t + arms_total arms
 
--- the nodes that aren't Rest
+-- how many nodes aren't Rest
 abbrev mutual
   pub inner : Plan → ℕ
   inner Rests = 0
@@ -32,7 +32,7 @@ abbrev mutual
   arms_inner NoArms = 0
   arms_inner (OneArm p t arms) = inner t + arms_inner arms
 
--- the root alone has depth 1
+-- the depth of a tree; a tree of one node has depth 1
 abbrev mutual
   pub deep : Plan → ℕ
   deep Rests = 1
@@ -50,7 +50,7 @@ is_rest Finds = false
 is_rest (Branches i arms) = false
 is_rest (Splits q taken left) = false
 
--- each list has fewer open placements than the atoms
+-- with each of the lists of atoms, fewer placements of the design are open than with `A`
 abbrev pub all_fewer : View → List Atom → List (List Atom) → Bool
 all_fewer v A Bs = list_all (λ B. nat_lt (open_count v B) (open_count v A)) Bs
 

@@ -47,7 +47,7 @@ fn all_have(frame: &Frame<'_>, item: &Item, arms: &[Arm]) -> bool
     true
 }
 
-// How many arms are placements of the design that are not ruled out.
+// How many arms have a placement of the design that is not ruled out.
 fn count_allowed(frame: &Frame<'_>, arms: &[Arm]) -> usize
     ensures { result ≡ tally (λ a. mem frame.now.scene.live a.placement && not (ruled_out frame.now.scene frame.now.atoms a.placement)) arms.now }
 {
@@ -60,7 +60,8 @@ fn count_allowed(frame: &Frame<'_>, arms: &[Arm]) -> usize
     n
 }
 
-/// Whether the arms of a Branch on the item are right, whatever trees hang under them.
+/// Whether a Branch on the item may have these arms: their placements differ and all have the item, and too few other
+/// placements are left to cover the item often enough. The arms' trees don't matter.
 pub(crate) fn arms_fit(frame: &Frame<'_>, item: &Item, arms: &[Arm]) -> bool
     ensures { result ≡ arms_fit frame.now.scene frame.now.atoms item.now (heads (arms_list arms.now)) }
 {

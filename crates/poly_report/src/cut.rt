@@ -19,8 +19,8 @@ use poly_grid::Refusal;
 use poly_tiling::View;
 use std::alloc::Global;
 
-// Walks a tree at the frame's atoms, and keeps its leaves if they are asked for. If the tree holds, the frame stays as
-// it was.
+// Returns whether the tree holds for the frame's atoms. If it holds, the frame stays as it was, and the tree's leaves are
+// added to `out` if `keep` is set.
 #[cycle(walk)]
 fn walk(
     alloc: Global,
@@ -80,7 +80,7 @@ fn walk(
     }
 }
 
-// Walks the trees of a Branch's arms, each after a step that leaves the arms before it.
+// Walks the trees of a Branch's arms in order. The placement of each arm is left out for the arms after it.
 #[cycle(walk)]
 fn walk_arms(
     alloc: Global,
@@ -110,8 +110,8 @@ fn walk_arms(
     Ok(true)
 }
 
-// Walks the tree under a placement that is taken. The tree under a dead placement is not looked at. A Branch without arms
-// is judged without taking the placement.
+// Walks the tree under a placement that is taken. The tree under a dead placement is not looked at. For a Branch without
+// arms, `Frame::starves` tells whether it holds.
 #[cycle(walk)]
 fn walk_taken(
     alloc: Global,
@@ -152,7 +152,8 @@ fn walk_taken(
     Ok(true)
 }
 
-/// Whether a tree holds: whether it accounts for each tiling that meets the atoms, by a tiling or by a rest.
+/// Whether a tree holds. A tree that holds lists each tiling that meets the atoms or leaves that tiling to a rest. Requires
+/// that the tree `fits`. The only refusal is `Memory`.
 #[tactic(auto, using(crate::proofs::Measures::fits_total))]
 pub fn holds(alloc: Global, view: &View, atoms: &[Atom], tree: &Tree) -> Result<bool, Refusal>
     requires { fits (plan_of tree.now) ≡ true }
@@ -166,6 +167,7 @@ pub fn holds(alloc: Global, view: &View, atoms: &[Atom], tree: &Tree) -> Result<
 }
 
 /// The leaves of a tree that holds, in the order of the tree: those of a Split's `taken` before those of its `left`.
+/// Requires that the tree `fits` and holds. The only refusal is `Memory`.
 #[tactic(auto, using(crate::proofs::Measures::fits_total))]
 pub fn leaves(alloc: Global, view: &View, atoms: &[Atom], tree: &Tree) -> Result<Leaves, Refusal>
     requires small { fits (plan_of tree.now) ≡ true }
@@ -180,7 +182,8 @@ pub fn leaves(alloc: Global, view: &View, atoms: &[Atom], tree: &Tree) -> Result
     Ok(all)
 }
 
-/// The leaves of a tree, if it holds, and `None` if it doesn't. One walk does what `holds` and `leaves` do.
+/// The leaves of a tree, if it holds, and `None` if it doesn't. One walk does what `holds` and `leaves` do. Requires that
+/// the tree `fits`. The only refusal is `Memory`.
 pub fn cut_up(
     alloc: Global,
     view: &View,
@@ -196,7 +199,8 @@ pub fn cut_up(
     Ok(cut)
 }
 
-/// Does what `cut_up` does, with the view's matrix, which serves every tree that is checked against the view.
+/// Does what `cut_up` does, but takes the view's matrix, so that many trees can be checked with one matrix. Requires that
+/// `whole` is the view's matrix, from [`Matrix::new`], and that the tree `fits`. The only refusal is `Memory`.
 #[tactic(auto, using(crate::proofs::Measures::fits_total))]
 pub fn cut_up_over(
     alloc: Global,

@@ -11,8 +11,8 @@ pub fn limits_of_trees()
     ensures depth { DEPTH ≡ 512 }
 {}
 
-/// If a tree holds, each tiling of the family is either one of the tree's tilings, once, or in the family of exactly one
-/// rest. No other tiling of the design is in any of these.
+/// If a tree holds, each tiling of its family is either listed by the tree exactly once or in the family of exactly one
+/// rest, never both. A tiling of the design outside the family is neither listed nor in the family of a rest.
 pub fn trees_share_out()
     ensures { TreesShareOut }
 {}
@@ -22,13 +22,13 @@ pub fn tree_tilings_belong()
     ensures { TreeTilingsBelong }
 {}
 
-/// A tree that holds for some atoms holds in the later design for these atoms followed by the guards of the change.
+/// A tree that holds for some atoms holds, after a change of the design, for these atoms followed by the guards of the change.
 pub fn trees_keep_holding()
     ensures { TreesKeepHolding }
 {}
 
-/// If a tree takes and leaves only open placements, each of its rests is hopeless exactly if the atoms are. So if the atoms
-/// aren't hopeless, no rest needs a check before it becomes a task.
+/// If a tree takes and leaves only open placements of the design, each of its rests is hopeless exactly if the atoms are. So
+/// if the atoms aren't hopeless, no rest needs a check before it becomes a task.
 pub fn open_paths_add_nothing_hopeless()
     ensures { OpenPathsAddNothingHopeless }
 {}

@@ -10,7 +10,8 @@ use poly_grid::Refusal;
 use poly_tiling::Tiling;
 use std::alloc::Global;
 
-/// The leaves of a tree: the tilings of its Found nodes, and for each Rest the atoms that say what is left there.
+/// The leaves of a tree: the tilings of its Found nodes, and for each Rest the atoms that say what is left there. Nodes under
+/// a dead placement add nothing.
 #[derive(Drop)]
 pub struct Leaves {
     /// The tilings of the Found nodes, in the order of the tree.
@@ -56,7 +57,7 @@ impl Leaves {
         Ok(())
     }
 
-    /// Adds a rest with the frame's atoms and one more atom, which saves a step of the frame. The only refusal is `Memory`.
+    /// Adds a rest with the frame's atoms and one more atom, without a step on the frame. The only refusal is `Memory`.
     pub fn push_rest_with(
         &mut self,
         alloc: Global,

@@ -1,9 +1,15 @@
 //! Reports: trees that certify how a family of tilings is cut up.
 //!
 //! - [`Report`], [`Tree`], [`Arm`]: what a worker hands in. [`fits`]: whether a tree is within [`NODES`] and [`DEPTH`].
-//! - [`holds`]: whether each Branch of a tree has all arms that it needs, so that no tiling is lost.
-//! - [`leaves`], [`Leaves`]: the tilings and the rests of a tree that holds. [`cut_up`], [`cut_up_over`]: both in one walk.
-//! - The laws say that a tree shares out its family, and that it keeps holding when the design changes.
+//! - [`holds`]: whether each Branch of a tree has all arms that it needs, each different and with the Branch's item, and no
+//!   placement is open at a Found. If so, no tiling of the family is lost or listed twice. The tree under a dead placement
+//!   isn't checked, since no tiling of the family has that placement.
+//! - [`leaves`], [`Leaves`]: the tilings and the rests of a tree that holds. [`cut_up`], [`cut_up_over`]: the check and the
+//!   leaves in one walk.
+//! - [`Frame`], [`Matrix`], [`STEPS`] come from `poly_frame`: `Leaves` reads a frame, and `cut_up_over` takes a matrix.
+//! - The laws give the limits of trees. They say that a tree that holds shares out its family, and that it keeps holding after
+//!   a change if the guards of the change are added; that the tilings of a tree belong to its family; and that if a tree takes
+//!   and leaves only open placements of the design, each of its rests is hopeless exactly if the atoms are.
 #![tactic(auto)]
 
 mod arms;

@@ -5,10 +5,10 @@ ghost use Rattle.poly_report.specs.Sizes.{deep, fits, total};
 
 use crate::tree::Tree;
 
-/// The most nodes of a tree that is handed in.
+/// The most nodes of a tree that `fits`.
 pub const NODES: u32 = 4096;
 
-/// The greatest depth of a tree that is handed in; a tree of one node has depth 1.
+/// The greatest depth of a tree that `fits`; a tree of one node has depth 1.
 pub const DEPTH: u32 = 512;
 
 /// Whether a tree has at most 4,096 nodes and a depth of at most 512. Stops at the limit, however large the tree is.
@@ -18,7 +18,8 @@ pub fn fits(tree: &Tree) -> bool
     nodes_left(tree, NODES, DEPTH).is_some()
 }
 
-// How many of `nodes` are left after the tree's own; `None` if the tree has more or is deeper than `depth`.
+// How many of `nodes` remain after the nodes of the tree are counted off; `None` if the tree has more nodes or is deeper than
+// `depth`.
 fn nodes_left(tree: &Tree, nodes: u32, depth: u32) -> Option<u32>
     ensures left { IfSome result (λ left. (left + total (plan_of tree.now) ≡ nodes) × (deep (plan_of tree.now) ≤ depth)) }
     ensures none { IfNone result (total (plan_of tree.now) ≤ nodes → depth < deep (plan_of tree.now)) }

@@ -1,4 +1,4 @@
--- The steps of a sweep over a walk: an arm, the next of the options, and the end.
+-- The steps of a sweep: an arm, the next option, and the end.
 use Rattle.std.proofs.Common.{◌≡◌, ℕ, ◌+◌, ◌-◌, ◌<◌, ◌≤◌, ◌&&◌, not, true, List, [], ◌∷◌, ◌++◌, refl, sym, ap, subst, ◌∙◌, arith, length, length-append, map, take, drop, get_or}
 use Rattle.std.specs.List.{list_all}
 use Rattle.std.proofs.lemmas.List.{get_or-drop, length-drop, take_all, take-append-le}
@@ -15,11 +15,11 @@ use Rattle.poly_frame.proofs.Back.{step_undone}
 use Rattle.poly_search.specs.Sweeps.{Swept, IsLighter, Partly}
 use Rattle.poly_search.proofs.Swept.{partly_swept, partly_lighter, found_swept, item_swept, option_behind, behind_more, behind}
 
--- a step that takes a placement, the step back, and a step that leaves it
+-- taking a placement, undoing that step and leaving the placement is the same as only leaving it
 pub left_is : (w wp wq wb wl : Walk) (p : ℕ) → wp ≡ with_step w (Has p) → wq ≡ wp → wb ≡ step_back wq → wl ≡ with_step wb (Lacks p) → wl ≡ with_step w (Lacks p)
 left_is w wp wq wb wl p ep eq eb el = el ∙ ap (λ x. with_step x (Lacks p)) (eb ∙ ap step_back (eq ∙ ep) ∙ step_undone w (Has p))
 
--- the options from an index of the list on
+-- the list has each option of the item once, and nothing else
 abbrev pub Options : Walk → Item → List ℕ → Type 0
 Options w i ps = (distinct ps ≡ true) × ((p : ℕ) → mem ps p ≡ (mem w.scene.live p && is_option w i p))
 
@@ -31,7 +31,7 @@ option_is xs ys from at p low lt same e =
     let place : at ≡ from + (at - from) = omega arith in
     e ∙ ap (λ zs. get_or zs at p) same ∙ get_or_default_zero xs at p lt ∙ ap (λ n. get_or xs n 0) place ∙ sym (get_or-drop from xs (at - from) 0)
 
--- the next option is a placement that is open after the options before it are left
+-- the next option is a placement that is open after the options before it are left out
 pub option_opens : (w wl : Walk) (i : Item) (xs ys : List ℕ) (from at p : ℕ) → from ≤ at → at < length xs → ys ≡ xs → p ≡ get_or ys at p → Options w i (drop from xs) → wl ≡ passed w (take (at - from) (drop from xs)) →
     (mem wl.scene.live p ≡ true) × (is_open wl p ≡ true)
 option_opens w wl i xs ys from at p low lt same e opts path =
@@ -44,7 +44,7 @@ option_opens w wl i xs ys from at p low lt same e opts path =
       subst (λ (x : Walk). is_open x p ≡ true) (sym path) (subst (λ n. open_in w.scene (behind w.atoms (take j ps)) n ≡ true) (sym q) o.1),
     )
 
--- after one more option
+-- one more option is left out
 pub passed_more : (w wl wn : Walk) (xs ys : List ℕ) (from at p : ℕ) → from ≤ at → at < length xs → ys ≡ xs → p ≡ get_or ys at p → wl ≡ passed w (take (at - from) (drop from xs)) → wn ≡ with_step wl (Lacks p) → wn ≡ passed w (take (at + 1 - from) (drop from xs))
 passed_more w wl wn xs ys from at p low lt same e path step =
     let ps = drop from xs in
@@ -63,7 +63,7 @@ option_partly w wl xs ys from at p found found1 rests rests1 low lt same e path 
     let here = subst (λ (x : Walk). Partly x.scene x.atoms (x.atoms ++ Lacks p ∷ []) found found1 rests rests1) path part in
     subst (λ (x : Walk). Partly w.scene before.atoms x.atoms found found1 rests rests1) (passed_more w before (with_step before (Lacks p)) xs ys from at p low lt same e refl refl) here
 
--- after the last option
+-- after the last option, the whole family was swept
 pub options_end : (w : Walk) (i : Item) (xs : List ℕ) (from at : ℕ) (found found1 : List (List ℕ)) (rests rests1 : List (List Atom)) → length xs ≤ at → distinct w.scene.live ≡ true → is_due w i ≡ true → Options w i (drop from xs) →
     Partly w.scene w.atoms (behind w.atoms (take (at - from) (drop from xs))) found found1 rests rests1 → Swept w.scene w.atoms found found1 rests rests1 × IsLighter w.scene w.atoms rests rests1
 options_end w i xs from at found found1 rests rests1 over d due opts part =
@@ -75,7 +75,7 @@ options_end w i xs from at found found1 rests rests1 over d due opts part =
       partly_lighter w.scene w.atoms (behind w.atoms ps) found found1 rests rests1 rests1 here none.1,
     )
 
--- after the last open placement
+-- after the last open placement, the whole family was swept
 pub open_end : (w wl : Walk) (found found1 found2 : List (List ℕ)) (rests rests1 rests2 : List (List Atom)) → wl ≡ record w { atoms = wl.atoms } → list_all (λ p. not (is_open wl p)) wl.scene.live ≡ true →
     found2 ≡ found1 ++ tilings wl.scene wl.atoms Finds → rests2 ≡ rests1 → Partly w.scene w.atoms wl.atoms found found1 rests rests1 → Swept w.scene w.atoms found found2 rests rests2 × IsLighter w.scene w.atoms rests rests2
 open_end w wl found found1 found2 rests rests1 rests2 path none ef er part =
@@ -88,7 +88,7 @@ open_end w wl found found1 found2 rests rests1 rests2 path none ef er part =
       partly_lighter v w.atoms B found found1 rests rests1 rests2 part last.1,
     )
 
--- one more step keeps the front
+-- one more step keeps the atoms at the front of the list
 pub front_kept : (A B C : List Atom) (a : Atom) → take (length A) B ≡ A → length A ≤ length B → C ≡ B ++ a ∷ [] → take (length A) C ≡ A
 front_kept A B C a h l e = ap (take (length A)) e ∙ take-append-le (length A) B (a ∷ []) l ∙ h
 

@@ -35,14 +35,14 @@ same_at v A T found false e h f = all_none v T found h e
 pub whole_family : (v : View) (A : List Atom) (found : List (List ℕ)) → SharedOut v A found [] → all_tilings v found → IsFamily v A found
 whole_family v A found s h T = same_at v A T found _ refl h (s T)
 
--- one of the families that are left was swept
+-- a sweep of one of the families that are left keeps the whole family shared out
 pub shared_next : (v : View) (A B : List Atom) (found found' : List (List ℕ)) (all rests rests' : List (List Atom)) → all ≡ rests ++ B ∷ [] → SharedOut v A found all → Swept v B found found' rests rests' → SharedOut v A found' rests'
 shared_next v A B found found' all rests rests' e s k T i = omega (arith, k.shared T i, s T i, ap (λ x. times v T found x) e, tally_append (λ C. meets_all v T C) rests (B ∷ []))
 
 pub weighs_less : (v : View) (B : List Atom) (all rests rests' : List (List Atom)) → all ≡ rests ++ B ∷ [] → IsLighter v B rests rests' → weights v rests' < weights v all
 weighs_less v B all rests rests' e h = omega (arith, ap (weights v) e, weights_append v rests (B ∷ []))
 
--- the last list that is left
+-- a list of vectors with one more at its end, as a list of lists
 pub last_rest : (xs ys : List (Vec Atom Global)) (x : Vec Atom Global) (B : List Atom) → xs ≡ ys ++ x ∷ [] → B ≡ x.items → lists xs ≡ lists ys ++ B ∷ []
 last_rest xs ys x B e b = ap lists e ∙ map-append (λ v. v.items) ys (x ∷ []) ∙ ap (λ z. lists ys ++ z ∷ []) (sym b)
 

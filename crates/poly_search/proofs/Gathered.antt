@@ -1,4 +1,4 @@
--- What a tree leaves, gathered node by node.
+-- The leaves of a tree, gathered node by node.
 use Rattle.std.proofs.Common.{Bool, List, Vec, Global, [], ap, append_assoc, cond, drop, eqb, false, length, map, not, refl, subst, sym, take, true, ℕ, ◌++◌, ◌<◌, ◌≤◌, ◌||◌, ◌∙◌, ◌∷◌, ◌≡◌}
 use Rattle.std.proofs.lemmas.Bool.{and_from, and_parts, le-ltb, lt-ltb, ne_eqb, not-true, true≢false}
 use Rattle.std.proofs.lemmas.List.{append-nil, length-map, map-append, take-append-drop, take-map, take_at}
@@ -34,7 +34,7 @@ open_alive v A p m o =
     let closed = not-true (ruled_out v A p) (and_parts (not (mem (base v A) p)) (not (ruled_out v A p)) o).1 in
     ap (λ b. not b || list_any (λ a. lacks a p) A) m ∙ first_false (list_any (λ a. lacks a p) A) _ _ closed
 
--- one more arm at the end
+-- one more arm at the end adds its leaves at the end
 snoc_tilings : (v : View) (A : List Atom) (before : List ℕ) (arms : Arms) (p : ℕ) (t : Plan) →
     arms_tilings v A before (snoc arms p t) ≡ arms_tilings v A before arms ++ cond (dead v A p) [] (tilings v (A ++ arm_atoms (before ++ heads arms) p) t)
 snoc_tilings v A before NoArms p t =
@@ -62,7 +62,7 @@ pub arm_path : (w wl wp : Walk) (ps hs : List ℕ) (p : ℕ) → wl ≡ past w p
 arm_path w wl wp ps hs p el ep e =
     ep ∙ ap (λ x. with_step x (Has p)) el ∙ ap (λ xs. record w { atoms = xs }) (append_assoc w.atoms (map (λ q. Lacks q) ps) (Has p ∷ []) ∙ ap (λ xs. w.atoms ++ arm_atoms xs p) (sym e))
 
--- the next arm of a walk: what its tree leaves comes last
+-- the leaves of the next arm of a walk come last
 pub tilings_next : (w wp : Walk) (arms next : List Arm) (a : Arm) (p : ℕ) → mem w.scene.live p ≡ true → is_open w p ≡ true → wp ≡ record w { atoms = w.atoms ++ arm_atoms (heads (arms_list arms)) p } →
     next ≡ arms ++ a ∷ [] → a.placement ≡ p → (old found new : List (List ℕ)) → found ≡ old ++ arms_tilings w.scene w.atoms [] (arms_list arms) → new ≡ found ++ tilings wp.scene wp.atoms (plan_of a.tree) →
     new ≡ old ++ arms_tilings w.scene w.atoms [] (arms_list next)
@@ -91,14 +91,14 @@ rests_next w wp arms next a p m o path en ea old found new ef more =
     ∙ snoc_rests v A [] (arms_list arms) p t ∙ ap (λ b. these ++ cond b [] last) (open_alive v A p m o) in
     more ∙ ap (λ xs. xs ++ rests wp.scene wp.atoms t) ef ∙ ap (λ (x : Walk). (old ++ these) ++ rests x.scene x.atoms t) path ∙ append_assoc old these last ∙ ap (λ xs. old ++ xs) (sym all)
 
--- the options that weren't walked
+-- the rest for the options that weren't walked: there is none if all were walked, and one if not
 pub none_over : (A : List Atom) (n : ℕ) (arms : List Arm) → n ≤ length arms → left_over A n arms ≡ []
 none_over A n arms h = ap (λ b. cond b ((A ++ map (λ q. Lacks q) (heads (arms_list arms))) ∷ []) []) (le-ltb (length arms) n h)
 
 pub some_over : (A : List Atom) (n : ℕ) (arms : List Arm) → length arms < n → left_over A n arms ≡ (A ++ map (λ q. Lacks q) (heads (arms_list arms))) ∷ []
 some_over A n arms h = ap (λ b. cond b ((A ++ map (λ q. Lacks q) (heads (arms_list arms))) ∷ []) []) (lt-ltb (length arms) n h)
 
--- a chain leaves what its arms leave, and then what its end leaves
+-- the leaves of a chain are those of its arms, followed by those of its end
 pub behind_next : (A : List Atom) (before : List ℕ) (p : ℕ) → (A ++ map (λ q. Lacks q) before) ++ Lacks p ∷ [] ≡ A ++ map (λ q. Lacks q) (before ++ p ∷ [])
 behind_next A before p = append_assoc A (map (λ q. Lacks q) before) (Lacks p ∷ []) ∙ ap (λ xs. A ++ xs) (sym (map-append (λ q. Lacks q) before (p ∷ [])))
 
@@ -136,12 +136,12 @@ distinct_front (x ∷ xs) ys d =
     let apart = all_from (λ y. cond (eqb x y) false true) xs (λ y i. ap (λ b. cond b false true) (ne_eqb x y (λ e. not_head x (xs ++ ys) d (subst (λ z. In z (xs ++ ys)) (sym e) (in_append_left y xs ys i))))) in
     and_from _ _ apart (distinct_front xs ys (distinct_rest x (xs ++ ys) d))
 
--- the arms that were walked are the first of the options
+-- no two arms have the same placement, since the arms that were walked are those of the first options
 pub named_once : (ps names : List ℕ) (n : ℕ) → names ≡ take n ps → distinct ps ≡ true → distinct names ≡ true
 named_once ps names n e d =
     subst (λ xs. distinct xs ≡ true) (sym e) (distinct_front (take n ps) (drop n ps) (subst (λ xs. distinct xs ≡ true) (sym (take-append-drop n ps)) d))
 
--- what a whole Branch leaves
+-- the leaves of a Branch are those of its arms
 pub branch_tilings : (w : Walk) (i : Item) (arms : List Arm) (t : Plan) (old new : List (List ℕ)) → t ≡ Branches i (arms_list arms) → new ≡ old ++ arms_tilings w.scene w.atoms [] (arms_list arms) → new ≡ old ++ tilings w.scene w.atoms t
 branch_tilings w i arms t old new e more = more ∙ ap (λ x. old ++ tilings w.scene w.atoms x) (sym e)
 
@@ -151,7 +151,7 @@ branch_rests w i arms n t old new e many more =
     let these = arms_rests w.scene w.atoms [] (arms_list arms) in
     more ∙ ap (λ xs. old ++ (these ++ xs)) (none_over w.atoms n arms many) ∙ ap (λ xs. old ++ xs) (append-nil these) ∙ ap (λ x. old ++ rests w.scene w.atoms x) (sym e)
 
--- what a chain over the arms leaves
+-- the leaves of a chain over the arms, with Rest at its end
 pub linked_tilings : (w : Walk) (arms : List Arm) (t : Plan) (old new : List (List ℕ)) → t ≡ chain (arms_list arms) Rests → distinct (heads (arms_list arms)) ≡ true →
     new ≡ old ++ arms_tilings w.scene w.atoms [] (arms_list arms) → new ≡ old ++ tilings w.scene w.atoms t
 linked_tilings w arms t old new e d more =
@@ -168,7 +168,7 @@ linked_rests w arms n t old new e d few more =
     ap (rests w.scene w.atoms) e ∙ ap (λ B. rests w.scene B (chain (arms_list arms) Rests)) (sym (append-nil w.atoms)) ∙ chain_rests w.scene w.atoms [] (arms_list arms) Rests d in
     more ∙ ap (λ xs. old ++ (these ++ xs)) (some_over w.atoms n arms few) ∙ ap (λ xs. old ++ xs) (sym all)
 
--- a Split on an open placement leaves what both trees leave
+-- the leaves of a Split on an open placement are those of both trees
 pub split_tilings : (w wp wl : Walk) (q : ℕ) (t u : Plan) (old found new : List (List ℕ)) → mem w.scene.live q ≡ true → is_open w q ≡ true → wp ≡ with_step w (Has q) → wl ≡ with_step w (Lacks q) →
     found ≡ old ++ tilings wp.scene wp.atoms t → new ≡ found ++ tilings wl.scene wl.atoms u → new ≡ old ++ tilings w.scene w.atoms (Splits q t u)
 split_tilings w wp wl q t u old found new m o ep el first more =
@@ -187,7 +187,7 @@ split_rests w wp wl q t u old left new m o ep el first more =
     more ∙ ap (λ xs. xs ++ rests wl.scene wl.atoms u) first ∙ ap (λ (x : Walk). (old ++ rests wp.scene wp.atoms t) ++ rests x.scene x.atoms u) el
     ∙ ap (λ (x : Walk). (old ++ rests x.scene x.atoms t) ++ b) ep ∙ append_assoc old a b ∙ ap (λ d. old ++ (cond d [] a ++ b)) (sym (open_alive v w.atoms q m o))
 
--- what a tree left, removed again
+-- the leaves of a tree, removed again
 pub tilings_cut : (old new short more : List (List ℕ)) (n : ℕ) → n ≡ length old → new ≡ old ++ more → short ≡ take n new → short ≡ old
 tilings_cut old new short more n len e cut = cut ∙ ap (take n) e ∙ take_at old more n (sym len)
 

@@ -25,7 +25,7 @@ pub chain_snoc : (arms : Arms) (p : ℕ) (t end : Plan) → chain (snoc arms p t
 chain_snoc NoArms p t end = refl
 chain_snoc (OneArm q u arms) p t end = ap (Splits q u) (chain_snoc arms p t end)
 
--- the last arm of a list goes under the chain of the others
+-- the chain over a list of arms is the chain over all but the last arm, ended by a Split on the last
 pub chain_last : (arms : List Arm) (p : ℕ) (taken : Plan) (a : Arm) (end : Plan) → a.placement ≡ p → plan_of a.tree ≡ taken → chain (arms_list (arms ++ a ∷ [])) end ≡ chain (arms_list arms) (Splits p taken end)
 chain_last arms p taken a end e t =
     ap (λ x. chain x end) (list_snoc arms a) ∙ chain_snoc (arms_list arms) a.placement (plan_of a.tree) end
@@ -39,7 +39,7 @@ pub inner_chain : (arms : Arms) (end : Plan) → inner (chain arms end) ≡ arms
 inner_chain NoArms end = omega arith
 inner_chain (OneArm p t arms) end = omega (arith, inner_chain arms end)
 
--- no arm yet
+-- a chain over an empty list of arms is its end alone, so `Chains` holds for the empty list
 pub no_chain : (v : View) (A : List Atom) (d : ℕ) → Chains v A d NoArms
 no_chain v A d end e =
     let path : A ++ [] ≡ A = append-nil A in
@@ -49,7 +49,8 @@ no_chain v A d end e =
       less = subst (λ B. all_fewer v A (rests v B end) ≡ true) path e.less;
     }
 
--- one more arm: what ends the longer chain, under a Split on the arm, ends the shorter one
+-- `Chains` holds for one more arm: if a tree may end the longer chain, the Split on the arm with this tree as its `left` may
+-- end the shorter one
 pub more_chain : (v : View) (A : List Atom) (d : ℕ) (arms : Arms) (p : ℕ) (t : Plan) → distinct v.live ≡ true → mem v.live p ≡ true → open_in v A p ≡ true →
     Chains v A d arms → Grown v (A ++ arm_atoms (heads arms) p) (d - 1 - length (heads arms)) t → length (heads arms) < d → Chains v A d (snoc arms p t)
 more_chain v A d arms p t dis m o links g fits end e =
@@ -75,7 +76,7 @@ more_chain v A d arms p t dis m o links g fits end e =
     more_length [] x = refl
     more_length (y ∷ ys) x = omega (arith, more_length ys x)
 
--- a Rest ends a chain over placements, one of which is open
+-- a Rest may end a chain if one of the chain's placements is open and the chain has fewer arms than the depth allows
 pub rest_ends : (v : View) (A : List Atom) (d : ℕ) (ps : List ℕ) (p : ℕ) → In p ps → distinct v.live ≡ true → mem v.live p ≡ true → open_in v A p ≡ true → length ps < d → Ends v A d ps Rests
 rest_ends v A d ps p i dis m o h = record {
   right = refl;
@@ -92,7 +93,7 @@ pub heads_length : (arms : List Arm) → length (heads (arms_list arms)) ≡ len
 heads_length [] = refl
 heads_length (a ∷ arms) = omega (arith, heads_length arms)
 
--- a chain over the options that were walked, with Rest for the others
+-- a chain over the options that were walked, with Rest for the others, is grown for the atoms
 pub chain_grown : (w : Walk) (d : ℕ) (i : Item) (arms : List Arm) (ps : List ℕ) → distinct w.scene.live ≡ true → ((p : ℕ) → mem ps p ≡ (mem w.scene.live p && is_option w i p)) →
     heads (arms_list arms) ≡ take (length arms) ps → length arms ≤ length ps → 1 ≤ length arms → length arms < d → Chains w.scene w.atoms d (arms_list arms) →
     Grown w.scene w.atoms d (chain (arms_list arms) Rests)
@@ -112,7 +113,7 @@ pub chain_no_rest : (arms : List Arm) (t : Plan) → t ≡ chain (arms_list arms
 chain_no_rest [] t e h = absurd (omega arith)
 chain_no_rest (a ∷ arms) t e h = ap is_rest e
 
--- the next arm of a walk that may become a chain
+-- a walk that may become a chain still may after its next arm
 pub linked_next : (w wl wp : Walk) (d : ℕ) (i : Item) (arms next : List Arm) (a : Arm) (ps : List ℕ) (j : ℕ) → j < length ps → distinct w.scene.live ≡ true →
     ((p : ℕ) → mem ps p ≡ (mem w.scene.live p && is_option w i p)) → wl ≡ record w { atoms = w.atoms ++ map (λ q. Lacks q) (take j ps) } → wp ≡ with_step wl (Has (get_or ps j 0)) →
     heads (arms_list arms) ≡ take j ps → length arms ≡ j → next ≡ arms ++ a ∷ [] → a.placement ≡ get_or ps j 0 → j < d →

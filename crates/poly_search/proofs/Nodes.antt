@@ -68,7 +68,7 @@ rests_snoc f v A before (OneArm q u arms) p t h k =
     both f (cond (dead v A q) [] (rests v (A ++ arm_atoms before q) u)) (arms_rests v A (before ++ q ∷ []) (snoc arms p t)) hs.0
     (rests_snoc f v A (before ++ q ∷ []) arms p t hs.1 (subst (λ xs. list_all f (rests v (A ++ arm_atoms xs p) t) ≡ true) (sym (append_assoc before (q ∷ []) (heads arms))) k))
 
--- the rests of a tree under fewer open placements are fewer
+-- if fewer placements are open at a child, fewer are open at each rest of the child's tree too
 pub child_at : (v : View) (A B : List Atom) (t : Plan) → open_count v B < open_count v A → (is_rest t || all_fewer v B (rests v B t)) ≡ true → all_fewer v A (rests v B t) ≡ true
 child_at v A B Rests l h = and_from _ _ (lt-ltb (open_count v B) (open_count v A) l) refl
 child_at v A B Finds l h = refl
@@ -108,7 +108,7 @@ arm_grown v A d arms p t dis m o ga gt =
 pub branch_grown : (v : View) (A : List Atom) (d : ℕ) (i : Item) (arms : Arms) → arms_fit v A i (heads arms) ≡ true → ArmsGrown v A d arms → Grown v A (d + 1) (Branches i arms)
 branch_grown v A d i arms f g = record { right = and_from _ _ f g.right; low = let a = g.low in omega arith; less = g.less }
 
--- a step that was taken back
+-- a step that is undone changes nothing
 pub back_is : (w wp wq wb : Walk) (a : Atom) (m : ℕ) → m ≡ length w.atoms → wp ≡ with_step w a → wq ≡ wp → wb ≡ backtrack_to wq m → wb ≡ w
 back_is w wp wq wb a m e p q b =
     let t = take_at w.atoms (a ∷ []) m (sym e) in
@@ -121,7 +121,7 @@ split_of w wp wl d q t u h dis m o ep el gt gu =
     subst (λ k. Grown w.scene w.atoms k (Splits q t u)) e
     (split_grown w.scene w.atoms (d - 1) q t u dis m o (subst (λ x. Grown x.scene x.atoms (d - 1) t) ep gt) (subst (λ x. Grown x.scene x.atoms (d - 1) u) el gu))
 
--- the path at the next arm
+-- the walk after some placements are left out
 abbrev pub past : Walk → List ℕ → Walk
 past w ps = record w { atoms = w.atoms ++ map (λ q. Lacks q) ps }
 
@@ -130,7 +130,7 @@ past_next w wl wn ps j h e n =
     let p = get_or ps j 0 in
     n ∙ ap (λ x. with_step x (Lacks p)) e ∙ ap (λ xs. record w { atoms = xs }) (append_assoc w.atoms (map (λ q. Lacks q) (take j ps)) (Lacks p ∷ []) ∙ ap (λ xs. w.atoms ++ xs) (sym (map-append (λ q. Lacks q) (take j ps) (p ∷ [])) ∙ ap (λ xs. map (λ q. Lacks q) xs) (sym (take_more ps j 0 h))))
 
--- undoing the steps past the atoms
+-- undoing these steps leads back to the walk
 pub past_back : (w wl : Walk) (ps : List ℕ) → wl ≡ past w ps → backtrack_to wl (length w.atoms) ≡ w
 past_back w wl ps e = ap (λ x. backtrack_to x (length w.atoms)) e ∙ ap (λ xs. record w { atoms = xs }) (take_at w.atoms (map (λ q. Lacks q) ps) (length w.atoms) refl)
 
@@ -148,7 +148,7 @@ in_at [] j h = absurd (omega arith)
 in_at (x ∷ xs) zero h = inl refl
 in_at (x ∷ xs) (suc j) h = inr (in_at xs j (omega arith))
 
--- the option at an index
+-- each option is a placement of the design that is open
 pub option_at : (w : Walk) (i : Item) (ps : List ℕ) (j : ℕ) → j < length ps → ((p : ℕ) → mem ps p ≡ (mem w.scene.live p && is_option w i p)) → (mem w.scene.live (get_or ps j 0) ≡ true) × (is_open w (get_or ps j 0) ≡ true)
 option_at w i ps j h m =
     let p = get_or ps j 0 in
@@ -166,7 +166,7 @@ grown_next w wl wp d i arms next a ps j h dis m el ep hs en ea ga gt =
     let more = arm_grown w.scene w.atoms d (arms_list arms) p (plan_of a.tree) dis o.0 o.1 ga (subst (λ x. Grown x.scene x.atoms d (plan_of a.tree)) path gt) in
     subst (λ x. ArmsGrown w.scene w.atoms d x) (sym (ap arms_list en ∙ list_snoc arms a ∙ ap (λ x. snoc (arms_list arms) x (plan_of a.tree)) ea)) more
 
--- a whole Branch
+-- a Branch on an item that is due, with an arm for each option, is grown for the atoms
 pub branch_of : (w : Walk) (d : ℕ) (i : Item) (arms : List Arm) (ps : List ℕ) (t : Plan) → 2 ≤ d → distinct w.scene.live ≡ true → distinct ps ≡ true →
     ((p : ℕ) → mem ps p ≡ (mem w.scene.live p && is_option w i p)) → is_due w i ≡ true → heads (arms_list arms) ≡ ps → ArmsGrown w.scene w.atoms (d - 1) (arms_list arms) → t ≡ Branches i (arms_list arms) → Grown w.scene w.atoms d t
 branch_of w d i arms ps t h dis dps m due hs g et =

@@ -1,4 +1,4 @@
--- Which placements stay open as the path grows.
+-- Which placements stay open as more atoms are added.
 use Rattle.std.proofs.Common.{◌≡◌, ℕ, ◌<◌, Bool, true, not, ◌&&◌, ◌||◌, eqb, List, ◌++◌, inl, inr, refl, sym, subst, ◌∙◌, arith, nat_lt}
 use Rattle.std.specs.List.{list_any}
 use Rattle.std.proofs.lemmas.Bool.{eq-eqb, eqb-true, or_left, and_parts, and_from, both_ways, not-true, not_from_false, false_from_ne_true, lt-ltb, ltb-true, cases_Bool}
@@ -15,7 +15,7 @@ use Rattle.poly_tiling.proofs.Counts.{tally_within, tally_fewer}
 use Rattle.poly_atom.proofs.Bases.{in_base_has}
 use Rattle.poly_frame.proofs.Opens.{open_before}
 
--- once a placement is named it isn't open
+-- a placement that a Has atom names isn't open
 named_closed : (v : View) (A B : List Atom) (q : ℕ) → distinct v.live ≡ true → In (Has q) (A ++ B) → open_in v (A ++ B) q ≡ true → ⊥
 named_closed v A B q d i h = both_ways (mem (base v (A ++ B)) q) (not-true _ (and_parts (not (mem (base v (A ++ B)) q)) (not (ruled_out v (A ++ B) q)) h).0) (in_mem _ q (in_base_has v (A ++ B) q i))
 
@@ -38,7 +38,7 @@ fewer_has v A B q d m h i = fewer_open v A B q d (mem_in _ q m) h (named_closed 
 pub fewer_lacks : (v : View) (A B : List Atom) (q : ℕ) → distinct v.live ≡ true → mem v.live q ≡ true → open_in v A q ≡ true → In (Lacks q) (A ++ B) → open_count v (A ++ B) < open_count v A
 fewer_lacks v A B q d m h i = fewer_open v A B q d (mem_in _ q m) h (left_closed v A B q d i)
 
--- all options of an item that is due are the arms of a Branch
+-- the options of an item that is due fit as the arms of a Branch
 pub options_fit : (v : View) (A : List Atom) (i : Item) (ps : List ℕ) → distinct v.live ≡ true → distinct ps ≡ true →
     ((p : ℕ) → mem ps p ≡ (mem v.live p && (open_in v A p && has_item v p i))) → nat_lt (count v (base v A) i) (least_at v A i) ≡ true → arms_fit v A i ps ≡ true
 options_fit v A i ps d dp m due =

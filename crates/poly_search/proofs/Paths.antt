@@ -1,4 +1,4 @@
--- A tree that is grown takes and leaves only open placements.
+-- A tree that is grown takes and leaves out only open placements.
 use Rattle.std.proofs.Common.{List, [], ap, append_assoc, get_or, length, map, refl, subst, sym, take, true, ℕ, ◌&&◌, ◌++◌, ◌<◌, ◌∙◌, ◌∷◌, ◌≡◌}
 use Rattle.std.proofs.lemmas.Bool.{and_from, and_parts}
 use Rattle.std.proofs.lemmas.List.{append-nil}
@@ -19,7 +19,7 @@ use Rattle.poly_search.proofs.Gathered.{behind_next}
 use Rattle.poly_search.proofs.Nodes.{list_snoc, snoc}
 use Rattle.poly_search.proofs.Swept.{option_behind}
 
--- one more arm, on a placement that is open behind the others
+-- one more arm, on a placement that is open after the others are left out
 opened_snoc : (v : View) (A : List Atom) (before : List ℕ) (arms : Arms) (p : ℕ) (t : Plan) → arms_opened v A before arms ≡ true → can_take v (A ++ map (λ q. Lacks q) (before ++ heads arms)) p ≡ true →
     opened v (A ++ arm_atoms (before ++ heads arms) p) t ≡ true → arms_opened v A before (snoc arms p t) ≡ true
 opened_snoc v A before NoArms p t h o k =
@@ -63,7 +63,7 @@ opened_next w wp i arms next a ps j h d m path hs en ea before tree =
     let under = subst (λ (x : Walk). opened x.scene x.atoms t ≡ true) path tree in
     subst (λ x. arms_opened v A [] x ≡ true) (sym (ap arms_list en ∙ list_snoc arms a ∙ ap (λ q. snoc (arms_list arms) q t) ea)) (opened_snoc v A [] (arms_list arms) p t before free under)
 
--- a whole Branch
+-- a Branch over its arms
 pub branch_opened : (w : Walk) (i : Item) (arms : List Arm) (t : Plan) → t ≡ Branches i (arms_list arms) → arms_opened w.scene w.atoms [] (arms_list arms) ≡ true → opened w.scene w.atoms t ≡ true
 branch_opened w i arms t e h = ap (opened w.scene w.atoms) e ∙ h
 

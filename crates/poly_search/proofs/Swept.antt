@@ -32,7 +32,7 @@ pow_up k a (suc n) h l = elim (cases_lt a (suc n)) [
   | inr g ↦ let e : a ≡ suc n = omega arith in rw e (omega (arith, pow-zero k))
 ]
 
--- two families with fewer open placements weigh less than one
+-- two families weigh less together than one family that has more open placements than each of them
 two_weigh : (a b n : ℕ) → a < n → b < n → 3 ^ a + 3 ^ b < 3 ^ n
 two_weigh a b zero h k = absurd (omega arith)
 two_weigh a b (suc n) h k =
@@ -48,7 +48,7 @@ weights_append v (A ∷ As) Bs = omega (arith, weights_append v As Bs)
 times_left : (v : View) (T : List ℕ) (found : List (List ℕ)) (rests : List (List Atom)) (B : List Atom) → times v T found (rests ++ B ∷ []) ≡ times v T found rests + one (meets_all v T B)
 times_left v T found rests B = omega (arith, tally_append (λ C. meets_all v T C) rests (B ∷ []))
 
--- with a placement or without it
+-- a tiling of the family either has the placement or lacks it
 with_or_without : (v : View) (T : List ℕ) (A : List Atom) (p : ℕ) → one (meets_all v T (A ++ Has p ∷ [])) + one (meets_all v T (A ++ Lacks p ∷ [])) ≡ one (meets_all v T A)
 with_or_without v T A p = omega (arith, ap one (meets_push v T A (Has p)), ap one (meets_push v T A (Lacks p)), one_split (meets_all v T A) (mem T p))
 
@@ -56,7 +56,7 @@ with_or_without v T A p = omega (arith, ap one (meets_push v T A (Has p)), ap on
 pub partly_none : (v : View) (A : List Atom) (found : List (List ℕ)) (rests : List (List Atom)) → Partly v A A found found rests rests
 partly_none v A found rests = record { shared = λ T i. refl; only = λ h. h; less = omega arith }
 
--- a node is kept
+-- a family is swept if its atoms are added to the rests
 pub swept_rest : (v : View) (A : List Atom) (found found' : List (List ℕ)) (rests rests' : List (List Atom)) → found' ≡ found → rests' ≡ rests ++ A ∷ [] → Swept v A found found' rests rests'
 swept_rest v A found found' rests rests' ef er = record {
   shared = λ T i. omega (arith, ap (λ x. times v T x rests') ef, ap (λ x. times v T found x) er, times_left v T found rests A);
@@ -78,7 +78,7 @@ arm_partly v A p found found' rests rests' d m o s = record {
       omega arith;
 }
 
--- the tilings with the placement were swept, and the node of those without it is kept
+-- the tilings with the placement were swept, and the atoms of those without it are added to the rests
 pub arm_swept : (v : View) (A : List Atom) (p : ℕ) (found found1 found2 : List (List ℕ)) (rests rests1 rests2 : List (List Atom)) → distinct v.live ≡ true → mem v.live p ≡ true → open_in v A p ≡ true →
     Swept v (A ++ Has p ∷ []) found found1 rests rests1 → found2 ≡ found1 → rests2 ≡ rests1 ++ (A ++ Lacks p ∷ []) ∷ [] → Swept v A found found2 rests rests2 × IsLighter v A rests rests2
 arm_swept v A p found found1 found2 rests rests1 rests2 d m o s ef er =
@@ -91,7 +91,7 @@ arm_swept v A p found found1 found2 rests rests1 rests2 d m o s ef er =
     let low : weights v rests2 < weights v rests + 3 ^ open_count v A = omega arith in
     (record { shared = λ T i. omega (arith, s.shared T i, k.shared T i, with_or_without v T A p); only = λ h. k.only (s.only h); less = omega arith }, low)
 
--- one part after another
+-- two parts of a sweep, one after the other
 pub partly_more : (v : View) (A B C : List Atom) (found found1 found2 : List (List ℕ)) (rests rests1 rests2 : List (List Atom)) → Partly v A B found found1 rests rests1 → Partly v B C found1 found2 rests1 rests2 → Partly v A C found found2 rests rests2
 partly_more v A B C found found1 found2 rests rests1 rests2 s k = record {
   shared = λ T i. omega (arith, s.shared T i, k.shared T i);
@@ -134,7 +134,7 @@ least_leave v (Lacks q ∷ A) p i = least_leave v A p i
 least_leave v (AtLeast j n ∷ A) p i = ap (λ u. cond (same_item j i) (max n u) u) (least_leave v A p i)
 least_leave v (AtMost j n ∷ A) p i = least_leave v A p i
 
--- the node after some placements are left
+-- the atoms after some placements are left out
 abbrev pub behind : List Atom → List ℕ → List Atom
 behind A ps = A ++ map (λ q. Lacks q) ps
 
@@ -172,7 +172,7 @@ no_more true true false m e = sym (and_false (not m))
 no_more true false h m e = refl
 no_more false o h m e = refl
 
--- all options of an item that is due are left: no tiling meets that
+-- no tiling of the family lacks all options of an item that is due, so nothing remains to be swept once they are left out
 pub item_swept : (v : View) (A : List Atom) (i : Item) (ps : List ℕ) (found : List (List ℕ)) (rests : List (List Atom)) → distinct v.live ≡ true → is_due (record { scene = v; atoms = A; given = 0 }) i ≡ true →
     ((p : ℕ) → mem ps p ≡ (mem v.live p && (open_in v A p && has_item v p i))) → Swept v (behind A ps) found found rests rests × IsLighter v (behind A ps) rests rests
 item_swept v A i ps found rests d due m =
@@ -206,7 +206,7 @@ not_before (p ∷ ps) (suc j) d h =
     not_same true e = sym e
     not_same false e = refl
 
--- an option is open after the options before it are left
+-- an option is open after the options before it are left out
 pub option_behind : (v : View) (A : List Atom) (i : Item) (ps : List ℕ) (j : ℕ) → j < length ps → distinct ps ≡ true → ((p : ℕ) → mem ps p ≡ (mem v.live p && (open_in v A p && has_item v p i))) →
     (mem v.live (get_or ps j 0) ≡ true) × (open_in v (behind A (take j ps)) (get_or ps j 0) ≡ true)
 option_behind v A i ps j h d m =

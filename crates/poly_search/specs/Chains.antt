@@ -1,4 +1,4 @@
--- A chain of Splits: the arms of a Branch one after another, and a tree for the tilings that have none of them.
+-- A chain of Splits: the arms of a Branch one after another, and a tree for the tilings without the arms' placements.
 use Rattle.std.specs.Prelude.{◌≡◌, ℕ, ◌+◌, ◌≤◌, true, map, List, ◌++◌, length}
 use Rattle.poly_atom.specs.declared.atom.Atom.{Atom}
 use Rattle.poly_atom.specs.declared.atom.Atom.TheVariants.{Lacks}
@@ -18,12 +18,12 @@ pub record Serves (v : View) (A : List Atom) (depth : ℕ) (t : Plan) : Type 0 w
   pub low : deep t ≤ depth
   pub less : all_fewer v A (rests v A t) ≡ true
 
--- what the tree at the end of a chain over the arms of `ps` must satisfy
+-- what the tree at the end of a chain must satisfy, if the arms of the chain have the placements `ps`
 pub record Ends (v : View) (A : List Atom) (depth : ℕ) (ps : List ℕ) (end : Plan) : Type 0 where
   pub right : holds v (A ++ map (λ q. Lacks q) ps) end ≡ true
   pub low : deep end + length ps ≤ depth
   pub less : all_fewer v A (rests v (A ++ map (λ q. Lacks q) ps) end) ≡ true
 
--- a chain over the arms is right with each end that fits
+-- with each end that satisfies `Ends`, the chain over the arms satisfies `Serves`
 abbrev pub Chains : View → List Atom → ℕ → Arms → Type 0
 Chains v A depth arms = (end : Plan) → Ends v A depth (heads arms) end → Serves v A depth (chain arms end)

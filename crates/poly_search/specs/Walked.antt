@@ -9,7 +9,7 @@ use Rattle.poly_report.specs.Sizes.{ArmsGrown}
 use Rattle.poly_frame.specs.Walk.{Walk}
 use Rattle.poly_search.specs.Chains.{Chains}
 
--- if the walk stopped early, a chain over the arms fits into the budget
+-- what is true of a walk that stopped early: there is an arm, and a chain over the arms fits into the budget and the depth
 pub record CanChain (w : Walk) (depth kept nodes held : ℕ) (arms : List Arm) : Type 0 where
   pub some : 1 ≤ length arms
   pub paid : length arms ≤ held + 1
@@ -25,6 +25,6 @@ pub record Walked (w : Walk) (depth kept : ℕ) (options : List ℕ) (nodes held
   pub grown : ArmsGrown w.scene w.atoms (depth - 1) (arms_list arms)
   pub early : length arms < length options → CanChain w depth kept nodes held arms
 
--- the rest for the options that weren't walked: the tilings that have none of the arms
+-- the rest for the options that weren't walked, if there are any: the tilings that have none of the arms' placements
 abbrev pub left_over : List Atom → ℕ → List Arm → List (List Atom)
 left_over A n arms = cond (nat_lt (length arms) n) ((A ++ map (λ q. Lacks q) (heads (arms_list arms))) ∷ []) []

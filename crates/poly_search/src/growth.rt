@@ -1,9 +1,13 @@
-//! Growing a tree for a task: depth first on the item with the fewest options (Knuth, The Art of Computer Programming,
-//! volume 4B, section 7.2.2.1), until the budget of nodes is used up.
+//! Growing a tree for a task: depth first on the item with the fewest options beyond those that it still needs (Knuth, The
+//! Art of Computer Programming, volume 4B, section 7.2.2.1), until nothing is left, or the depth or the budget of nodes is
+//! used up. If no item is due, or if the item's options are too many for the budget, the tree gets a Split on an open
+//! placement.
 //!
-//! A budget that ends in the middle of a Branch would leave many small tasks. So one node is held back for each arm after
-//! the first. If the budget ends with several options not walked yet, the arms so far become a chain of Splits that ends in
-//! one Rest, for the tilings that have none of them. A small subtree that has a Rest is replaced by a single Rest.
+//! A budget that ends in the middle of a Branch would leave many small tasks. So a Branch holds back one node for each arm
+//! after the first, as long as the budget lasts. If the budget ends with several options not walked yet, the arms so far
+//! become a chain of Splits. The chain ends in one Rest, for the tilings that have none of the placements of these arms. A
+//! Branch holds nothing back and doesn't become a chain if it has too many options for the remaining depth, or if it used the
+//! last node of the budget. A small subtree that has a Rest is replaced by a single Rest.
 ghost use Rattle.std.specs.Prelude.{◌≡◌, ◌&&◌, ◌^◌, ◌++◌, [], ◌∷◌, ℕ, true, false, ◌+◌, ◌-◌, ◌≤◌, ◌<◌, IfOk, IfErr, OnOk, length, if◌then◌else◌};
 ghost use Rattle.poly_tiling.specs.Lists.{distinct, mem};
 ghost use Rattle.poly_report.specs.Trees.{Branches, NoArms, Rests};
@@ -29,16 +33,16 @@ pub struct Growth {
     pub nodes: u32,
     /// How many nodes that aren't Rest may still be made.
     pub inner: u32,
-    /// How many nodes that aren't Rest there were to begin with.
+    /// How many nodes that aren't Rest the whole tree may have.
     pub whole: u32,
     /// The leaves of what has grown, in the order of the tree.
     pub leaves: Leaves,
-    /// Lists of options whose arms are walked. The next Branch fills one of them again and takes no memory for its own.
+    /// Lists of options that have been walked. The next Branch reuses one of them instead of making its own list.
     pub spare: Vec<Vec<u32>>,
 }
 
-// The options of the item, in a list that is spare if there is one. An item without options takes no list. The frame stays
-// as it was.
+// The options of the item, written into a spare list if there is one. An item without options uses up no spare list. The
+// frame stays as it was.
 fn list_options(
     alloc: Global,
     frame: &mut Frame<'_>,
@@ -92,8 +96,9 @@ fn rest(alloc: Global, frame: &Frame<'_>, growth: &mut Growth) -> Result<Tree, R
     Ok(Tree::Rest)
 }
 
-/// Grows a tree for the frame's atoms, no deeper than `depth`, and leaves `kept` of the nodes unused. The frame stays as
-/// it was.
+/// Grows a tree for the frame's atoms, no deeper than `depth`, and leaves at least `kept` of the nodes unused. If `root` is
+/// set, the tree isn't Rest, provided that the depth and the budget allow a Split. If the call isn't refused, the frame stays
+/// as it was. The only refusal is `Memory`.
 #[cycle(grow)]
 pub fn grow(
     alloc: Global,
@@ -154,7 +159,8 @@ pub fn grow(
     split(alloc, frame, growth, kept, depth, open)
 }
 
-// Grows a tree below the root. If it has a Rest and used less than an eighth of the budget, a single Rest replaces it.
+// Grows a tree below the root. If the tree has a Rest and used fewer nodes than an eighth of the whole budget, rounded down,
+// a single Rest replaces the tree. Only nodes that aren't Rest are counted here.
 #[cycle(grow)]
 fn child(
     alloc: Global,
@@ -200,8 +206,8 @@ struct Arms {
     held: u32,
 }
 
-// Walks the options one after another. May stop before the last if the budget ends and a chain can be made. The last option
-// is not left, since nothing is walked after it.
+// Walks the options one after another, and adds an atom that leaves out each walked option before it walks the next one. May
+// stop with at least two options not walked, if the budget ends and a chain can be made.
 #[cycle(grow)]
 fn walk_arms(
     alloc: Global,
@@ -266,7 +272,8 @@ fn walk_arms(
     Ok(Arms { arms, held })
 }
 
-// A Branch on an item that is due, with its options for arms; or a chain over the arms that were walked.
+// Grows a Branch on an item that is due, with an arm for each option; or, if the walk stops early, a chain over the arms that
+// were walked.
 #[cycle(grow)]
 fn branch(
     alloc: Global,
@@ -333,7 +340,7 @@ fn link(alloc: Global, arms: Vec<Arm>) -> Result<Tree, Refusal>
     Ok(tree)
 }
 
-// A Split on an open placement.
+// Grows a Split on an open placement.
 #[cycle(grow)]
 fn split(
     alloc: Global,

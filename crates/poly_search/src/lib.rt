@@ -1,8 +1,9 @@
 //! Search: growing the tree of one task, and listing a whole family.
 //!
-//! - [`explore`], [`explore_over`], [`explore_with_leaves`], [`Explored`]: a worker's step. It grows a tree of at most the
-//!   given number of nodes, which holds for the task.
-//! - [`search_all`]: all tilings of a view that meet the atoms.
+//! - [`explore`]: a worker's step. It grows a tree that holds for the task and has at most the given number of nodes that
+//!   aren't Rest. [`explore_with_leaves`] also gathers the leaves of the tree, and [`explore_over`] does so with a matrix
+//!   that the caller has. Both return an [`Explored`].
+//! - [`search_all`]: all tilings of a view that meet the atoms, if there are at most 1,000,000.
 #![tactic(auto)]
 
 mod growth;

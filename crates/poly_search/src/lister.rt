@@ -1,8 +1,9 @@
-//! Listing a whole family: sweeps over a frame, depth first on the item with the fewest options (Knuth, The Art of
-//! Computer Programming, volume 4B, section 7.2.2.1), that list the tilings as they go.
+//! Listing a whole family by sweeps over a frame. A sweep goes depth first, on the item with the fewest options beyond those
+//! that it still needs (Knuth, The Art of Computer Programming, volume 4B, section 7.2.2.1), or on an open placement if no
+//! item is due. It lists the tilings as it goes.
 //!
-//! No tree is built. A sweep ends early if the steps of its frame or the depth run out, or if too much is listed
-//! already. What is left at each node on the path is then kept as atoms, for a sweep of its own.
+//! No tree is built. A sweep ends early if the steps of its frame or the depth run out, or if more than 1,000,000 tilings
+//! are listed already. What is left at each node on the path is then added to the rests, as atoms. A rest can be swept later.
 ghost use Rattle.std.specs.Prelude.{◌≡◌, ◌&&◌, ◌+◌, ◌≤◌, ◌<◌, ◌++◌, ◌∷◌, [], ℕ, drop, false, true, length, IfOk, IfErr, OnOk};
 ghost use Rattle.poly_atom.specs.declared.atom.Atom.TheVariants.{Lacks};
 ghost use Rattle.poly_tiling.specs.Lists.{distinct, mem};
@@ -21,15 +22,15 @@ use std::alloc::Global;
 /// What was listed, and what is left.
 #[derive(Drop)]
 pub struct Listing {
-    /// The tilings that were listed, each once.
+    /// The tilings that were listed.
     pub found: Vec<Tiling>,
     /// The families that are left, each as atoms.
     pub rests: Vec<Vec<Atom>>,
-    /// The options of the items that are being swept, those of one item after those of another.
+    /// The options of the items that are being swept, those of the outermost item first.
     pub options: Vec<u32>,
 }
 
-// Lists the base of a node without open placements, if it is a tiling that meets the atoms.
+// Lists the base of a node without open placements, if the base is a tiling that meets the atoms.
 #[tactic(auto, using(crate::proofs::Swept::family_ascends))]
 fn push_found(alloc: Global, frame: &Frame<'_>, list: &mut Listing) -> Result<(), Refusal>
     ensures found { OnOk result (list.new.found.items ≡ list.old.found.items ++ tilings frame.now.scene frame.now.atoms Finds) }
@@ -44,7 +45,7 @@ fn push_found(alloc: Global, frame: &Frame<'_>, list: &mut Listing) -> Result<()
     Ok(())
 }
 
-// Keeps the node for a later sweep.
+// Adds the node's atoms as a rest, for a later sweep.
 fn push_rest(alloc: Global, frame: &Frame<'_>, list: &mut Listing) -> Result<(), Refusal>
     ensures found { OnOk result (list.new.found.items ≡ list.old.found.items) }
     ensures rests { OnOk result (lists list.new.rests.items ≡ lists list.old.rests.items ++ frame.now.atoms ∷ []) }
@@ -56,8 +57,9 @@ fn push_rest(alloc: Global, frame: &Frame<'_>, list: &mut Listing) -> Result<(),
     Ok(())
 }
 
-/// Lists the family of the frame's atoms, and returns whether it came to the end: if not, what is left is among the rests.
-/// The steps on the frame stay below `end`, and the recursion goes no deeper than `depth`. The frame stays as it was.
+/// Lists the family of the frame's atoms, and returns whether the whole family is listed. If it isn't, what is left is added
+/// to the rests. The level of the frame never exceeds `end`, and the recursion goes no deeper than `depth`. If the
+/// call isn't refused, the frame stays as it was. The only refusal is `Memory`.
 #[cycle(sweep)]
 pub fn sweep(
     alloc: Global,
@@ -84,8 +86,8 @@ pub fn sweep(
     }
 }
 
-// Sweeps the options of an item that is due, one after another. Each tiling of the family has one of them, so nothing
-// remains to be swept after the last option.
+// Sweeps the options of an item that is due, one after another. Each tiling of the family has at least one of them, so
+// nothing remains to be swept after the last option.
 #[cycle(sweep)]
 fn sweep_item(
     alloc: Global,
@@ -157,7 +159,8 @@ fn sweep_options(
     Ok(true)
 }
 
-// No item is due, so a tiling may have any of the open placements: sweeps those with the first, and then those without it.
+// No item is due, so a tiling may have or lack each open placement. Sweeps the tilings that have one of the open placements,
+// leaves this placement out and goes on with another that is still open, until no placement is open.
 #[cycle(sweep)]
 fn sweep_open(
     alloc: Global,
@@ -192,8 +195,8 @@ fn sweep_open(
     Ok(true)
 }
 
-// Sweeps the tilings that have the open placement. If that ends early, those without it are added as a rest too. The frame
-// stays as it was.
+// Sweeps the tilings that have the open placement. If this sweep ends early, the tilings without the placement are added as
+// a rest too. If the call isn't refused, the frame stays as it was.
 #[cycle(sweep)]
 fn sweep_arm(
     alloc: Global,
@@ -230,8 +233,8 @@ fn sweep_arm(
     Ok(whole)
 }
 
-// Sweeps the node, or adds it as a rest if a limit is reached. If few placements of a large frame are open, a smaller frame
-// takes over from here.
+// Sweeps the family of the frame's atoms, or adds it as a rest if a limit is reached. If `narrower` makes a smaller frame, the
+// smaller frame takes over from here.
 #[cycle(sweep)]
 fn sweep_below(
     alloc: Global,

@@ -20,13 +20,13 @@ use std::alloc::Global;
 pub struct Explored {
     /// The tree, as `explore` returns it.
     pub tree: Tree,
-    /// Its leaves, as `poly_report::leaves` returns them.
+    /// The leaves of the tree, as `poly_report::leaves` returns them.
     pub leaves: Leaves,
 }
 
-/// Cuts the family of the atoms up as `explore` does, and gathers the leaves of the tree on the way: the same tilings and
-/// rests as `poly_report::leaves` finds in it, in the same order. The tree takes and leaves only placements that are open
-/// there. The only refusal is `Memory`.
+/// Grows a tree as `explore` does, and gathers the tree's leaves on the way: the same tilings and rests as
+/// `poly_report::leaves` finds in the tree, in the same order. Each placement is open at the node of the tree that takes it or
+/// leaves it out. `nodes` is from 1 to 4,096. The only refusal is `Memory`.
 pub fn explore_with_leaves(
     alloc: Global,
     view: &View,
@@ -50,7 +50,8 @@ pub fn explore_with_leaves(
     Ok(explored)
 }
 
-/// Does what `explore_with_leaves` does, with the view's matrix, which serves every task of the view.
+/// Does what `explore_with_leaves` does, but takes the view's matrix, so that many tasks can be searched with one matrix.
+/// Requires that `whole` is the view's matrix, from [`Matrix::new`]. The only refusal is `Memory`.
 pub fn explore_over(
     alloc: Global,
     view: &View,
@@ -84,10 +85,11 @@ pub fn explore_over(
     Ok(Explored { tree, leaves })
 }
 
-/// Cuts the family of the atoms up, with at most `nodes` nodes that aren't Rest; `nodes` is from 1 to 4,096.
+/// Returns a tree that divides the family of the atoms, with at most `nodes` nodes that aren't Rest; `nodes` is from 1 to
+/// 4,096.
 ///
 /// The tree fits the limits of a report and holds for the atoms, its root isn't Rest, and each of its rests has fewer
-/// open placements than the atoms. The only refusal is `Memory`.
+/// open placements than the atoms have. The only refusal is `Memory`.
 pub fn explore(alloc: Global, view: &View, atoms: &[Atom], nodes: u32) -> Result<Tree, Refusal>
     requires some { 1 ≤ nodes }
     requires few { nodes ≤ NODES }

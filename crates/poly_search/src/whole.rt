@@ -9,9 +9,9 @@ use poly_report::{DEPTH, Frame, Matrix, STEPS};
 use poly_tiling::{MAX_TILINGS, Tiling, View};
 use std::alloc::Global;
 
-/// All tilings that meet the atoms, each once, in no order.
+/// All tilings of the view that meet the atoms, each once, in no particular order.
 ///
-/// Fails with `CatalogueFull` if there are over 1,000,000, and otherwise only with `Memory`.
+/// If there are over 1,000,000, fails with `CatalogueFull` or `Memory`; otherwise fails only with `Memory`.
 pub fn search_all(alloc: Global, view: &View, atoms: &[Atom]) -> Result<Vec<Tiling>, Refusal>
     ensures all { IfOk result (λ found. IsFamily view.now atoms.now found.items) }
     ensures few { IfOk result (λ found. length found.items ≤ MAX_TILINGS) }

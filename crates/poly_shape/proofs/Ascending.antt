@@ -1,4 +1,5 @@
--- Ascending lists over any order in which only equal elements tie: where a search ends, and what an insertion there makes.
+-- Ascending lists over any total order: where a search ends, what an insertion there makes, and what two such lists have in
+-- common.
 use Rattle.std.proofs.Common.{◌≡◌, ℕ, zero, suc, ◌+◌, ◌-◌, ◌<◌, ◌≤◌, ◌⊎◌, List, [], ◌∷◌, ◌++◌, length, get_or, take, drop, refl, sym, ap, subst, ◌∙◌, inl, inr, arith}
 use Rattle.std.specs.declared.cmp.Ordering.{Ordering}
 use Rattle.std.specs.declared.cmp.Ordering.TheVariants.{Less, Equal, Greater}
@@ -23,7 +24,7 @@ module _ {X : Type 0} where
   contains_cons : (x : X) (xs : List X) (y : X) → Contains xs y → Contains (x ∷ xs) y
   contains_cons x xs y (k, lt, e) = (suc k, omega arith, e)
 
-  -- what is in a list after an insertion was there or is the new element
+  -- each element after an insertion was there before or is the new one
   pub contains_insert_cases : (xs : List X) (i : ℕ) (x y : X) → Contains (insert xs i x) y → Contains xs y ⊎ (x ≡ y)
   contains_insert_cases xs i x y here =
       let whole : take i xs ++ drop i xs ≡ xs = take-append-drop i xs in
@@ -88,7 +89,7 @@ module _ {X : Type 0} {R : X → X → Ordering} (o : IsTotalOrder R) where
         ]
       ]
 
-  -- where a binary search ends
+  -- if a binary search ends at an element that ties with x, the list has x
   pub found_is : ((x y : X) → R x y ≡ Equal → x ≡ y) → (xs : List X) (x : X) (i : ℕ) → i < length xs → HoldsAt (λ y. R y x ≡ Equal) xs i → Contains xs x
   found_is same xs x i lt here = (i, lt, same _ _ (here x))
 
@@ -97,7 +98,7 @@ then_equal Less q e = (e, absurd (cc))
 then_equal Equal q e = (refl, e)
 then_equal Greater q e = (e, absurd (cc))
 
--- a cell is its column and its row
+-- cells with the same column and row are equal
 pub same_places : (a b : Spot) → a.x ≡ b.x → a.y ≡ b.y → a ≡ b
 same_places a b xs ys = λ i. record { x = xs i; y = ys i }
 
@@ -147,7 +148,8 @@ module _ {X : Type 0} {R : X → X → Ordering} (o : IsTotalOrder R) where
       λ i. e i ∷ rest i
 
 module _ {X : Type 0} {R : X → X → Ordering} (o : IsTotalOrder R) where
-  -- if the first element of a comes later in b, all of a does
+  -- if b has all elements of a, and the first element of a comes after the first of b, then all elements of a come after the
+  -- first of b
   all_later : (x y : X) (xs ys : List X) → IsAscending R (x ∷ xs) → IsAscending R (y ∷ ys) → Contains ys x
       → ((v : X) → Contains (x ∷ xs) v → Contains (y ∷ ys) v) → (v : X) → Contains (x ∷ xs) v → Contains ys v
   all_later x y xs ys up vp later ab v here = elim (contains_cons_cases y ys v (ab v here)) [
@@ -159,7 +161,7 @@ module _ {X : Type 0} {R : X → X → Ordering} (o : IsTotalOrder R) where
         ]
   ]
 
-  -- a part of an ascending list is no longer than the list
+  -- an ascending list has at least as many elements as an ascending part of it
   pub length-part : (a b : List X) → IsAscending R a → IsAscending R b → ((v : X) → Contains a v → Contains b v) → length a ≤ length b
   length-part [] b up vp ab = omega arith
   length-part (x ∷ xs) [] up vp ab = let h = ab x (zero, omega arith, refl) in absurd (omega (arith, h.1))
@@ -168,7 +170,7 @@ module _ {X : Type 0} {R : X → X → Ordering} (o : IsTotalOrder R) where
     | inl later ↦ let le = length-part (x ∷ xs) ys up (tail_ascending o y ys vp) (all_later x y xs ys up vp later ab) in omega (arith, le)
   ]
 
-  -- and shorter if the list has an element that the part doesn't have
+  -- an ascending part that lacks an element of an ascending list is shorter than the list
   pub part_shorter : (a b : List X) (c : X) → IsAscending R a → IsAscending R b → ((v : X) → Contains a v → Contains b v) → Contains b c → (Contains a c → ⊥) → length a < length b
   part_shorter [] [] c up vp ab has lacks = absurd (omega (arith, has.1))
   part_shorter [] (y ∷ ys) c up vp ab has lacks = omega arith
@@ -181,7 +183,7 @@ module _ {X : Type 0} {R : X → X → Ordering} (o : IsTotalOrder R) where
     | inl later ↦ let le = length-part (x ∷ xs) ys up (tail_ascending o y ys vp) (all_later x y xs ys up vp later ab) in omega (arith, le)
   ]
 
--- what fails at each index below i, and at i, fails at each below i + 1
+-- what fails at each index below i and at i itself fails at each index below i + 1
 pub none_more : {X : Type 0} (P : X → Type 0) (xs : List X) (i : ℕ) (a : X) → i < length xs → a ≡ get_or xs i a → (P a → ⊥)
     → ((k : ℕ) (d : X) → k < i → P (get_or xs k d) → ⊥) → (k : ℕ) (d : X) → k < i + 1 → P (get_or xs k d) → ⊥
 none_more P xs i a lt is fails below k d less p = elim (cases_eq k i) [

@@ -14,7 +14,7 @@ use Rattle.poly_shape.specs.Connected.{IsCompact}
 use Rattle.poly_shape.specs.Corner.{IsCorner, IsInReach}
 use Rattle.poly_shape.proofs.Turns.{OfEach, of_turn}
 
--- the corner among the first n cells
+-- x and y are coordinates of turned cells, and none of the first n turned cells is left of x or above y
 pub record LowFrom (g : Grid) (t : ℕ) (cells : List Spot) (n : ℕ) (x y : ℤ) : Type 0 where
   pub below : (k : ℕ) (d : Spot) → k < n → (x ≤ℤ (turned_of g t (point_of (get_or cells k d))).x) × (y ≤ℤ (turned_of g t (point_of (get_or cells k d))).y)
   pub left : (a : Spot) × Contains cells a × ((turned_of g t (point_of a)).x ≡ x)
@@ -23,7 +23,7 @@ pub record LowFrom (g : Grid) (t : ℕ) (cells : List Spot) (n : ℕ) (x y : ℤ
 abbrev IsWithin126 : Spot → (ℤ → ℤ → ℤ) → Type 0
 IsWithin126 a c = (negsuc 125 ≤ℤ c (pos a.x) (pos a.y)) × (c (pos a.x) (pos a.y) ≤ℤ pos 126)
 
--- a turn takes a small cell to a point near the origin
+-- a turn takes a cell that a board can have to a point with coordinates from -126 to 126
 pub turned_near : (g : Grid) (t : ℕ) (a : Spot) → (a.x < 64) × (a.y < 64)
     → let p = turned_of g t (point_of a) in ((negsuc 125 ≤ℤ p.x) × (p.x ≤ℤ pos 126)) × ((negsuc 125 ≤ℤ p.y) × (p.y ≤ℤ pos 126))
 turned_near g t a small = of_turn (IsWithin126 a) near g t
@@ -76,7 +76,7 @@ some_value P v (Some x) w h e = let i : x ≡ w = cc in sym i ∙ h.1
 abbrev IsUpTo60 : Spot → Spot → (ℤ → ℤ → ℤ) → Type 0
 IsUpTo60 a b c = c (pos b.x) (pos b.y) ≤ℤ (c (pos a.x) (pos a.y) +ℤ pos 60)
 
--- cells that are close stay close under a turn
+-- if two cells are at most 30 columns and rows apart, they are at most 60 apart after a turn
 turned_close : (g : Grid) (t : ℕ) (a b : Spot) → (b.x ≤ a.x + 30) × (b.y ≤ a.y + 30) → (a.x ≤ b.x + 30) × (a.y ≤ b.y + 30)
     → ((turned_of g t (point_of b)).x ≤ℤ ((turned_of g t (point_of a)).x +ℤ pos 60)) × ((turned_of g t (point_of b)).y ≤ℤ ((turned_of g t (point_of a)).y +ℤ pos 60))
 turned_close g t a b sa sb = of_turn (IsUpTo60 a b) close g t

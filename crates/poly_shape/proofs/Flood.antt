@@ -16,7 +16,7 @@ use Rattle.poly_shape.specs.Connected.{IsClosed, IsConnected, Touches}
 use Rattle.poly_shape.proofs.Ascending.{same_ascending, same_spot, same_cells}
 use Rattle.poly_grid.proofs.Neighbours.{neighbours_are_mutual}
 
--- what flooding from the cell first has reached
+-- `reached` is what flooding from the cell `first` has reached so far
 pub record IsFlood (g : Grid) (cells reached : List Spot) : Type 0 where
   pub first : Spot
   pub start : Contains reached first

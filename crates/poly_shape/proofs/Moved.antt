@@ -70,7 +70,7 @@ spot_from_point a b e =
     let ey = ap (λ (p : Point). p.y) e in
     same_places a b (omega (arith, ints, ex)) (omega (arith, ints, ey))
 
--- two cells that lie at the same place are equal
+-- two cells that a turn and a shift take to one cell are equal
 same_source : (g : Grid) (t : ℕ) → t < turn_count g true → (s : Point) (a b c : Spot) → LiesAt g t s a c → LiesAt g t s b c → a ≡ b
 same_source g t known s a b c la lb = spot_from_point a b (one_to_one g t known (point_of a) (point_of b) (la ∙ sym lb))
 
@@ -86,7 +86,7 @@ at_one_place xs j k up lj lk e = elim (cases_order j k) [
   ]
 ]
 
--- an image has as many cells
+-- an image has as many cells as the set that was turned
 pub length-image : (g : Grid) (t : ℕ) (cells image : List Spot) → t < turn_count g true → IsAscending spot_cmp cells → IsImage g t cells image → length image ≡ length cells
 length-image g t cells image known up is =
     let to = λ (k : ℕ) (b : Spot). (k < length cells) × LiesAt g t is.shift (get_or cells k origin) b in

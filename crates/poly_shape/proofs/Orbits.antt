@@ -34,7 +34,7 @@ lies_after g t u both composite s r a b c lb lc =
     let cy = ap (λ (p : Point). p.y) lc in
     same_point _ _ (omega (arith, ints, ex, cx)) (omega (arith, ints, ey, cy))
 
--- an image of an image is an image
+-- an image of an image of cells is an image of the cells
 image_after : (g : Grid) (t u both : ℕ) → IsComposite g t u both → (cells image last : List Spot) → IsImage g t cells image → IsImage g u image last → IsImage g both cells last
 image_after g t u both composite cells image last p q = record {
   shift = shifted q.shift (turned_of g u p.shift);
@@ -44,7 +44,7 @@ image_after g t u both composite cells image last p q = record {
   all = λ a here. let b = p.all a here in let c = q.all b.0 b.1 in (c.0, c.1, lies_after g t u both composite p.shift q.shift a b.0 c.0 b.2 c.2);
 }
 
--- where a cell lies under the turn that undoes a turn
+-- the turn that undoes a turn, followed by a shift, takes the image of a cell back to the cell
 pub lies_back : (g : Grid) (t u : ℕ) → IsComposite g t u 0 → (s : Point) (a b : Spot) → LiesAt g t s a b
     → LiesAt g u (record { x = neg_ℤ (turned_of g u s).x; y = neg_ℤ (turned_of g u s).y }) b a
 lies_back g t u composite s a b lies =

@@ -34,7 +34,8 @@ images_more g cells n list list' image are is adds up = record {
   ];
 }
 
--- the shift of a normal image is the least corner, so no other one is further left or up
+-- the shift of an image is the corner of the turned cells, so the shift of another image under the same turn isn't
+-- left of this corner or above it
 shift_le : (g : Grid) (t : ℕ) (cells a b : List Spot) (p : IsImage g t cells a) (q : IsImage g t cells b) → (p.shift.x ≤ℤ q.shift.x) × (p.shift.y ≤ℤ q.shift.y)
 shift_le g t cells a b p q =
     let l = q.only q.normal.left.0 q.normal.left.1 in

@@ -1,4 +1,4 @@
--- Connected cells lie close together: no column or row between two of them is left out, and each takes a cell of its own.
+-- Connected cells lie close together: each column and each row between two of them has at least one of the cells.
 use Rattle.std.proofs.Common.{◌≡◌, ℕ, ℤ, pos, negsuc, ◌≤ℤ◌, ◌+◌, ◌-◌, ◌≤◌, true, false, eqb, ltb, List, length, get_or, inl, inr, ap, sym, ◌∙◌, arith}
 use mathlib.Core.Bool.{true≢false}
 use Rattle.std.proofs.lemmas.Int.{ints}
@@ -35,7 +35,8 @@ columns_gradual g a b (d, lt, e) = let ex = ap (λ (p : Point). p.x) e in omega 
 rows_gradual : (g : Grid) → IsGradual g (λ c. c.y)
 rows_gradual g a b (d, lt, e) = let ey = ap (λ (p : Point). p.y) e in omega (arith, ints, small_at g d, ey)
 
--- some cell has each value between those of two cells
+-- if the cells are connected and f rises by at most one from a cell to a neighbour, each number between the values of f at two
+-- of the cells is the value of f at one of them
 met : (g : Grid) (cells : List Spot) (f : Spot → ℕ) → IsGradual g f → IsConnected g cells → (a b : Spot) → Contains cells a → Contains cells b
     → (k : ℕ) → f b ≤ k → k ≤ f a → (c : Spot) × Contains cells c × (f c ≡ k)
 met g cells f gradual connected a b in_a in_b k low high = elim (cases_Bool (list_any (λ c. eqb (f c) k) cells)) [

@@ -31,6 +31,6 @@ taken_more xs n set set' a taken lt at fresh adds len = record {
 pub taken_all : {X : Type 0} (xs : List X) (set : List X) → IsTaken xs (length xs) set → HasSame set xs
 taken_all xs set taken x = (taken.only x, λ h. subst (Contains set) h.2 (taken.all h.0 x h.1))
 
--- an element that the set has comes twice
+-- if the set already has the next element of xs, the elements of xs are not distinct
 pub repeated : {X : Type 0} (xs : List X) (n : ℕ) (set : List X) (a : X) → IsTaken xs n set → n < length xs → ((d : X) → get_or xs n d ≡ a) → Contains set a → AreFewDistinct xs → ⊥
 repeated xs n set a taken lt at here ok = let b = taken.below a here in ok.distinct b.0 n a b.1 lt (b.2 ∙ sym (at a))

@@ -1,4 +1,4 @@
--- Cells at their normal position and their translates: each determines the other.
+-- Cells at their normal position: each translate determines them, and they are their own image under turn 0.
 use Rattle.std.proofs.Common.{◌≡◌, ℕ, pos, ◌+ℤ◌, ◌<◌, ◌≤◌, List, [], ◌∷◌, length, get_or, refl, ap, sym, subst, ◌∙◌, arith}
 use Rattle.std.proofs.lemmas.Int.{ints}
 use Rattle.std.proofs.lemmas.List.{get_or-map, length-map}
@@ -20,7 +20,7 @@ contains_moved right down cells c (k, lt, e) =
     let len = length-map cells (spot_moved right down) in
     (k, omega (arith, len), get_or-map (spot_moved right down) cells k c (spot_moved right down c) lt ∙ ap (spot_moved right down) e)
 
--- a moved cell comes from a cell
+-- each of the moved cells is one of the cells, moved
 pub source_of_moved : (right down : ℕ) (cells : List Spot) (v : Spot) → Contains (moved_by right down cells) v → (c : Spot) × Contains cells c × (spot_moved right down c ≡ v)
 source_of_moved right down cells v (k, lt, e) =
     let len = length-map cells (spot_moved right down) in
@@ -57,7 +57,7 @@ lies_at : (g : Grid) (s : Point) (a b : Spot) → pos a.x ≡ pos b.x +ℤ s.x �
 lies_at Square s a b ex ey = same_point _ _ ex ey
 lies_at Hex s a b ex ey = same_point _ _ ex ey
 
--- cells at their normal position are their own normal form
+-- cells at their normal position are their own image under turn 0
 pub image_of_itself : (g : Grid) (cells : List Spot) → IsAscending spot_cmp cells → IsNormal cells → IsImage g 0 cells cells
 image_of_itself g cells up normal = record {
   shift = still;

@@ -10,7 +10,7 @@ use Rattle.poly_shape.specs.Order.{IsAscending, Adds, spot_cmp}
 use Rattle.poly_shape.specs.Shape.{LiesAt, IsImage}
 use Rattle.poly_shape.specs.Corner.{IsCorner}
 
--- image has exactly the places of the first n cells
+-- image has the first n cells, turned and moved; it ascends, has at most n cells, and each of these is a turned and moved cell
 pub record ImageFrom (g : Grid) (t : ℕ) (shift : Point) (cells : List Spot) (n : ℕ) (image : List Spot) : Type 0 where
   pub few : length image ≤ n
   pub ascending : IsAscending spot_cmp image
@@ -31,7 +31,7 @@ image_more g t shift cells n image image' a b from lt at lies adds few up = reco
   ];
 }
 
--- the whole image is at its normal position, since the shift is the corner
+-- with all cells in it, `image` is the image of the cells: it is at its normal position, since the shift is the corner
 pub image_done : (g : Grid) (t : ℕ) (shift : Point) (cells : List Spot) (image : List Spot)
     → IsCorner g t cells shift → ImageFrom g t shift cells (length cells) image → IsImage g t cells image
 image_done g t shift cells image corner from = record {

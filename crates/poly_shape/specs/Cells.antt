@@ -3,7 +3,7 @@ use Rattle.poly_grid.specs.Spot.{Spot}
 use Rattle.poly_shape.specs.declared.cells.Cells.TheInside.{Inside}
 use Rattle.poly_shape.specs.Order.{IsAscending, spot_cmp}
 
--- the places past the cells hold the cell 0,0
+-- the cells, and after them the cell 0,0, repeated until there are 16 cells
 abbrev pub padded : List Spot → List Spot
 padded l = l ++ replicate (16 - length l) (record { x = 0; y = 0 })
 

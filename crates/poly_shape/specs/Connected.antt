@@ -10,11 +10,11 @@ use Rattle.poly_shape.specs.Shape.{point_of}
 abbrev pub AreNeighbours : Grid → Spot → Spot → Type 0
 AreNeighbours g a b = grid.AreNeighbours g (point_of a) (point_of b)
 
--- if a cell passes, each of its neighbours among the cells passes too
+-- if one of the cells passes, each of its neighbours among the cells passes too
 abbrev pub IsClosed : Grid → List Spot → (Spot → Bool) → Type 0
 IsClosed g cells p = (a b : Spot) → Contains cells a → Contains cells b → AreNeighbours g a b → p a ≡ true → p b ≡ true
 
--- a test that is closed under neighbours and passes one of the cells passes all of them
+-- if one of the cells passes a test that is closed under neighbours, all of them pass it
 abbrev pub IsConnected : Grid → List Spot → Type 0
 IsConnected g cells = (p : Spot → Bool) → IsClosed g cells p → (a b : Spot) → Contains cells a → Contains cells b → p a ≡ true → p b ≡ true
 

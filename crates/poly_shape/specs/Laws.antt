@@ -16,16 +16,16 @@ abbrev pub RotationsAreAmongAll : Type 0
 RotationsAreAmongAll = (s : Figure) (rotations all : List (List Spot)) → AreOrientations s false rotations → AreOrientations s true all
     → (image : List Spot) → Contains rotations image → Contains all image
 
--- no two lists are the orientations of one shape
+-- no two different lists are the orientations of one shape with the same mirror
 abbrev pub OrientationsAreOneList : Type 0
 OrientationsAreOneList = (s : Figure) (mirror : Bool) (a b : List (List Spot)) → AreOrientations s mirror a → AreOrientations s mirror b → a ≡ b
 
--- any translate of cells determines the cells at their normal position
+-- a translate of cells at their normal position determines these cells, and how far they were moved
 abbrev pub TranslatesTellTheNormalPlace : Type 0
 TranslatesTellTheNormalPlace = (a b : List Spot) (right down right' down' : ℕ) → IsNormal a → IsNormal b → moved_by right down a ≡ moved_by right' down' b
     → (a ≡ b) × (right ≡ right') × (down ≡ down')
 
--- it does not matter in which of its orientations a shape is given
+-- with the same mirror throughout, each orientation of a shape has the same list of orientations as the shape
 abbrev pub OrientationsAreShared : Type 0
 OrientationsAreShared = (s : Figure) (mirror : Bool) (list other : List (List Spot)) (image : List Spot) → IsShape s → AreOrientations s mirror list → Contains list image
     → AreOrientations (record { grid = s.grid; cells = image }) mirror other → other ≡ list

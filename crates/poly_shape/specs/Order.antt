@@ -45,7 +45,7 @@ cells_ties = lists_ties spot_cmp spot_ties
 pub cells_laws : IsPartialOrder (pointwise spot_eq) (as_partial_cmp cells_cmp)
 cells_laws = partial_order_from_agreeing_total cells_cmp cells_total (λ x y. refl) cells_ties
 
--- new has what old has, and x
+-- new has exactly what old has, and x
 abbrev pub Adds : {X : Type 0} → List X → X → List X → Type 0
 Adds {X} old x new = (y : X) → Contains new y ↔ (Contains old y ⊎ (x ≡ y))
 

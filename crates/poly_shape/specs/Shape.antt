@@ -1,4 +1,5 @@
--- What a shape is, and its orientations: the images under the turns, each moved to its normal position, as sets of cells.
+-- The orientations of a shape: its images under the rotations, and with mirror under the reflections too, each moved to its
+-- normal position.
 use Rattle.std.specs.Prelude.{◌≡◌, ℕ, pos, ◌+ℤ◌, ◌<◌, Bool, List}
 use Rattle.std.specs.List.{Contains}
 use Rattle.poly_grid.specs.declared.grid.Grid.{Grid}
@@ -20,7 +21,7 @@ pub record IsNormal (cells : List Spot) : Type 0 where
 abbrev pub LiesAt : Grid → ℕ → Point → Spot → Spot → Type 0
 LiesAt g t shift a b = turned_of g t (point_of a) ≡ record { x = pos b.x +ℤ shift.x; y = pos b.y +ℤ shift.y }
 
--- image is, as a set of cells in ascending order, what the turn makes of the cells, moved to its normal position
+-- image has the turned cells, moved to their normal position, in ascending order
 pub record IsImage (g : Grid) (t : ℕ) (cells image : List Spot) : Type 0 where
   pub shift : Point
   pub ascending : IsAscending spot_cmp image
@@ -28,7 +29,7 @@ pub record IsImage (g : Grid) (t : ℕ) (cells image : List Spot) : Type 0 where
   pub only : (b : Spot) → Contains image b → (a : Spot) × Contains cells a × LiesAt g t shift a b
   pub all : (a : Spot) → Contains cells a → (b : Spot) × Contains image b × LiesAt g t shift a b
 
--- the list ascends, and has exactly the images under the turns that are allowed
+-- the list ascends, and has exactly the images under the rotations, and with mirror under the reflections too
 pub record AreOrientations (s : Figure) (mirror : Bool) (list : List (List Spot)) : Type 0 where
   pub ascending : IsAscending cells_cmp list
   pub only : (image : List Spot) → Contains list image → (t : ℕ) × (t < turn_count s.grid mirror) × IsImage s.grid t s.cells image

@@ -12,7 +12,7 @@ pub record IsShape (s : Figure) : Type 0 where
   pub normal : IsNormal s.cells
   pub connected : IsConnected s.grid s.cells
 
--- an orientation is a shape of the same grid with as many cells
+-- the image is a shape on the grid of s, and has as many cells as s
 pub record IsOrientation (s : Figure) (image : List Spot) : Type 0 where
   pub shape : IsShape (record { grid = s.grid; cells = image })
   pub full : length image ≡ length s.cells

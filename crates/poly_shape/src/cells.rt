@@ -15,7 +15,9 @@ use std::marker::Model;
 /// Two sets are compared as their lists of cells: a list that is a prefix of another comes first.
 #[derive(Clone, Copy, Debug)]
 pub struct Cells {
+    /// The cells in cell order, and after them the cell 0,0, repeated up to the end.
     cells: [Cell; 16],
+    /// How many cells the set has, 1 to 16.
     len: usize,
 }
 
@@ -123,7 +125,7 @@ impl Cells {
         Cells::joined(&[], cells[0], &cells[1..])
     }
 
-    // The only code that writes the array, so that its unused tail is the same in equal sets.
+    // Every set is made here, so the unused tail of the array is the same in equal sets.
     fn joined(front: &[Cell], cell: Cell, back: &[Cell]) -> Cells
         requires few { length front.now + length back.now < 16 }
         requires ascending { IsAscending spot_cmp (front.now ++ cell ∷ back.now) }
@@ -131,7 +133,7 @@ impl Cells {
     {
         let len = front.len() + 1 + back.len();
         let mut cells = [Cell::ORIGIN; 16];
-        place(&mut cells, front, cell, back);
+        fill(&mut cells, front, cell, back);
         Cells { cells, len }
     }
 }
@@ -205,8 +207,8 @@ impl Hash for Cells {
     }
 }
 
-// Writes `front`, the cell and `back`, one after the other, over the first elements of the room.
-fn place(room: &mut [Cell], front: &[Cell], cell: Cell, back: &[Cell])
+// Writes `front`, the cell and `back`, one after another, over the first elements of `room`.
+fn fill(room: &mut [Cell], front: &[Cell], cell: Cell, back: &[Cell])
     requires { length front.now + 1 + length back.now ≤ length room.old }
     ensures { room.new ≡ (front.now ++ cell ∷ back.now) ++ drop (length front.now + 1 + length back.now) room.old }
 {

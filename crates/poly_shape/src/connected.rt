@@ -18,7 +18,7 @@ pub(crate) fn is_connected(grid: Grid, cells: &Cells) -> bool
     reached == *cells
 }
 
-// A cell that is not reached and has a reached neighbour.
+// A cell of the set that is not reached and has a reached neighbour, if there is one.
 fn frontier(grid: Grid, cells: &Cells, reached: &Cells) -> Option<Cell>
     ensures some { IfSome result (λ c. Contains cells.now c × (¬ Contains reached.now c) × Touches grid reached.now c) }
     ensures none { IfNone result ((c : Spot) → Contains cells.now c → Touches grid reached.now c → Contains reached.now c) }

@@ -18,9 +18,9 @@ pub(crate) fn image(grid: Grid, turn: u8, cells: &Cells) -> Cells
 {
     let cells = cells.as_slice();
     let corner = low_corner(grid, turn, cells);
-    let mut image = Cells::one(place(grid, turn, corner, cells[0]));
+    let mut image = Cells::one(image_of_cell(grid, turn, corner, cells[0]));
     for i in 1..cells.len() {
-        image = image.with(place(grid, turn, corner, cells[i]));
+        image = image.with(image_of_cell(grid, turn, corner, cells[i]));
     }
     image
 }
@@ -43,7 +43,7 @@ fn low_corner(grid: Grid, turn: u8, cells: &[Cell]) -> Point
     Point { x, y }
 }
 
-fn place(grid: Grid, turn: u8, corner: Point, cell: Cell) -> Cell
+fn image_of_cell(grid: Grid, turn: u8, corner: Point, cell: Cell) -> Cell
     requires known { turn < turn_count grid true }
     requires reach { IsInReach grid turn corner cell }
     ensures { LiesAt grid turn corner cell result }

@@ -12,17 +12,18 @@ pub fn rotations_are_among_all()
     ensures { RotationsAreAmongAll }
 {}
 
-/// The definition of orientations leaves no choice: only one list meets it.
+/// The definition of orientations leaves no choice: for a shape, with mirror on or off, only one list meets it.
 pub fn orientations_are_one_list()
     ensures { OrientationsAreOneList }
 {}
 
-/// Every translate of cells determines the cells at their normal position.
+/// A translate of cells at their normal position determines these cells, and how far they were moved.
 pub fn translates_tell_the_normal_place()
     ensures { TranslatesTellTheNormalPlace }
 {}
 
-/// All orientations of a shape have the same list of orientations.
+/// Each orientation of a shape has the same list of orientations as the shape, if mirror is on for all of these or off for
+/// all of these.
 pub fn orientations_are_shared()
     ensures { OrientationsAreShared }
 {}

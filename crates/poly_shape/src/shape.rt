@@ -16,7 +16,9 @@ use std::marker::Model;
 /// Cells that are connected on a grid, at their normal position: the least column and the least row are 0.
 #[derive(Clone, Copy, Debug, PartialEq, Eq)]
 pub struct Shape {
+    /// The grid on which the cells are connected.
     grid: Grid,
+    /// The cells, at their normal position.
     cells: Cells,
 }
 
@@ -84,7 +86,7 @@ impl Shape {
     }
 }
 
-// Inserts the cells in order, unless they are in the list.
+// Inserts the set of cells into the ascending list, in order, unless the list has this set.
 fn add(list: &mut Vec<Cells>, cells: Cells) -> Result<(), Refusal>
     requires { IsAscending cells_cmp list.old.items }
     ensures ascending { OnOk result (IsAscending cells_cmp list.new.items) }

@@ -1,4 +1,5 @@
--- Tilings that are not listed yet may be listed.
+-- Listed tilings without repeats, followed by those members of a second list without repeats that are not listed yet, have no
+-- repeats.
 use Rattle.std.proofs.Common.{Bool, List, ap, arith, false, filter, inl, inr, not, refl, subst, true, ℕ, ◌&&◌, ◌++◌, ◌+◌, ◌∙◌, ◌≡◌}
 use Rattle.std.proofs.lemmas.Bool.{cases_eq}
 use Rattle.std.specs.Cmp.Lexicographic.{nat_list_eq_equiv, pointwise}
@@ -15,14 +16,14 @@ and_not : (a b : Bool) → (a ≡ true → b ≡ false) → (a && b) ≡ false
 and_not true b h = h refl
 and_not false b h = refl
 
--- two lists without a common element
+-- if two lists have no repeats and no element in common, the one followed by the other has no repeats
 apart : (a b : List (List ℕ)) → AreOnce a → AreOnce b → ((T : List ℕ) → In T a → tally (same_list T) b ≡ 0) → AreOnce (a ++ b)
 apart a b x y none T = elim (cases_eq (tally (same_list T) a) 0) [
   | inl e ↦ omega (arith, tally_append (same_list T) a b, e, y T)
   | inr n ↦ omega (arith, tally_append (same_list T) a b, x T, none T (tally_has T a (omega arith)))
 ]
 
--- those of a list that are not listed
+-- if neither list has repeats, the first one, followed by what is in the second but not in the first, has none either
 pub fresh_once : (a b : List (List ℕ)) → AreOnce a → AreOnce b → AreOnce (a ++ filter (λ T. not (list_any (λ U. pointwise nat_eq U T) a)) b)
 fresh_once a b x y =
     let q = λ (T : List ℕ). not (list_any (λ U. pointwise nat_eq U T) a) in

@@ -1,4 +1,6 @@
--- Tilings that have a number and tilings that lack it may be listed together.
+-- The first n members of a list of the family of one atom are tilings, meet the atom, and have no repeats. If all members of
+-- one list have a number and all members of another lack it, and neither list has repeats, the one followed by the other has
+-- none.
 use Rattle.std.proofs.Common.{Bool, List, [], ap, arith, false, inl, inr, not, refl, suc, take, true, zero, ℕ, ◌&&◌, ◌++◌, ◌+◌, ◌∙◌, ◌∷◌, ◌≡◌, ◌≤◌}
 use Rattle.std.proofs.lemmas.Bool.{and_parts, cases_eq}
 use Rattle.std.specs.List.{list_all}

@@ -1,4 +1,4 @@
-//! Answers about two dominoes on a square of four cells, which were found by hand.
+//! Answers about two dominoes on a square of four cells. The expected values were found by hand.
 
 use crate::designs::{DOMINOES, design_of, placement};
 use poly_browse::{Answer, Query, browse};
@@ -7,7 +7,8 @@ use poly_text::{Command, asked};
 use poly_tiling::{Tiling, View, list_tilings};
 use std::alloc::Global;
 
-// What an answer says, with the least and the most options of an item.
+// An answer in numbers: the matching tilings, the forced placements, the items, and the least and the greatest number of
+// options of an item.
 #[derive(Debug, Clone, Copy, PartialEq, Eq)]
 struct Summary {
     count: u64,
@@ -32,7 +33,7 @@ fn summary_of(answer: &Answer) -> Summary {
     summary
 }
 
-// The query of a line that asks to browse. Any other line is a `BadCommand`.
+// The query of a line that asks to browse. A line that asks for something else, or for nothing, is a `BadCommand`.
 fn query_of(alloc: Global, line: &[u8]) -> Result<Query, Refusal> {
     match asked(alloc, Grid::Square, line)? {
         Some(Command::Browse(question)) => Ok(Query {
@@ -51,7 +52,7 @@ fn answer_to(alloc: Global, query: &Query) -> Result<Answer, Refusal> {
     browse(alloc, &design, &tilings, &view, query)
 }
 
-// Each of the six items has the same number of options.
+// A summary in which each of the six items has the same number of options.
 fn same_for_each(count: u64, forced: usize, each: u64) -> Summary {
     Summary {
         count,
@@ -62,8 +63,8 @@ fn same_for_each(count: u64, forced: usize, each: u64) -> Summary {
     }
 }
 
-// A line, the count, the number of forced placements and the options of each item. The last two lines name a piece that the
-// design doesn't have, and cells that no placement has.
+// A line, the count, the number of forced placements and the number of options of each item. The last two lines name a piece
+// that the design doesn't have, and two cells that aren't a placement.
 const ANSWERS: [(&[u8], u64, usize, u64); 5] = [
     (b"browse", 4, 0, 4),
     (b"browse +A=0,0/1,0", 1, 2, 1),
@@ -92,7 +93,7 @@ fn what_is_forced(rt: HostRuntime) {
     assert!(rt; answer.forced.last() == Some(&lower));
 }
 
-// The words of a line, 5,000 times more.
+// The query of the line, with all its words repeated 5,000 times.
 fn repeated(alloc: Global, line: &[u8]) -> Result<Query, Refusal> {
     let once = query_of(alloc, line)?;
     let mut query = query_of(alloc, line)?;
@@ -112,7 +113,8 @@ fn many_words_that_say_the_same(rt: HostRuntime) {
     assert_eq!(rt; summary_of(&answer), same_for_each(1, 2, 1));
 }
 
-// Over a tiling of the first placement and of the greatest number that there is, which names nothing.
+// The summary of the answer over a list of one tiling. It has the number of the first placement and the greatest `u32`, which
+// names nothing.
 fn over_a_number_of_nothing(alloc: Global) -> Result<Summary, Refusal> {
     let design = design_of(alloc, DOMINOES, &[])?;
     let view = View::plain(alloc, &design)?;
@@ -128,7 +130,7 @@ fn over_a_number_of_nothing(alloc: Global) -> Result<Summary, Refusal> {
     Ok(summary_of(&answer))
 }
 
-// A flag for each number up to the greatest one would take 4 GiB.
+// This must not take memory for each number up to the greatest one: a flag for each would take 4 GiB.
 #[test]
 fn browses_over_a_number_of_nothing(rt: HostRuntime) {
     let found = over_a_number_of_nothing(rt.alloc()).expect(&rt, "memory");

@@ -1,4 +1,4 @@
-//! Atoms on small designs: the guards of a change and of its inverse, and lists that no tiling meets.
+//! Atoms on small designs: the guards of a change and of its inverse, and which lists of atoms are hopeless.
 ghost use Rattle.poly_place.specs.Between.{IsChangeOf};
 
 use crate::designs::{DOMINOES, change_of, design, edited, view};
@@ -10,7 +10,7 @@ use poly_tiling::{Item, View};
 use std::alloc::{AllocGlobal, Global};
 use std::process::Abort;
 
-// The guards of the change and of its inverse, if `guards` and `guard_counts` agree on the change.
+// The guards of the change and of its inverse. Fails with `DoesNotHold` if `guards` or `guard_counts` disagrees with them.
 fn compared(
     alloc: Global,
     before: &View,
@@ -80,7 +80,8 @@ fn expect_hopeless(rt: &impl Abort, view: &View, atoms: &[Atom], want: bool) {
 #[test]
 fn lists_without_hope(rt: HostRuntime) {
     let view = view(&rt, &design(&rt, DOMINOES));
-    // A lies on the upper row under 0, on the left column under 1, on the lower row under 3; B on the lower row under 7.
+    // Placement 0 is A on the upper row, 1 is A on the left column, and 3 is A on the lower row. Placement 5 is B on the left
+    // column, and 7 is B on the lower row.
     expect_hopeless(&rt, &view, &[], false);
     expect_hopeless(&rt, &view, &[Atom::Has(0), Atom::Has(7)], false);
     expect_hopeless(&rt, &view, &[Atom::Has(0), Atom::Has(0)], false);
@@ -103,7 +104,7 @@ fn pins_take_hope(rt: HostRuntime) {
     expect_hopeless(&rt, &view, &[Atom::Has(7)], false);
 }
 
-// More atoms than a design has items: all ask for the same placement, or each asks for another one.
+// More atoms than a design can have items: first all ask for the same placement, then each asks for a different one.
 #[test]
 fn long_lists(rt: HostRuntime) {
     let view = view(&rt, &design(&rt, DOMINOES));

@@ -1,4 +1,4 @@
-//! Books of whole designs: late and hostile reports, and runs of events.
+//! A book of two dominoes: late, wrong and hostile reports, settling in too few turns, and a run of events.
 use crate::books::{
     book_of, covering, edit, edit_of, expect_quiet, expect_refused, expect_status, fail,
 };
@@ -17,7 +17,8 @@ fn cell_item(rt: &impl Abort, x: u64, y: u64) -> Item {
     Item::Cell(Cell::new(x, y).expect(rt, "a coordinate below 64"))
 }
 
-// A Branch on the item whose arms are the placements that cover it, except the last `less` of them. Each arm has a Rest.
+// A Branch on the item. It has an arm with a Rest for each placement that covers the item, except for the last `less`
+// placements.
 fn branch_on(rt: &impl Abort, alloc: Global, view: &View, item: Item, less: usize) -> Tree {
     let mut numbers = covering(rt, alloc, view, &item);
     for _ in 0..less {
@@ -31,7 +32,7 @@ fn branch_on(rt: &impl Abort, alloc: Global, view: &View, item: Item, less: usiz
     Tree::Branch { item, arms }
 }
 
-// A report on task 1: a Branch on the cell with all its arms, except the last `less` of them.
+// A report on task 1: a Branch on the cell, without the arms of the last `less` placements.
 fn report_on(rt: &impl Abort, alloc: Global, book: &Book, cell: (u64, u64), less: usize) -> Report {
     Report {
         task: 1,
@@ -48,7 +49,8 @@ fn report(task: u32, tree: Tree) -> Report {
     }
 }
 
-// Asserts what a report listed and opened, its first number and whether it was late.
+// Asserts how many tilings a report listed and how many tasks it opened, the first of their numbers, and whether the report
+// was late.
 fn expect_applied(rt: &impl Abort, applied: Result<Applied, Refusal>, want: (u64, u64, u64, bool)) {
     let a = applied.expect(rt, "a report that is applied");
     assert!(rt; (a.listed, a.opened, a.first, a.late) == want);
@@ -129,7 +131,7 @@ fn report_of_no_edition(rt: HostRuntime) {
     expect_applied(&rt, book.hand_in(full), (0, 4, 2, false));
 }
 
-// The events of the laws test: an edit, the late report, an undo and a redo.
+// The events of the test `the_laws`: an edit, a report that the edit makes late, an undo and a redo.
 fn events(rt: &impl Abort, alloc: Global, book: &Book) -> Vec<Event> {
     let mut all = Vec::new(alloc);
     let forbid = edit_of(rt, alloc, book, b"forbid A 0,0 1,0");
@@ -151,7 +153,7 @@ fn expect_all_done(rt: &impl Abort, replies: &[Reply]) {
     }
 }
 
-// Asserts that the solver finds `want` tilings without atoms.
+// Asserts that the solver finds `want` tilings of the book's design.
 fn expect_found(rt: &impl Abort, alloc: Global, book: &Book, want: usize) {
     let found = search_all(alloc, book.view(), &[]).expect(rt, "memory");
     assert!(rt; found.len() == want);

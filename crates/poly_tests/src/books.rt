@@ -1,6 +1,6 @@
 //! The test kit of books: a book from a puzzle line, edits from command lines, and what a test expects of a book.
 //!
-//! `begun` and `edit_by` return a refusal, and the others end the test if there is one.
+//! If something is refused, `begun` and `edit_by` return the refusal. The others end the test, unless they expect a refusal.
 
 use crate::designs::design_of;
 use poly_book::Book;
@@ -36,7 +36,7 @@ pub(crate) fn edit_of(rt: &impl Abort, alloc: Global, book: &Book, line: &[u8]) 
     edit_by(alloc, book, line).expect(rt, "the line of an edit")
 }
 
-/// Ends the test.
+/// Ends the test with the message `why`.
 pub(crate) fn fail<T>(rt: &impl Abort, why: &str) -> T {
     let none: Option<T> = None;
     none.expect(rt, why)

@@ -14,7 +14,7 @@ const LOOSE: &[u8] =
 const HEXES: &[u8] =
     b"{\"format\":1,\"grid\":\"hex\",\"board\":[\"##\",\"##\"],\"pieces\":[{\"name\":\"A\",\"cells\":[[0,0],[1,0],[0,1]]},{\"name\":\"B\",\"cells\":[[0,0]]}]}";
 
-// A design with its placements and its tilings, each tiling as a list of placements too.
+// A design with its placements and its tilings. `plain` has the tilings as lists of placements, in the same order.
 #[derive(Drop)]
 struct Tiled {
     design: Design,
@@ -93,7 +93,7 @@ fn count(tiled: &Tiled, query: &Query) -> u64 {
     count
 }
 
-// The number of placements with the item that some matching tiling has.
+// How many placements cover the item and are in a matching tiling.
 fn options(tiled: &Tiled, query: &Query, item: &Item) -> u64 {
     let mut options = 0u64;
     for placement in &tiled.places {
@@ -141,7 +141,7 @@ fn agrees(alloc: Global, tiled: &Tiled, query: &Query) -> Result<bool, Refusal> 
     )
 }
 
-// A query that a tiling has the first placement, lacks the second, and covers the item.
+// The query for tilings that have the first placement, lack the second and cover the item; each of the three may be left out.
 fn query(
     alloc: Global,
     has: Option<&Placement>,
@@ -165,7 +165,7 @@ fn query(
     Ok(query)
 }
 
-// How many queries the plain filter answers in the same way; `None` if it answers one of them differently.
+// How many queries were asked, if `browse` and the plain filter agree on all of them; otherwise `None`.
 fn agreeing(alloc: Global, puzzle: &[u8], lines: &[&[u8]]) -> Result<Option<u32>, Refusal> {
     let tiled = tilings_of(alloc, puzzle, lines)?;
     let mut queries = 0u32;
@@ -209,10 +209,11 @@ fn browse_is_the_plain_filter(rt: HostRuntime) {
 }
 
 // The board of `DOMINOES` has all symmetries of the square, and these carry its four tilings to each other. A pin at the
-// left leaves one tiling. If A may not lie on the upper row, the identity and one reflection are left: A at the left and A
-// at the right are alike, A on the lower row is not. A pin on a blocked cell leaves no tiling.
+// left leaves one tiling. If A may not lie on the upper row, only the identity and one reflection are left: the tilings with
+// A at the left and at the right are one class, the one with A on the lower row is another. A pin on a blocked cell leaves no
+// tiling.
 #[test]
-fn classes_go_by_pins_and_forbidden_places(rt: HostRuntime) {
+fn classes_go_by_pins_and_forbidden_placements(rt: HostRuntime) {
     let alloc = rt.alloc();
     assert_eq!(rt; classes(alloc, DOMINOES, &[]).expect(&rt, "memory"), 1);
     assert_eq!(rt;
@@ -227,10 +228,10 @@ fn classes_go_by_pins_and_forbidden_places(rt: HostRuntime) {
     assert_eq!(rt; classes(alloc, DOMINOES, blocked).expect(&rt, "memory"), 0);
 }
 
-// Two cells in a row, and one-cell pieces A and B. If no cell is required, the two cells can change places, and the classes
-// are nothing, A, B, and A with B. If the first cell is required, they can't, and each of the four tilings is a class: A or
-// B on that cell, with or without the other piece next to it. If both are required, A and B lie in two ways, which are
-// alike.
+// Two cells in a row, and one-cell pieces A and B. If no cell is required, a reflection exchanges the two cells, and there
+// are four classes: no piece, A alone, B alone, and both. If only the first cell is required, no reflection keeps the design,
+// and each of the four tilings is a class: A or B on that cell, with or without the other piece next to it. If both cells are
+// required, there are two tilings, which the reflection carries to each other.
 #[test]
 fn classes_go_by_names_and_required_cells(rt: HostRuntime) {
     let alloc = rt.alloc();
@@ -247,8 +248,8 @@ fn classes_go_by_names_and_required_cells(rt: HostRuntime) {
     );
 }
 
-// A board without symmetry: a domino has five places, and one more tiling is without it. A triangle of three hexagons:
-// the domino's three places are one class.
+// On a board without symmetry a domino has five placements, and one more tiling is without it: six classes. On a triangle of
+// three hexagons the domino has three placements, whose tilings are one class, and the tiling without it is another.
 #[test]
 fn classes_go_by_the_board(rt: HostRuntime) {
     let alloc = rt.alloc();

@@ -1,4 +1,4 @@
-//! The catalogue under edits, compared with the plain filter of all that was listed.
+//! A catalogue under random edits, compared with a plain filter over the tilings that were listed before each edit.
 ghost use Rattle.std.specs.Prelude.{◌≡◌, ◌++◌, IfOk, OnOk, filter, not, true};
 ghost use Rattle.std.specs.Cmp.Lexicographic.{pointwise};
 ghost use Rattle.std.specs.List.{list_all, list_any};
@@ -19,7 +19,7 @@ use poly_tiling::{Tiling, View};
 use std::alloc::{AllocError, Global};
 use std::test::Fail;
 
-// All tilings of the view.
+/// All tilings of the view, each once, in no particular order.
 pub(crate) fn found(alloc: Global, view: &View) -> Result<Vec<Tiling>, Refusal>
     ensures tilings { IfOk result (λ list. list_all (is_tiling view.now) list.items ≡ true) }
     ensures once { IfOk result (λ list. AreOnce list.items) }
@@ -39,7 +39,7 @@ fn settled(alloc: Global, table: &Table) -> Result<Catalogue, Refusal>
     Ok(catalogue)
 }
 
-// Makes the change, keeps what is still a tiling, and returns what isn't.
+/// Makes the change. Keeps the listed tilings that are still tilings, and returns the others.
 pub(crate) fn lead(
     design: &mut Design,
     table: &mut Table,
@@ -72,7 +72,7 @@ fn is_listed(listed: &[Tiling], numbers: &[u32]) -> bool
     listed.iter().any(|tiling| tiling.numbers() == numbers)
 }
 
-// The tilings of the view that are not listed yet.
+/// The tilings of the view that are not listed yet.
 pub(crate) fn fresh(alloc: Global, view: &View, listed: &[Tiling]) -> Result<Vec<Tiling>, Refusal>
     requires { AreOnce listed.now }
     ensures tilings { IfOk result (λ list. list_all (is_tiling view.now) list.items ≡ true) }
@@ -104,6 +104,7 @@ fn count_tilings(view: &View, tilings: &[Tiling]) -> usize {
         .count()
 }
 
+/// Copies of the tilings, in their order.
 pub(crate) fn copies(alloc: Global, tilings: &[Tiling]) -> Result<Vec<Tiling>, Refusal> {
     let mut list = Vec::new(alloc);
     for tiling in tilings {
@@ -112,8 +113,9 @@ pub(crate) fn copies(alloc: Global, tilings: &[Tiling]) -> Result<Vec<Tiling>, R
     Ok(list)
 }
 
-// Makes the edit that the line asks for, if it isn't refused, and lists what is new. Returns whether the plain filter keeps
-// as many, each of them listed, and none of what leaves.
+// Makes the edit that the line asks for, and lists the tilings that are new after it. Returns whether the edit did what the
+// plain filter does: it kept as many tilings, all of them still tilings, and took away the others, none of them a tiling any
+// more. If the edit is refused, nothing happens and the result is true.
 fn step(
     alloc: Global,
     design: &mut Design,
@@ -162,7 +164,7 @@ const LINES: [&[u8]; 16] = [
     b"add B required on 0,0 1,0",
 ];
 
-// Whether each of this many random edits does what the plain filter does.
+// Makes this many random edits. Returns whether each does what the plain filter does.
 fn random_edits(alloc: Global, count: usize) -> Result<bool, Refusal> {
     let mut design = design_of(alloc, DOMINOES, &[])?;
     let mut table = Table::of(alloc, &design)?;

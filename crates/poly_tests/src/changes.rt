@@ -46,7 +46,8 @@ fn forbids_undoes_and_redoes(rt: HostRuntime) {
     expect_redone(&rt, &mut book);
 }
 
-// The new piece has four placements, so it opens four stairs. Two of them end with the cell that is blocked.
+// The new piece has four placements, so adding it opens four stairs as tasks. Blocking a cell takes two of the placements
+// away, and the tasks of their stairs end.
 #[test]
 fn ends_the_stairs_of_placements_that_are_gone(rt: HostRuntime) {
     let alloc = rt.alloc();

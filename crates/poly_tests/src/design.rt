@@ -1,4 +1,4 @@
-//! Edits of whole designs: how many placements a design has after them, and why an edit is refused.
+//! Designs after edits: how many placements they have, why an edit is refused, and that a pin outlives its placement.
 
 use crate::designs::{DOMINOES, change_of, edited};
 use poly_design::{Design, Name};
@@ -14,12 +14,17 @@ const HEXAGONS: &[u8] =
 const PENTOMINO: &[u8] =
     b"{\"format\":1,\"grid\":\"square\",\"board\":[\"+++\",\"+++\",\"+++\"],\"pieces\":[{\"name\":\"F\",\"cells\":[[1,0],[2,0],[0,1],[1,1],[1,2]],\"mirror\":false}]}";
 
-// As many cells as a board can have, and the same pentomino.
+// As many cells as a board can have, and the same pentomino, which may be turned over here.
 const WIDE: &[u8] =
     b"{\"format\":1,\"grid\":\"square\",\"board\":[\"++++++++++++++++\",\"++++++++++++++++\",\"++++++++++++++++\",\"++++++++++++++++\",\"++++++++++++++++\",\"++++++++++++++++\",\"++++++++++++++++\",\"++++++++++++++++\",\"++++++++++++++++\",\"++++++++++++++++\",\"++++++++++++++++\",\"++++++++++++++++\",\"++++++++++++++++\",\"++++++++++++++++\",\"++++++++++++++++\",\"++++++++++++++++\"],\"pieces\":[{\"name\":\"F\",\"cells\":[[1,0],[2,0],[0,1],[1,1],[1,2]]}]}";
 
 // Asserts how many placements the design has after the edits.
-fn expect_places(rt: &(impl AllocGlobal + Abort), puzzle: &[u8], lines: &[&[u8]], wanted: usize) {
+fn expect_placements(
+    rt: &(impl AllocGlobal + Abort),
+    puzzle: &[u8],
+    lines: &[&[u8]],
+    wanted: usize,
+) {
     let places = edited(rt, puzzle, lines).places().expect(rt, "memory");
     assert!(rt; places.len() == wanted);
 }
@@ -32,16 +37,16 @@ fn expect_refusal(rt: &(impl AllocGlobal + Abort), design: &Design, line: &[u8],
 
 #[test]
 fn placements_after_edits(rt: HostRuntime) {
-    expect_places(&rt, DOMINOES, &[], 8);
-    expect_places(&rt, DOMINOES, &[b"add C optional on 0,0"], 12);
-    expect_places(&rt, DOMINOES, &[b"drop B"], 4);
-    expect_places(&rt, DOMINOES, &[b"forbid A 0,0 1,0"], 7);
-    expect_places(&rt, DOMINOES, &[b"forbid A 0,0 1,0", b"allow A 0,0 1,0"], 8);
-    expect_places(&rt, DOMINOES, &[b"cell 2,0 optional"], 10);
-    expect_places(&rt, DOMINOES, &[b"cell 1,0 blocked"], 4);
-    expect_places(&rt, HEXAGONS, &[], 5);
-    expect_places(&rt, PENTOMINO, &[], 4);
-    expect_places(&rt, PENTOMINO, &[b"mirror F on"], 8);
+    expect_placements(&rt, DOMINOES, &[], 8);
+    expect_placements(&rt, DOMINOES, &[b"add C optional on 0,0"], 12);
+    expect_placements(&rt, DOMINOES, &[b"drop B"], 4);
+    expect_placements(&rt, DOMINOES, &[b"forbid A 0,0 1,0"], 7);
+    expect_placements(&rt, DOMINOES, &[b"forbid A 0,0 1,0", b"allow A 0,0 1,0"], 8);
+    expect_placements(&rt, DOMINOES, &[b"cell 2,0 optional"], 10);
+    expect_placements(&rt, DOMINOES, &[b"cell 1,0 blocked"], 4);
+    expect_placements(&rt, HEXAGONS, &[], 5);
+    expect_placements(&rt, PENTOMINO, &[], 4);
+    expect_placements(&rt, PENTOMINO, &[b"mirror F on"], 8);
 }
 
 #[test]
@@ -61,7 +66,7 @@ fn refused_edits(rt: HostRuntime) {
     expect_refusal(&rt, &design, b"forbid A 0,0 1,1", Refusal::NotAPlacement);
 }
 
-// Eleven more pentominoes, each with eight orientations of 14 by 14 places.
+// Eleven more pieces of the same shape. Each of its eight orientations fits on the board of `WIDE` in 14 by 14 positions.
 const MORE: [&[u8]; 11] = [
     b"add A optional on 1,0 2,0 0,1 1,1 1,2",
     b"add B optional on 1,0 2,0 0,1 1,1 1,2",

@@ -1,13 +1,13 @@
 //! The test kit: designs, their views and their changes, from the lines that a session reads.
 //!
-//! A test gives a design by its puzzle line and a change by its command line, for example
+//! A test gives a design by its puzzle line and a change by its command line, for example:
 //!
 //! - `design(&rt, DOMINOES)` is the design of a puzzle line;
 //! - `edited(&rt, DOMINOES, &[b"pin A 0,0 0,1"])` is that design after edits;
-//! - `view(&rt, &design)` is its view, whose numbers are those of `Design::places`;
+//! - `view(&rt, &design)` is its view, in which a placement's number is its index in `Design::places`;
 //! - `change_of(alloc, &design, b"drop A")` is the change that a command asks for.
 //!
-//! `design`, `edited` and `view` end the test if a line is refused or memory runs out, so that a test holds no error.
+//! `design`, `edited` and `view` end the test if a line is refused or memory runs out, so their callers handle no errors.
 ghost use Rattle.std.specs.Prelude.{IfOk};
 ghost use Rattle.poly_design.specs.Changes.{HasBefore, changed};
 ghost use Rattle.poly_design.specs.Limits.{IsDesign};
@@ -30,7 +30,7 @@ pub(crate) const DOMINOES: &[u8] =
 pub(crate) const NARROW: &[u8] =
     b"{\"format\":1,\"grid\":\"square\",\"board\":[\"####################\",\"####################\",\"####################\"],\"pieces\":[{\"name\":\"F\",\"cells\":[[1,0],[2,0],[0,1],[1,1],[1,2]]},{\"name\":\"I\",\"cells\":[[0,0],[1,0],[2,0],[3,0],[4,0]]},{\"name\":\"L\",\"cells\":[[0,0],[0,1],[0,2],[0,3],[1,3]]},{\"name\":\"N\",\"cells\":[[1,0],[1,1],[0,2],[1,2],[0,3]]},{\"name\":\"P\",\"cells\":[[0,0],[1,0],[0,1],[1,1],[0,2]]},{\"name\":\"T\",\"cells\":[[0,0],[1,0],[2,0],[1,1],[1,2]]},{\"name\":\"U\",\"cells\":[[0,0],[2,0],[0,1],[1,1],[2,1]]},{\"name\":\"V\",\"cells\":[[0,0],[0,1],[0,2],[1,2],[2,2]]},{\"name\":\"W\",\"cells\":[[0,0],[0,1],[1,1],[1,2],[2,2]]},{\"name\":\"X\",\"cells\":[[1,0],[0,1],[1,1],[2,1],[1,2]]},{\"name\":\"Y\",\"cells\":[[1,0],[0,1],[1,1],[1,2],[1,3]]},{\"name\":\"Z\",\"cells\":[[0,0],[1,0],[1,1],[1,2],[2,2]]}]}";
 
-/// A board without cells and no pieces: its one tiling has no member.
+/// A board without cells, and no pieces. Its one tiling has no placements.
 pub(crate) const NOWHERE: &[u8] =
     b"{\"format\":1,\"grid\":\"square\",\"board\":[\".\"],\"pieces\":[]}";
 
@@ -48,8 +48,8 @@ pub(crate) fn edited(rt: &(impl AllocGlobal + Abort), line: &[u8], edits: &[&[u8
     design_of(rt.alloc(), line, edits).expect(rt, "a puzzle line and edits")
 }
 
-/// The view of the design by itself. Its numbers are the indices in `Design::places`; a pin that isn't a placement
-/// comes after them.
+/// The plain view of the design. Its numbers are the indices of the placements in `Design::places`; a pin that isn't a
+/// placement comes after them.
 pub(crate) fn view(rt: &(impl AllocGlobal + Abort), design: &Design) -> View
     ensures shows { Shows result design.now }
     ensures plain { IsPlain result design.now }
@@ -57,7 +57,7 @@ pub(crate) fn view(rt: &(impl AllocGlobal + Abort), design: &Design) -> View
     View::plain(rt.alloc(), design).expect(rt, "memory")
 }
 
-/// The change that the command line asks for on the design. A line that asks for no edit is a `BadCommand`.
+/// The change that the command line asks for on the design, or the refusal. A line that asks for no edit is a `BadCommand`.
 pub(crate) fn change_of(alloc: Global, design: &Design, line: &[u8]) -> Result<Change, Refusal>
     ensures stands { IfOk result (λ change. HasBefore design.now change) }
     ensures limits { IfOk result (λ change. IsDesign (changed design.now change)) }
@@ -83,7 +83,8 @@ pub(crate) fn design_of(alloc: Global, puzzle: &[u8], lines: &[&[u8]]) -> Result
     Ok(design)
 }
 
-/// The piece on the two cells.
+/// The placement of the piece on the two cells, each given as its column and its row. Ends the test if a coordinate is over
+/// 63, if the name isn't valid, or if both cells are the same.
 pub(crate) fn placement(
     rt: &impl Abort,
     name: &[u8],

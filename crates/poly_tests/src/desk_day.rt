@@ -31,7 +31,7 @@ fn change<C: Ledger, K: Ledger, O: Opening, R: Wait + Abort>(
     vec![in alloc; edit, undo, redo].expect(rt, "memory")
 }
 
-// Works until the desk is quiet, in at most 1,000 reports.
+// Works until no task is pending, with at most 1,000 reports. Adds their receipts to the list, and returns all tilings.
 fn work_until_quiet<C: Ledger, K: Ledger, O: Opening, R: Wait + Abort>(
     rt: &R,
     alloc: Global,
@@ -68,7 +68,8 @@ fn expect_refused<C: Ledger, K: Ledger, O: Opening>(
     back
 }
 
-// Settles up with a pass missing, with a receipt given twice and with one of another desk, and then rightly.
+// Asserts that settling up is refused with a pass missing, with a receipt given twice, and with a receipt of another desk.
+// Then settles up with both passes and the right receipts.
 fn settle<C: Ledger, K: Ledger, O: Opening>(
     rt: &impl Abort,
     alloc: Global,
@@ -163,7 +164,7 @@ fn fourth<C: Ledger, K: Ledger, O: Opening, R: Wait + Abort>(
     desk.undo(rt, &mut pass).expect(rt, "a step to undo")
 }
 
-// The receipt of a desk of its own.
+// The receipt of the fourth change at another desk.
 fn strange_receipt<R: Wait + Abort>(rt: &R, alloc: Global, forbid: &Edit) -> Receipt {
     let book = book_of(rt, alloc, DOMINOES);
     let changes = Blank::new(PARTS);
@@ -189,7 +190,7 @@ fn quiet_of_another(rt: &impl Abort, alloc: Global) -> Quiet {
     other.quiet().expect(rt, "nothing is pending")
 }
 
-// Asserts that the book vouches for its own tilings, and for no others.
+// Asserts that the book vouches for its own tilings, and not for those of another book.
 fn expect_vouched(rt: &impl Abort, alloc: Global, book: &Book, quiet: &Quiet) {
     assert!(rt; book.vouch(quiet).expect(rt, "memory"));
     let unknown = quiet_of_another(rt, alloc);

@@ -13,7 +13,7 @@ use std::process::Abort;
 use std::sync::Wait;
 use std::sync::ledger::{Blank, Ledger};
 
-// Makes passes up to the limit, with the first that came with the desk, and asserts that one more is refused.
+// Makes passes until the desk has as many as it may, and asserts that one more is refused. The first pass came with the desk.
 fn make_passes<C: Ledger, K: Ledger, O: Opening, R: Wait + Abort>(
     rt: &R,
     alloc: Global,

@@ -1,7 +1,7 @@
 //! What a desk does when memory runs out.
 //!
-//! With ample memory this test says little. It is run again with each allocation refused in turn: then one call fails
-//! with `Memory`, has to leave the desk as it was, and succeeds when it is made again.
+//! With ample memory this test says little. tests/refused_calls.sh runs it again with each allocation refused in turn: then
+//! one call fails with `Memory`, has to leave the desk as it was, and has to succeed when it is made again.
 ghost use Rattle.std.specs.Prelude.{◌≡◌};
 ghost use Rattle.poly_desk.specs.Changes.{cut_count};
 
@@ -19,7 +19,7 @@ use std::process::Abort;
 use std::sync::Wait;
 use std::sync::ledger::{Blank, Ledger};
 
-// What to ask of a desk. Work is a task that is taken, explored and handed in.
+// What to ask of a desk. To `Work` is to take a task, explore it and hand the report in.
 #[derive(Drop)]
 enum Asked {
     Edit(Edit),
@@ -80,7 +80,7 @@ fn work_on<C: Ledger, K: Ledger, O: Opening, R: Wait + Abort>(
     }
 }
 
-// A second pass.
+// Makes a second pass, and tries again if memory was refused.
 fn second_pass<C: Ledger, K: Ledger, O: Opening, R: Wait + Abort>(
     rt: &R,
     alloc: Global,
@@ -136,7 +136,8 @@ fn day<C: Ledger, K: Ledger, O: Opening, R: Wait + Abort>(
     Ok((settled.ok().expect(rt, "it is settled up"), quiet))
 }
 
-// Asserts that the book and its Quiet have the design without one placement, at edition 3, and exactly its tilings.
+// Asserts that the book and its Quiet are at edition 3 and have three tilings, that one placement is forbidden in their
+// design, and that the book lists exactly the tilings of that design.
 fn expect_whole(rt: &impl Abort, alloc: Global, book: &Book, quiet: &Quiet) {
     expect_status(rt, book, (3, 3, 0));
     assert!(rt; (quiet.edition(), quiet.tilings().len()) == (3, 3));

@@ -1,4 +1,5 @@
-//! The test kit of desks: work on a task, what a desk shows, and the place of a receipt.
+//! The test kit of desks: the line of an edit, work on a task, how many tilings are listed, what a desk shows, and the place
+//! of a receipt.
 
 use poly_board::Posted;
 use poly_book::{Applied, Job, Which};
@@ -12,10 +13,10 @@ use std::process::Abort;
 use std::sync::Wait;
 use std::sync::ledger::Ledger;
 
-/// Forbids one placement to A, which leaves `DOMINOES` 3 tilings.
+/// The command that forbids one placement of A: three tilings of `DOMINOES` remain.
 pub(crate) const FORBID: &[u8] = b"forbid A 0,0 1,0";
 
-// The report that exploring the task gives. That on task 1 is a Branch whose arms are all left to others.
+// Explores the task and returns the report. Task 1 is explored with one node, so its tree is a Branch with a Rest in each arm.
 fn report_on(alloc: Global, job: &Job) -> Result<Report, Refusal> {
     let turns = if job.task == 1 { 1 } else { 256 };
     let tree = explore(alloc, &job.view, &job.atoms, turns)?;
@@ -26,7 +27,7 @@ fn report_on(alloc: Global, job: &Job) -> Result<Report, Refusal> {
     })
 }
 
-/// Searches one task of the desk and hands in the report. Ends the test if no task is pending.
+/// Searches the task that `which` names and hands in the report. Ends the test if no such task is pending.
 pub(crate) fn work<C: Ledger, K: Ledger, O: Opening, R: Wait + Abort>(
     rt: &R,
     alloc: Global,
@@ -39,7 +40,7 @@ pub(crate) fn work<C: Ledger, K: Ledger, O: Opening, R: Wait + Abort>(
     desk.hand_in(rt, pass, report)
 }
 
-/// How many tilings are listed, as browsing without words counts them.
+/// How many tilings are listed, as browsing with the empty query counts them.
 pub(crate) fn count<C: Ledger, K: Ledger, O: Opening, R: Wait>(
     rt: &R,
     alloc: Global,
@@ -58,7 +59,7 @@ pub(crate) fn count<C: Ledger, K: Ledger, O: Opening, R: Wait>(
 /// What a desk shows: its numbers, the least pending task, and how many tilings are listed.
 pub(crate) type Shown = (Posted, Option<u32>, u64);
 
-/// What the desk shows. If browsing is refused for memory, it must leave the desk as it was, and is tried again.
+/// What the desk shows. If browsing is refused for memory, asserts that the desk is as it was, and tries again.
 pub(crate) fn shown<C: Ledger, K: Ledger, O: Opening, R: Wait + Abort>(
     rt: &R,
     alloc: Global,

@@ -1,7 +1,8 @@
 //! A catalogue that loses a tiling and gets it back.
 //!
-//! With ample memory this is a worked example of a catalogue. The test is run again with each allocation refused in
-//! turn: then a call that runs out of memory must leave the list as it was, and succeeds when it is made again.
+//! With ample memory this is a worked example of a catalogue. tests/refused_calls.sh runs the test again with each allocation
+//! refused in turn: then a `list_all` of all tilings or an `exchange` that runs out of memory must leave the list as it was,
+//! and succeed when it is made again.
 ghost use Rattle.std.specs.Prelude.{◌≡◌, [], OnOk, true};
 ghost use Rattle.std.specs.List.{list_all};
 ghost use Rattle.poly_tiling.specs.Puzzle.{is_tiling};
@@ -39,7 +40,8 @@ fn are_same(some: &[Tiling], others: &[Tiling]) -> bool {
     true
 }
 
-// Lists all tilings of the view, with a second try if the first is refused. Returns whether a refusal left the list empty.
+// Lists all tilings of the view, with a second try if the first is refused. Returns false only if the refusal left a tiling
+// listed.
 fn list(alloc: Global, catalogue: &mut Catalogue, view: &View) -> Result<bool, Refusal>
     requires { catalogue.old ≡ [] }
     ensures { OnOk result (list_all (is_tiling view.now) catalogue.new ≡ true) }
@@ -55,8 +57,8 @@ fn list(alloc: Global, catalogue: &mut Catalogue, view: &View) -> Result<bool, R
     Ok(kept)
 }
 
-// Gives the placement back and lists the tilings that it brings, with a second try if the first is refused. Returns
-// whether a refusal left the list as it was.
+// Lists the tilings that come back if the placement is allowed again, with a second try if the first is refused. Returns
+// false only if the refusal changed the list.
 fn give_back(
     alloc: Global,
     design: &Design,

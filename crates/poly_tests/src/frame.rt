@@ -87,7 +87,7 @@ fn expect_due(rt: &impl Abort, frame: &Frame<'_>, want: &Item) {
     assert!(rt; frame.next_due() == Some(*want));
 }
 
-// Asserts whether taking the placement leaves too little for the last cell of the square.
+// Asserts whether taking the placement leaves too few options for the last cell of the square.
 fn expect_starved(rt: &impl Abort, view: &View, frame: &mut Frame<'_>, placement: u32, want: bool)
     requires { length frame.old.atoms < frame.old.given + STEPS }
     ensures { frame.new ≡ frame.old }

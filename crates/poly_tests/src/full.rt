@@ -22,11 +22,12 @@ use std::alloc::Global;
 use std::test::Fail;
 
 // A row of twenty optional cells and up to 16 pieces of one cell, all of one name: its tilings are the sets of up to 16
-// cells. 523,128 of them have the first cell and 524,097 don't. Of sets of up to 15 cells, 519,252 have the first cell and
-// 523,128 don't.
+// cells. 523,128 of them have the first cell and 524,097 don't. Of the sets of up to 15 cells, 519,252 have the first cell
+// and 523,128 don't.
 const ROW: &[u8] =
     b"{\"format\":2,\"grid\":\"square\",\"board\":[\"++++++++++++++++++++\"],\"pieces\":[{\"name\":\"A\",\"cells\":[[0,0]],\"least\":0,\"most\":16}]}";
 
+// How many tilings have the first cell.
 const WITH: usize = 523_128;
 
 // The first `count` tilings of the view that meet the atom.
@@ -53,7 +54,7 @@ fn listed(alloc: Global, count: usize) -> Result<(Option<Refusal>, usize), Refus
     Ok((refusal, catalogue.len()))
 }
 
-// The plan of the change to up to 15 pieces.
+// The table's plan of the change.
 fn plan_of(design: &Design, table: &mut Table, change: &Change) -> Result<Plan, Refusal>
     requires right { IsRight table.old design.now }
     requires limits { IsDesign (changed design.now change.now) }
@@ -65,8 +66,9 @@ fn plan_of(design: &Design, table: &mut Table, change: &Change) -> Result<Plan, 
     }
 }
 
-// Lists the tilings that have the first cell. Then changes to up to 15 pieces, and exchanges the tilings that this takes away
-// for `count` others. Returns the refusal of the exchange, if there is one, and how many tilings are listed at the end.
+// Lists the tilings that have the first cell. Then plans the change to at most 15 pieces, and exchanges the tilings that it
+// takes away for `count` of those without the first cell. Returns the refusal of the exchange, if there is one, and how many
+// tilings are listed at the end.
 fn exchanged(alloc: Global, count: usize) -> Result<(Option<Refusal>, usize), Refusal> {
     let design = design_of(alloc, ROW, &[])?;
     let mut table = Table::of(alloc, &design)?;
@@ -89,7 +91,7 @@ fn a_list_of_a_million(rt: HostRuntime) -> Result<(), Fail> {
     Ok(())
 }
 
-// 3,876 of the tilings that are listed have 16 pieces, and go.
+// 3,876 of the listed tilings have 16 pieces, so the exchange takes them away.
 #[test]
 fn an_exchange_that_leaves_a_million(rt: HostRuntime) -> Result<(), Fail> {
     let full = Some(Refusal::CatalogueFull);

@@ -1,4 +1,4 @@
-//! Cells, the neighbours of a point and its turns, on both grids.
+//! Cells, and the neighbours and turns of points, on both grids.
 
 use poly_grid::{Cell, Grid, Point};
 

@@ -1,5 +1,5 @@
-//! What the laws of a book say, on a small one: a report that was made before a run still holds after it, and a book
-//! vouches only for the designs that it has had.
+//! Laws of books, on a small book. A report that holds before a run still holds after the run if its task is still pending. A
+//! book vouches for a list of tilings only if the book's own steps, up to the edition of the list, lead to the list's design.
 ghost use Rattle.std.specs.Prelude.{◌≡◌, IfOk, true};
 ghost use Rattle.poly_report.specs.Shapes.{plan_of};
 ghost use Rattle.poly_book.specs.Happenings.{HoldsNow};
@@ -14,7 +14,7 @@ use poly_tiling::Item;
 use std::alloc::Global;
 use std::process::Abort;
 
-// A report on task 1: a Branch on the cell 0,0 with all its arms, which are left to others.
+// A report on task 1: a Branch on the cell 0,0 with all its arms. Each arm has a Rest.
 fn report_on_task_one(rt: &impl Abort, alloc: Global, book: &Book) -> Report {
     let item = Item::Cell(Cell::new(0, 0).expect(rt, "a coordinate below 64"));
     let mut arms = Vec::new(alloc);
@@ -43,8 +43,8 @@ fn holds_now(alloc: Global, book: &Book, report: &Report) -> Result<bool, Refusa
     Ok(yes)
 }
 
-// The run of the events, if the report's tree holds for its pending task before them.
-fn run_beside(
+// Runs the events if the report's task is pending and its tree fits and holds before them. Otherwise returns `None`.
+fn run_if_held(
     alloc: Global,
     book: Book,
     report: &Report,
@@ -58,7 +58,7 @@ fn run_beside(
     Ok(Some(ran))
 }
 
-// The run of the events.
+// Runs the events by the law `still_holds`, which requires that the tree holds before them.
 fn run_held(alloc: Global, book: Book, report: &Report, events: Vec<Event>) -> Result<Ran, Refusal>
     requires { HoldsNow book report.now.task (plan_of report.now.tree) }
 {
@@ -92,7 +92,7 @@ fn a_late_report_still_holds(rt: HostRuntime) {
     let book = book_of(&rt, alloc, DOMINOES);
     let report = report_on_task_one(&rt, alloc, &book);
     let events = one_forbid(&rt, alloc, &book);
-    let ran = run_beside(alloc, book, &report, events).expect(&rt, "memory");
+    let ran = run_if_held(alloc, book, &report, events).expect(&rt, "memory");
     let Ran { mut book, replies } = ran.expect(&rt, "a tree that holds");
     expect_one_change(&rt, &replies);
     let applied = book.hand_in(report).expect(&rt, "a tree that still holds");
@@ -113,7 +113,7 @@ fn settled(rt: &impl Abort, book: &mut Book) -> Quiet {
     book.quiet().expect(rt, "nothing is pending")
 }
 
-// All tilings of the dominoes on one more cell.
+// All tilings of the dominoes after one more cell was added.
 fn settled_on_a_new_cell(rt: &impl Abort, alloc: Global) -> Quiet {
     let mut book = book_of(rt, alloc, DOMINOES);
     edit(rt, alloc, &mut book, b"cell 2,0 optional");

@@ -1,5 +1,8 @@
-//! Tests that need only public calls: examples with known answers, answers of one crate compared with those of another, and
-//! whole days at a desk. There is nothing else here.
+//! Tests that need only public calls: examples with known answers, answers of one crate compared with those of another,
+//! random scripts of events, and whole days at a desk.
+//!
+//! They share some test kits: `designs` (designs from puzzle lines), `books`, `desks`, `trees` (large trees), and
+//! `shared_out`, which compares a book with the plain lister. The crate exports nothing.
 #![tactic(auto)]
 
 #[cfg(test)]

@@ -31,7 +31,8 @@ fn editions_run_out(rt: HostRuntime) {
     assert!(rt; book.numbers().edition == 100_000);
 }
 
-// A chain of Splits on the placements of the cell 0,0, each in the `left` of the one before.
+// A chain of Splits, one for each placement that covers the cell 0,0. The `left` of each Split has the next Split, and the
+// `left` of the last one is a Rest.
 fn splits(rt: &impl Abort, alloc: Global, book: &Book) -> Tree {
     let first = Item::Cell(Cell::new(0, 0).expect(rt, "a coordinate below 64"));
     let mut tree = Tree::Rest;
@@ -45,7 +46,7 @@ fn splits(rt: &impl Abort, alloc: Global, book: &Book) -> Tree {
     tree
 }
 
-// Works on the task of the number, if it is pending.
+// Works on the task of that number, if it is pending.
 fn work_on(rt: &impl Abort, alloc: Global, book: &mut Book, number: u32) {
     if let Some(job) = book.take(Which::Task(number)).expect(rt, "memory") {
         let tree = explore(alloc, &job.view, &job.atoms, 4096).expect(rt, "memory");
@@ -58,7 +59,7 @@ fn work_on(rt: &impl Abort, alloc: Global, book: &mut Book, number: u32) {
     }
 }
 
-// Works on the task of the number and on all that it leaves, which have numbers above 10.
+// Works on the task of that number and on all tasks that its report and theirs open. The new tasks have numbers above 10.
 fn list_part(rt: &impl Abort, alloc: Global, book: &mut Book, number: u32) {
     work_on(rt, alloc, book, number);
     for _ in 0..100_000u32 {
@@ -69,7 +70,7 @@ fn list_part(rt: &impl Abort, alloc: Global, book: &mut Book, number: u32) {
     }
 }
 
-// Hands in a report that divides the opening task into nine, with the numbers 2 to 10.
+// Hands in a report that divides the opening task into nine tasks, which get the numbers 2 to 10.
 fn divide(rt: &impl Abort, alloc: Global, book: &mut Book) {
     let cut = Report {
         task: 1,
@@ -88,7 +89,7 @@ fn list_seven_parts(rt: &impl Abort, alloc: Global, book: &mut Book) {
     expect_status(rt, book, (0, 916_454, 2));
 }
 
-// Blocks a cell, after which no tiling is listed and one task is pending, and settles the book.
+// Blocks a cell, asserts that then no tiling is listed and one task is pending, and settles the book.
 fn block_and_settle(rt: &impl Abort, alloc: Global, book: &mut Book) {
     edit(rt, alloc, book, b"cell 0,0 blocked");
     expect_status(rt, book, (1, 0, 1));

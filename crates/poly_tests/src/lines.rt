@@ -1,4 +1,4 @@
-//! What lines say: puzzle lines, commands, questions and replies that a reader of the formats can check by hand.
+//! Puzzle lines, commands, questions and replies that can be checked by hand against docs/FORMATS.md.
 
 use poly_design::{Edit, Mode, Name, Placement};
 use poly_grid::{Cell, Grid, Refusal};
@@ -53,7 +53,7 @@ fn has_lengths(question: &Question, has: usize, lacks: usize, covers: usize) -> 
     question.has.len() == has && question.lacks.len() == lacks && question.covers.len() == covers
 }
 
-// Whether the command browses by a question with lists of these lengths.
+// Whether the command is a `browse` whose question has lists of these lengths.
 fn browses(command: &Option<Command>, has: usize, lacks: usize, covers: usize) -> bool {
     match command {
         Some(Command::Browse(question)) => has_lengths(question, has, lacks, covers),

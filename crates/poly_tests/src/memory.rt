@@ -1,5 +1,6 @@
-//! Calls of a book while one allocation may be refused. A call that is refused for memory has changed nothing, and a second
-//! try does what a first one with memory does. The tests pass with ample memory too.
+//! Calls of a book that may run out of memory. A call that does must change nothing, except that `settle` keeps the reports
+//! that it has applied; and it must succeed if it is made again. The tests pass with ample memory too; tests/refused_calls.sh
+//! runs them with each allocation refused in turn.
 
 use crate::books::{begun, edit_by, expect_status, fail};
 use crate::designs::DOMINOES;
@@ -50,7 +51,7 @@ fn is_listed(book: &Book, listed: &[Tiling]) -> bool {
             .all(|(a, b)| a.numbers() == b.numbers())
 }
 
-// Asserts that the refusal is that of memory and that the book is as before.
+// Asserts that the refusal is `Memory` and that the book is as before.
 fn expect_unchanged(rt: &impl Abort, book: &Book, refusal: Refusal, before: &Before) {
     assert!(rt; refusal == Refusal::Memory);
     assert!(rt; book.numbers() == before.numbers);
@@ -97,7 +98,7 @@ fn try_redo(rt: &impl Abort, alloc: Global, book: &mut Book) {
     }
 }
 
-// A report on task 1 that leaves each arm of a Branch to others.
+// A report on task 1: a Branch with a Rest in each arm.
 fn report_of(alloc: Global, book: &Book) -> Result<Report, Refusal> {
     let tree = explore(alloc, book.view(), &[], 1)?;
     Ok(Report {
@@ -173,7 +174,7 @@ fn reports_without_memory(rt: HostRuntime) {
     try_quiet(&rt, alloc, &book, 4);
 }
 
-// The events of a run: an edit, a report that is late after it, an undo and a redo.
+// The events of a run: an edit, a report that the edit makes late, an undo and a redo.
 fn events_of(alloc: Global, book: &Book) -> Result<Vec<Event>, Refusal> {
     let forbid = edit_by(alloc, book, b"forbid A 0,0 1,0")?;
     let late = report_of(alloc, book)?;
@@ -202,7 +203,7 @@ fn run_events(rt: &impl Abort, alloc: Global) -> Ran {
     }
 }
 
-// Asserts that the book that wasn't run is an opening one, and runs the events on it.
+// Asserts that the book that was handed back is still an opening one, and runs the events on it.
 fn run_again(rt: &impl Abort, alloc: Global, not_run: NotRun) -> Ran {
     let NotRun { book, why } = not_run;
     assert!(rt; why == Refusal::Memory);
@@ -236,15 +237,14 @@ fn has_refusal(replies: &[Reply]) -> bool {
     false
 }
 
-// An event that found no memory changed nothing, and those after it happened: the book has the changes that were made, and
-// all tilings once it is settled.
+// Asserts that the book has made as many changes as the replies say, and has all tilings once it is settled.
 fn expect_whole(rt: &impl Abort, alloc: Global, ran: Ran) {
     let Ran { mut book, replies } = ran;
     assert!(rt; book.numbers().edition == changes(&replies));
     assert!(rt; has_all_settled(alloc, &mut book).expect(rt, "memory"));
 }
 
-// Runs the events with ample memory.
+// Runs the events once more, with ample memory, and asserts the numbers of the book after them.
 fn expect_all_run(rt: &impl Abort, alloc: Global) {
     let ran = run_events(rt, alloc);
     expect_status(rt, &ran.book, (3, 0, 3));

@@ -1,4 +1,4 @@
-//! A design without cells and pieces: its one tiling has no member.
+//! A view without cells and pieces, whose one tiling has no placements; and a new catalogue, which lists nothing.
 
 use poly_atom::Atom;
 use poly_catalogue::{Catalogue, plans_lead};
@@ -19,7 +19,7 @@ fn nowhere(alloc: Global) -> View {
     )
 }
 
-// Asserts that nothing is open and each item has what it needs.
+// Asserts that nothing is open, no item is due, placement 0 is dead, and a tiling is found.
 fn expect_closed(rt: &impl Abort, frame: &Frame<'_>) {
     assert!(rt; frame.none_open());
     assert!(rt; frame.first_open().is_none());
@@ -36,7 +36,6 @@ fn nothing_is_open(rt: HostRuntime) {
     expect_closed(&rt, &frame);
 }
 
-// Asserts what the frame's atoms are.
 fn expect_atoms(rt: &impl Abort, frame: &Frame<'_>, want: &[Atom]) {
     assert!(rt; frame.atoms() == want);
 }

@@ -171,7 +171,7 @@ fn numbers_are_given_once(rt: HostRuntime) {
     assert!(rt; names.len() == 2);
 }
 
-// Four tilings, out of order: two dominoes on two by two cells with an optional cell next to them.
+// Four lists of numbers, out of order. They name dominoes on two by two cells with an optional cell next to them.
 fn out_of_order(alloc: Global) -> Result<Vec<Tiling>, Refusal> {
     let mut tilings = Vec::new(alloc);
     tilings.push(Tiling::new(vec![in alloc; 2, 5]?))?;

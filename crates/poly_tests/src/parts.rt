@@ -1,4 +1,4 @@
-//! The parts of a design, its placements, and a change that is taken back.
+//! The parts of a design, its placements, and a change that is undone.
 ghost use Rattle.std.specs.Prelude.{◌≡◌, OnOk};
 
 use poly_design::{CellsSet, Change, Copies, Design, Edit, Mode, Name, Need};
@@ -42,7 +42,6 @@ fn sets_of_cells(rt: HostRuntime) {
     assert!(rt; set.contains(&two(&rt, 1, 2)));
 }
 
-// Makes the edit.
 fn make(rt: &impl Abort, design: &mut Design, edit: &Edit) {
     let change = design.check(edit).expect(rt, "a change");
     design.make(&change).expect(rt, "memory");

@@ -1,4 +1,4 @@
-//! The number and the name of each refusal, and the texts of three of them.
+//! The number and the name of each refusal, the texts of three of them, and the refusal that an allocation error becomes.
 
 use poly_grid::Refusal;
 use std::alloc::AllocError;

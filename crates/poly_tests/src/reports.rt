@@ -1,4 +1,5 @@
-//! Reports: what `holds`, `leaves` and `cut_up` say about small trees, and that what `explore` grows is a report.
+//! Reports: what `holds`, `leaves` and `cut_up` say about small trees, that explored trees fit and hold, and which item
+//! `explore` takes.
 ghost use Rattle.std.specs.Prelude.{◌≤◌};
 ghost use Rattle.poly_report.specs.declared.size.TheConstants.{NODES};
 
@@ -15,11 +16,11 @@ use std::process::Abort;
 const STRIP: &[u8] =
     b"{\"format\":1,\"grid\":\"square\",\"board\":[\"###\"],\"pieces\":[{\"name\":\"A\",\"cells\":[[0,0],[1,0]]},{\"name\":\"B\",\"cells\":[[0,0]]}]}";
 
-// Optional cells except for one, up to two dominoes of one name and at most one piece of one cell.
+// Seven optional cells and a required one, up to two dominoes of one name and at most one piece of one cell.
 const OPTIONAL: &[u8] =
     b"{\"format\":2,\"grid\":\"square\",\"board\":[\"++++\",\"++#+\"],\"pieces\":[{\"name\":\"A\",\"cells\":[[0,0],[1,0]],\"least\":0,\"most\":2},{\"name\":\"B\",\"cells\":[[0,0]],\"least\":0,\"most\":1}]}";
 
-// The numbers of placements of `DOMINOES`, each named by the row or the column that it covers.
+// The numbers of some placements of `DOMINOES`, named by the piece and by the row or column that it covers.
 const A_UP: u32 = 0;
 
 const A_LEFT: u32 = 1;
@@ -30,7 +31,7 @@ const B_LEFT: u32 = 5;
 
 const B_DOWN: u32 = 7;
 
-// A Branch on a cell whose arms are all left to others.
+// A Branch on the cell with an arm for each of the placements. Each arm has a Rest.
 fn branch(alloc: Global, x: u64, y: u64, placements: &[u32]) -> Result<Tree, Refusal> {
     let Some(cell) = Cell::new(x, y) else {
         return Err(Refusal::BadCell);
@@ -46,7 +47,7 @@ fn branch(alloc: Global, x: u64, y: u64, placements: &[u32]) -> Result<Tree, Ref
     Ok(Tree::Branch { item, arms })
 }
 
-// A Split whose two sides are left to others.
+// A Split with a Rest on both sides.
 fn split(alloc: Global, placement: u32) -> Result<Tree, Refusal> {
     let taken = Box::new(alloc, Tree::Rest)?;
     let left = Box::new(alloc, Tree::Rest)?;
@@ -87,7 +88,7 @@ fn are_same(a: &Leaves, b: &Leaves) -> bool {
             .all(|(x, y)| x.as_slice() == y.as_slice())
 }
 
-// The leaves of a tree that fits and holds, by `leaves`; none if it doesn't, or if the calls don't agree.
+// The leaves of the tree, if it fits and holds and if `leaves` and `cut_up` agree on them; otherwise `None`.
 fn judged(
     alloc: Global,
     view: &View,
@@ -107,7 +108,7 @@ fn judged(
     }
 }
 
-// Whether the tree fits and doesn't hold, by `holds` and by `cut_up`.
+// Whether the tree fits, and both `holds` and `cut_up` say that it doesn't hold.
 fn is_refused(alloc: Global, view: &View, atoms: &[Atom], tree: &Tree) -> Result<bool, Refusal> {
     if !fits(tree) {
         return Ok(false);
@@ -119,7 +120,7 @@ fn is_refused(alloc: Global, view: &View, atoms: &[Atom], tree: &Tree) -> Result
     Ok(cut.is_none())
 }
 
-// Asserts that the tree holds for the atoms in the square, and what it leaves.
+// Asserts that the tree holds for the atoms on the square of `DOMINOES`, and what its leaves are.
 fn expect_leaves(
     rt: &(impl AllocGlobal + Abort),
     atoms: &[Atom],
@@ -132,7 +133,7 @@ fn expect_leaves(
     assert!(rt; are(&left.expect(rt, "it holds"), tilings, rests));
 }
 
-// Asserts that the tree doesn't hold in the square.
+// Asserts that the tree doesn't hold on the square of `DOMINOES`.
 fn expect_refused(rt: &(impl AllocGlobal + Abort), tree: &Tree) {
     let view = view(rt, &design(rt, DOMINOES));
     assert!(rt; is_refused(rt.alloc(), &view, &[], tree).expect(rt, "memory"));
@@ -180,7 +181,7 @@ fn a_split_on_any_placement(rt: HostRuntime) {
     }
 }
 
-// Whether what is explored holds and has the leaves that `leaves` gives it.
+// Whether the explored tree fits and holds, and comes with the leaves that `leaves` finds in it.
 fn is_report(alloc: Global, view: &View, nodes: u32) -> Result<bool, Refusal>
     requires some { 1 ≤ nodes }
     requires few { nodes ≤ NODES }
@@ -203,7 +204,7 @@ fn what_is_explored_is_a_report(rt: HostRuntime) {
     }
 }
 
-// How many arms the root has if it is explored with one node; `None` if it isn't a Branch.
+// The number of arms at the root of the tree that `explore` grows with one node; `None` if the root isn't a Branch.
 fn arms_of_root(alloc: Global, view: &View) -> Result<Option<usize>, Refusal> {
     match explore(alloc, view, &[], 1)? {
         Tree::Branch { arms, .. } => Ok(Some(arms.len())),

@@ -129,7 +129,7 @@ fn begin(alloc: Global, puzzle: &[u8], seed: u64, tally: Tally) -> Result<Script
 }
 
 impl Script {
-    // Makes the next event: a change, a report that is made and kept, or a kept one that is handed in.
+    // Makes the next event: a change, two reports that are made and kept, or a kept report that is handed in.
     fn act(&mut self, alloc: Global) -> Result<(), Refusal> {
         match self.chance.below(10) {
             0 | 1 | 2 => self.edit(alloc)?,
@@ -143,7 +143,7 @@ impl Script {
         Ok(())
     }
 
-    // Settles the book if many tasks are pending, so that later changes find nothing pending and keep their shelves.
+    // Settles the book if over 24 tasks are pending. The changes after that find few tasks pending, so their shelves are kept.
     fn settle(&mut self) -> Result<(), Refusal> {
         if self.book.numbers().pending > 24 {
             let _ = self.book.settle(100_000, 8)?;
@@ -170,7 +170,7 @@ impl Script {
         self.tally.count_change(done.is_ok());
     }
 
-    // A pending task that is drawn.
+    // Draws a number below 40. Returns the first pending task from that number on, or any if there is none.
     fn draw_task(&mut self) -> Which {
         let from = self.chance.below(40) as u32;
         match self.book.next(from) {
@@ -230,7 +230,7 @@ impl Script {
         self.hand_in(report);
     }
 
-    // Makes 120 events. Returns whether the book is shared out after each.
+    // Makes 120 events. Returns whether `is_shared_out` holds after each of them.
     fn run(&mut self, alloc: Global) -> Result<bool, Refusal> {
         for _ in 0..120 {
             self.settle()?;
@@ -242,8 +242,8 @@ impl Script {
         Ok(true)
     }
 
-    // Makes 120 events and settles the book. Returns the tally; none if the book isn't shared out after an event, or doesn't
-    // have all tilings at the end.
+    // Makes 120 events and settles the book. Returns the tally, or `None` if `is_shared_out` fails after an event or the book
+    // doesn't have all tilings at the end.
     fn run_to_the_end(&mut self, alloc: Global) -> Result<Option<Tally>, Refusal> {
         if !self.run(alloc)? {
             return Ok(None);
@@ -267,7 +267,7 @@ fn report_on(alloc: Global, job: &Job, nodes: u32) -> Result<Report, Refusal>
     })
 }
 
-// The report with a tree that lacks an arm, or that says that one tiling is left if it has no arm.
+// The report with a broken tree: a Branch loses its last arm, and a Branch without arms or any other tree becomes a Found.
 fn broken(report: Report) -> Report {
     let Report {
         task,
@@ -303,7 +303,7 @@ fn run_script(
     script.run_to_the_end(alloc)
 }
 
-// Asserts that the scripts of sixteen seeds go well, and that they had events of each kind.
+// Asserts that the scripts of sixteen seeds go well, and that together they had enough events of each kind.
 fn expect_scripts(rt: &(impl AllocGlobal + Abort), puzzle: &[u8]) {
     let mut tally = Tally::none();
     for seed in 0..16u64 {

@@ -1,4 +1,4 @@
-//! What the solver lists: families by atoms, and the limit of a million tilings.
+//! What the solver lists: the tilings that meet given atoms. It refuses to list over a million.
 
 use crate::designs::{DOMINOES, EIGHT, NARROW, design, view};
 use poly_atom::Atom;

@@ -1,4 +1,4 @@
-//! Books that are settled: the classes of their tilings, and questions about them.
+//! Books that are settled: how many tilings they list, how many `browse` counts, and how many classes these form.
 
 use crate::designs::{DOMINOES, NARROW, NOWHERE, design_of};
 use poly_book::{Book, Quiet};
@@ -15,12 +15,12 @@ const TETRAHEXES: &[u8] =
 const WIDER: &[u8] =
     b"{\"format\":1,\"grid\":\"square\",\"board\":[\"##########\",\"##########\",\"##########\",\"##########\",\"##########\",\"##########\"],\"pieces\":[{\"name\":\"F\",\"cells\":[[1,0],[2,0],[0,1],[1,1],[1,2]]},{\"name\":\"I\",\"cells\":[[0,0],[1,0],[2,0],[3,0],[4,0]]},{\"name\":\"L\",\"cells\":[[0,0],[0,1],[0,2],[0,3],[1,3]]},{\"name\":\"N\",\"cells\":[[1,0],[1,1],[0,2],[1,2],[0,3]]},{\"name\":\"P\",\"cells\":[[0,0],[1,0],[0,1],[1,1],[0,2]]},{\"name\":\"T\",\"cells\":[[0,0],[1,0],[2,0],[1,1],[1,2]]},{\"name\":\"U\",\"cells\":[[0,0],[2,0],[0,1],[1,1],[2,1]]},{\"name\":\"V\",\"cells\":[[0,0],[0,1],[0,2],[1,2],[2,2]]},{\"name\":\"W\",\"cells\":[[0,0],[0,1],[1,1],[1,2],[2,2]]},{\"name\":\"X\",\"cells\":[[1,0],[0,1],[1,1],[2,1],[1,2]]},{\"name\":\"Y\",\"cells\":[[1,0],[0,1],[1,1],[1,2],[1,3]]},{\"name\":\"Z\",\"cells\":[[0,0],[1,0],[1,1],[1,2],[2,2]]}]}";
 
-// A corner of three cells, which one reflection carries to itself, a domino and a piece of one cell: 2 tilings, which the
-// reflection carries to each other.
+// A corner of three cells, a domino and a piece of one cell. One reflection carries the corner to itself, and its two tilings
+// to each other.
 const CORNER: &[u8] =
     b"{\"format\":1,\"grid\":\"square\",\"board\":[\"##\",\"#.\"],\"pieces\":[{\"name\":\"A\",\"cells\":[[0,0],[1,0]]},{\"name\":\"B\",\"cells\":[[0,0]]}]}";
 
-// Two optional cells in a row and an optional domino: the tiling without it, and the one with it.
+// Two optional cells in a row and an optional domino. There are two tilings, with and without the domino.
 const OPTIONAL: &[u8] =
     b"{\"format\":1,\"grid\":\"square\",\"board\":[\"++\"],\"pieces\":[{\"name\":\"A\",\"cells\":[[0,0],[1,0]],\"need\":\"optional\"}]}";
 
@@ -28,9 +28,9 @@ const OPTIONAL: &[u8] =
 const NO_ROOM: &[u8] =
     b"{\"format\":1,\"grid\":\"square\",\"board\":[\".\"],\"pieces\":[{\"name\":\"A\",\"cells\":[[0,0]]}]}";
 
-// A hexagon and the six around it, all optional, and an optional domino. The domino lies in twelve ways: six from the
-// middle outwards, which turns carry to each other, and six along the edge, which they carry to each other too. Together
-// with the tiling without it, these are three classes.
+// A hexagon and the six around it, all optional, and an optional domino. The domino has twelve placements: six from the
+// middle outwards and six along the edge. Turns of the board carry the first six to each other, and the other six to each
+// other. The tiling without the domino is a third class.
 const FLOWER: &[u8] =
     b"{\"format\":1,\"grid\":\"hex\",\"board\":[\".++\",\"+++\",\"++.\"],\"pieces\":[{\"name\":\"A\",\"cells\":[[0,0],[1,0]],\"need\":\"optional\"}]}";
 
@@ -51,7 +51,7 @@ fn settled(alloc: Global, puzzle: &[u8]) -> Result<Quiet, Refusal> {
     book.quiet()
 }
 
-// How many tilings a settled book has that meet the empty query.
+// How many tilings `browse` counts for the empty query.
 fn browsed(alloc: Global, quiet: &Quiet) -> Result<u64, Refusal> {
     let query = Query {
         has: Vec::new(alloc),
@@ -79,7 +79,8 @@ fn classes_of_rectangles(rt: HostRuntime) {
     expect_classes(&rt, WIDER, 9356, 2339);
 }
 
-// The parallelogram has a turn by a half, and no reflection. No tiling is carried to itself, so the classes are pairs.
+// Half a turn carries the parallelogram to itself, but no reflection does. No tiling looks the same after half a turn, so each
+// class is a pair.
 #[test]
 fn classes_of_a_parallelogram_of_hexagons(rt: HostRuntime) {
     expect_classes(&rt, TETRAHEXES, 18, 9);

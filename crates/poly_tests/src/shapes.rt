@@ -35,7 +35,7 @@ fn square(rt: &(impl AllocGlobal + Abort), points: &[(u64, u64)]) -> Shape {
     try_shape(rt.alloc(), Grid::Square, points).expect(rt, "a shape")
 }
 
-// Asserts that a set is found among hashed ones by an equal one.
+// Asserts that a hash set into which `set` was put contains `same`, which is equal to `set`.
 fn expect_hashed(rt: &(impl AllocGlobal + Abort), set: Cells, same: &Cells) {
     let mut seen = HashSet::new(rt.alloc());
     seen.insert(set).expect(rt, "memory");
@@ -62,12 +62,12 @@ fn shapes(rt: HostRuntime) {
     assert!(rt; domino.cells() == set(&rt, &[(0, 0), (1, 0)]));
     assert!(rt; domino.grid() == Grid::Square);
     assert!(rt; try_shape(rt.alloc(), Grid::Square, &[(0, 0), (2, 0)]).is_err());
-    // Hexagons have neighbours right and up, and none right and down.
+    // A hexagon has a neighbour one column to the right and one row up, and none one column to the right and one row down.
     assert!(rt; try_shape(rt.alloc(), Grid::Hex, &[(1, 0), (0, 1)]).is_ok());
     assert!(rt; try_shape(rt.alloc(), Grid::Hex, &[(0, 0), (1, 1)]).is_err());
 }
 
-// How many orientations the shape has.
+// How many orientations the shape has under rotations and reflections.
 fn count(rt: &(impl AllocGlobal + Abort), shape: &Shape) -> usize {
     shape
         .orientations(rt.alloc(), true)
@@ -98,7 +98,7 @@ fn pentominoes(rt: HostRuntime) {
     }
 }
 
-// The neighbour of a cell, if it is a cell.
+// The cell's neighbour in that direction, if its coordinates are those of a cell.
 fn neighbour(grid: Grid, cell: Cell, direction: u8) -> Option<Cell>
     requires { direction < length (steps grid) }
 {
@@ -109,7 +109,7 @@ fn neighbour(grid: Grid, cell: Cell, direction: u8) -> Option<Cell>
     Cell::new(point.x as u64, point.y as u64)
 }
 
-// Adds the shape with one more cell, if that is a new cell and the shape is not listed.
+// Adds the shape with one more cell, if the shape doesn't have that cell yet and the larger shape is not listed yet.
 fn add_grown(
     alloc: Global,
     grid: Grid,
@@ -133,7 +133,7 @@ fn add_grown(
 fn grown(alloc: Global, grid: Grid, fixed: &[Cells]) -> Result<Vec<Cells>, Refusal> {
     let mut found = Vec::new(alloc);
     for cells in fixed {
-        // One step off the edges, so that each neighbour is a cell.
+        // The shape is moved one step off the edges, so that each neighbour is a cell.
         let Some(room) = cells.translated(1, 1) else {
             return Err(Refusal::BadCell);
         };

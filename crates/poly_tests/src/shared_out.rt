@@ -19,7 +19,7 @@ fn meets_all(view: &View, numbers: &[u32], atoms: &[Atom]) -> bool {
     atoms.iter().all(|atom| meets(view, numbers, atom))
 }
 
-// The pending tasks, by their numbers.
+// The pending tasks, in the order of their numbers.
 fn pending(alloc: Global, book: &Book) -> Result<Vec<Job>, Refusal> {
     let mut jobs = Vec::new(alloc);
     let mut from = 0;
@@ -35,7 +35,7 @@ fn pending(alloc: Global, book: &Book) -> Result<Vec<Job>, Refusal> {
     Ok(jobs)
 }
 
-// Whether the tiling is listed once and meets no task, or is not listed and meets one.
+// Whether the tiling is listed once and meets the atoms of no task, or is not listed and meets those of exactly one.
 fn is_in_one_place(view: &View, listed: &[Tiling], jobs: &[Job], numbers: &[u32]) -> bool {
     let times = listed.iter().filter(|t| t.numbers() == numbers).count();
     let met = jobs
@@ -45,7 +45,7 @@ fn is_in_one_place(view: &View, listed: &[Tiling], jobs: &[Job], numbers: &[u32]
     times.saturating_add(met) == 1
 }
 
-// Whether each of the tilings is in one place.
+// Whether `is_in_one_place` is true for each of the tilings.
 fn are_in_one_place(view: &View, listed: &[Tiling], jobs: &[Job], tilings: &[Tiling]) -> bool {
     tilings
         .iter()
@@ -56,8 +56,8 @@ fn are_tilings(view: &View, listed: &[Tiling]) -> bool {
     listed.iter().all(|t| view.is_tiling(t.numbers()))
 }
 
-/// Whether each tiling of the design is listed once and meets no pending task, or is not listed and meets exactly one; and
-/// whether nothing else is listed.
+/// Whether each tiling of the design is listed once and meets the atoms of no pending task, or is not listed and meets those
+/// of exactly one; and whether nothing else is listed.
 pub(crate) fn is_shared_out(alloc: Global, book: &Book) -> Result<bool, Refusal> {
     let jobs = pending(alloc, book)?;
     let tilings = list_tilings(alloc, book.view())?;

@@ -7,7 +7,7 @@ use poly_tiling::{View, list_tilings, sort_tilings};
 use std::alloc::Global;
 use std::test::Fail;
 
-// How many tilings both give, or none if they differ.
+// How many tilings the solver and the plain lister give; `None` if they differ.
 fn both(alloc: Global, puzzle: &[u8], lines: &[&[u8]]) -> Result<Option<usize>, Refusal> {
     let design = design_of(alloc, puzzle, lines)?;
     let view = View::plain(alloc, &design)?;
@@ -41,7 +41,7 @@ fn optional_cells_and_pieces(rt: HostRuntime) -> Result<(), Fail> {
 }
 
 #[test]
-fn pins_and_forbidden_places(rt: HostRuntime) -> Result<(), Fail> {
+fn pins_and_forbidden_placements(rt: HostRuntime) -> Result<(), Fail> {
     let alloc = rt.alloc();
     assert_eq!(rt; both(alloc, DOMINOES, &[])?, Some(4));
     assert_eq!(rt; both(alloc, DOMINOES, &[b"pin A 0,0 0,1"])?, Some(1));

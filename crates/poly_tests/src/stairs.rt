@@ -56,7 +56,7 @@ fn the_atoms_of_a_stair(rt: HostRuntime) -> Result<(), Fail> {
     Ok(())
 }
 
-// A change with two guards, one without guards, and one with one.
+// The log of a change with two guards, a change without guards, and a change with one guard.
 fn three_changes(alloc: Global) -> Result<GuardLog, Refusal> {
     let mut log = GuardLog::new(alloc);
     log.push(vec![in alloc; Atom::Lacks(4), Atom::Lacks(7)]?)?;
@@ -65,7 +65,8 @@ fn three_changes(alloc: Global) -> Result<GuardLog, Refusal> {
     Ok(log)
 }
 
-// Asserts which guards follow each edition of the three changes.
+// Asserts which guards the log has since edition 0 and since edition 1, and that it has none since the last edition or a later
+// one.
 fn expect_guards_since(rt: &impl Abort, log: &GuardLog) {
     assert_eq!(rt;
         log.since(0),

@@ -1,4 +1,5 @@
-//! A table that was led through edits, undos and redos shows what a new table of the design shows, except for its numbers.
+//! A table that has followed a design through edits, undos and redos shows what a new table of that design shows. Only the
+//! numbers may differ. Another test is about the marks of the numbers that a delta takes away.
 ghost use Rattle.std.specs.Prelude.{◌≡◌, IfOk, OnOk};
 ghost use Rattle.poly_design.specs.Changes.{changed};
 ghost use Rattle.poly_design.specs.Limits.{IsDesign};
@@ -12,7 +13,7 @@ use poly_tiling::View;
 use std::alloc::Global;
 use std::test::Fail;
 
-// Leads the design and its table through the change.
+// Makes the change on the design and on its table.
 fn lead(design: &mut Design, table: &mut Table, change: &Change) -> Result<(), Refusal>
     requires standing { IsRight table.old design.old }
     requires limits { IsDesign (changed design.old change.now) }
@@ -73,7 +74,8 @@ fn is_as_new(alloc: Global, design: &Design, table: &Table) -> Result<bool, Refu
     )
 }
 
-// Whether the table is like a new one after the change is undone and made again. Leaves the change undone.
+// Undoes the change, makes it again, and undoes it. Returns whether the table is like a new one after the first undo and after
+// the change was made again.
 fn is_as_new_back(
     alloc: Global,
     design: &mut Design,
@@ -113,8 +115,8 @@ fn both_ways(alloc: Global, design: &Design, line: &[u8]) -> Result<(Change, Cha
     }
 }
 
-// Whether the table is as new after each edit that the lines ask for, and on the way back, when each edit is undone, made
-// again and undone.
+// Makes the edits that the lines ask for. Then undoes them, the last one first; each is made again once and undone again.
+// Returns whether the table is like a new one after the last edit, and then after the first undo and the redo of each edit.
 fn is_as_new_along(
     alloc: Global,
     design: &mut Design,
@@ -135,7 +137,7 @@ fn is_as_new_along(
     Ok(later_too && back_too)
 }
 
-// The numbers 1 and 3 are gone, and nothing else differs.
+// The marks of a delta in which the numbers 1 and 3 are gone and nothing else differs.
 fn two_gone(alloc: Global) -> Result<Vec<bool>, Refusal> {
     let delta = Delta {
         gone: vec![in alloc; 1, 3]?,

@@ -6,7 +6,7 @@ use poly_tiling::Item;
 use std::alloc::Global;
 use std::process::Abort;
 
-/// A Branch on the cell 0,0 with this many arms, each of them on the first placement and left to others.
+/// A Branch on the cell 0,0 with this many arms. Each arm has placement 0 and a Rest.
 pub(crate) fn wide_branch(rt: &impl Abort, alloc: Global, arms: usize) -> Tree {
     let mut all = Vec::new(alloc);
     for _ in 0..arms {
@@ -22,7 +22,7 @@ pub(crate) fn wide_branch(rt: &impl Abort, alloc: Global, arms: usize) -> Tree {
     }
 }
 
-/// A chain of Splits on the placement, each in the `left` of the one before.
+/// A chain of this many Splits on the placement: the `left` of each Split has the next one. All other nodes are Rests.
 pub(crate) fn chain(rt: &impl Abort, alloc: Global, splits: usize, placement: u32) -> Tree {
     let mut tree = Tree::Rest;
     for _ in 0..splits {

@@ -1,4 +1,5 @@
-//! Views of small designs: numbers, items, bounds, pins and tilings that were found by hand.
+//! Views of small designs: numbers, items, bounds, pins and tilings that were found by hand. Also conflicts of placements, and
+//! copies and the order of tilings.
 
 use crate::designs::{DOMINOES, NOWHERE, design, edited, placement, view};
 use poly_design::Name;
@@ -15,7 +16,7 @@ const LOOSE: &[u8] =
 const COPIES: &[u8] =
     b"{\"format\":2,\"grid\":\"square\",\"board\":[\"##\",\"##\"],\"pieces\":[{\"name\":\"A\",\"cells\":[[0,0],[1,0]],\"least\":2,\"most\":2}]}";
 
-// Some numbers of `DOMINOES`, and whether they are a tiling.
+// Some lists of placement numbers of `DOMINOES`, and whether each is a tiling.
 const LISTS: [(&[u32], bool); 10] = [
     (&[0, 7], true),
     (&[1, 6], true),
@@ -25,7 +26,7 @@ const LISTS: [(&[u32], bool); 10] = [
     (&[7, 0], false),
     // a number twice
     (&[0, 0, 7], false),
-    // cells without a placement
+    // cells that no placement covers
     (&[0], false),
     // a piece twice
     (&[0, 3], false),
@@ -124,7 +125,7 @@ fn out_of_order(alloc: Global) -> Result<Vec<Tiling>, Refusal> {
     Ok(tilings)
 }
 
-/// Whether the lists have these numbers, in this order.
+/// Whether the tilings have these lists of numbers, in this order.
 pub(crate) fn are(found: &[Tiling], want: &[&[u32]]) -> bool {
     found.len() == want.len() && found.iter().zip(want).all(|(a, b)| a.numbers() == *b)
 }

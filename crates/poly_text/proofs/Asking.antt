@@ -1,4 +1,4 @@
--- The question that a loop gathers from the words of `browse`.
+-- The question that a loop gathers from the words of `browse`, or its refusal.
 use Rattle.std.proofs.Common.{◌≡◌, ℕ, ◌==◌, ◌+◌, ◌-◌, ◌≤◌, Bool, true, false, List, [], ◌∷◌, ◌++◌, length, length-drop, get_or, take, drop, Some, None, Result, Ok, Err, refl, sym, ap, subst, ◌∙◌, arith}
 use Rattle.std.specs.List.{position}
 use Rattle.std.proofs.lemmas.Bool.{false≢true}
@@ -17,11 +17,11 @@ use Rattle.poly_text.specs.Names.{name_of}
 use Rattle.poly_text.specs.Read.{IsReadAs}
 use Rattle.poly_text.specs.Words.{listed_cells}
 
--- what is left of a list
+-- after the first n elements of a list, at most `length xs - n` are left, so taking that many takes all of these
 pub rest_from : {A : Type 0} (n : ℕ) (xs : List A) → take (length xs - n) (drop n xs) ≡ drop n xs
 rest_from n xs = take_all (length xs - n) (drop n xs) (omega (arith, length-drop n xs))
 
--- a word by its first byte and the rest
+-- the same for the part of a word after its first byte
 rest_of : (word : List ℕ) → take (length word - 1) (drop 1 word) ≡ drop 1 word
 rest_of word = rest_from 1 word
 
@@ -46,13 +46,13 @@ query_minus word n some is read = minus word n some is (ap named_cells (sym (res
 pub query_at : (word : List ℕ) (i : Item) → 1 ≤ length word → get_or word 0 0 ≡ 64 → item_of (take (length word - 1) (drop 1 word)) ≡ Ok i → query_of word ≡ Ok (covers i)
 query_at word i some is read = at_sign word i some is (ap item_of (sym (rest_of word)) ∙ read)
 
--- the parts of a name with cells
+-- a name with cells is read from the parts of the text before and after the equals sign
 pub named_is : (text : List ℕ) (equals : ℕ) (name : List ℕ) (cells : List Spot) → position (λ b. b == 61) text ≡ Some equals → name_of (take equals text) ≡ Some name → listed_cells (take (length text - (equals + 1)) (drop (equals + 1) text)) ≡ Ok cells
     → named_cells text ≡ Ok (name, cells)
 unfolding named_cells
 named_is text equals name cells place named listed = rw (place, named, ap listed_cells (sym (rest_from (equals + 1) text)) ∙ listed) refl
 
--- after one more query
+-- one more query adds its own placement or item
 had_more : (qs : List Query) (q : Query) → had (qs ++ q ∷ []) ≡ had qs ++ had (q ∷ [])
 had_more [] q = refl
 had_more (has n ∷ qs) q = ap (λ z. n ∷ z) (had_more qs q)
@@ -81,7 +81,7 @@ made_more [] (q ∷ ps) n p made one = absurd made
 made_more (m ∷ ns) [] n p made one = absurd made
 made_more (m ∷ ns) (q ∷ ps) n p made one = (made.0, made_more ns ps n p made.1 one)
 
--- the sets of a longer list are sets of the shorter one
+-- if all lists of cells make sets, then so do those before the last one, and so does the last one
 sets_before : (ns : List Named) (n : Named) → MakeSets (ns ++ n ∷ []) → MakeSets ns × AreFewDistinct n.1
 sets_before [] n sets = (tt, sets.0)
 sets_before (m ∷ ns) n sets = let rest = sets_before ns n sets.1 in ((sets.0, rest.0), rest.1)
@@ -89,7 +89,8 @@ sets_before (m ∷ ns) n sets = let rest = sets_before ns n sets.1 in ((sets.0, 
 abbrev pub NoSets : List Query → Type 0
 NoSets qs = MakeSets (had qs) × MakeSets (lacked qs) → ⊥
 
--- what is kept of the queries so far
+-- what the loop knows of the queries so far: if `are_sets` is true, the lists are the question of these queries; if it is
+-- false, some list of cells makes no set
 pub record Kept (qs : List Query) (having lacking : List Placement) (covering : List Item) (are_sets : Bool) : Type 0 where
   pub made : are_sets ≡ true → IsQuestion qs (record { has = having; lacks = lacking; covers = covering })
   pub not_made : are_sets ≡ false → NoSets qs
@@ -150,7 +151,7 @@ kept_covers qs (covers j) having lacking covering more are_sets i read is kept =
   not_made = λ e. still_none qs (covers j) (kept.not_made e);
 }
 
--- a list of cells that makes no set
+-- if the cells of the last query make no set, not every list of cells makes a set
 none_has : (qs : List Query) (n : Named) → (AreFewDistinct n.1 → ⊥) → NoSets (qs ++ has n ∷ [])
 none_has qs n none sets = none (sets_before (had qs) n (subst MakeSets (had_more qs (has n)) sets.0)).1
 
@@ -167,7 +168,7 @@ kept_no_lacks qs (has n) having lacking covering read = absurd read
 kept_no_lacks qs (lacks n) having lacking covering read = record { made = λ e. absurd (false≢true e); not_made = λ e. none_lacks qs n read }
 kept_no_lacks qs (covers i) having lacking covering read = absurd read
 
--- the question of all words
+-- if all words were read, the result is the question of their queries
 pub gathered : (total : Result (List Query) Refusal) (qs : List Query) (q : Asked) → total ≡ Ok qs → IsQuestion qs q → Follows {B = Asked} total (λ queries. QuestionSays queries (Ok q)) (Ok q)
 gathered total qs q is made = rw is made
 

@@ -1,4 +1,4 @@
--- A line has no word exactly if it consists of spaces.
+-- A line has no word exactly if all its bytes are spaces. Such a line asks for nothing.
 use Rattle.std.proofs.Common.{◌≡◌, ◌==◌, ◌&&◌, ℕ, suc, arith, Bool, true, false, cond, List, [], ◌∷◌, length, refl}
 use borrow.Author.Tests.{ne_eqb}
 use Rattle.std.specs.Prelude.{filter, None, Ok}

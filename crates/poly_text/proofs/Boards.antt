@@ -22,7 +22,7 @@ use Rattle.poly_text.specs.Json as json
 use Rattle.poly_text.specs.Views.{rows_of}
 use Rattle.poly_text.proofs.Testing.{rows_length, rows_pass}
 
--- how many cells
+-- ---- how many cells there are
 
 length_with_mode : (c : Spot) (m : Option Mode) → length (with_mode c m) ≡ cond (is_some m) 1 0
 length_with_mode c None = refl
@@ -44,7 +44,7 @@ length_cells_from y (v ∷ vs) =
 pub board_length : (vs : List Value) → length (board_cells (rows_of vs)) ≡ sum_by (λ v. count_by is_open (json.text (view v))) vs
 board_length vs = length_cells_from 0 vs
 
--- which modes
+-- ---- no byte of a row gives the mode Blocked
 
 open_not_blocked : (byte : ℕ) (m : Mode) → open_mode byte ≡ Some m → m ≢ Blocked
 open_not_blocked byte m e = go (byte == 35) (byte == 43) e
@@ -54,7 +54,7 @@ open_not_blocked byte m e = go (byte == 35) (byte == 43) e
     go false true e = λ b. cc
     go false false e = λ b. cc
 
--- The map takes the cells in reading order, so each new one comes last.
+-- ---- the map takes the cells in reading order, so each new cell comes last
 
 pub before_more : (p q : ℕ) (es : List (Spot × Mode)) → p ≤ q → AreBefore p es → AreBefore q es
 before_more p q [] le h = tt
@@ -91,7 +91,7 @@ row_append x y (b ∷ row) byte =
     ap (λ z. with_mode (record { x = x; y = y }) (open_mode b) ++ z) (row_append (suc x) y row byte) ∙ sym (append_assoc (with_mode (record { x = x; y = y }) (open_mode b)) (row_cells (suc x) y row) (with_mode (record { x = suc x + length row; y = y }) (open_mode byte)))
     ∙ ap (λ n. (with_mode (record { x = x; y = y }) (open_mode b) ++ row_cells (suc x) y row) ++ with_mode (record { x = n; y = y }) (open_mode byte)) (omega arith)
 
--- after one more byte of a row
+-- one more byte of a row adds its cell, unless that cell is blocked
 pub row_more : (y x : ℕ) (row : List ℕ) → x < length row → row_cells 0 y (take (x + 1) row) ≡ row_cells 0 y (take x row) ++ with_mode (record { x = x; y = y }) (open_mode (get_or row x 0))
 row_more y x row lt =
     let len : length (take x row) ≡ x = length-take-le x row (omega arith) in
@@ -103,7 +103,7 @@ rows_append y (r ∷ rows) row =
     ap (λ z. row_cells 0 y r ++ z) (rows_append (suc y) rows row) ∙ sym (append_assoc (row_cells 0 y r) (cells_from (suc y) rows) (row_cells 0 (suc y + length rows) row))
     ∙ ap (λ n. (row_cells 0 y r ++ cells_from (suc y) rows) ++ row_cells 0 n row) (omega arith)
 
--- after one more row of a board
+-- one more row of a board adds the cells of that row
 pub rows_more : (y : ℕ) (vs : List Value) (v : Value) → y < length vs → v ≡ get_or vs y v → cells_from 0 (rows_of (take (y + 1) vs)) ≡ cells_from 0 (rows_of (take y vs)) ++ row_cells 0 y (json.text (view v))
 rows_more y vs v lt is =
     let len : length (rows_of (take y vs)) ≡ y = rows_length (take y vs) ∙ length-take-le y vs (omega arith) in
@@ -114,7 +114,7 @@ rows_more y vs v lt is =
     rows_of_append [] w = refl
     rows_of_append (x ∷ ws) w = ap (λ z. json.text (view x) ∷ z) (rows_of_append ws w)
 
--- the limits of a board
+-- each row of a board has an index below 64 and at most 64 bytes
 pub board_bounds : (vs : List Value) (y : ℕ) (v : Value) → is_board (rows_of vs) ≡ true → y < length vs → v ≡ get_or vs y v → (y < 64) × (length (json.text (view v)) ≤ 64)
 board_bounds vs y v board lt is =
     let parts = and_parts (nat_le (length (rows_of vs)) 64) (list_all is_row (rows_of vs)) board in
@@ -124,7 +124,7 @@ board_bounds vs y v board lt is =
     let sizes = and_parts (nat_le (length (json.text (view v))) 64) (list_all is_mark (json.text (view v))) row in
     (omega (arith, lt, few, rows_length vs), leb-true (length (json.text (view v))) 64 sizes.0)
 
--- no cell of a board is blocked
+-- ---- no cell of `board_cells` has the mode Blocked
 
 abbrev AllOpen : List (Spot × Mode) → Type 0
 AllOpen [] = Unit {0}

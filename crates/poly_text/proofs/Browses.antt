@@ -15,7 +15,7 @@ use Rattle.poly_text.specs.Words.{read_each}
 use Rattle.poly_text.proofs.Asking.{rest_from}
 use Rattle.poly_text.proofs.CellWords.{texts}
 
--- the command of a question
+-- the command of a question, or the question's refusal
 abbrev pub browsing : Result Asked Refusal → Result Command Refusal
 browsing r = r >>= λ asked. Ok (command.Browse asked)
 

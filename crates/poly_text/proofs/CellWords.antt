@@ -17,7 +17,7 @@ regroup : {A : Type 0} (done : List A) (x : A) (rest : Result (List A) Refusal) 
 regroup done x (Err e) = refl
 regroup done x (Ok xs) = ap Ok (sym (append_assoc done (x ∷ []) xs))
 
--- after one more word
+-- reading one more word doesn't change the total
 pub each_step : {A : Type 0} (f : List ℕ → Result A Refusal) (words : List (Bor (List ℕ))) (i : ℕ) (d : Bor (List ℕ)) (done : List A) (x : A) (total : Result (List A) Refusal) → i < length words
     → f (get_or words i d).now ≡ Ok x → onto done (read_each f (texts (drop i words))) ≡ total → onto (done ++ x ∷ []) (read_each f (texts (drop (i + 1) words))) ≡ total
 each_step f words i d done x total lt is so_far =
@@ -34,12 +34,12 @@ pub each_end : {A : Type 0} (f : List ℕ → Result A Refusal) (words : List (B
     → onto done (read_each f (texts (drop i words))) ≡ total → total ≡ Ok done
 each_end f words i done total le so_far = sym so_far ∙ at_drop_all (λ ws. onto done (read_each f (texts ws))) words i le ∙ ap Ok (append-nil done)
 
--- what a loop begins with
+-- before the first word, the total is what all words are read as
 pub each_begin : {A : Type 0} (rest : Result (List A) Refusal) → onto [] rest ≡ rest
 each_begin (Err e) = refl
 each_begin (Ok xs) = refl
 
--- there is room for one more cell
+-- if there is room for one more cell, it is kept
 pub kept_more : (room new done : List Spot) (count : ℕ) (c : Spot) → count < length room → new ≡ set room count c → length new ≡ length room → count ≡ min (length done) (length room)
     → take count room ≡ take (length room) done → take (count + 1) new ≡ take (length new) (done ++ c ∷ [])
 kept_more room new done count c lt is same counted kept =
@@ -48,7 +48,7 @@ kept_more room new done count c lt is same counted kept =
     let whole : take (length room) (done ++ c ∷ []) ≡ done ++ c ∷ [] = take_all (length room) (done ++ c ∷ []) (omega (arith, few, lt, length-append done (c ∷ []))) in
     ap (take (count + 1)) is ∙ take_more_set room count c lt ∙ ap (λ z. z ++ c ∷ []) (kept ∙ all) ∙ sym whole ∙ ap (λ k. take k (done ++ c ∷ [])) (sym same)
 
--- there is no room for one more cell
+-- if there is no room for one more cell, the kept cells stay the same
 pub kept_same : (room done : List Spot) (count : ℕ) (c : Spot) → length room ≤ count → count ≡ min (length done) (length room) → take count room ≡ take (length room) done
     → take count room ≡ take (length room) (done ++ c ∷ [])
 kept_same room done count c full counted kept = kept ∙ sym (take-append-le (length room) done (c ∷ []) (omega (arith, full, counted)))

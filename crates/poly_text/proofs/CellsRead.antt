@@ -11,7 +11,7 @@ use Rattle.poly_text.specs.Json.{◌>>=◌}
 use Rattle.poly_text.specs.Fields.{cell_of, cells_of}
 use Rattle.poly_text.specs.Views.{views}
 
--- the list from an index on
+-- the values from an index on: the one at the index, then those after it
 pub views_from : (vs : List Value) (i : ℕ) (v : Value) → i < length vs → v ≡ get_or vs i v → views (drop i vs) ≡ view v ∷ views (drop (i + 1) vs)
 views_from vs i v lt is = at_drop_more views vs i v lt ∙ ap (λ x. view x ∷ views (drop (i + 1) vs)) (sym is)
 

@@ -1,4 +1,4 @@
--- The words of `copies` whose numbers are refused.
+-- A command `copies` with a valid name is refused if a number, or the bounds that the numbers give, are refused.
 use Rattle.std.proofs.Common.{◌≡◌, ◌<◌, ◌≤◌, ℕ, Bor, List, [], ◌∷◌, length, get_or, Option, Some, None, Result, Ok, Err, ap, arith}
 use Rattle.std.specs.Prelude.{codes}
 use Rattle.poly_grid.specs.declared.grid.Grid.{Grid}

@@ -1,4 +1,4 @@
--- How long the parts of a reply line are.
+-- How long the parts of a reply line are, and how the text of cells grows.
 use Rattle.std.proofs.Common.{◌≡◌, ℕ, zero, suc, ◌+◌, ◌^◌, ◌<◌, ◌≤◌, List, [], ◌∷◌, ◌++◌, length, take, get_or, sym, ap, ◌∙◌, arith, append_assoc, append-nil}
 use Rattle.std.specs.Fmt.{decimal}
 use Rattle.std.specs.List.{flat_map, fold}
@@ -18,7 +18,7 @@ coordinate_short n lt = let below : n < 10 ^ 2 = omega (arith, lt) in let fits :
 join_more : (first : Spot) (cells : List Spot) (c : Spot) → cells_text ((first ∷ cells) ++ c ∷ []) ≡ cells_text (first ∷ cells) ++ 47 ∷ cell_text c
 join_more first cells c = ap (λ z. cell_text first ++ z) (flat_map-append (λ d. 47 ∷ cell_text d) cells (c ∷ []) ∙ ap (λ z. flat_map (λ d. 47 ∷ cell_text d) cells ++ z) (append-nil (47 ∷ cell_text c))) ∙ sym (append_assoc (cell_text first) (flat_map (λ d. 47 ∷ cell_text d) cells) (47 ∷ cell_text c))
 
--- the text of the first cell
+-- the text of the first cell alone is its `cell_text`
 pub cells_first : (cells : List Spot) (c : Spot) → 0 < length cells → c ≡ get_or cells 0 c → cells_text (take 1 cells) ≡ cell_text c
 cells_first [] c lt is = absurd (omega (arith, lt))
 cells_first (d ∷ cells) c lt is = append-nil (cell_text d) ∙ ap cell_text (sym is)
@@ -28,7 +28,7 @@ next_of zero cells c above some = absurd (omega (arith, above))
 next_of (suc i) [] c above some = absurd (omega (arith, some))
 next_of (suc i) (d ∷ cells) c above some = join_more d (take i cells) c
 
--- the text of a further cell
+-- each further cell adds a slash and its `cell_text`
 pub cells_next : (i : ℕ) (cells : List Spot) (c : Spot) → 0 < i → i < length cells → c ≡ get_or cells i c → cells_text (take (i + 1) cells) ≡ cells_text (take i cells) ++ 47 ∷ cell_text c
 cells_next i cells c above lt is =
     let more : take (i + 1) cells ≡ take i cells ++ c ∷ [] = take_more cells i c lt ∙ ap (λ z. take i cells ++ z ∷ []) (sym is) in
@@ -38,7 +38,7 @@ counted_from : (ps : List Placement) (n : ℕ) → fold (λ a p. a + length p.ce
 counted_from [] n = omega arith
 counted_from (p ∷ ps) n = omega (arith, counted_from ps (n + length p.cells), counted_from ps (0 + length p.cells))
 
--- the cells of the placements before one, and of that one
+-- a placement and the placements before it have together at most as many cells as all placements have
 pub covered_at : (i : ℕ) (ps : List Placement) (p : Placement) → i < length ps → p ≡ get_or ps i p → covered (take i ps) + length p.cells ≤ covered ps
 covered_at i [] p lt is = absurd (omega (arith, lt))
 covered_at zero (q ∷ ps) p lt is = rw is (omega (arith, counted_from ps (0 + length q.cells)))

@@ -1,4 +1,4 @@
--- If a list has more cells than a set can have, its first 17 cells already tell that it makes no set and no shape.
+-- If a list has more cells than a set can have, its first 17 cells already show that it makes no set and no shape.
 use Rattle.std.proofs.Common.{◌≡◌, ◌<◌, ℕ, List, take, Option, Some, None, Result, Ok, Err, refl, sym, subst, arith}
 use Rattle.std.specs.Result.{result_ok}
 use Rattle.std.specs.Prelude.{◌↔◌, IsOk, IfOk, IfErr}
@@ -23,7 +23,7 @@ few_first n cells lt few = take_all n cells (omega (arith, lt, few.few, length-t
 few_all : (n : ℕ) (cells : List Spot) → 16 < n → AreFewDistinct cells → take n cells ≡ cells
 few_all n cells lt few = take_all n cells (omega (arith, lt, few.few))
 
--- what is known of cells that make a set
+-- `Cells::new` returns a set exactly if there are 1 to 16 cells and none comes twice, so its result meets `MakesSet`
 made_says : (cells : List Spot) (r : Result (List Spot) Refusal) → IfOk r (λ set. HasSame set cells) → IfOk r IsCells → (IsOk r ↔ AreFewDistinct cells) → MakesSet cells (result_ok r)
 made_says cells (Ok set) same kept when = (when.0 refl, kept, same)
 made_says cells (Err e) same kept when = λ few. false≢true (when.1 few)

@@ -1,4 +1,4 @@
--- Elements and members, as lists.
+-- The elements of a JSON list are the views of its values in memory, and an object has as many members as entries.
 use Rattle.std.proofs.Common.{◌≡◌, suc, List, [], ◌∷◌, length, refl, ap, String, Global}
 use Rattle.serde_json.specs.Data.{Data}
 use Rattle.serde_json.specs.Events.{members_len}

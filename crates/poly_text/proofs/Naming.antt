@@ -1,4 +1,4 @@
--- Names as a test and as a fact.
+-- The test `is_name` passes exactly if the bytes are a name (`IsName`).
 use Rattle.std.proofs.Common.{◌≡◌, ℕ, ◌&&◌, Bool, true, false, List, length, refl}
 use Rattle.std.specs.Prelude.{nat_le}
 use Rattle.std.specs.List.{list_all}

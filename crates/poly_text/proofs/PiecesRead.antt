@@ -22,7 +22,7 @@ use Rattle.poly_text.specs.Piece.{Said, said_of, Pieces, ShapeSays, SpecSays, Pi
 use Rattle.poly_text.specs.Views.{views}
 use Rattle.poly_text.proofs.CellsRead.{views_from}
 
--- after one more piece
+-- if the piece at `i` is accepted, the result of the later pieces is the result of all pieces from `i` on
 pub piece_step : (f : Format) (g : Grid) (vs : List Value) (i : ℕ) (v : Value) (taken : Pieces) (s : Said) (p : Spec) (r : Result Pieces Refusal) → i < length vs → v ≡ get_or vs i v
     → said_of f (view v) ≡ Ok s → SpecSays g taken s (Ok p) → PiecesSay f g (views (drop (i + 1) vs)) (insert_entry name_cmp taken s.name p) r → PiecesSay f g (views (drop i vs)) taken r
 piece_step f g vs i v taken s p r lt is said spec rest = rw (views_from vs i v lt is, said) (Ok p, spec, rest)
@@ -33,7 +33,7 @@ pub said_stop : (e : Refusal) (f : Format) (g : Grid) (vs : List Value) (i : ℕ
 said_stop e f g vs i v start taken lt is (inl memory) so_far = inl memory
 said_stop e f g vs i v start taken lt is (inr said) so_far = inr (so_far (Err e) (rw (views_from vs i v lt is, said) refl))
 
--- how many pieces there are, and of which grid
+-- ---- how many pieces there are, and which grid they have
 
 pub length_insert : (es : Pieces) (k : List ℕ) (v : Spec) → length (insert_entry name_cmp es k v) ≤ length es + 1
 length_insert [] k v = omega arith

@@ -1,4 +1,4 @@
--- The steps of a puzzle line, joined.
+-- The steps of reading a puzzle line, put together.
 use Rattle.std.proofs.Common.{◌≡◌, ℕ, List, [], Result, Ok, Err, refl, ap, subst, inl, inr}
 use Rattle.std.specs.Prelude.{◌⊎◌, IsOk, IfOk, IfErr}
 use Rattle.serde_json.specs.Data.{Data}

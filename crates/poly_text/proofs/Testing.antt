@@ -1,4 +1,5 @@
--- Tests of the elements of a list of JSON, by the values in memory.
+-- A test of all elements of a JSON list has the same result on the values in memory, and there are as many values as
+-- elements.
 use Rattle.std.proofs.Common.{◌≡◌, Bool, List, length, ◌∙◌}
 use Rattle.std.specs.List.{list_all}
 use Rattle.std.proofs.lemmas.List.{length-map}

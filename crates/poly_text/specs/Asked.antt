@@ -3,7 +3,8 @@ use Rattle.std.specs.Prelude.{List}
 use Rattle.poly_design.specs.declared.placement.Placement.{Placement}
 use Rattle.poly_tiling.specs.declared.item.Item.{Item}
 
--- placements that the tiling has, placements that it lacks, and items that it covers, each list in the order of the words
+-- the placements that the tiling must have, those that it must lack, and the items that it must cover, each list in the order
+-- of the words
 pub record Asked : Type 0 where
   pub has : List Placement
   pub lacks : List Placement

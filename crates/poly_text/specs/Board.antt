@@ -28,21 +28,21 @@ abbrev pub with_mode : Spot → Option Mode → List (Spot × Mode)
 with_mode c None = []
 with_mode c (Some mode) = (c, mode) ∷ []
 
--- the cells of a row from column x on that are not blocked
+-- the cells of row y that are not blocked; the first of the bytes is at column x
 abbrev pub row_cells : ℕ → ℕ → List ℕ → List (Spot × Mode)
 row_cells x y [] = []
 row_cells x y (byte ∷ row) = with_mode (record { x = x; y = y }) (open_mode byte) ++ row_cells (suc x) y row
 
--- the cells of the rows from row y on that are not blocked, in reading order
+-- the cells of the rows that are not blocked, in reading order; the first of the rows is row y
 abbrev pub cells_from : ℕ → List (List ℕ) → List (Spot × Mode)
 cells_from y [] = []
 cells_from y (row ∷ rows) = row_cells 0 y row ++ cells_from (suc y) rows
 
--- the cells of a board that are not blocked: a row's index is y, a column is x
+-- the cells of a board that are not blocked, in reading order
 abbrev pub board_cells : List (List ℕ) → List (Spot × Mode)
 board_cells rows = cells_from 0 rows
 
--- each cell is in columns 0 to 63, and its index, if cells are numbered row by row with 64 to a row, is below `place`
+-- each cell has a column from 0 to 63, and its number is below `place`, if cells are numbered row by row, 64 to a row
 abbrev pub AreBefore : ℕ → List (Spot × Mode) → Type 0
 AreBefore place [] = Unit {0}
 AreBefore place (e ∷ es) = (SIDE * e.0.y + e.0.x < place) × (e.0.x < SIDE) × AreBefore place es

@@ -43,7 +43,8 @@ meaning_of a_mode word = ok_or (mode_of word) BadCommand
 meaning_of a_number word = ok_or (number_of word) BadCommand
 meaning_of a_cell word = cell_of word
 
--- Whether the word can be of the kind, as far as keywords tell. They are judged before all other words.
+-- Whether the word is a keyword of the kind. A kind that has no keywords accepts every word here. Keywords are judged
+-- before all other words.
 abbrev pub is_fit : Kind → List ℕ → Bool
 is_fit a_name word = true
 is_fit a_need word = is_some (need_of word)
@@ -52,7 +53,7 @@ is_fit a_mode word = is_some (mode_of word)
 is_fit a_number word = true
 is_fit a_cell word = true
 
--- there are as many words as kinds, and each keyword is one of its kind
+-- there are as many words as kinds, and each word is fit for its kind
 abbrev pub are_fit : List Kind → List (List ℕ) → Bool
 are_fit [] [] = true
 are_fit [] (word ∷ words) = false
@@ -64,7 +65,7 @@ abbrev pub Takes : List Kind → Type 0 → Type 0
 Takes [] A = A
 Takes (kind ∷ kinds) A = Meaning kind → Takes kinds A
 
--- f of the values of the words, or the refusal of the leftmost word that is refused
+-- f of the values of the words, or the refusal of the leftmost word that is refused or missing
 abbrev pub from_left : {A : Type 0} → (kinds : List Kind) → Takes kinds A → List (List ℕ) → Result A Refusal
 from_left [] f words = Ok f
 from_left (kind ∷ kinds) f [] = Err BadCommand
@@ -78,7 +79,8 @@ pub data Outcome : Type 0 where
   of_shape : List Spot → (Figure → Edit) → Outcome
   of_question : List Query → Outcome
 
--- A command by its first word and the kinds of the words after it. One or more cells may follow, or any number of queries.
+-- The form of a command: its first word and the kinds of the words after it. In a form with cells, one or more cells come
+-- after these. In a form of queries, any number of queries come after the first word.
 pub data Form : Type 0 where
   form : List ℕ → (kinds : List Kind) → Takes kinds Outcome → Form
   form_with_cells : List ℕ → (kinds : List Kind) → Takes kinds (List Spot → Outcome) → Form
@@ -120,7 +122,7 @@ read (form_with_cells first kinds f) words = do
   Ok (made cells)
 read (form_of_queries first) words = read_each query_of words >>= λ queries. Ok (of_question queries)
 
--- reads the words after the first by the form with that first word
+-- reads the words after the first, by the form that begins with the first word
 abbrev pub read_by : List Form → List ℕ → List (List ℕ) → Result Outcome Refusal
 read_by [] first words = Err BadCommand
 read_by (f ∷ fs) first words = if bytes_eq first (first_word f) then read f words else read_by fs first words
@@ -135,7 +137,7 @@ ComesTo g (of_set cells f) r = (set : Result (List Spot) Refusal) × SetSays cel
 ComesTo g (of_shape cells f) r = (shape : Result Figure Refusal) × ShapeSays g cells shape × (r ≡ edit_by f shape)
 ComesTo g (of_question queries) r = (q : Result Asked Refusal) × QuestionSays queries q × (r ≡ (q >>= λ asked. Ok (command.Browse asked)))
 
--- r is the command of the form with these words after the first, or the first refusal
+-- r is what the words after the first give in this form: the command, or their first refusal
 abbrev pub FormSays : Grid → Form → List (List ℕ) → Result Command Refusal → Type 0
 FormSays g f words r = Follows (read f words) (λ outcome. ComesTo g outcome r) r
 
@@ -144,16 +146,16 @@ abbrev pub CommandSays : Grid → List (List ℕ) → Result Command Refusal →
 CommandSays g [] r = r ≡ Err BadCommand
 CommandSays g (first ∷ words) r = Follows (read_by forms first words) (λ outcome. ComesTo g outcome r) r
 
--- r is the name and the set of cells that the words give, or their first refusal, whatever edit f takes these
+-- r is the name and the set of cells that the words give, or their first refusal; f can be any edit of a name and a set
 abbrev pub NamedSays : List (List ℕ) → Result (List ℕ × List Spot) Refusal → Type 0
 NamedSays words r = (g : Grid) (f : List ℕ → List Spot → Edit)
     → FormSays g (form_with_cells [] (a_name ∷ []) (λ name cells. of_set cells (λ set. f name set))) words (r >>= λ n. Ok (command.Edit (f n.0 n.1)))
 
--- the command of the words, or none if there are no words
+-- r is the command of the words or their first refusal, or none if there are no words
 abbrev pub AskedBy : Grid → List (List ℕ) → Result (Option Command) Refusal → Type 0
 AskedBy g [] r = r ≡ Ok None
 AskedBy g (first ∷ words) r = (c : Result Command Refusal) × CommandSays g (first ∷ words) c × (r ≡ (c >>= λ x. Ok (Some x)))
 
--- what a line asks for: nothing if it has no words
+-- r is what the line asks for, which is nothing if the line has no words; or its first refusal
 abbrev pub Asks : Grid → List ℕ → Result (Option Command) Refusal → Type 0
 Asks g line r = AskedBy g (words_of line) r

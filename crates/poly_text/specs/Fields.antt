@@ -49,7 +49,7 @@ abbrev pub present : Option Data → ℕ
 present None = 0
 present (Some d) = 1
 
--- An object has each key once, so counting the keys tells that it has no other.
+-- An object has each key once, so if the number of its keys is right, it has no other keys.
 unfoldable pub fields_one : Data → Option Fields
 fields_one d = do
   ms ← as_object d
@@ -74,7 +74,7 @@ abbrev pub fields_of : Format → Data → Option Fields
 fields_of One d = fields_one d
 fields_of Two d = fields_two d
 
--- the cell of a pair of numbers
+-- the cell of two whole numbers from 0 to 63, the column and the row
 abbrev pub cell_of_list : List Data → Option Spot
 cell_of_list [] = None
 cell_of_list (x ∷ []) = None

@@ -1,4 +1,4 @@
--- Steps in a row, each of which may be refused; and what a function returns if it may also run out of memory.
+-- A sequence of steps that may each be refused, and what a function returns if it may also run out of memory.
 use Rattle.std.specs.Prelude.{◌≡◌, ◌⊎◌, Bool, true, false, Option, Some, None, Result, Ok, Err}
 use Rattle.poly_grid.specs.declared.refusal.Refusal.{Refusal}
 use Rattle.poly_grid.specs.declared.refusal.Refusal.TheVariants.{Memory}
@@ -28,7 +28,7 @@ abbrev pub Gives : {X Y : Type 0} → (X → Y) → Result X Refusal → Result 
 Gives view (Ok x) said = said ≡ Ok (view x)
 Gives view (Err e) said = (e ≡ Memory) ⊎ (said ≡ Err e)
 
--- the same for a relation: `Says` holds of that result, unless memory ran out
+-- the same for a relation: `Says` holds of the result with `view` applied to its value, unless memory ran out
 abbrev pub GivesBy : {X Y : Type 0} → (X → Y) → Result X Refusal → (Result Y Refusal → Type 0) → Type 0
 GivesBy view (Ok x) Says = Says (Ok (view x))
 GivesBy view (Err e) Says = (e ≡ Memory) ⊎ Says (Err e)

@@ -1,4 +1,4 @@
--- What the outer object of a puzzle line says, and its first refusal.
+-- What the outer object of a puzzle line says, or its first refusal.
 use Rattle.std.specs.Prelude.{◌≡◌, ◌≤◌, ℕ, ◌==◌, true, List, length, map, codes, nat_le, if◌then◌else◌, Option, Some, None, Result, Ok}
 use Rattle.std.specs.Str.{bytes_eq}
 use Rattle.serde_json.specs.Data.{Data}

@@ -1,4 +1,5 @@
--- The outer object of a puzzle line: exactly its keys, each with a value of its kind.
+-- The outer object of a puzzle line: exactly the keys `format`, `grid`, `board` and `pieces`, each with a value of the right
+-- kind.
 use Rattle.std.specs.Prelude.{ℕ, ◌&&◌, ◌==◌, List, codes, Option}
 use Rattle.serde_json.specs.Data.{Data}
 use Rattle.serde_json.specs.Find.{get, as_object}
@@ -12,7 +13,7 @@ pub record Outer : Type 0 where
   pub board : List Data
   pub pieces : List Data
 
--- An object has each key once, so four keys are exactly these.
+-- An object has each key once, so if it has these four keys, and four keys in all, it has no others.
 unfoldable pub outer_of : Data → Option Outer
 outer_of d = do
   ms ← as_object d

@@ -1,4 +1,4 @@
--- What a piece object says: its name and its piece, or its first refusal.
+-- What the piece objects of a puzzle line say: pieces by name, or the first refusal.
 use Rattle.std.specs.Prelude.{◌≡◌, ℕ, Bool, List, [], ◌∷◌, if◌then◌else◌, None, is_some, Result, Ok, Err}
 use Rattle.std.specs.BTreeMap.{insert_entry, is_at}
 use Rattle.std.specs.Map.{lookup}
@@ -36,7 +36,7 @@ pub record MakeShape (g : Grid) (cells : List Spot) : Type 0 where
   pub few : AreFewDistinct cells
   pub connected : IsConnected g cells
 
--- the shape that the cells make, or a refusal if they make none
+-- the shape that the cells make, or a refusal if they make no shape
 abbrev pub ShapeSays : Grid → List Spot → Result Figure Refusal → Type 0
 ShapeSays g cells (Ok s) = MakeShape g cells × (s.grid ≡ g) × IsImage g 0 cells s.cells
 ShapeSays g cells (Err e) = (e ≡ BadShape) × (MakeShape g cells → ⊥)
@@ -48,7 +48,7 @@ Pieces = List (List ℕ × Spec)
 abbrev pub has_name : Pieces → List ℕ → Bool
 has_name taken name = is_some (lookup (is_at (name_cmp name)) taken)
 
--- a piece that has no pin and no forbidden cells
+-- a piece that has no pin and nothing forbidden
 abbrev pub new_spec : Said → Figure → Spec
 new_spec s shape = record { shape = shape; copies = s.copies; mirror = s.mirror; pin = None; forbidden = [] }
 
@@ -58,7 +58,7 @@ spec_of taken s shape = if has_name taken s.name then Err NameTaken else Ok (new
 abbrev pub SpecSays : Grid → Pieces → Said → Result Spec Refusal → Type 0
 SpecSays g taken s r = (shape : Result Figure Refusal) × ShapeSays g s.cells shape × (r ≡ (shape >>= spec_of taken s))
 
--- r is the pieces of the list after those that are taken, or the first refusal
+-- r is the pieces read before (`taken`) together with those of the list, or the first refusal
 abbrev pub PiecesSay : Format → Grid → List Data → Pieces → Result Pieces Refusal → Type 0
 PiecesSay format g [] taken r = r ≡ Ok taken
 PiecesSay format g (d ∷ ds) taken r = Follows (said_of format d)

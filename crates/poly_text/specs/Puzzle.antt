@@ -12,7 +12,7 @@ use Rattle.poly_text.specs.Gives.{◌>>=◌, ok_or, Follows}
 use Rattle.poly_text.specs.Head.{Head, head_of}
 use Rattle.poly_text.specs.Piece.{Pieces, PiecesSay}
 
--- the JSON value of the line
+-- the JSON value of the line, if it is valid UTF-8 and valid JSON
 abbrev pub json_of : List ℕ → Option Data
 json_of line = if is_utf8 line then read line else None
 

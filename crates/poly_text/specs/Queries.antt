@@ -44,33 +44,33 @@ query_of (first ∷ text) =
     if first == 43 then (named_cells text >>= λ n. Ok (has n))
     else (if first == 45 then (named_cells text >>= λ n. Ok (lacks n)) else (if first == 64 then (item_of text >>= λ i. Ok (covers i)) else Err BadCommand))
 
--- the names and cells that a tiling has
+-- the placements that a tiling must have, each as a name with cells
 abbrev pub had : List Query → List Named
 had [] = []
 had (has n ∷ queries) = n ∷ had queries
 had (lacks n ∷ queries) = had queries
 had (covers i ∷ queries) = had queries
 
--- the names and cells that it lacks
+-- the placements that a tiling must lack, each as a name with cells
 abbrev pub lacked : List Query → List Named
 lacked [] = []
 lacked (has n ∷ queries) = lacked queries
 lacked (lacks n ∷ queries) = n ∷ lacked queries
 lacked (covers i ∷ queries) = lacked queries
 
--- the items that it covers
+-- the items that a tiling must cover
 abbrev pub covered : List Query → List Item
 covered [] = []
 covered (has n ∷ queries) = covered queries
 covered (lacks n ∷ queries) = covered queries
 covered (covers i ∷ queries) = i ∷ covered queries
 
--- the placement of the name and the set of the cells, or none if they make no set
+-- the placement of the name and the set of the cells, or none if the cells make no set
 abbrev pub Makes : Named → Option Placement → Type 0
 Makes n (Some p) = (p.name ≡ n.0) × MakesSet n.1 (Some p.cells)
 Makes n None = MakesSet n.1 None
 
--- each name with cells makes its placement
+-- both lists are equally long, and each name with cells makes the placement at the same index
 abbrev pub AreMade : List Named → List Placement → Type 0
 AreMade [] [] = Unit {0}
 AreMade [] (p ∷ ps) = ⊥

@@ -4,8 +4,8 @@ use Rattle.poly_text.specs.declared.command.queries.QueryWord as kept
 use Rattle.poly_text.specs.declared.command.queries.QueryWord.TheVariants as kept_as
 use Rattle.poly_text.specs.Queries.{Query, has, lacks, covers, Makes}
 
--- the word is kept as one of its kind: with its item, or with the placement of its name and cells, or with none if the cells
--- make no set
+-- the word is kept as one of its kind: with its item, or with the placement of its name and cells, or without a placement if
+-- the cells make no set
 abbrev pub IsReadAs : Query → kept.QueryWord → Type 0
 IsReadAs (has n) (kept_as.Has made) = Makes n made
 IsReadAs (has n) (kept_as.Lacks made) = ⊥

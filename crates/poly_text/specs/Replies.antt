@@ -52,7 +52,7 @@ abbrev pub item_name : Item → List ℕ
 item_name (Cell c) = cell_text c
 item_name (Piece n) = n
 
--- an item with how many placements cover it
+-- an item, and how many placements cover it
 abbrev pub item_text : Item → ℕ → List ℕ
 item_text i n = codes "item " ++ item_name i ++ 32 ∷ decimal n ++ 10 ∷ []
 

@@ -38,11 +38,11 @@ mode_of word =
 abbrev pub is_number : List ℕ → Bool
 is_number word = nat_lt 0 (length word) && list_all (λ b. is_digit b 10) word
 
--- the number that the digits write; leading zeros are allowed
+-- the number that the word writes in digits; leading zeros are allowed
 abbrev pub number_of : List ℕ → Option ℕ
 number_of word = when (is_number word) (digits_value 10 word)
 
--- a coordinate is written with at most 9 digits
+-- a coordinate is written with 1 to 9 digits
 abbrev pub coordinate_of : List ℕ → Option ℕ
 coordinate_of word = when (is_number word && nat_le (length word) 9) (digits_value 10 word)
 
@@ -54,7 +54,7 @@ coordinates_of word = do
   row ← ok_or (coordinate_of (drop (comma + 1) word)) BadCommand
   Ok (column, row)
 
--- the cell of two coordinates
+-- the cell of two coordinates, or `BadCell` if one is over 63
 abbrev pub cell_at : ℕ × ℕ → Result Spot Refusal
 cell_at at = ok_or (when (nat_lt at.0 SIDE && nat_lt at.1 SIDE) (record { x = at.0; y = at.1 })) BadCell
 

@@ -6,14 +6,14 @@
 //!
 //! Each later line:
 //!
-//! - [`asked`]: what it asks for, or why it is refused.
-//! - [`Command`]: an edit, an undo or a redo, or a question.
+//! - [`asked`]: what it asks for, which is nothing if it has no words; or why it is refused.
+//! - [`Command`]: an edit, an undo, a redo, a question about all tilings, or `status`.
 //! - [`Question`]: what `browse` asks of a tiling.
 //!
-//! Replies, in memory that is taken once:
+//! Replies:
 //!
-//! - [`ReplyLine`]: a buffer for one reply line, with a method for each kind of reply.
-//! - [`refusal_line`]: the line of a refusal.
+//! - [`ReplyLine`]: a buffer for one reply line, allocated once, with a method for each kind of reply line but refusals.
+//! - [`refusal_line`]: the line of a refusal, which needs no buffer.
 //!
 //! This crate knows nothing of engines and searches, nor of where lines come from.
 #![tactic(auto)]

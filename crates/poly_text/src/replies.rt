@@ -1,4 +1,4 @@
-//! The text of replies: one line at a time, in memory that is taken once.
+//! The text of replies, one line at a time: in memory that is allocated once, except for the fixed lines of refusals.
 ghost use Rattle.std.specs.Prelude.{◌≡◌, ◌+◌, ◌*◌, ◌≤◌, ◌^◌, ◌<◌, ◌++◌, ◌∷◌, [], length, IfOk, IfErr, codes, decimal, sum_by};
 ghost use Rattle.std.specs.List.{flat_map, join_by};
 ghost use Rattle.poly_text.specs.Replies.{refusal_text, ok_text, tilings_text, cell_text, cells_text, placement_text, placements_text, tiling_text, forced_text, item_name, item_text, matches_text, classes_text, status_text, covered};
@@ -48,13 +48,14 @@ pub fn refusal_line(refusal: Refusal) -> &'static str
     }
 }
 
-// The most bytes of a reply line. The longest line is that of a tiling: its placements cover at most 256 cells, and a placement takes
-// at most 24 bytes for each of its cells.
+// The bytes that a reply line has room for. The longest lines are `tiling` and `forced` lines: their placements have at most
+// 256 cells in all, and a placement takes at most 24 bytes for each of its cells.
 const REPLY_LIMIT: usize = 8192;
 
-/// A reply line, in memory that is taken once.
+/// A reply line, in memory that is allocated once.
 #[derive(Drop)]
 pub struct ReplyLine {
+    /// The bytes of the line.
     text: Vec<u8>,
 }
 
@@ -109,8 +110,8 @@ impl ReplyLine {
         self.put(b"\n");
     }
 
-    /// Makes this the `tiling` line of the placements in their order, or `tiling -` if there are none. Requires placements that have
-    /// at most 256 cells in all.
+    /// Makes this the `tiling` line of the placements in their order, or `tiling -` if there are none. Requires placements
+    /// that have at most 256 cells in all.
     pub fn tiling(&mut self, placements: &[Placement])
         requires { covered placements.now ≤ MAX_CELLS }
         ensures { self.new ≡ tiling_text placements.now }
@@ -121,8 +122,8 @@ impl ReplyLine {
         self.put(b"\n");
     }
 
-    /// Makes this the `forced` line of the placements in their order, or `forced -` if there are none. Requires placements that have
-    /// at most 256 cells in all.
+    /// Makes this the `forced` line of the placements in their order, or `forced -` if there are none. Requires placements
+    /// that have at most 256 cells in all.
     pub fn forced(&mut self, placements: &[Placement])
         requires { covered placements.now ≤ MAX_CELLS }
         ensures { self.new ≡ forced_text placements.now }
@@ -133,7 +134,7 @@ impl ReplyLine {
         self.put(b"\n");
     }
 
-    /// Makes this the line `item <item> <count>`: a cell by its column and its row, a piece by its name.
+    /// Makes this the line `item <item> <count>`. A cell is written as its column and its row, a piece as its name.
     #[tactic(auto, using(crate::proofs::Digits::number_short))]
     pub fn item(&mut self, item: &Item, count: u64)
         ensures { self.new ≡ item_text item.now count }
@@ -183,7 +184,6 @@ impl ReplyLine {
         self.put(b"\n");
     }
 
-    // Empties the line.
     fn clear(&mut self)
         ensures { self.new ≡ [] }
     {

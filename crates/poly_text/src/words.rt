@@ -41,7 +41,7 @@ pub fn name_of(bytes: &[u8]) -> Option<Name>
     }
 }
 
-/// The need that the word `required` or `optional` names.
+/// The need that the word `required` or `optional` names; `None` for any other word.
 pub fn need_of(word: &[u8]) -> Option<Need>
     ensures { result ≡ need_of word.now }
 {
@@ -54,7 +54,7 @@ pub fn need_of(word: &[u8]) -> Option<Need>
     }
 }
 
-/// The value of the word: true for `on`, false for `off`.
+/// The value of the word: true for `on`, false for `off`, and `None` for any other word.
 pub fn switch_of(word: &[u8]) -> Option<bool>
     ensures { result ≡ switch_of word.now }
 {
@@ -67,7 +67,7 @@ pub fn switch_of(word: &[u8]) -> Option<bool>
     }
 }
 
-/// The mode that the word `required`, `optional` or `blocked` names.
+/// The mode that the word `required`, `optional` or `blocked` names; `None` for any other word.
 pub fn mode_of(word: &[u8]) -> Option<Mode>
     ensures { result ≡ mode_of word.now }
 {
@@ -82,7 +82,8 @@ pub fn mode_of(word: &[u8]) -> Option<Mode>
     }
 }
 
-/// The number that the word writes in one or more decimal digits. A number over `u64::MAX` is read as `u64::MAX`.
+/// The number that the word writes in decimal digits. A number over `u64::MAX` is read as `u64::MAX`. Returns `None` if the
+/// word is empty or has a byte that isn't a digit.
 pub fn number_of(word: &[u8]) -> Option<u64>
     ensures { result ≡ option_map (λ n. min n (2 ^ 64 - 1)) (number_of word.now) }
 {
@@ -110,7 +111,7 @@ fn coordinate_of(word: &[u8]) -> Option<u64>
     number_of(word)
 }
 
-/// The index of the byte's first occurrence in the word.
+/// The index of the byte's first occurrence in the word, if there is one.
 pub fn index_of(word: &[u8], byte: u8) -> Option<usize>
     ensures is { result ≡ position (λ b. b == byte) word.now }
     ensures within { IfSome result (λ i. i < length word.now) }
@@ -140,11 +141,11 @@ pub fn cell_of(word: &[u8]) -> Result<Cell, Refusal>
 }
 
 /// The length of a buffer for the cells of a list: one more than a set can have. A list that fills the buffer is refused,
-/// so the cells past it need not be kept.
+/// so further cells need not be kept.
 pub const ROOM: usize = 17;
 
-/// Writes the cells that the words name to `room`, as many as fit, and returns how many fit. The words after them are still
-/// checked: fails as `cell_of` does on the leftmost word that names no cell.
+/// Writes the cells that the words name to `room`, as many as fit, and returns how many it wrote. The words whose cells don't
+/// fit are still checked: fails as `cell_of` does on the leftmost word that names no cell.
 pub fn cells_of(words: &[&[u8]], room: &mut [Cell]) -> Result<usize, Refusal>
     ensures read { IfOk result (λ n. (cells : List Spot) × (cells_of (map (λ w. w.now) words.now) ≡ Ok cells) × (take n room.new ≡ take (length room.old) cells)) }
     ensures within { IfOk result (λ n. n ≤ length room.new) }
@@ -177,8 +178,8 @@ fn are_formed(parts: &[&[u8]]) -> bool
     parts.iter().all(|part| coordinates_of(part).is_ok())
 }
 
-/// Returns the set of the cells that the words name, or `None` if there are over 16 or one comes twice. Fails as `cell_of`
-/// does on the leftmost word that names no cell.
+/// Returns the set of the cells that the words name, or `None` if there are no cells, over 16 cells, or a cell twice. Fails as
+/// `cell_of` does on the leftmost word that names no cell.
 pub fn read_set(words: &[&[u8]]) -> Result<Option<Cells>, Refusal>
     ensures ok { IfOk result (λ set. (cells : List Spot) × (cells_of (map (λ w. w.now) words.now) ≡ Ok cells) × MakesSet cells set) }
     ensures why { IfErr result (λ e. cells_of (map (λ w. w.now) words.now) ≡ Err e) }
@@ -189,7 +190,7 @@ pub fn read_set(words: &[&[u8]]) -> Result<Option<Cells>, Refusal>
     Ok(Cells::new(&cells[..count]).ok())
 }
 
-/// Returns the set of the cells that the text lists with slashes between them, or `None` if there are over 16 or one comes
+/// Returns the set of the cells that the text lists with slashes between them, or `None` if there are over 16 cells or a cell
 /// twice. Fails with `BadCommand` if a part doesn't have the form of a cell, otherwise with `BadCell` if a column or a row is
 /// over 63. Fails with `Memory` if the list of the parts can't be allocated.
 pub fn listed_set(alloc: Global, text: &[u8]) -> Result<Option<Cells>, Refusal>

@@ -1,4 +1,4 @@
--- Ascending lists: with one more number, and two with the same members, which are equal.
+-- Ascending lists: one more number may be inserted, and two ascending lists with the same members are equal.
 use Rattle.std.proofs.Common.{Bool, List, [], ap, arith, cond, drop, eqb, false, get_or, inl, inr, length, ltb, refl, subst, suc, sym, true, zero, ℕ, ◌+◌, ◌-◌, ◌<◌, ◌∙◌, ◌∷◌, ◌≡◌, ◌≤◌, ◌⊎◌}
 use Rattle.std.proofs.lemmas.List.{at_drop_more}
 use Rattle.std.proofs.lemmas.Bool.{and_from, and_parts, eq-eqb, eqb-false, eqb-true, lt-ltb, ltb-false, ltb-true, true≢false}
@@ -131,7 +131,8 @@ ascending_next x y ys l = same_truth _ _ (λ h. ascending_rest x (y ∷ ys) h) (
     above z (inl e) h = subst (λ k. x < k) e l
     above z (inr i) h = let b = below_all y ys h z i in omega arith
 
--- the two numbers before and at a place of a list
+-- a list from index i - 1 on consists of the numbers at the indices i - 1 and i, followed by the rest; so if one of these two
+-- lists ascends, the other does
 two_at : (xs : List ℕ) (i : ℕ) → 1 ≤ i → i < length xs → ascending (drop (i - 1) xs) ≡ ascending (get_or xs (i - 1) 0 ∷ (get_or xs i 0 ∷ drop (i + 1) xs))
 two_at xs i low high =
     let back : (i - 1) + 1 ≡ i = omega arith in
@@ -147,7 +148,7 @@ ascends_more xs i low high l =
     ∙ sym (at_drop_more ascending xs i 0 high)
     ∙ ap (λ n. ascending (drop n xs)) back
 
--- a list with at most one number ascends
+-- what follows the first n numbers ascends, if that is at most one number
 pub ascends_last : (xs : List ℕ) (n : ℕ) → length xs ≤ n + 1 → ascending (drop n xs) ≡ true
 ascends_last [] zero h = refl
 ascends_last [] (suc n) h = refl

@@ -27,7 +27,7 @@ placed_self (Some x) = ap is_lt (tied_itself placement_total x)
 pub below_self : (v : View) (p : ℕ) → below v p p ≡ false
 below_self v p = placed_self (slice_get v.placements p)
 
--- a later view keeps the order of an earlier one's numbers
+-- a later view names the same placements by the numbers of an earlier view, so these numbers keep their order
 pub slot_same : (old new : View) → Names old new → (p : ℕ) → p < length old.placements → slice_get new.placements p ≡ slice_get old.placements p
 slot_same old new names p h = ap (λ xs. slice_get xs p) names.1 ∙ slice_get_front old.placements names.0 p h
 

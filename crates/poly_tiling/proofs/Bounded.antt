@@ -19,7 +19,7 @@ use Rattle.poly_tiling.specs.Puzzle.{bound_in}
 use Rattle.poly_tiling.specs.Tilings.{bounds_of, bounds_of_mode, bounds_of_piece}
 use Rattle.poly_tiling.specs.Shows.{cell_bound, item_bounds, piece_bound}
 
--- one of the two bounds
+-- the least or the most of a bound, as `pick` chooses
 abbrev pub read : (Bounds → ℕ) → Bound → ℕ
 read pick b = pick (record { least = b.least; most = b.most })
 
@@ -32,7 +32,7 @@ cell_test c d = spot_equiv.symm d c ∙ spot_ties c d
 name_test : (m n : List ℕ) → pointwise nat_eq n m ≡ is_at (name_cmp m) n
 name_test m n = nat_list_eq_equiv.symm n m ∙ texts_ties m n
 
--- cells come before pieces
+-- the bounds of pieces have no cell, and the bounds of cells have no piece
 cell_in_pieces : (pieces : List (List ℕ × Spec)) (c : Spot) (f : Bound → ℕ) → bound_in (map piece_bound pieces) (Cell c) f ≡ 0
 cell_in_pieces [] c f = refl
 cell_in_pieces (e ∷ es) c f = cell_in_pieces es c f
@@ -65,7 +65,7 @@ piece_bounds pick none (e ∷ es) n =
     ap (λ b. cond b (read pick (piece_bound e)) (bound_in (map piece_bound es) (Piece n) (read pick))) (name_test n e.0)
     ∙ piece_at pick e es n (bound_in (map piece_bound es) (Piece n) (read pick)) (piece_bounds pick none es n) (is_at (name_cmp n) e.0)
 
--- the list of the items says what the design says
+-- the bounds in the list of a design's items are the bounds that the definitions give these items
 pub shown_bounds : (d : Layout) (pick : Bounds → ℕ) → pick nothing ≡ 0 → (i : Item) → bound_in (item_bounds d) i (read pick) ≡ pick (bounds_of d i)
 shown_bounds d pick none (Cell c) = cell_bounds pick none d.cells d.pieces c
 shown_bounds d pick none (Piece n) = past_cells d.cells (map piece_bound d.pieces) n (read pick) ∙ piece_bounds pick none d.pieces n

@@ -1,4 +1,4 @@
--- Words of the definitions as loops of the code meet them.
+-- Tests and counts of the definitions, in the forms in which the loops of the code compute them.
 use Rattle.std.proofs.Common.{Bool, List, [], ap, arith, map, ◌++◌, ◌+◌, ◌||◌, ◌&&◌, ◌∷◌, ◌≡◌, refl, false}
 use Rattle.std.specs.List.{list_all, list_any}
 use Rattle.poly_tiling.specs.declared.item.Item.{Item}

@@ -1,4 +1,4 @@
--- Elements by their indices and by recursion, and facts about each element and each later one.
+-- Two forms of list membership, by indices and by recursion; and facts about pairs of elements.
 use Rattle.std.proofs.Common.{List, Some, [], ap, arith, get_or, inl, inr, length, refl, slice_get, subst, suc, zero, ℕ, ◌<◌, ◌∷◌, ◌≡◌, ◌≢◌}
 use Rattle.std.specs.List.{AllPairs, Contains}
 use Rattle.poly_tiling.proofs.Lists.{In}

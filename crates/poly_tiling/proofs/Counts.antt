@@ -5,7 +5,7 @@ use Rattle.poly_tiling.specs.Lists.{ascending, distinct, one, tally}
 use Rattle.poly_tiling.proofs.Lists.{In, all_from}
 use Rattle.poly_tiling.proofs.Ascending.{ascending_rest, below_all, distinct_rest, not_head}
 
--- a list without one x
+-- the list without its first x
 abbrev take_out : ℕ → List ℕ → List ℕ
 take_out x [] = []
 take_out x (y ∷ ys) = cond (eqb y x) ys (y ∷ take_out x ys)
@@ -30,7 +30,8 @@ stays : (x z : ℕ) (ys : List ℕ) → (z ≡ x → ⊥) → In z ys → In z (
 stays x z [] n i = i
 stays x z (y ∷ ys) n i = stays_at x z y ys (stays x z ys n) n (eqb y x) refl i
 
--- a list without repeats has no more numbers that pass than a list that has all its numbers
+-- at least as many numbers of ys pass g as numbers of xs pass f, if xs has no repeats and each number of xs that passes f is
+-- in ys and passes g
 pub tally_within : (f g : ℕ → Bool) (xs ys : List ℕ) → distinct xs ≡ true → ((x : ℕ) → In x xs → f x ≡ true → In x ys × (g x ≡ true)) → tally f xs ≤ tally g ys
 tally_within f g [] ys d h = omega arith
 tally_within f g (x ∷ xs) ys d h = elim (cases_Bool (f x)) [
@@ -62,7 +63,7 @@ tally_less : (f : ℕ → Bool) (xs : List ℕ) (p : ℕ) → tally (λ q. f q &
 tally_less f [] p = omega arith
 tally_less f (x ∷ xs) p = omega (arith, one_less (f x) (not (eqb x p)), tally_less f xs p)
 
--- without one number that passes, fewer pass
+-- if a number that passes is left out, fewer pass
 pub tally_fewer : (f : ℕ → Bool) (xs : List ℕ) (p : ℕ) → In p xs → f p ≡ true → tally (λ q. f q && not (eqb q p)) xs < tally f xs
 tally_fewer f [] p i h = absurd i
 tally_fewer f (x ∷ xs) p (inl e) h = omega (arith, ap one (ap f e ∙ h), ap one (and_no (f x) (eqb x p) (eq-eqb x p e)), tally_less f xs p)

@@ -1,4 +1,5 @@
--- If two views show one design and the later one has more numbers, it is the earlier one, grown.
+-- If two views show the same design, and the later one names what the earlier one names, by the same numbers, then the later
+-- view is the earlier one, perhaps with more numbers.
 use Rattle.std.proofs.Common.{List, Some, [], ap, inl, inr, refl, slice_get, subst, sym, true, ℕ, ◌∙◌, ◌∷◌, ◌≡◌}
 use Rattle.std.proofs.lemmas.Bool.{and_parts, both_ways}
 use Rattle.std.specs.List.{list_all}
@@ -12,7 +13,7 @@ use Rattle.poly_tiling.proofs.Contained.{contains_in, get_low}
 use Rattle.poly_tiling.proofs.Shown.{live_given, named_of, pin_given, same_number}
 use Rattle.poly_tiling.proofs.Below.{below-trans, below_self, order_kept}
 
--- two lists in the order of their placements, with the same members, are the same list
+-- two lists of numbers are equal if both are in placement order and they have the same members
 pub same_order : (v : View) (xs ys : List ℕ) → in_order v xs ≡ true → in_order v ys ≡ true → ((n : ℕ) → In n xs → In n ys) → ((n : ℕ) → In n ys → In n xs) → xs ≡ ys
 same_order v [] [] a b f g = refl
 same_order v [] (y ∷ ys) a b f g = absurd (g y (inl refl))
@@ -35,7 +36,7 @@ same_order v (x ∷ xs) (y ∷ ys) a b f g =
     (λ n j. elim (g n (inr j)) [ inl k ↦ absurd (no y (subst (λ m. below v y m ≡ true) (sym (sym e ∙ k)) (low_y n j))) | inr i ↦ i ]) in
     λ i. e i ∷ rest i
 
--- numbers of the earlier view that name what numbers of the later one name
+-- if the numbers ms of the later view name all that the numbers ns of the earlier one name, then ms has all of ns
 members_there : (v w : View) (ns ms : List ℕ) → Names v w → WellNamed w → ((n : ℕ) → In n ns → (p : Placement) × (slice_get v.placements n ≡ Some p)) →
     ((p : Placement) → IsNamed v ns p → IsNamed w ms p) → (n : ℕ) → In n ns → In n ms
 members_there v w ns ms names wn given to n i =

@@ -1,4 +1,4 @@
--- Lists of numbers are in the order of the numbers that their leading digits make.
+-- Two lists of numbers compare as the numbers that their leading digits make, if these numbers differ.
 use Rattle.std.proofs.Common.{List, [], ap, arith, get_or, inl, inr, length, map, refl, subst, suc, sym, zero, ℕ, ◌*◌, ◌+◌, ◌<◌, ◌^◌, ◌∙◌, ◌∷◌, ◌≡◌, ◌≤◌}
 use Rattle.std.proofs.lemmas.Bool.{cases_lt}
 use Rattle.std.proofs.lemmas.Cmp.{nat_list_cmp_total}
@@ -19,7 +19,7 @@ digit_low base [] i p are = p
 digit_low base (x ∷ xs) zero p are = are 0 x (omega arith)
 digit_low base (x ∷ xs) (suc i) p are = digit_low base xs i p (All-tail (λ x. x + 1 < base) x xs are)
 
--- a lower number with one more digit stays lower
+-- a lower number with any digit appended is below a higher number with a 0 appended
 step_lower : (base a b d : ℕ) → a < b → d < base → a * base + d < b * base
 step_lower base a b d l low =
     let next : suc a ≤ b = omega (arith, l) in
@@ -38,7 +38,7 @@ power_more base n = let e : n + 1 ≡ suc n = omega arith in ap (λ m. base ^ m)
 pub leading_more : (base : ℕ) (xs : List ℕ) (n : ℕ) → leading base xs (n + 1) ≡ leading base xs n * base + digit_at xs n
 leading_more base xs n = let e : n + 1 ≡ suc n = omega arith in ap (λ m. leading base xs m) e
 
--- one more digit fits where all digits do
+-- if n is below count, the number that the first n + 1 digits make is below base ^ count
 pub digit_fits : (base : ℕ) (xs : List ℕ) (n count : ℕ) → 0 < base → AreDigits base xs → n < count → leading base xs n * base + digit_at xs n < base ^ count
 digit_fits base xs n count p are l =
     let next : suc n ≤ count = omega (arith, l) in
@@ -64,7 +64,7 @@ same_digits base xs ys (suc n) p xd yd is i l =
       | inr k ↦ let e : n ≡ i = omega (arith, l, k) in subst (λ j. digit_at xs j ≡ digit_at ys j) e s.1
     ]
 
--- the first digit that differs
+-- the first position at which the digits differ; the first list has the lower digit there
 record Differ (xs ys : List ℕ) : Type 0 where
   position : ℕ
   lower : digit_at xs position < digit_at ys position
@@ -99,7 +99,7 @@ differ_less (suc i) (x ∷ xs) (y ∷ ys) l before =
 leading_less : (base : ℕ) (xs ys : List ℕ) (n : ℕ) → 0 < base → AreDigits base xs → AreDigits base ys → leading base xs n < leading base ys n → slice_cmp nat_cmp xs ys ≡ Less
 leading_less base xs ys n p xd yd l = let d = differ base xs ys n p xd yd l in differ_less d.position xs ys d.lower d.before
 
--- comparing the leading digits first changes nothing
+-- two lists compare as before if their leading digits are compared first
 pub leading_agrees : (base : ℕ) (xs ys : List ℕ) (n : ℕ) → 0 < base → AreDigits base xs → AreDigits base ys → ordering_then (nat_cmp (leading base xs n) (leading base ys n)) (slice_cmp nat_cmp xs ys) ≡ slice_cmp nat_cmp xs ys
 leading_agrees base xs ys n p xd yd = elim (cases_lt (leading base xs n) (leading base ys n)) [
   | inl k ↦ ap (λ o. ordering_then o (slice_cmp nat_cmp xs ys)) (nat_less (leading base xs n) (leading base ys n) k) ∙ sym (leading_less base xs ys n p xd yd k)
@@ -112,11 +112,11 @@ leading_agrees base xs ys n p xd yd = elim (cases_lt (leading base xs n) (leadin
   ]
 ]
 
--- the ranks of a tiling are digits of a base above the number of positions
+-- the ranks of a tiling are digits of the base that is one more than the number of live numbers
 pub ranks_digits : (base : ℕ) (live T : List ℕ) → base ≡ length live + 1 → AreDigits base (ranks_from 0 live T)
 ranks_digits base live T is k d l = let high = ranks_high 0 live T (get_or (ranks_from 0 live T) k d) (at_in (ranks_from 0 live T) k d l) in omega (arith, high, is)
 
--- so are the rows of ranks, and the empty row
+-- each row of ranks has only digits of this base; a row past the last one is empty
 pub row_digits : (base : ℕ) (live : List ℕ) (tilings : List (List ℕ)) → base ≡ length live + 1 → (i : ℕ) → AreDigits base (get_or (map (ranks_from 0 live) tilings) i [])
 row_digits base live [] is i = λ k d l. let none : k < 0 = l in absurd (omega (arith, none))
 row_digits base live (T ∷ tilings) is zero = ranks_digits base live T is

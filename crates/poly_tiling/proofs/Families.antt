@@ -1,4 +1,4 @@
--- How the tilings that are left are divided, and when none is left.
+-- How a choice divides the tilings that are left, and when none is left.
 use Rattle.std.proofs.Common.{Bool, Err, List, None, Ok, Option, Result, Some, [], ap, arith, cond, eqb, false, inl, inr, leb, length, not, refl, subst, suc, sym, take, true, zero, ℕ, ◌&&◌, ◌++◌, ◌+◌, ◌<◌, ◌||◌, ◌∙◌, ◌∷◌, ◌≡◌, ◌≢◌, ◌≤◌, ◌⊎◌}
 use Rattle.std.proofs.lemmas.Bool.{and_from, and_parts, both_ways, cases_Bool, eq-eqb, eqb-true, false_from_ne_true, leb-true, ne_eqb, not-true, not_from_false, or_cases, or_left, or_right, true≢false}
 use Rattle.std.specs.Option.{IfNone, IfSome}
@@ -81,7 +81,8 @@ without_shorter p (x ∷ xs) (inr i) = elim (not (eqb x p)) as (λ b. length (co
 pub apart_in : (chosen free : List ℕ) → AreApart chosen free → (p : ℕ) → In p free → In p chosen → ⊥
 apart_in chosen free a p i j = both_ways (mem chosen p) (not-true _ (all_in (λ p. not (mem chosen p)) free a.apart p i)) (in_mem chosen p j)
 
--- each tiling that is left has p or doesn't
+-- for a free number p, the tilings that are left are those that are left if p is chosen, and those that are left if p is no
+-- longer free
 pub left_split : (v : View) (chosen free : List ℕ) (p : ℕ) (T : List ℕ) → AreApart chosen free → In p free →
     one (is_left v chosen free T) ≡ one (is_left v (chosen ++ p ∷ []) (without p free) T) + one (is_left v chosen (without p free) T)
 left_split v chosen free p T a i = elim (cases_Bool (mem T p)) [
@@ -126,7 +127,7 @@ left_split v chosen free p T a i = elim (cases_Bool (mem T p)) [
       omega (arith, ap one same, ap one none)
 ]
 
--- a tiling has no number that doesn't fit with some of its own
+-- if no number is chosen twice and a tiling has all chosen numbers, each other number of the tiling fits with the chosen ones
 pub fits_members : (v : View) (chosen T : List ℕ) (q : ℕ) → distinct chosen ≡ true → is_tiling v T ≡ true → ((p : ℕ) → In p chosen → In p T) → In q T → (In q chosen → ⊥) → fits_beside v chosen q ≡ true
 unfolding fits_beside
 fits_members v chosen T q d tiles has i out =
@@ -194,7 +195,7 @@ push_once (x ∷ xs) p d out = and_from _ _
 pub chosen_once : (chosen free : List ℕ) (p : ℕ) → AreApart chosen free → In p free → distinct (chosen ++ p ∷ []) ≡ true
 chosen_once chosen free p a i = push_once chosen p a.once (apart_in chosen free a p i)
 
--- an item that still needs an option and has none
+-- no tiling is left if an item still needs an option and no free number has the item
 pub left_unmet : (v : View) (chosen free T : List ℕ) (i : Item) → count v chosen i < least v i → list_any (λ p. has_item v p i) free ≡ false → is_left v chosen free T ≡ false
 left_unmet v chosen free T i low none = left_none v chosen free T (λ t.
     let k = parts v T t.tiles in
@@ -209,7 +210,7 @@ any_true (x ∷ xs) h = absurd (true≢false h)
 pub no_number : (v : View) (free : List ℕ) → list_any (λ p. is_option v None p) free ≡ false → free ≡ []
 no_number v free h = any_true free h
 
--- if no number is free, only the list of the chosen numbers may be left
+-- if no number is free, the only tiling that may be left is S, the ascending list of the chosen numbers
 pub left_leaf : (v : View) (chosen S T : List ℕ) → ascending S ≡ true → ((n : ℕ) → mem S n ≡ mem chosen n) → is_left v chosen [] T ≡ (is_tiling v S && same_list T S)
 left_leaf v chosen S T up same = same_truth _ _
     (λ h.
@@ -228,13 +229,13 @@ left_leaf v chosen S T up same = same_truth _ _
       only = λ p i. inl (mem_in chosen p (sym (same p) ∙ in_mem S p (subst (λ l. In p l) is i)));
     }))
 
--- all tilings have the pins, and apart from them only live numbers
+-- if the pins are chosen and the live numbers are free, all tilings are left
 pub left_first : (v : View) (T : List ℕ) → is_left v v.pins v.live T ≡ is_tiling v T
 left_first v T = same_truth _ _
     (λ h. (left_parts v v.pins v.live T h).tiles)
     (λ h. let t = parts v T h in left_whole v v.pins v.live T (record { tiles = h; has = t.pinned; only = λ p i. inr (t.placed p i) }))
 
--- the number that is found, and what follows if none is
+-- a number that is found is in the list; if none is found, no number passes the test
 pub find_in : (f : ℕ → Bool) (xs : List ℕ) (p : ℕ) → find f xs ≡ Some p → In p xs
 find_in f [] p e = cc
 find_in f (x ∷ xs) p e = find_in_at f x xs p (λ k. find_in f xs p k) (f x) e
@@ -263,7 +264,7 @@ tally_front f k [] = elim k as (λ n. tally f (take n []) ≤ 0) [ zero ↦ omeg
 tally_front f zero (x ∷ xs) = omega arith
 tally_front f (suc k) (x ∷ xs) = omega (arith, tally_front f k xs)
 
--- what is known once no option is left
+-- once no free number is an option, the last step adds what is still left
 pub last_adds : (v : View) (chosen rest : List ℕ) (item : Option Item) (now new : List (List ℕ)) → find (λ p. is_option v item p) rest ≡ None →
     IfSome item (λ i. count v chosen i < least v i) → IfSome item (λ _. new ≡ now) → IfNone item (AddsLeft v chosen [] now new) → AddsLeft v chosen rest now new
 last_adds v chosen rest None now new gone unmet same adds = λ T. adds T ∙ ap (λ l. tally (same_list T) now + one (is_left v chosen l T)) (sym (no_number v rest (find_none (λ p. is_option v None p) rest gone)))
@@ -294,7 +295,7 @@ pub all_at_most : (v : View) (chosen free rest : List ℕ) (item : Option Item) 
     find (λ p. is_option v item p) rest ≡ None → IfSome item (λ i. count v chosen i < least v i) → IfSome item (λ _. new ≡ now) → IfNone item (AddsAtMost v chosen [] now new) → AddsAtMost v chosen free old new
 all_at_most v chosen free rest item old now new s gone unmet same adds = λ T. omega (arith, s.sums T, last_at_most v chosen rest item now new gone unmet same adds T)
 
--- one more option is tried
+-- the sums still hold after one more option is tried
 pub sums_more : (v : View) (chosen free rest : List ℕ) (p : ℕ) (old now new : List (List ℕ)) → AreApart chosen rest → In p rest → Sums v chosen free rest old now →
     AddsLeft v (chosen ++ p ∷ []) (without p rest) now new → Sums v chosen free (without p rest) old new
 sums_more v chosen free rest p old now new a i s adds = record { sums = λ T. omega (arith, s.sums T, adds T, left_split v chosen rest p T a i) }

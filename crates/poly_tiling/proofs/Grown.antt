@@ -10,7 +10,7 @@ use Rattle.poly_tiling.proofs.Lists.{In, same_truth}
 use Rattle.poly_tiling.proofs.Tilings.{IsTiling, parts, whole}
 use Rattle.poly_tiling.proofs.Named.{named, old_count}
 
--- a bound of the same design
+-- a view that has grown has the same bounds
 pub grown_bound : (v w : View) → Grown v w → (i : Item) (f : Bound → ℕ) → bound_in w.bounds i f ≡ bound_in v.bounds i f
 grown_bound v w g i f = ap (λ bs. bound_in bs i f) g.2
 

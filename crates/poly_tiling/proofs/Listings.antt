@@ -1,4 +1,4 @@
--- The tilings of a view in their order are those of the design that it shows.
+-- The tilings of a view, in order, are the tilings of the design that the view shows.
 use Rattle.std.proofs.Common.{Bool, List, None, Option, Some, [], ap, arith, cond, eqb, false, get_or, inl, inr, length, map, refl, slice_get, subst, suc, sym, true, zero, ℕ, ◌+◌, ◌-◌, ◌<◌, ◌∙◌, ◌∷◌, ◌≡◌, ◌≢◌, ◌≤◌}
 use Rattle.std.proofs.lemmas.Bool.{and_from, and_parts}
 use Rattle.std.proofs.lemmas.Cmp.{lists_total}
@@ -112,7 +112,7 @@ pub distinct_filter : (keep : ℕ → Bool) (ns : List ℕ) → distinct ns ≡ 
 distinct_filter keep [] h = refl
 distinct_filter keep (n ∷ ns) h = distinct_filter_at keep n ns h (distinct_filter keep ns (distinct_rest n ns h)) (keep n)
 
--- the same placements, in another order
+-- `names` and `placed` give the same placements of a tiling
 placed_same : (v : View) (T : List ℕ) → IsTiling v T → HasSame (names v T) (placed v T)
 placed_same v T t x = (
   λ c. let p = names_in v T x (contains_in (names v T) x c) in in_contains (placed v T) x (in_names v (kept v T) p.0 x (in_kept v T t p.0 p.1) p.2),
@@ -181,7 +181,7 @@ pub tally_has : (T : List ℕ) (lists : List (List ℕ)) → 0 < tally (same_lis
 tally_has T [] l = absurd (omega arith)
 tally_has T (U ∷ lists) l = tally_has_at T U lists (tally_has T lists) (same_list T U) refl l
 
--- if a list has no repeats, no two of its elements are the same
+-- if each tiling occurs at most once, no two elements are the same
 apart_by : (lists : List (List ℕ)) → ((T : List ℕ) → tally (same_list T) lists ≤ 1) → AllPairs (λ S T. S ≢ T) lists
 apart_by [] h = pairs_none (λ S T. S ≢ T)
 apart_by (S ∷ lists) h = pairs_cons (λ S T. S ≢ T) S lists
@@ -248,7 +248,7 @@ listings_show_lem v d lists wn s once up =
       );
     }
 
--- ---- moved lists
+-- ---- a list in another order
 
 tally_sum : {X : Type 0} (f : X → Bool) (xs : List X) → tally f xs ≡ sum_by (λ x. one (f x)) xs
 tally_sum f [] = refl

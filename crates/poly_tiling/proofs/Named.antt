@@ -29,7 +29,7 @@ tally_same_in f g (x ∷ xs) h = omega (arith, ap one (h x (inl refl)), tally_sa
 pub old_count : (old new : View) (T : List ℕ) → WellNamed old → Names old new → ((p : ℕ) → In p T → In p old.live) → (i : Item) → count new T i ≡ count old T i
 old_count old new T wn names placed i = tally_same_in (λ p. has_item new p i) (λ p. has_item old p i) T (λ p k. has_same old new wn names p (placed p k) i)
 
--- the items of the design's placements are its own
+-- the items of the design's placements are items of the design
 pub listed_item : (v : View) → WellNamed v → (p : ℕ) → In p v.live → (i : Item) → has_item v p i ≡ true → list_any (λ b. same_item b.item i) v.bounds ≡ true
 listed_item v wn p k i h =
     let x = any_in (λ j. same_item j i) (items v p) h in
@@ -51,6 +51,6 @@ pub all_same : {X : Type 0} (f g : X → Bool) (xs : List X) → ((x : X) → f 
 all_same f g [] h = refl
 all_same f g (x ∷ xs) h = ap (λ b. b && list_all f xs) (h x) ∙ ap (λ b. g x && b) (all_same f g xs h)
 
--- if an item of a number passes a test in the earlier view, one does in the later view
+-- if one of a number's items passes a test in the earlier view, one of them passes in the later view too
 pub any_items : (v w : View) → Names v w → (Q : Item → Bool) (p : ℕ) → list_any Q (items v p) ≡ true → list_any Q (items w p) ≡ true
 any_items v w names Q p h = ap (λ xs. list_any Q (items_of (slice_get xs p))) names.1 ∙ slice_get_more (λ o. list_any Q (items_of o)) v.placements names.0 p refl h

@@ -27,7 +27,7 @@ in_order_once v (p ∷ ps) h =
     (all_from (λ y. cond (eqb p y) false true) ps (λ q i. ap (λ b. cond b false true) (ne_eqb p q (below_other v p q (all_in (λ q. below v p q) ps hs.0 q i)))))
     (in_order_once v ps hs.1)
 
--- each number of the design occurs once
+-- each live number occurs once, and so does each pin
 pub live_once : (v : View) → WellNamed v → distinct v.live ≡ true
 live_once v w = in_order_once v v.live w.live_up
 

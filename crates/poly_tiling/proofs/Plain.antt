@@ -1,4 +1,4 @@
--- The view of a design by itself.
+-- The view that is made from a design alone.
 use Rattle.std.proofs.Common.{Bool, List, None, Option, Some, [], ap, append_assoc, arith, cond, false, get_or, inl, inr, leb, length, length-append, ltb, map, refl, slice_get, subst, suc, sym, true, zero, ℕ, ◌&&◌, ◌++◌, ◌+◌, ◌||◌, ◌∙◌, ◌∷◌, ◌≡◌, ◌≢◌, ◌≤◌, ◌⊎◌}
 use Rattle.std.proofs.lemmas.Bool.{and_from, cases_Bool, lt-ltb, ltb-false, or_left}
 use Rattle.std.proofs.lemmas.List.Quantifiers.{all_pairs_push, position-Some}
@@ -37,11 +37,11 @@ use Rattle.poly_tiling.proofs.Stands.{at_stands, first_stand, get_past, stand_up
 use Rattle.poly_tiling.proofs.Orders.{placement_total}
 use Rattle.poly_tiling.proofs.Tilings.{same_item_self}
 
--- the bounds are in their limits
+-- the least is at most the most, and the most at most 16
 abbrev pub small : Bound → Bool
 small b = leb b.least b.most && leb b.most 16
 
--- the pieces up to those that are left have been added
+-- all pieces but those that are left have been added
 pub record AddsPieces (pieces left : List (List ℕ × Spec)) (old now : List Bound) : Type 0 where
   pub done : List (List ℕ × Spec)
   pub split : done ++ left ≡ pieces
@@ -80,7 +80,7 @@ cells_small (e ∷ es) = and_from _ _ (mode_small e.0 e.1) (cells_small es)
 pub bounds_small : (d : Layout) → list_all small (map piece_bound d.pieces) ≡ true → list_all small (item_bounds d) ≡ true
 bounds_small d h = all_append small (map cell_bound d.cells) (map piece_bound d.pieces) ∙ and_from _ _ (cells_small d.cells) h
 
--- the pins of the pieces up to those that are left have numbers
+-- the pins of all pieces but those that are left have numbers
 pub record PinsSo (pieces left : List (List ℕ × Spec)) (old now : List Placement) (pins : List ℕ) : Type 0 where
   pub done : List Placement
   pub split : done ++ pins_of left ≡ pins_of pieces
@@ -140,7 +140,7 @@ pins_step_at pieces left rest e old now new pins more s is None same put =
 pins_step_at pieces left rest e old now new pins more s is (Some cells) same put =
     pins_some pieces left rest e (record { name = e.0; cells = cells }) old now new pins more put.0 s is (ap (λ o. option_map (λ cells. record { name = e.0; cells = cells }) o) same) put.1 put.2
 
--- one more piece
+-- one more piece is done: if it has a pin, the pin has a number
 pub pins_step : (pieces left rest : List (List ℕ × Spec)) (e : List ℕ × Spec) (old now new : List Placement) (pins more : List ℕ) → PinsSo pieces left old now pins → left ≡ e ∷ rest → PutsPin e.0 e.1.pin now new pins more → PinsSo pieces rest old new more
 pins_step pieces left rest e old now new pins more s is put = pins_step_at pieces left rest e old now new pins more s is e.1.pin refl put
 
@@ -149,7 +149,7 @@ pins_all pieces left old now pins s none =
     let whole : s.done ≡ pins_of pieces = sym (append-nil s.done) ∙ ap (λ l. s.done ++ pins_of l) (sym none) ∙ s.split in
     record { more = s.more; grown = s.grown; apart = s.apart; stand = subst (λ l. StandFor now pins l) whole s.stand; after = s.after }
 
--- a placement that was found has its number; one that wasn't gets the next
+-- a placement that was found has its index as its number; one that wasn't found gets the next number
 pub position_at : (f : Placement → Bool) (ps : List Placement) (n : ℕ) (p : Placement) → position f ps ≡ Some n → ((q : Placement) → f q ≡ true → q ≡ p) → slice_get ps n ≡ Some p
 position_at f ps n p e is =
     let r = position-Some f ps n p e in
@@ -185,7 +185,7 @@ new_number p ps new apart other is = record {
   short = omega (arith, ap length is, length-append ps (p ∷ []));
 }
 
--- the pins of the pieces are those of the design
+-- `pins_of` has exactly the pins of the pieces, in ascending order
 in_cons : (o : Option Placement) (ps : List Placement) (x : Placement) → In x (cons_option o ps) → (o ≡ Some x) ⊎ In x ps
 in_cons None ps x i = inr i
 in_cons (Some y) ps x (inl e) = inl (ap Some e)

@@ -1,4 +1,4 @@
--- The positions of numbers among the live ones, and the ranks of a tiling from them.
+-- The positions of numbers among the live ones, and how the ranks of a tiling follow from these positions.
 use Rattle.std.proofs.Common.{Bool, List, None, Option, Some, [], ap, arith, cond, eqb, false, get_or, inl, inr, length, map, nat_lt, refl, set, subst, suc, sym, take, true, zero, ℕ, ◌+◌, ◌++◌, ◌<◌, ◌∙◌, ◌∷◌, ◌≡◌, ◌≢◌, ◌≤◌}
 use Rattle.std.proofs.lemmas.Bool.{cases_eq, eqb-true, ltb-true, ne_eqb}
 use Rattle.std.proofs.lemmas.List.{take_more}
@@ -114,7 +114,7 @@ pub ranks_up : (s : ℕ) (ns T : List ℕ) → ascending (ranks_from s ns T) ≡
 ranks_up s [] T = refl
 ranks_up s (n ∷ ns) T = ranks_up_at s ns T (ranks_up (s + 1) ns T) (mem T n)
 
--- a rank is the position of one of the tiling's numbers
+-- k is the position of one of the tiling's numbers, if positions are counted from s
 record IsRank (s : ℕ) (ns T : List ℕ) (k : ℕ) : Type 0 where
   position : ℕ
   counted : k ≡ s + position
@@ -182,7 +182,7 @@ position_to table n k e = ap (λ o. option_flatten o) e
 position_is : (k j : ℕ) → k ≡ 0 + j → k ≡ j
 position_is k j e = omega arith
 
--- the positions of a tiling's numbers, sorted and each once, are its ranks
+-- the positions of a tiling's numbers, sorted and each once, are the ranks of the tiling
 pub ranks_are : (live T : List ℕ) (table : List (Option ℕ)) (sorted out : List ℕ) → ArePositions live table → IsPermutation (filter_map (position_at table) T) sorted → IsSorted nat_cmp sorted →
     IsFiltered (DiffersFromLast eqb) [] sorted out → out ≡ ranks_from 0 live T
 ranks_are live T table sorted out marked moved up kept = ascending_same out (ranks_from 0 live T) (sorted_ascend sorted out up kept) (ranks_up 0 live T)
@@ -199,11 +199,11 @@ one_option : {Y : Type 0} (ys : List Y) (o : Option Y) → ys ++ cons_option o [
 one_option ys None = refl
 one_option ys (Some y) = refl
 
--- one more number's position
+-- the next element adds its value by f, if it has one
 pub positions_more : {X Y : Type 0} (f : X → Option Y) (xs : List X) (i : ℕ) (d : X) → i < length xs → filter_map f (take (i + 1) xs) ≡ filter_map f (take i xs) ++ option_to_list (f (get_or xs i d))
 positions_more f xs i d l = rw (take_more xs i d l, filter_map-append f (take i xs) (get_or xs i d ∷ [])) (one_option (filter_map f (take i xs)) (f (get_or xs i d)))
 
--- the next number has a row in the table
+-- if each number of a list is below the count, so is the number at index i
 pub number_fits : (list : List ℕ) (count i d : ℕ) → list_all (λ n. nat_lt n count) list ≡ true → i < length list → get_or list i d < count
 number_fits list count i d below l = ltb-true (get_or list i d) count (all_in (λ n. nat_lt n count) list below (get_or list i d) (at_in list i d l))
 

@@ -22,7 +22,7 @@ ranks_low_at s ns T k ih true (inl e) = omega arith
 ranks_low_at s ns T k ih true (inr j) = let l = ih j in omega arith
 ranks_low_at s ns T k ih false j = let l = ih j in omega arith
 
--- ranks are no lower than the first
+-- if positions are counted from s, no rank is below s
 pub ranks_low : (s : ℕ) (ns T : List ℕ) (k : ℕ) → In k (ranks_from s ns T) → s ≤ k
 ranks_low s [] T k i = absurd i
 ranks_low s (n ∷ ns) T k i = ranks_low_at s ns T k (λ j. ranks_low (s + 1) ns T k j) (mem T n) i
@@ -32,12 +32,12 @@ ranks_high_at s n ns T k ih true (inl e) = omega (arith, e)
 ranks_high_at s n ns T k ih true (inr j) = let l = ih j in omega (arith, l)
 ranks_high_at s n ns T k ih false j = let l = ih j in omega (arith, l)
 
--- ranks are below the number of positions
+-- if positions are counted from s, each rank is below s plus the number of positions
 pub ranks_high : (s : ℕ) (ns T : List ℕ) (k : ℕ) → In k (ranks_from s ns T) → k < s + length ns
 ranks_high s [] T k i = absurd i
 ranks_high s (n ∷ ns) T k i = ranks_high_at s n ns T k (λ j. ranks_high (s + 1) ns T k j) (mem T n) i
 
--- two lists that differ by what one of them begins with
+-- as many ranks as placements; each rank is above s, and each placement comes after x
 record Behind (s : ℕ) (x : Placement) (ks : List ℕ) (xs : List Placement) : Type 0 where
   even : length ks ≡ length xs
   ranks : (k : ℕ) → In k ks → s < k

@@ -1,4 +1,4 @@
--- Each tiling of the design has exactly one list of numbers.
+-- If a view shows a design, each tiling of the design, as a set, is named by exactly one ascending list of numbers.
 use Rattle.std.proofs.Common.{Bool, List, Some, [], ap, arith, cond, eqb, false, inl, inr, length, ltb, map, refl, slice_get, subst, sym, true, ℕ, ◌∙◌, ◌∷◌, ◌≡◌, ◌≢◌}
 use Rattle.std.proofs.lemmas.Bool.{and_from, false_from_ne_true, lt-ltb, ne_eqb}
 use Rattle.std.specs.List.{AllPairs, Contains, list_any}
@@ -19,7 +19,7 @@ use Rattle.poly_tiling.proofs.Stands.{at_stands, stands_at}
 use Rattle.poly_tiling.proofs.Tilings.{IsTiling, whole}
 use Rattle.poly_tiling.proofs.Shown.{conflict_of_numbers, in_names, is_given, named_of, names_in, pin_given, same_number, shown_least, shown_most, some_same}
 
--- numbers that name placements of the design
+-- live numbers that name the placements, one by one
 numbers : (v : View) (d : Layout) → Shows v d → (S : List Placement) → ((x : Placement) → In x S → (n : ℕ) × In n v.live × (slice_get v.placements n ≡ Some x)) →
     (N : List ℕ) × StandFor v.placements N S × ((n : ℕ) → In n N → In n v.live)
 numbers v d s [] h = ([], refl, λ n i. absurd i)
@@ -51,7 +51,7 @@ counted v i [] (x ∷ S) e = cc
 counted v i (n ∷ N) [] e = cc
 counted v i (n ∷ N) (x ∷ S) e = let es = heads_stand v n N x S e in omega (arith, ap (λ o. one (list_any (λ j. same_item j i) (items_of o))) es.0, counted v i N S es.1)
 
--- sorting doesn't change a count
+-- sorting a list without repeats doesn't change a count
 sorted_count : (f : ℕ → Bool) (N : List ℕ) → distinct N ≡ true → tally f (put_all N []) ≡ tally f N
 sorted_count f N h =
     let up = put_all_up N [] refl in
@@ -59,7 +59,7 @@ sorted_count f N h =
     let b = tally_within f f N (put_all N []) h (λ n i e. (in_put_all_left N [] n i, e)) in
     omega arith
 
--- the numbers of one set of placements, in both
+-- if U names every placement that T names, U has every number of T
 number_in : (v : View) (T U : List ℕ) → WellNamed v → given v T ≡ true → ((x : Placement) → Contains (names v T) x → Contains (names v U) x) → (n : ℕ) → In n T → In n U
 number_in v T U wn g e n i =
     let x = is_given v T g n i in

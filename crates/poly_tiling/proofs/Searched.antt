@@ -67,7 +67,7 @@ first_less b bs up k d l = all_in (λ c. is_lt (item_cmp b.item c.item)) bs (and
 rest_up : (b : Bound) (bs : List Bound) → items_ascend (b ∷ bs) ≡ true → items_ascend bs ≡ true
 rest_up b bs up = (and_parts (list_all (λ c. is_lt (item_cmp b.item c.item)) bs) (items_ascend bs) up).1
 
--- the bound of an item of the list
+-- the bound of an item is the one at the index at which the list has the item
 pub bound_at : (bs : List Bound) (i : Item) (f : Bound → ℕ) (k : ℕ) (d : Bound) → items_ascend bs ≡ true → k < length bs → item_cmp (get_or bs k d).item i ≡ Equal → bound_in bs i f ≡ f (get_or bs k d)
 bound_at [] i f k d up l e = absurd (omega arith)
 bound_at (b ∷ bs) i f zero d up l e = ap (λ t. cond t (f b) (bound_in bs i f)) (same_item_ties b.item i ∙ eq_from (item_cmp b.item i) e)
@@ -97,7 +97,7 @@ none_at bs i f none = bound_none bs i f (any_none (λ b. same_item b.item i) bs 
     is_equal Equal e = refl
     is_equal Greater e = cc
 
--- what a search for an item returns, for any order that agrees with that of the items
+-- the bound at the index that a search for an item finds is the bound of the item, if the search compares in item order
 pub bound_found : (bs : List Bound) (i : Item) (ord : Bound → Ordering) → ((b : Bound) → ord b ≡ item_cmp b.item i) → items_ascend bs ≡ true → (at : ℕ) → at < length bs → HoldsAt (λ b. ord b ≡ Equal) bs at →
     (b : Bound) → b ≡ get_or bs at b → (f : Bound → ℕ) → bound_in bs i f ≡ f b
 bound_found bs i ord is up at low here b same f = bound_at bs i f at b up low (sym (is (get_or bs at b)) ∙ here b) ∙ ap f (sym same)
@@ -113,7 +113,7 @@ bound_missing bs i ord is up at point f =
     let same : ord (get_or bs k.0 b) ≡ Equal = is (get_or bs k.0 b) ∙ ap (λ z. item_cmp z.item i) k.2 ∙ e in
     elim (cases_lt k.0 at) [ inl l ↦ let o = sides.0 k.0 b (omega arith) l in cc | inr g ↦ let o = sides.1 k.0 b g k.1 in cc ])
 
--- whether the list has an item, by what a search finds
+-- whether a search finds an item tells whether the list has the item
 found_or_not : (a b : Bool) (n : ℕ) → n ≡ one b → cond a 1 n ≡ one (a || b)
 found_or_not true b n e = refl
 found_or_not false b n e = e

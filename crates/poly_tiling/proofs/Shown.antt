@@ -78,7 +78,7 @@ names_count_at : (v : View) (i : Item) (T : List ℕ) (o : Option Placement) →
 names_count_at v i T None ih = omega (arith, ih)
 names_count_at v i T (Some x) ih = omega (arith, ih)
 
--- members are counted alike
+-- counting the named placements that have an item gives the same as counting the numbers that have it
 pub names_count : (v : View) (i : Item) (T : List ℕ) → how_many (names v T) i ≡ count v T i
 names_count v i [] = refl
 names_count v i (q ∷ T) = names_count_at v i T (slice_get v.placements q) (names_count v i T)

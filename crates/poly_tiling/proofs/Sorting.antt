@@ -1,4 +1,4 @@
--- Numbers that are sorted and then freed of repeats.
+-- Sorting numbers and then removing repeats gives an ascending list with the same members.
 use Rattle.std.proofs.Common.{List, [], eqb, refl, true, ℕ, ◌<◌, ◌∷◌, ◌≡◌}
 use Rattle.std.proofs.lemmas.List.Filters.{dedup_is}
 use Rattle.std.proofs.lemmas.List.Kept.{AllPairs-from_increasing, Contains-dedup_nat, Contains-from_dedup}

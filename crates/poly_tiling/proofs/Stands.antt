@@ -22,7 +22,7 @@ range_suc a (suc n) =
 pub range_more : (a n : ℕ) → range_with_len a (n + 1) ≡ range_with_len a n ++ (a + n) ∷ []
 range_more a n = ap (λ m. range_with_len a m) (add-one n) ∙ range_suc a n
 
--- a placement that has a number keeps it
+-- a placement keeps its number when more placements follow
 pub get_stays : (ps more : List Placement) (n : ℕ) (x : Placement) → slice_get ps n ≡ Some x → slice_get (ps ++ more) n ≡ Some x
 get_stays ps more n x e = slice_get_front ps more n (get_low ps n x e) ∙ e
 
@@ -66,7 +66,7 @@ stands_at ps ns xs e n i =
 pub at_stands : (ps : List Placement) (ns : List ℕ) (xs : List Placement) → StandFor ps ns xs → (x : Placement) → In x xs → (n : ℕ) × In n ns × (slice_get ps n ≡ Some x)
 at_stands ps ns xs e x i = map_in (λ p. slice_get ps p) ns (Some x) (subst (λ os. In (Some x) os) (sym e) (in_map (λ x. Some x) xs x i))
 
--- numbers that name ascending placements
+-- numbers that name ascending placements are in order
 stand_below : (v : View) (n : ℕ) (x : Placement) (ns : List ℕ) (xs : List Placement) → slice_get v.placements n ≡ Some x → StandFor v.placements ns xs → ((y : Placement) → In y xs → placement_cmp x y ≡ Less) → list_all (λ q. below v n q) ns ≡ true
 stand_below v n x ns xs e s up = all_from (λ q. below v n q) ns (λ q i.
     let y = stands_at v.placements ns xs s q i in

@@ -1,4 +1,4 @@
--- What a tiling is, in parts.
+-- What a tiling is by numbers, as one fact for each part of the definition.
 use Rattle.std.proofs.Common.{List, [], ap, arith, eqb, false, inl, inr, leb, not, refl, subst, sym, true, ℕ, ◌&&◌, ◌∙◌, ◌∷◌, ◌≡◌, ◌≤◌}
 use Rattle.std.proofs.lemmas.Bool.{and_from, and_parts, both_ways, cases_Bool, cond-false, eqb-true, false_from_ne_true, le-leb, leb-true, not-true, not_from_false, or_parts, true≢false}
 use Rattle.std.specs.List.{list_all, list_any}

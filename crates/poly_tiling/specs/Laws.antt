@@ -26,11 +26,13 @@ pub record IsNumbered (v : View) (S : List Placement) (T : List ℕ) : Type 0 wh
   pub same : HasSame (names v T) S
   pub only : (U : List ℕ) → ascending U ≡ true → given v U ≡ true → HasSame (names v U) S → U ≡ T
 
--- Each tiling of the design, as a set of placements, has exactly one ascending list of numbers.
+-- If a view shows a design, each tiling of the design, as a set, is named by exactly one ascending list of numbers, and
+-- this list is a tiling of the view.
 abbrev pub NumbersReach : Type 0
 NumbersReach = (v : View) (d : Layout) (S : List Placement) → WellNamed v → Shows v d → IsTiling d S →
     (T : List ℕ) × (is_tiling v T ≡ true) × IsNumbered v S T
 
--- If two views show one design and the later one names what the earlier one names, the later is the earlier one, grown.
+-- If two views show the same design, and the later one names what the earlier one names, by the same numbers, then the later
+-- view is the earlier one, perhaps with more numbers.
 abbrev pub SameDesignGrows : Type 0
 SameDesignGrows = (v w : View) (d : Layout) → WellNamed v → WellNamed w → Shows v d → Shows w d → Names v w → Grown v w

@@ -6,7 +6,7 @@ use Rattle.std.specs.Prelude.{List, None, Option, Some, [], drop, length, slice_
 abbrev pub part : List ℕ → ℕ × ℕ → List ℕ
 part xs s = take (s.1 - s.0) (drop s.0 xs)
 
--- each pair is the first index of a part of the list and the index after its last
+-- each pair marks a part of the list: the index of the part's first number, and the index after the part's last number
 abbrev pub AreSpans : List ℕ → List (ℕ × ℕ) → Type 0
 AreSpans xs = All (λ s. (s.0 ≤ s.1) × (s.1 ≤ length xs))
 
@@ -22,11 +22,11 @@ digit_of (Some x) = x + 1
 abbrev pub digit_at : List ℕ → ℕ → ℕ
 digit_at xs i = digit_of (slice_get xs i)
 
--- the first digits of the list, as one number to the base
+-- the number that the first n digits of the list make in this base
 abbrev pub leading : ℕ → List ℕ → ℕ → ℕ
 leading base xs zero = 0
 leading base xs (suc n) = leading base xs n * base + digit_at xs n
 
--- each number is a digit of this base
+-- the digit of each number is below the base
 abbrev pub AreDigits : ℕ → List ℕ → Type 0
 AreDigits base = All (λ x. x + 1 < base)

@@ -27,7 +27,7 @@ AddsLeft v chosen free old new = (T : List ℕ) → tally (same_list T) new ≡ 
 abbrev pub AddsAtMost : View → List ℕ → List ℕ → List (List ℕ) → List (List ℕ) → Type 0
 AddsAtMost v chosen free old new = (T : List ℕ) → tally (same_list T) new ≤ tally (same_list T) old + one (is_left v chosen free T)
 
--- q isn't chosen, is in conflict with no chosen number, and its piece may be in one more chosen number
+-- q isn't chosen and is in conflict with no chosen number, and one more chosen number may have q's piece
 unfoldable pub fits_beside : View → List ℕ → ℕ → Bool
 fits_beside v chosen q =
     not (mem chosen q)

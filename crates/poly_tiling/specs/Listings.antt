@@ -19,7 +19,7 @@ use Rattle.poly_tiling.specs.Tilings.{IsTiling}
 abbrev pub IsTilingInOrder : Layout → List Placement → Type 0
 IsTilingInOrder d T = IsTiling d T × IsAscending placement_cmp T
 
--- exactly the design's tilings, each once: as the lists of their placements in placement order, in ascending order
+-- exactly the design's tilings, each once, in ascending order; each tiling is the list of its placements in placement order
 abbrev pub IsListOfTilings : Layout → List (List Placement) → Type 0
 IsListOfTilings d all = IsListOf (slice_cmp placement_cmp) (IsTilingInOrder d) all
 
@@ -30,7 +30,8 @@ pub record HasOverTilings (n : ℕ) (d : Layout) : Type 0 where
   pub apart : AllPairs (λ S T. S ≢ T) list
   pub long : n < length list
 
--- If a view shows a design, all tilings of the view in their order, each once, are the design's tilings.
+-- If a view shows a design, then the view's tilings, each once and in order, are exactly the design's tilings, each once
+-- and in order, as lists of their placements in placement order.
 abbrev pub ListingsShow : Type 0
 ListingsShow = (v : View) (d : Layout) (lists : List (List ℕ)) → WellNamed v → Shows v d → HasEachOnce v lists → IsSorted (tiling_cmp v) lists → IsListOfTilings d (map (placed v) lists)
 

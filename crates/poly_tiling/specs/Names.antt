@@ -25,7 +25,7 @@ placed_below None q = false
 placed_below (Some x) None = false
 placed_below (Some x) (Some y) = is_lt (placement_cmp x y)
 
--- the placement of p comes before that of q
+-- the placement of p comes before the placement of q
 abbrev pub below : View → ℕ → ℕ → Bool
 below v p q = placed_below (slice_get v.placements p) (slice_get v.placements q)
 
@@ -39,8 +39,9 @@ abbrev pub items_ascend : List Bound → Bool
 items_ascend [] = true
 items_ascend (b ∷ bs) = list_all (λ c. is_lt (item_cmp b.item c.item)) bs && items_ascend bs
 
--- each number of a placement of the design or of a pin names a placement; placements differ; numbers and items are in
--- their orders; the items of the design's placements are items of the design; bounds are at most 16
+-- All placements differ. The live numbers and the pins name placements, and both are in placement order. The items are in
+-- item order, and the items of the live numbers are among them. The least of each item is at most its most, and its most is
+-- at most 16.
 pub record WellNamed (v : View) : Type 0 where
   pub apart : AllPairs (λ x y. x ≢ y) v.placements
   pub named : list_all (λ p. nat_lt p (length v.placements)) v.live ≡ true

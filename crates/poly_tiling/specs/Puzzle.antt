@@ -11,8 +11,8 @@ use Rattle.poly_tiling.specs.declared.item.Item.{Item}
 use Rattle.poly_tiling.specs.declared.item.Item.TheVariants.{Cell, Piece}
 use Rattle.poly_tiling.specs.Lists.{ascending, mem, tally}
 
--- A design as the numbers show it: the placement that each number names, the numbers of the
--- design's placements in placement order, its items with their bounds in item order, its pins in name order.
+-- A design as the numbers show it: the placement that each number names, the numbers of the design's placements in
+-- placement order, the items with their bounds in item order, and the numbers of the pins in placement order.
 pub record View : Type 0 where
   pub placements : List Placement
   pub live : List ℕ
@@ -63,7 +63,8 @@ least v i = bound_in v.bounds i (λ b. b.least)
 abbrev pub most : View → Item → ℕ
 most v i = bound_in v.bounds i (λ b. b.most)
 
--- part of the design's placements, no two in conflict, each item in at least its least and at most its most, with the pins
+-- ascending numbers of placements of the design, with all pins and no two in conflict, that cover each item at least as often
+-- as its least and at most as often as its most
 abbrev pub is_tiling : View → List ℕ → Bool
 is_tiling v T =
     ascending T

@@ -15,7 +15,7 @@ use Rattle.poly_tiling.specs.declared.item.Item.TheVariants.{Cell, Piece}
 use Rattle.poly_tiling.specs.Puzzle.{View}
 use Rattle.poly_tiling.specs.Tilings.{IsPin, bounds_of_mode}
 
--- the placement that one of the numbers names
+-- one of the numbers names the placement
 pub record IsNamed (v : View) (numbers : List ℕ) (p : Placement) : Type 0 where
   pub number : ℕ
   pub stands : Contains numbers number
@@ -31,7 +31,7 @@ piece_bound e = record { item = Piece e.0; least = e.1.copies.least; most = e.1.
 abbrev pub item_bounds : Layout → List Bound
 item_bounds d = map cell_bound d.cells ++ map piece_bound d.pieces
 
--- the live numbers name the design's placements and no others, the pins its pins, and the bounds are its own
+-- the live numbers name exactly the design's placements, the pins exactly the design's pins, and the bounds are the design's
 pub record Shows (v : View) (d : Layout) : Type 0 where
   pub places : (p : Placement) → IsNamed v v.live p ↔ IsPlacement d p
   pub pins : (p : Placement) → IsNamed v v.pins p ↔ IsPin d p
@@ -56,7 +56,8 @@ pin_of e = option_map (λ cells. record { name = e.0; cells = cells }) e.1.pin
 abbrev pub pins_of : List (List ℕ × Spec) → List Placement
 pins_of pieces = filter_map pin_of pieces
 
--- the numbers are the indices of the design's placements in their order; each number after these names a pin
+-- the design's placements in placement order have the numbers from 0 on, which are the live numbers; each number after these
+-- names a pin
 pub record IsPlain (v : View) (d : Layout) : Type 0 where
   pub places : List Placement
   pub more : List Placement
@@ -73,7 +74,7 @@ pub record AddsPins (pieces : List (List ℕ × Spec)) (old new : List Placement
   pub stand : StandFor new pins (pins_of pieces)
   pub after : (p : Placement) → Contains more p → Contains (pins_of pieces) p
 
--- the placement has that number: it had it, or it is new at the end
+-- the placement has that number: it had the number before, or it is added at the end
 pub record HasNumber (p : Placement) (old new : List Placement) (n : ℕ) : Type 0 where
   pub more : List Placement
   pub grown : new ≡ old ++ more
@@ -82,7 +83,7 @@ pub record HasNumber (p : Placement) (old new : List Placement) (n : ℕ) : Type
   pub after : (q : Placement) → Contains more q → q ≡ p
   pub short : length new ≤ length old + 1
 
--- a piece's pin, if it has one, has its number at the end of the list
+-- if the piece has a pin, the pin's number is added at the end of the pins
 abbrev pub PutsPin : List ℕ → Option (List Spot) → List Placement → List Placement → List ℕ → List ℕ → Type 0
 PutsPin name None old new pins more = (new ≡ old) × (more ≡ pins)
 PutsPin name (Some cells) old new pins more = (n : ℕ) × HasNumber (record { name = name; cells = cells }) old new n × (more ≡ pins ++ n ∷ [])

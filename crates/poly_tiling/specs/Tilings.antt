@@ -1,6 +1,6 @@
 -- What a tiling of a design is, by the design's own placements: an exact cover with primary and secondary items and with
 -- multiplicities (Knuth, The Art of Computer Programming, volume 4B, section 7.2.2.1). Nothing here knows of an order,
--- of numbers, of tables or of a search.
+-- of placement numbers, of tables or of a search.
 use Rattle.std.specs.List.{AllPairs, Contains, list_any}
 use Rattle.std.specs.Prelude.{Bool, List, None, Option, Some, ℕ, ◌≡◌, ◌≢◌, ◌≤◌}
 use Rattle.poly_grid.specs.Spot.{Spot}
@@ -32,8 +32,8 @@ abbrev pub bounds_of_piece : Option Spec → Bounds
 bounds_of_piece None = record { least = 0; most = 0 }
 bounds_of_piece (Some spec) = spec.copies
 
--- in how many members of a tiling an item is, at least and at most: 1 and 1 for a required cell, 0 and 1 for an optional
--- one, its copies for a piece, and 0 and 0 for an item that the design doesn't have
+-- how many members of a tiling have an item, at least and at most: 1 and 1 for a required cell, 0 and 1 for an optional
+-- cell, the least and the most of its copies for a piece, and 0 and 0 for an item that the design doesn't have
 abbrev pub bounds_of : Layout → Item → Bounds
 bounds_of d (Cell c) = bounds_of_mode (mode_of d c)
 bounds_of d (Piece name) = bounds_of_piece (spec_of d name)

@@ -1,11 +1,12 @@
-//! The items that a tiling covers.
+//! Items: the cells and pieces that placements cover.
 ghost use Rattle.std.specs.Prelude.{◌≡◌};
 ghost use Rattle.poly_tiling.specs.Puzzle.{same_item};
 
 use poly_design::Name;
 use poly_grid::Cell;
 
-/// What a placement covers: its cells and its piece. Cells come first, each kind in its own order.
+/// A cell or a piece. A placement covers its cells and its piece. In item order, all cells come before all pieces; cells are
+/// in cell order, and pieces in the order of their names.
 #[derive(Clone, Copy, Debug, PartialEq, Eq, PartialOrd, Ord)]
 pub enum Item {
     /// A cell of the board.

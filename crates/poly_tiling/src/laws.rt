@@ -6,7 +6,7 @@ ghost use Rattle.poly_tiling.specs.TilingOrder.{RanksCompare};
 
 use crate::lister::MAX_TILINGS;
 
-/// At most 1,000,000 tilings are listed.
+/// `MAX_TILINGS` is 1,000,000.
 pub fn most_tilings_are_a_million()
     ensures { MAX_TILINGS ≡ 1000000 }
 {}
@@ -16,13 +16,14 @@ pub fn numbers_may_grow()
     ensures { NumbersMayGrow }
 {}
 
-/// If a view shows a design, an ascending list of numbers is a tiling of the view exactly if the placements that it
-/// names are a tiling of the design.
+/// If a view shows a design, an ascending list of numbers that name placements is a tiling of the view exactly if these
+/// placements are a tiling of the design.
 pub fn numbers_show()
     ensures { NumbersShow }
 {}
 
-/// If a view shows a design, each tiling of the design, as a set, has exactly one ascending list of numbers.
+/// If a view shows a design, each tiling of the design, as a set, is named by exactly one ascending list of numbers, and
+/// this list is a tiling of the view.
 pub fn numbers_reach()
     ensures { NumbersReach }
 {}
@@ -38,12 +39,13 @@ pub fn listings_show()
     ensures { ListingsShow }
 {}
 
-/// If a view shows a design and has more than some number of tilings, so does the design.
+/// If a view shows a design and has more than n tilings, then the design has more than n tilings too.
 pub fn over_shows()
     ensures { OverShow }
 {}
 
-/// If a later view of a design names what an earlier one names, the later is the earlier one with more numbers.
+/// If two views show the same design, and the later one names what the earlier one names, by the same numbers, then the
+/// later view is the earlier one, perhaps with more numbers.
 pub fn same_design_grows()
     ensures { SameDesignGrows }
 {}

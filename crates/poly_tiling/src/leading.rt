@@ -2,7 +2,8 @@
 ghost use Rattle.std.specs.Prelude.{◌*◌, ◌+◌, ◌<◌, ◌≡◌, ◌^◌};
 ghost use Rattle.poly_tiling.specs.Leading.{AreDigits, digit_at, leading};
 
-/// How many digits of this base always fit into 64 bits; at most 64.
+/// The largest count up to 64 for which the base to the power of the count is below 2^64. Numbers of so many digits of this
+/// base always fit into 64 bits.
 pub(crate) fn digit_count(base: u64) -> usize
     ensures { base ^ result < 2 ^ 64 }
 {

@@ -1,10 +1,14 @@
 //! What a tiling is: an exact cover with primary and secondary items and with multiplicities.
 //!
 //! - [`View`]: an immutable snapshot of a design, in which a placement is a number.
-//! - [`Item`], [`Bound`]: a cell or a piece, and how often a tiling covers it, at least and at most.
-//! - [`Tiling`]: the numbers of a tiling's placements.
-//! - [`list_tilings`]: all tilings of a view, by the plain lister.
-//! - [`sort_tilings`], [`tilings_in_order`]: the order of tilings.
+//! - [`Item`], [`Bound`]: a cell or a piece, and how often a tiling covers it, at least and at most. [`item_list`]: the items
+//!   of a design with their bounds. [`find_bound`]: one item in such a list.
+//! - [`conflict`]: whether two placements are different and share a cell.
+//! - [`Tiling`]: the numbers of a tiling's placements. [`has_number`], [`has_all`], [`ascends`]: tests of lists of numbers.
+//! - [`list_tilings`]: all tilings of a view, by the plain lister, if there are at most [`MAX_TILINGS`].
+//! - [`sort_tilings`], [`tilings_in_order`]: tilings in ascending order.
+//! - The laws say how tilings by numbers agree with the tilings of the design that a view shows, how they compare, what stays
+//!   the same when new numbers are assigned, and that `MAX_TILINGS` is 1,000,000.
 #![tactic(auto)]
 
 mod bound;

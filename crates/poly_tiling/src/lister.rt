@@ -1,9 +1,10 @@
 //! The plain lister: all tilings of a view, by the plainest search.
 //!
-//! Of the items that still need an option, it takes the one with the fewest, and tries its options in turn; once no item
-//! needs one, it tries each free placement in turn. A placement that was tried is left out from then on, so no tiling
-//! is found twice (Knuth, The Art of Computer Programming, volume 4B, section 7.2.2.1, without the dancing links). Faster
-//! searches are compared with this one.
+//! An option of an item is a placement that has the item. A placement is free if it may still be chosen. At each step, the
+//! lister picks an item with the fewest free options among the items that still need an option, and tries this item's free
+//! options one after another. If no item needs an option, the lister tries each free placement. A placement that was tried is
+//! left out of the rest of the same step and of the steps below it, so no tiling is found twice (Knuth, The Art of Computer
+//! Programming, volume 4B, section 7.2.2.1, without the dancing links). Faster searches are compared with the plain lister.
 ghost use Rattle.std.specs.Prelude.{[], Err, IfErr, IfNone, IfOk, IfSome, List, OnOk, Option, length, min, true, false, ◌++◌, ◌<◌, ◌∷◌, ◌≡◌, ◌≤◌, ◌⊎◌, ℕ, ◌==◌, not, nat_le, ◌&&◌};
 ghost use Rattle.std.specs.List.{filter, find};
 ghost use Rattle.poly_tiling.specs.Lists.{ascending, distinct, mem};
@@ -17,12 +18,12 @@ use crate::view::View;
 use poly_grid::Refusal;
 use std::alloc::Global;
 
-/// The most tilings that are listed.
+/// At most so many tilings are listed.
 pub const MAX_TILINGS: usize = 1_000_000;
 
 /// All tilings of the view, each once, in no promised order.
 ///
-/// Fails with `CatalogueFull` if there are over 1,000,000, and otherwise only with `Memory`.
+/// If there are over 1,000,000, fails with `CatalogueFull` or `Memory`; otherwise fails only with `Memory`.
 pub fn list_tilings(alloc: Global, view: &View) -> Result<Vec<Tiling>, Refusal>
     ensures ok { IfOk result (λ found. HasEachOnce view.now found.items) }
     ensures few { IfOk result (λ found. length found.items ≤ MAX_TILINGS) }
@@ -88,7 +89,7 @@ fn take(
     Ok(())
 }
 
-// If no item needs an option, adds the chosen numbers themselves, if they are a tiling.
+// Adds the chosen numbers themselves, if no item needs an option and they are a tiling.
 fn finish(
     alloc: Global,
     view: &View,
@@ -190,7 +191,8 @@ fn is_option(view: &View, p: u32, item: &Option<Item>) -> bool
     }
 }
 
-// Of the items that the chosen numbers have less often than their least, the one with the fewest free options.
+// Of the items that still need an option, the first with the fewest free options; none if no item needs one. An item needs an
+// option while fewer chosen numbers have the item than its least asks.
 fn unmet_item(view: &View, chosen: &[u32], free: &[u32]) -> Option<Item>
     ensures { IfSome result (λ i. count view.now chosen.now i < least view.now i) }
 {

@@ -1,4 +1,5 @@
-//! The view of a design by itself: its placements are numbered in their order.
+//! The view that is made from a design alone: the design's placements are numbered in placement order. Also the list of a
+//! design's items with their bounds.
 ghost use Rattle.std.specs.Prelude.{IfErr, IfOk, List, OnOk, length, map, nat_eq, nat_le, true, ◌&&◌, ◌++◌, ◌+◌, ◌<◌, ◌^◌, ◌≡◌, ◌≢◌, ◌≤◌};
 ghost use Rattle.std.specs.Cmp.Lexicographic.{pointwise};
 ghost use Rattle.std.specs.List.{AllPairs, list_all, position, range_with_len};
@@ -18,8 +19,8 @@ use std::alloc::Global;
 use std::collections::BTreeMap;
 
 impl View {
-    /// The view of a design by itself. The numbers are the indices of its placements in `Design::places`; a pin that isn't a
-    /// placement of the design comes after them.
+    /// The view that is made from a design alone. The number of each placement of the design is the placement's index in
+    /// `Design::places`. A pin that isn't a placement of the design gets a number after these.
     ///
     /// The only refusal is `Memory`.
     pub fn plain(alloc: Global, design: &Design) -> Result<View, Refusal>

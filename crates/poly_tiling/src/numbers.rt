@@ -22,7 +22,7 @@ pub fn ascends(numbers: &[u32]) -> bool
     true
 }
 
-/// Whether the list has all members.
+/// Whether `numbers` has every number of `members`.
 pub fn has_all(numbers: &[u32], members: &[u32]) -> bool
     ensures { result ≡ list_all (λ p. mem numbers.now p) members.now }
 {

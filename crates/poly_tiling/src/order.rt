@@ -1,8 +1,8 @@
-//! Tilings in their order: each is its placements in placement order, and tilings are compared as such lists.
+//! Sorts tilings, which are compared as the lists of their placements in placement order.
 //!
-//! They are compared by their ranks, which are the positions of their numbers among the live ones, ascending: the live numbers
-//! are in placement order. Only small keys are sorted, each an index and the leading digits of a tiling's ranks. Then the
-//! tilings are copied in the order of the keys.
+//! The code compares ranks instead. The ranks of a tiling are the positions of its numbers among the live numbers, in
+//! ascending order. Ranks give the same order of tilings, since the live numbers are in placement order. Only small keys are
+//! sorted, each an index and the leading digits of a tiling's ranks. Then the tilings are copied in the order of the keys.
 ghost use Rattle.std.specs.Prelude.{[], IfErr, IfOk, OnErr, OnOk, length, map, nat_lt, slice_index_or, true, ℕ, ◌+◌, ◌<◌, ◌≡◌, ◌^◌};
 ghost use Rattle.std.specs.Cmp.Lexicographic.{slice_cmp};
 ghost use Rattle.std.specs.List.{All, filter_map, list_all};
@@ -21,7 +21,7 @@ use poly_grid::Refusal;
 use std::alloc::Global;
 use std::cmp::Ordering;
 
-/// Puts the tilings into their order: by their placements in placement order, as lists of placements are compared.
+/// Sorts the tilings in ascending order. A tiling is compared as the list of its placements in placement order.
 ///
 /// The only refusal is `Memory`, and it leaves the list as it was.
 pub fn sort_tilings(alloc: Global, view: &View, tilings: &mut Vec<Tiling>) -> Result<(), Refusal>
@@ -35,7 +35,7 @@ pub fn sort_tilings(alloc: Global, view: &View, tilings: &mut Vec<Tiling>) -> Re
     Ok(())
 }
 
-/// Copies of the tilings in the order into which `sort_tilings` puts them. Fails only with `Memory`.
+/// Copies of the tilings, sorted as `sort_tilings` sorts them. Fails only with `Memory`.
 pub fn tilings_in_order(
     alloc: Global,
     view: &View,
@@ -49,14 +49,14 @@ pub fn tilings_in_order(
     copies_at(alloc, tilings, &order)
 }
 
-// A tiling's index and the leading digits of its ranks, in which most tilings differ already.
+// A tiling's index and the leading digits of its ranks. These digits alone decide most comparisons.
 #[derive(Clone, Copy)]
 struct Key {
     leading: u64,
     index: usize,
 }
 
-// The keys of the tilings, in the order of the tilings. The ranks are dropped here, before any tiling is copied.
+// The keys of the tilings, sorted by the order of tilings. The ranks are dropped before any tiling is copied.
 fn order_of(alloc: Global, view: &View, tilings: &[Tiling]) -> Result<Vec<Key>, Refusal>
     ensures within { IfOk result (λ order. All (λ k. k.index < length tilings.now) order.items) }
     ensures permutation { IfOk result (λ order. IsPermutation tilings.now (map (λ k. tiling_at tilings.now k.index) order.items)) }
@@ -158,7 +158,7 @@ fn ranks_of(
     Ok(ranks)
 }
 
-// The positions of the numbers that have one.
+// The positions of those numbers that have a position.
 fn positions_of(
     alloc: Global,
     positions: &[Option<u32>],
@@ -185,7 +185,7 @@ fn position_of(positions: &[Option<u32>], number: u32) -> Option<u32>
     }
 }
 
-// The key of each tiling. The row at the tiling's index has its ranks.
+// The key of each tiling. The row at a tiling's index has the tiling's ranks.
 fn keys_of(
     alloc: Global,
     tilings: &[Tiling],

@@ -1,17 +1,19 @@
 //! Rows of numbers, one after another in one list.
 //!
-//! A list of lists would take an allocation for each row, and sorting a million rows would wait for memory at each
-//! comparison.
+//! A list of lists would take an allocation for each row. The rows would be spread over the memory, and sorting a million of
+//! them would miss the processor's cache at most comparisons.
 ghost use Rattle.std.specs.Prelude.{IfErr, IfOk, OnOk, slice_index_or, ◌++◌, ◌∷◌, ◌≡◌, []};
 
 use poly_grid::Refusal;
 use std::alloc::Global;
 use std::marker::Model;
 
-/// Rows of numbers. A row is known by its index.
+/// Rows of numbers. A row is read by its index.
 #[derive(Drop)]
 pub(crate) struct Rows {
+    /// The numbers of all rows, row after row.
     numbers: Vec<u32>,
+    /// For each row, the index of its first number, and the index after its last one.
     spans: Vec<(usize, usize)>,
 }
 
@@ -27,7 +29,7 @@ impl Model for Rows {
 }
 
 impl Rows {
-    /// No rows, with room for this many rows and numbers.
+    /// No rows, with room for this many rows and numbers. Fails only when out of memory.
     pub(crate) fn with_capacity(alloc: Global, rows: usize, numbers: usize) -> Result<Rows, Refusal>
         ensures ok { IfOk result (λ rows. rows ≡ []) }
         ensures why { IfErr result (λ e. e ≡ Refusal.Memory) }

@@ -8,6 +8,7 @@ use std::marker::Model;
 /// The numbers of a tiling's placements, ascending and each once.
 #[derive(Drop)]
 pub struct Tiling {
+    /// The numbers, ascending.
     numbers: Vec<u32>,
 }
 
@@ -23,7 +24,7 @@ impl Model for Tiling {
 }
 
 impl Tiling {
-    /// The tiling of these numbers, which ascend.
+    /// The tiling of these numbers, which must ascend without repeats.
     pub fn new(numbers: Vec<u32>) -> Tiling
         requires { ascending numbers.items ≡ true }
         ensures { result ≡ numbers.items }

@@ -18,9 +18,13 @@ use std::marker::Model;
 /// design now, its items with their bounds, and the pinned numbers.
 #[derive(Drop)]
 pub struct View {
+    /// The placement that each number names, by number.
     placements: Vec<Placement>,
+    /// The numbers that are placements of the design now, in placement order.
     live: Vec<u32>,
+    /// The items with their bounds, in item order.
     bounds: Vec<Bound>,
+    /// The pinned numbers, in placement order.
     pins: Vec<u32>,
 }
 
@@ -36,8 +40,8 @@ impl Model for View {
 }
 
 impl View {
-    /// The view of these parts: placements by number, the live numbers in the order of their placements, the items in
-    /// item order with their least and most, and the pinned numbers in the order of their placements.
+    /// The view of these parts: the placement of each number, the live numbers in placement order, the items with their
+    /// bounds in item order, and the pinned numbers in placement order. They must be as `WellNamed` demands.
     pub fn with(
         placements: Vec<Placement>,
         live: Vec<u32>,
@@ -79,14 +83,14 @@ impl View {
         &self.pins
     }
 
-    /// The placement that a number names; none if the number is not in use.
+    /// The placement that a number names; none if the number was not given out.
     pub fn placement(&self, number: u32) -> Option<Placement>
         ensures { result ≡ slice_get self.now.placements number }
     {
         self.placements.get(number as usize).copied()
     }
 
-    /// How many numbers were given out: each number below it names a placement, and no other does.
+    /// How many numbers were given out. Each number below this count names a placement, and no other number does.
     pub fn number_count(&self) -> usize
         ensures { result ≡ length self.now.placements }
     {
@@ -133,7 +137,7 @@ impl View {
         n
     }
 
-    /// Whether at least as many of the numbers have the piece of `p` as its most allows.
+    /// Whether at least as many of the numbers have the piece of `p` as the piece's most allows.
     pub(crate) fn is_full(&self, p: u32, numbers: &[u32]) -> bool
         ensures { result ≡ list_any (λ i. is_piece i && nat_le (most self.now i) (count self.now numbers.now i)) (items self.now p) }
     {
@@ -161,7 +165,7 @@ impl View {
         }
     }
 
-    /// Whether the numbers are a tiling: ascending, each once, and a tiling of the design by what they name.
+    /// Whether the numbers ascend without repeats and the placements that they name are a tiling of the design.
     pub fn is_tiling(&self, numbers: &[u32]) -> bool
         ensures { result ≡ is_tiling self.now numbers.now }
     {
@@ -223,7 +227,7 @@ impl View {
         numbers.iter().all(|p| !self.any_conflict(*p, numbers))
     }
 
-    /// Whether the number's placement is in conflict with one of these.
+    /// Whether the placement of `p` is in conflict with the placement of one of the numbers.
     pub fn any_conflict(&self, p: u32, numbers: &[u32]) -> bool
         ensures { result ≡ list_any (λ q. conflicts self.now p q) numbers.now }
     {

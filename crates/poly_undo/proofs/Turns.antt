@@ -1,4 +1,4 @@
--- Lemmas on the words of `specs/Steps.antt`.
+-- Lemmas on the definitions of `specs/Steps.antt`.
 use Rattle.std.proofs.Common.{◌≡◌, ◌+◌, ◌-◌, ◌∷◌, ◌++◌, ◌<◌, ◌≤◌, ◌∙◌, [], ap, arith, drop, inl, inr, length, length-drop, refl, reverse, sym, take, List, Option, Some, ℕ}
 use Rattle.std.proofs.lemmas.Bool.{cases_lt}
 use Rattle.std.proofs.lemmas.List.{length-reverse, length_push, reverse-append, same_from_push, take-append-drop, take-append-le, take_all, take_more}
@@ -7,23 +7,23 @@ use Rattle.poly_undo.specs.declared.step.Step.{Step}
 use Rattle.poly_undo.specs.Steps.{Moves, newest, next_of}
 
 module _ {X : Type 0} where
-  -- the step whose turn is next is at the end
+  -- the next step, if there is one, is the last element of the list
   pub next_of_ends : (xs : List X) (x : X) → next_of xs ≡ Some x → xs ≡ take (length xs - 1) xs ++ x ∷ []
   next_of_ends xs x e =
       let i : ℕ = length xs - 1 in
       let within : i < length xs = slice_get_within xs i x e in
       sym (take_all (i + 1) xs (omega arith)) ∙ take_more xs i x within ∙ ap (λ y. take i xs ++ y ∷ []) (get_or_from_slice_get xs i x x e)
 
-  -- a list that isn't too long is kept whole
+  -- `newest` drops nothing from a list of at most 256 elements
   pub newest_whole : (xs : List X) → length xs ≤ 256 → newest xs ≡ xs
   newest_whole xs few = let none : length xs - 256 ≡ 0 = omega arith in rw none refl
 
-  -- a step that comes from the other list has room
+  -- if two lists have at most 256 steps together, one has room for a step that comes from the other, so no step is dropped
   pub newest_moved : (to from left : List X) (s t : X) → length to + length from ≤ 256 → from ≡ left ++ s ∷ [] → newest (to ++ t ∷ []) ≡ to ++ t ∷ []
   newest_moved to from left s t few e =
       newest_whole (to ++ t ∷ []) (omega (arith, length_push to t, length_push left s, ap length e))
 
-  -- the last steps read backwards are the first ones of all steps read backwards
+  -- `newest` of a list, reversed, is the first 256 elements of the reversed list, or all of them if there are fewer
   pub newest_reversed : (xs : List X) → reverse (newest xs) ≡ take 256 (reverse xs)
   newest_reversed xs =
       let k : ℕ = length xs - 256 in
@@ -35,7 +35,7 @@ module _ {X : Type 0} where
         | inr few ↦ ap reverse (newest_whole xs few) ∙ sym (take_all 256 (reverse xs) (omega (arith, length-reverse xs, few)))
       ]
 
--- the step that moves is the one whose turn was next
+-- the step that moves is the next step of its list
 pub step_from_next : {C K : Type 0} (from to left made : List (Step C K)) (kept stood : Option K) (s : Step C K) (m : Moves from to left made kept stood) → next_of from ≡ Some s → m.step ≡ s
 step_from_next from to left made kept stood s m e =
     (same_from_push left (take (length from - 1) from) m.step s (sym m.taken ∙ next_of_ends from s e)).1

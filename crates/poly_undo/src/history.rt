@@ -16,14 +16,16 @@ use std::mem::replace;
 /// The most steps that a history has, those to undo and those to redo together.
 pub const MAX_STEPS: usize = 256;
 
-/// The steps that can be undone and the steps that can be redone, at most 256 together. If there are more changes, the
-/// last 256 can be undone.
+/// The steps that can be undone and the steps that can be redone, at most 256 together. If 256 steps can be undone, one
+/// more step drops the oldest.
 ///
 /// A `History` keeps changes of a design, each with its shelf if it has one. `History<C, K>` keeps changes of type `C`,
 /// each with a `K` if it has one.
 #[derive(Drop)]
 pub struct History<C = Change, K = Shelf> {
+    /// The steps that can be undone, oldest first. The last one is undone next.
     undo: HeapCircularBuffer<Step<C, K>>,
+    /// The steps that can be redone. The last one is redone next.
     redo: Vec<Step<C, K>>,
 }
 
@@ -48,8 +50,8 @@ impl<C: Drop, K: Drop> History<C, K> {
         Ok(History { undo, redo })
     }
 
-    /// Adds the step that was just made, with what is kept for it. Drops the steps to redo, and the oldest step to undo if
-    /// there are 256 already.
+    /// Adds the change that was just made to the steps to undo, with what is kept for it. Drops all steps to redo, and the
+    /// oldest step to undo if 256 could be undone already.
     pub fn push(&mut self, change: C, kept: Option<K>)
         ensures undo { self.new.undo ≡ newest (self.old.undo ++ (record { change = change; kept = kept }) ∷ []) }
         ensures redo { self.new.redo ≡ [] }
@@ -92,8 +94,8 @@ impl<C: Drop, K: Drop> History<C, K> {
         self.redo.last()
     }
 
-    /// Undoes the last step: it becomes the next one to redo. Keeps `kept` with it, and returns what was kept with it
-    /// before. Requires a step to undo.
+    /// Moves the step that would be undone next to the steps to redo, where it is redone next. Keeps `kept` with this step,
+    /// and returns what was kept with it before. Requires a step to undo.
     pub fn back(&mut self, kept: Option<K>) -> Option<K>
         requires { 0 < length self.old.undo }
         ensures { Moves self.old.undo self.old.redo self.new.undo self.new.redo kept result }
@@ -104,8 +106,8 @@ impl<C: Drop, K: Drop> History<C, K> {
         stood
     }
 
-    /// Redoes the next step: it becomes the last one. Keeps `kept` with it, and returns what was kept with it before.
-    /// Requires a step to redo.
+    /// Moves the step that would be redone next to the steps to undo, where it is undone next. Keeps `kept` with this step,
+    /// and returns what was kept with it before. Requires a step to redo.
     pub fn forward(&mut self, kept: Option<K>) -> Option<K>
         requires { 0 < length self.old.redo }
         ensures { Moves self.old.redo self.old.undo self.new.redo self.new.undo kept result }

@@ -1,13 +1,13 @@
-//! What a change stores for its way back.
+//! What a change stores for its undo or redo.
 
 use poly_atom::Atom;
 use poly_tiling::Tiling;
 
-/// What a change took away, so that undoing or redoing it need not search for it again.
+/// What a change stores, so that its undo or redo need not search again for the tilings that the change took away.
 #[derive(Drop)]
 pub struct Shelf {
     /// The listed tilings that the change took away.
     pub tilings: Vec<Tiling>,
-    /// For each task that was pending before the change, its atoms.
+    /// The atoms of each task that was pending before the change.
     pub frozen: Vec<Vec<Atom>>,
 }

@@ -1,6 +1,6 @@
 //! One step of a history.
 
-/// A change, and what is kept with it until it is undone or redone.
+/// A change, and what is kept with it for its undo or redo.
 #[derive(Debug, Drop, PartialEq, Eq)]
 pub struct Step<C, K> {
     /// The change that the step makes.

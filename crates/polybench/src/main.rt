@@ -38,7 +38,7 @@ fn main(rt: HostRuntime) -> ExitCode {
     ExitCode::from(status)
 }
 
-// What the arguments say; or the exit status, if they ask for help or are refused.
+// What the arguments say; or the exit status, if they ask for help or the version, or are refused.
 fn options(rt: &HostRuntime) -> Result<Options, u8>
     ensures turns { IfOk result (λ o. (1 ≤ o.turns) × (o.turns ≤ 1000000000)) }
     ensures workers { IfOk result (λ o. IfSome o.workers (λ n. (1 ≤ n) × (n ≤ 16))) }

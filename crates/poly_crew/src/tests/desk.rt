@@ -15,15 +15,15 @@ use std::sync::Wait;
 use std::sync::ledger::{Blank, Ledger};
 use std::thread::Threads;
 
-// A book, and how the crew ended that worked on it.
+// A book, and how the crew that worked on it ended.
 #[derive(Drop)]
 struct Worked {
     book: Book,
     end: Result<(), Refusal>,
 }
 
-// Lets a crew of two work at a new desk of the book, and settles up. If there is no memory for the desk or the second
-// pass, then no crew works. Refused only if the desk isn't settled up.
+// Lets a crew of two work at a new desk of the book, and settles up. If there is no memory for the list of passes, the desk or
+// the second pass, then no crew works. Refused only if the desk isn't settled up.
 fn work_at_a_desk<
     C: Ledger + Send + Sync,
     K: Ledger + Send + Sync,
@@ -116,7 +116,7 @@ fn a_crew_without_memory(rt: HostRuntime) {
         &rt,
         "it is settled up",
     );
-    // Only one allocation is refused.
+    // At most one allocation of a run is refused.
     assert!(rt; second.end == Ok(()) || first.end == Ok(()));
     let third = work_by_two(&rt, rt.alloc(), second.book, &OpenGate).expect(
         &rt,

@@ -1,4 +1,4 @@
-//! Checking edits: which are refused and why, and the changes that the others make.
+//! Checking edits: which are refused and why, and which changes the accepted ones make.
 ghost use Rattle.std.specs.Prelude.{◌≡◌, ◌≢◌, ◌≤◌, length, ◌⊎◌, ◌↔◌, None, Err, OnOk, IfOk, IfErr, IsTrue};
 ghost use Rattle.poly_design.specs.Limits.{IsDesign};
 ghost use Rattle.poly_design.specs.Changes.{changed, set_mode};
@@ -23,11 +23,13 @@ use poly_shape::{Cells, Shape};
 impl Design {
     /// The change that the edit asks for; its before side is what the design holds.
     ///
-    /// Fails with the first cause that holds: for a new piece `NameTaken`, `BadShape`, `TooManyPieces`, `TooManyPlacements`; for
-    /// any other edit `NoSuchPiece` if no piece has the name, `NoChange` if the edit would change nothing, and then
-    /// `TooManyCells`, `TooManyPlacements` or `NotAPlacement`. Detecting `TooManyPlacements` or `NotAPlacement`,
-    /// and making the change, take memory, so `Memory` may come in place of these two or of the change, but never of any
-    /// other cause.
+    /// Fails with the first cause that holds. For a new piece these are `NameTaken`, `BadShape` if the shape belongs to the
+    /// other grid, `TooManyPieces` and `TooManyPlacements`. For the other edits they are `NoSuchPiece` if the edit names a
+    /// piece that doesn't exist, `NoChange` if the edit would change nothing, `TooManyCells` and `TooManyPlacements` if the
+    /// result would be over a limit, and `NotAPlacement` if the cells to pin or to forbid are no placement of the piece.
+    ///
+    /// Allocates only to detect `TooManyPlacements` or `NotAPlacement`, and to build the change. So `Memory` may come in place
+    /// of these two refusals or of the change, but never in place of another refusal.
     pub fn check(&self, edit: &Edit) -> Result<Change, Refusal>
         ensures ok { IfOk result (λ change. IsAccepted self.now edit.now change) }
         ensures why { IfErr result (λ e. (e ≡ Refusal.Memory) ⊎ IsRefused self.now edit.now e) }

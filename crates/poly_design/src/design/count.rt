@@ -1,7 +1,8 @@
 //! How many placements there are after a change.
 //!
-//! A change of one piece or one cell leaves all other placements as they are. So only the placements of that piece, or
-//! on that cell, are listed, and the design keeps the number of all placements.
+//! A change of a piece affects only the placements of that piece, and a change of a cell only those on that cell. So only
+//! these are listed. Their count before the change is subtracted from the total that the design stores, and their count after
+//! the change is added.
 ghost use Rattle.std.specs.Prelude.{◌≡◌, ◌≢◌, ◌↔◌, ℕ, IfOk, IfErr, IsTrue};
 ghost use Rattle.std.specs.BTreeMap.{keys};
 ghost use Rattle.std.specs.List.{Contains};

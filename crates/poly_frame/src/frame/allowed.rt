@@ -1,4 +1,4 @@
-//! Counts what no atom and no member of the base rules out: the rows tell which placements are open, and the members are
+//! Counts the placements that are not ruled out: the rows tell which placements are open, and the members of the base are
 //! checked one by one.
 ghost use Rattle.std.specs.Prelude.{Bool, MatchOption, length, max, not, slice_index, true, ℕ, ◌&&◌, ◌*◌, ◌+◌, ◌<◌, ◌^◌, ◌≡◌, ◌≤◌};
 ghost use Rattle.poly_tiling.specs.Lists.{mem, tally};
@@ -18,7 +18,7 @@ use crate::{bits, plain};
 use poly_atom::Atom;
 use poly_tiling::{Item, View};
 
-// How many numbers are in both rows.
+// How many columns are both in the row of `live` at word `at` and in the matrix's row at word `from`.
 fn count_both(matrix: &Matrix, live: &[u64], at: usize, from: usize) -> usize
     requires wide { length matrix.now.numbers.items ≤ 64 * matrix.now.width }
     requires narrow { matrix.now.width < 2 ^ 58 }
@@ -39,7 +39,7 @@ fn count_both(matrix: &Matrix, live: &[u64], at: usize, from: usize) -> usize
     n
 }
 
-// How many members of the base have the item, and are placements of the design that are not ruled out.
+// How many members of the base have the item and are placements of the design that are not ruled out.
 fn count_held(view: &View, trail: &[Atom], members: &[u32], item: &Item) -> usize
     requires { members.now ≡ base view.now trail.now }
     ensures value { result ≡ tally (λ p. has_item view.now p item.now && (mem view.now.live p && not (ruled_out view.now trail.now p))) members.now }
@@ -54,7 +54,7 @@ fn count_held(view: &View, trail: &[Atom], members: &[u32], item: &Item) -> usiz
     n
 }
 
-// How many placements have the item of a row and are not ruled out.
+// How many placements of the design have the item of a row and are not ruled out.
 fn count_row(node: &Node<'_>, steps: &Steps, members: &[u32], b: usize, item: &Item) -> usize
     requires kept { IsAt node.now steps.now }
     requires row { b < length node.now.view.now.bounds }
@@ -67,7 +67,7 @@ fn count_row(node: &Node<'_>, steps: &Steps, members: &[u32], b: usize, item: &I
     held + count_both(node.matrix, &steps.live, at, node.matrix.width * b)
 }
 
-/// How many placements have the item and are not ruled out.
+/// How many placements of the design have the item and are not ruled out.
 pub(crate) fn count(node: &Node<'_>, steps: &Steps, members: &[u32], item: &Item) -> usize
     requires kept { IsAt node.now steps.now }
     requires members { members.now ≡ base node.now.view.now node.now.trail.now }
@@ -93,7 +93,8 @@ fn least_of_row(node: &Node<'_>, steps: &Steps, b: usize, item: &Item) -> usize
     (node.table.leasts[b] as usize).max(steps.have[b] as usize)
 }
 
-/// How many members with the item each tiling of the family has at least.
+/// Each tiling of the family has at least this many members with the item: as many as the view and the atoms ask for, or as
+/// many as the base has, whichever is more.
 pub(crate) fn least(node: &Node<'_>, steps: &Steps, members: &[u32], item: &Item) -> usize
     requires kept { IsAt node.now steps.now }
     requires members { members.now ≡ base node.now.view.now node.now.trail.now }

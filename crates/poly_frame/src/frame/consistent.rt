@@ -1,5 +1,5 @@
 //! Counts the first levels of a frame at which its base is consistent: each member is a placement of the design that is not
-//! ruled out. If all levels count, the base is a tiling that meets the atoms as soon as no item is due.
+//! ruled out. If all levels are counted, the base is a tiling that meets the atoms as soon as no item is due.
 ghost use Rattle.std.specs.Prelude.{[], ℕ, length, not, take, true, ◌&&◌, ◌++◌, ◌-◌, ◌<◌, ◌∷◌, ◌≡◌, ◌≤◌};
 ghost use Rattle.std.specs.List.{list_all, list_any};
 ghost use Rattle.poly_tiling.specs.Lists.{mem};
@@ -39,7 +39,7 @@ fn is_piece(item: &Item) -> bool
     }
 }
 
-// Whether no item has more members than it may, a cell at most one.
+// Whether at most as many members have each item as may have it, and at most one if it is a cell.
 fn all_fit(bounds: &[Bound], mosts: &[u8], have: &[u64]) -> bool
     requires mosts { length mosts.now ≡ length bounds.now }
     requires have { length have.now ≡ length bounds.now }
@@ -53,7 +53,7 @@ fn all_fit(bounds: &[Bound], mosts: &[u8], have: &[u64]) -> bool
     true
 }
 
-// Whether the number is in the matrix and no atom lacks it.
+// Whether the number has a column and no atom lacks it.
 fn is_kept(whole: &Matrix, atoms: &[Atom], number: u32) -> bool
     requires { StandsShow whole.now.numbers.items whole.now.stands.items }
     ensures { result ≡ (mem whole.now.numbers.items number && not (list_any (λ a. lacks a number) atoms.now)) }
@@ -76,7 +76,7 @@ fn are_kept(whole: &Matrix, atoms: &[Atom], members: &[u32]) -> bool
     true
 }
 
-/// At the given atoms alone: 1 if their base is known to be consistent, else 0. `sure` says that it is known already.
+/// The count at the given atoms alone: 1 if their base is known to be consistent, else 0. If `sure`, this is known already.
 /// `mosts` is how many members may have each item at most, and `have` how many have it.
 pub(crate) fn begin(
     view: &View,
@@ -106,7 +106,7 @@ pub(crate) fn begin(
     }
 }
 
-/// The count after a placement is taken or left. `opened` is whether it is known to have been open.
+/// The count after a placement is taken or left out. `opened` is whether the placement is known to have been open.
 pub(crate) fn step(node: &Node<'_>, consistent: usize, number: u32, opened: bool) -> usize
     requires shows { ConsistentShows node.now.view.now node.now.trail.now node.now.given consistent }
     requires low { node.now.given ≤ length node.now.trail.now }

@@ -1,5 +1,5 @@
-//! Items by their index among the items of a view. The index of an item is guessed first and then tested, so a wrong
-//! guess only costs time.
+//! Items by their index among the items of a view, and counts by these indices. The index of an item is guessed first and
+//! then tested, so a wrong guess only costs time.
 ghost use Rattle.std.specs.Prelude.{IfErr, List, MatchOption, false, length, map, nat_lt, slice_index, slice_index_or, true, vec_capacity, vec_len, ℕ, [], ◌++◌, ◌+◌, ◌<◌, ◌*◌, ◌==◌, ◌^◌, ◌∷◌, ◌≡◌, ◌≤◌};
 ghost use Rattle.std.specs.List.{list_all};
 ghost use Rattle.poly_shape.specs.Order.{IsAscending, spot_cmp};
@@ -24,7 +24,7 @@ pub(crate) fn cell_index(cell: Cell) -> usize
     usize::from(cell.y()) * SIDE + usize::from(cell.x())
 }
 
-// How many entries such a list needs for these items.
+// How many entries a list that is indexed by `cell_index` needs for the cells among these items.
 fn cells_room(bounds: &[Bound]) -> usize {
     let mut size = 0usize;
     for bound in bounds {
@@ -35,7 +35,7 @@ fn cells_room(bounds: &[Bound]) -> usize {
     size
 }
 
-/// Guesses the indices of cells among the items.
+/// A list, indexed by `cell_index`, that guesses the index of each cell among the items.
 pub(crate) fn guess_cells(alloc: Global, bounds: &[Bound]) -> Result<Vec<usize>, Refusal>
     ensures { IfErr result (λ e. e ≡ Refusal.Memory) }
 {
@@ -51,13 +51,13 @@ pub(crate) fn guess_cells(alloc: Global, bounds: &[Bound]) -> Result<Vec<usize>,
     Ok(guesses)
 }
 
-/// A guess for a cell; 0 if there is none.
+/// The guess for the index of a cell; 0 if the list has none.
 pub(crate) fn guess_of(guesses: &[usize], cell: Cell) -> usize {
     let k = cell_index(cell);
     if k < guesses.len() { guesses[k] } else { 0 }
 }
 
-/// A guess for the index of an item.
+/// The guess for the index of an item; 0 for a piece.
 pub(crate) fn guess_item(cells: &[usize], item: &Item) -> usize {
     match item {
         Item::Cell(cell) => guess_of(cells, *cell),
@@ -65,7 +65,8 @@ pub(crate) fn guess_item(cells: &[usize], item: &Item) -> usize {
     }
 }
 
-/// The index of an item. An item without a guess is mostly a piece, and pieces come last.
+/// The index of an item; `None` if the item is not among the bounds. If the guess is wrong, the search begins at the end: an
+/// item without a guess is mostly a piece, and pieces come last.
 pub(crate) fn index_of(bounds: &[Bound], guess: usize, item: Item) -> Option<usize>
     ensures { MatchOption result ((b : ℕ) → b < length bounds.now → same_item (item_at bounds.now b) item ≡ false) (λ b. (b < length bounds.now) × (same_item (item_at bounds.now b) item ≡ true)) }
 {
@@ -91,7 +92,7 @@ fn is_cell(item: &Item, cell: Cell) -> bool
     }
 }
 
-// The index of a cell, if the guess is right or a search finds it.
+// The index of a cell; `None` if the cell is not among the bounds. No search is needed if the guess is right.
 fn cell_at(bounds: &[Bound], guess: usize, cell: Cell) -> Option<usize>
     ensures { MatchOption result ((b : ℕ) → b < length bounds.now → same_item (item_at bounds.now b) (CellItem cell) ≡ false) (λ b. (b < length bounds.now) × (same_item (item_at bounds.now b) (CellItem cell) ≡ true)) }
 {
@@ -101,7 +102,7 @@ fn cell_at(bounds: &[Bound], guess: usize, cell: Cell) -> Option<usize>
     index_of(bounds, guess, Item::Cell(cell))
 }
 
-// Notes the index of a cell, if it has one.
+// Appends the index of a cell to `noted`, if the cell has one.
 fn note_cell(bounds: &[Bound], guess: usize, cell: Cell, noted: &mut Vec<usize>)
     requires room { vec_len noted.old < vec_capacity noted.old }
     requires order { items_ascend bounds.now ≡ true }
@@ -114,7 +115,7 @@ fn note_cell(bounds: &[Bound], guess: usize, cell: Cell, noted: &mut Vec<usize>)
     }
 }
 
-// Notes the index of an item, if it has one.
+// Appends the index of an item to `noted`, if the item has one.
 fn note_item(bounds: &[Bound], guess: usize, item: Item, noted: &mut Vec<usize>)
     requires room { vec_len noted.old < vec_capacity noted.old }
     requires order { items_ascend bounds.now ≡ true }
@@ -140,7 +141,7 @@ fn note_cells(bounds: &[Bound], guesses: &[usize], cells: &[Cell], noted: &mut V
     }
 }
 
-/// Notes the indices of the items of a number's placement among the view's items; `piece` is the guess for its piece.
+/// Appends the indices of the items of a number's placement to `noted`. `piece` is the guess for the index of its piece.
 pub(crate) fn note_items(
     view: &View,
     cells: &[usize],

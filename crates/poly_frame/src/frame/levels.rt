@@ -1,5 +1,5 @@
-//! What a frame keeps besides its lists: how many of its first levels are consistent, the columns that it reads, the table,
-//! and the bits of its steps.
+//! What a frame keeps besides its lists: how many of its first levels are consistent, the matrix that it reads, the table,
+//! and the bits and counts that its steps change.
 ghost use Rattle.std.specs.Prelude.{IfErr, IfOk, length, true, vec_capacity, ◌*◌, ◌<◌, ◌^◌, ◌≡◌, ◌≤◌};
 ghost use Rattle.poly_atom.specs.Hopeless.{base};
 ghost use Rattle.poly_frame.specs.declared.frame.TheConstants.{STEPS};
@@ -26,22 +26,30 @@ use std::alloc::Global;
 /// What a frame keeps besides its lists.
 #[derive(Drop)]
 pub(crate) struct Levels<'a> {
+    /// At how many levels, counted from the given atoms on, the base is known to be consistent.
     pub(crate) consistent: usize,
+    /// The matrix that the frame reads.
     pub(crate) columns: Columns<'a>,
+    /// What stays the same while the frame moves.
     pub(crate) table: Table,
+    /// What each step changes: the bits of the open columns, and how many members of the base have each item.
     pub(crate) steps: Steps,
 }
 
 // What is counted before the columns are chosen.
 #[derive(Drop)]
 struct Counted {
+    /// 1 if the base is known to be consistent, otherwise 0.
     consistent: usize,
+    /// How many members of the base have each item.
     have: Vec<u64>,
+    /// A list with room for the indices of the items whose counts the steps raise. Its content means nothing yet.
     raised: Vec<usize>,
+    /// How many members may have each item, and how many are asked for.
     wanted: Wanted,
 }
 
-/// The levels of a frame at the atoms, whose base is `members`. `part` has a column for each placement that is open there.
+/// The levels of a frame at the atoms; `members` is their base. `part` has a column for each placement that is open there.
 /// If `sure`, the base is known to be consistent.
 pub(crate) fn levels_of<'a>(
     alloc: Global,
@@ -86,7 +94,7 @@ pub(crate) fn levels_of<'a>(
     })
 }
 
-// The row of the columns that are open at the atoms, and what is counted for it.
+// The row of the columns that are open at the atoms, and what is counted before the columns are chosen.
 fn counted_row(
     alloc: Global,
     view: &View,

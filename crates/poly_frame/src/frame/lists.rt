@@ -9,12 +9,16 @@ use poly_grid::Refusal;
 use poly_tiling::View;
 use std::alloc::Global;
 
-/// The trail of a frame, its base, the sizes of the base before each step, and a list to answer with.
+/// The lists of a frame.
 #[derive(Drop)]
 pub(crate) struct Lists {
+    /// The given atoms, then one atom for each step.
     pub(crate) trail: Vec<Atom>,
+    /// The base of the atoms on the trail, ascending.
     pub(crate) members: Vec<u32>,
+    /// How many members the base had before each step.
     pub(crate) sizes: Vec<usize>,
+    /// The list that `options` of the frame answers with.
     pub(crate) options: Vec<u32>,
 }
 

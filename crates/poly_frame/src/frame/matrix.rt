@@ -1,5 +1,6 @@
 //! The exact cover matrix of a view: a row of bits for each item, a column for each placement (Knuth, The Art of Computer
-//! Programming, volume 4B, section 7.2.2.1). A frame takes from it the columns that are open at its atoms.
+//! Programming, volume 4B, section 7.2.2.1). A frame reads this matrix, or a smaller one that has only the columns that are
+//! open at the given atoms of the frame.
 ghost use Rattle.std.specs.Prelude.{Bool, IfErr, IfOk, List, MatchOption, false, length, nat_lt, replicate, slice_index, true, vec_capacity, ℕ, [], ◌&&◌, ◌++◌, ◌*◌, ◌+◌, ◌<◌, ◌==◌, ◌^◌, ◌||◌, ◌≡◌, ◌≤◌};
 ghost use Rattle.std.specs.List.{filter, list_all, list_any};
 ghost use Rattle.poly_tiling.specs.Lists.{distinct, mem};
@@ -15,36 +16,43 @@ use poly_grid::Refusal;
 use poly_tiling::View;
 use std::alloc::Global;
 
-/// Lists of indices, one after another: list `j` is the entries `starts[j]` up to but not including `starts[j + 1]` of
-/// `indices`.
+/// Lists of indices, kept one after another in one list.
 #[derive(Drop)]
 pub(crate) struct Lists {
+    /// Where each list starts in `indices`, followed by the length of `indices`, where the last list ends.
     pub(crate) starts: Vec<usize>,
+    /// The entries of all lists.
     pub(crate) indices: Vec<usize>,
 }
 
-/// The exact cover matrix of a view. It is made once for a view, and each frame of that view can use it.
-///
-/// `numbers[j]` is the placement of column `j`, and `stands[p]` is the column of placement `p`. `lists` holds the items of
-/// each column, and `cells` a first guess for the index of each cell. `rows` has `width` words for each item, with a bit for
-/// each column. Unless the rows are narrow, `occupied` says which of these words have bits set.
+/// The exact cover matrix of a view, or some of its columns. The matrix of a view can be made once and lent to each frame of
+/// that view.
 #[derive(Drop)]
 pub struct Matrix {
+    /// The placement of each column.
     pub(crate) numbers: Vec<u32>,
+    /// The column of each placement that has one, by the number of the placement. The entries of other numbers mean nothing.
     pub(crate) stands: Vec<usize>,
+    /// The indices of the items of each column.
     pub(crate) lists: Lists,
+    /// A guess for the index of each cell among the items; a wrong guess only costs time.
     pub(crate) cells: Vec<usize>,
+    /// How many words a row has.
     pub(crate) width: usize,
+    /// A row for each item, one after another, with a bit for each column: whether the column's placement has the item.
     pub(crate) rows: Vec<u64>,
+    /// Which words of each row have bits set; empty if the rows are narrow.
     pub(crate) occupied: Vec<Occupied>,
 }
 
 ghost use Rattle.poly_frame.specs.Matrices.{IsMatrix, IsWhole, ListsShow, RowOf, RowsShow, StandsShow, list_at, matrix_of, bit_index};
 
-/// The matrix that a frame reads: one of its own, or the one that it was made from.
+/// The matrix that a frame reads.
 #[derive(Drop)]
 pub(crate) enum Columns<'a> {
+    /// A matrix that was made for this frame alone.
     Own(Matrix),
+    /// The matrix that the caller lent to the frame.
     Lent(&'a Matrix),
 }
 
@@ -73,7 +81,7 @@ impl Lists {
 }
 
 impl Matrix {
-    /// The matrix of the view: each placement of the design has a column.
+    /// The matrix of the view: each placement of the design has a column. Fails only when out of memory.
     #[tactic(auto, using(poly_tiling::proofs::Orders::live_once))]
     pub fn new(alloc: Global, view: &View) -> Result<Matrix, Refusal>
         ensures made { IfOk result (λ m. IsWhole view.now m) }
@@ -89,7 +97,7 @@ impl Matrix {
         with_columns(alloc, view, numbers, lists, cells)
     }
 
-    /// The column of the number.
+    /// The column of the number; `None` if the number has no column.
     pub(crate) fn column_of(&self, number: u32) -> Option<usize>
         requires { StandsShow self.now.numbers.items self.now.stands.items }
         ensures { MatchOption result (mem self.now.numbers.items number ≡ false) (λ j. (j < length self.now.numbers.items) × (slice_index self.now.numbers.items j ≡ number)) }
@@ -134,7 +142,7 @@ pub(crate) fn columns_of<'a>(
     Ok((Columns::Own(narrow), first))
 }
 
-/// The columns of a matrix of the view that have a bit in the row.
+/// A smaller matrix: the columns of `whole` whose bit is set in the row.
 pub(crate) fn narrowed(
     alloc: Global,
     view: &View,
@@ -212,7 +220,7 @@ fn list_set(numbers: &[u32], row: &[u64], width: usize, into: &mut Vec<u32>)
     }
 }
 
-// The items of each number, read from the view.
+// The indices of the items of each number, read from the view.
 fn list_items(
     alloc: Global,
     view: &View,
@@ -222,7 +230,7 @@ fn list_items(
     ensures value { IfOk result (λ l. ListsShow view.now numbers.now l) }
     ensures why { IfErr result (λ e. e ≡ Refusal.Memory) }
 {
-    let mut starts = Vec::with_capacity(alloc, numbers.len())?;
+    let mut starts = Vec::with_capacity(alloc, numbers.len().saturating_add(1))?;
     let mut indices = Vec::new(alloc);
     let mut piece = 0;
     starts.push(0usize)?;
@@ -237,7 +245,7 @@ fn list_items(
     Ok(Lists { starts, indices })
 }
 
-// The items of each of some numbers of a matrix.
+// The indices of the items of each number, copied from a matrix that has columns for all of these numbers.
 fn copy_lists(alloc: Global, whole: &Matrix, numbers: &[u32]) -> Result<Lists, Refusal>
     requires whole { (v : Scene) × IsMatrix v whole.now }
     requires among { (p : ℕ) → mem numbers.now p ≡ true → mem whole.now.numbers.items p ≡ true }
@@ -294,7 +302,7 @@ fn put_each(rows: &mut Vec<u64>, width: usize, indices: &[usize], j: usize, item
     }
 }
 
-// Rows without numbers.
+// Rows of `width` words that have no bit set.
 fn empty_rows(alloc: Global, width: usize, count: usize) -> Result<Vec<u64>, Refusal>
     ensures value { IfOk result (λ r. r.items ≡ replicate (width * count) 0) }
     ensures why { IfErr result (λ e. e ≡ Refusal.Memory) }

@@ -1,4 +1,4 @@
-//! The base of a frame's atoms: an ascending list. A step adds one number, and undoing the step removes it.
+//! The base of a frame's atoms: an ascending list. A step adds at most one number, and undoing the step removes that number.
 ghost use Rattle.std.specs.Prelude.{[], length, take, vec_capacity, vec_len, ℕ, ◌++◌, ◌+◌, ◌-◌, ◌<◌, ◌∷◌, ◌≡◌, ◌≢◌, ◌≤◌};
 ghost use Rattle.poly_atom.specs.Hopeless.{base};
 ghost use Rattle.poly_frame.specs.FrameMembers.{SizesShow, without};
@@ -20,7 +20,7 @@ fn take_number(numbers: &mut Vec<u32>, number: u32)
     }
 }
 
-// Removes the placement of the atom, if it is a Has.
+// If the atom is a `Has`, removes its placement.
 fn take_last(numbers: &mut Vec<u32>, atom: &Atom)
     ensures asked { (p : ℕ) → atom.now ≡ Atom.Has p → numbers.new.items ≡ without p numbers.old.items }
     ensures other { ((p : ℕ) → atom.now ≢ Atom.Has p) → numbers.new.items ≡ numbers.old.items }
@@ -46,7 +46,7 @@ pub(crate) fn pick(node: &Node<'_>, members: &mut Vec<u32>, sizes: &mut Vec<usiz
     put_number(members, number);
 }
 
-/// Leaves a number: the base stays the same.
+/// Leaves a number out: the base stays the same.
 pub(crate) fn leave(node: &Node<'_>, members: &[u32], sizes: &mut Vec<usize>, number: u32)
     requires base { members.now ≡ base node.now.view.now node.now.trail.now }
     requires sizes { SizesShow node.now.view.now node.now.trail.now node.now.given sizes.old.items }

@@ -1,17 +1,21 @@
-//! What a frame reads at its current node. The steps are a separate value, because taking one changes them while
-//! the node is read.
+//! What a frame reads at its current node. The steps are a separate value, because taking a step changes them but only reads
+//! the node.
 use crate::frame::matrix::Matrix;
 use crate::frame::table::Table;
 use poly_atom::Atom;
 use poly_tiling::View;
 
-/// A node of a search: the view, the atoms on the trail to the node, and the matrix and the table that were made for them.
-/// The first `given` atoms are those of the frame, and each later one is a step.
+/// A node of a search, without its steps.
 #[derive(Drop)]
 pub(crate) struct Node<'a> {
+    /// The view that is searched.
     pub(crate) view: &'a View,
+    /// The atoms on the trail: the given ones, then one for each step.
     pub(crate) trail: &'a [Atom],
+    /// How many atoms were given.
     pub(crate) given: usize,
+    /// The matrix that the frame reads.
     pub(crate) matrix: &'a Matrix,
+    /// What the design and the given atoms say about the items.
     pub(crate) table: &'a Table,
 }

@@ -21,8 +21,8 @@ fn note_item(due: &mut Vec<u64>, leasts: &[u8], have: u64, b: usize) {
     }
 }
 
-/// Raises the count at each index by one, and notes whether its item is still due. One loop does both, because each step
-/// of a search runs it.
+/// Raises the count at each index by one, and notes whether the item there is still due. One loop does both, to save time:
+/// each step that adds a member to the base needs both.
 pub(crate) fn raise_and_note(
     have: &mut Vec<u64>,
     due: &mut Vec<u64>,
@@ -40,7 +40,7 @@ pub(crate) fn raise_and_note(
     }
 }
 
-/// Lowers the count at each index by one, and notes whether its item is due again.
+/// Lowers the count at each index by one, and notes whether the item there is due again.
 pub(crate) fn lower_and_note(
     have: &mut Vec<u64>,
     due: &mut Vec<u64>,
@@ -58,7 +58,7 @@ pub(crate) fn lower_and_note(
     }
 }
 
-/// Notes for all items.
+/// A note for each item: whether the item is due.
 pub(crate) fn notes_of(alloc: Global, leasts: &[u8], have: &[u64]) -> Result<Vec<u64>, Refusal>
     ensures { IfErr result (λ e. e ≡ Refusal.Memory) }
 {

@@ -61,7 +61,7 @@ pub(crate) fn occupied_rows(
     Ok(all)
 }
 
-/// How many bits the words have.
+/// How many bits of the words are set.
 pub(crate) fn count_bits(row: &[u64]) -> usize {
     let mut all = 0usize;
     for word in row {
@@ -99,7 +99,8 @@ fn count_in(some: &[u64], others: &[u64], first: usize, mask: u64, most: usize) 
     all
 }
 
-/// How many numbers both rows have, or some number that is at least `most` if there are that many.
+/// How many numbers both rows have; if that is at least `most`, the result may be any count from `most` on. `occupied` and
+/// `filled` are the occupied words of the two rows.
 pub(crate) fn common(
     some: &[u64],
     occupied: &Occupied,

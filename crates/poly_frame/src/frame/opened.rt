@@ -76,7 +76,7 @@ pub(crate) fn first_row(alloc: Global, n: usize, width: usize) -> Result<Vec<u64
     Ok(row)
 }
 
-// Takes out the numbers that have an item that is shut.
+// Takes out the numbers that have a shut item: one that no further member may have.
 fn take_out_shut(bounds: &[Bound], whole: &Matrix, mosts: &[u8], have: &[u64], row: &mut Vec<u64>)
     requires mosts { length mosts.now ≡ length bounds.now }
     requires have { length have.now ≡ length bounds.now }
@@ -138,7 +138,7 @@ fn take_out_members(whole: &Matrix, members: &[u32], row: &mut Vec<u64>)
 }
 
 /// A row with a bit for each number of the matrix that is open at the atoms. `members` is their base, `mosts` is how many
-/// members each item may have at most, and `have` how many it has.
+/// members may have each item at most, and `have` how many have it.
 pub(crate) fn open_row(
     alloc: Global,
     view: &View,

@@ -1,4 +1,5 @@
-//! What a frame is asked: which placements are open, and which item is due.
+//! What the rows of a frame answer: which placements are open, which item is due, whether the base is a tiling that meets the
+//! atoms, and whether a smaller frame is worth making.
 ghost use Rattle.std.specs.Prelude.{Bool, IfErr, IfOk, IfSome, MatchOption, false, length, nat_lt, not, slice_index, true, vec_capacity, vec_len, ℕ, ◌&&◌, ◌*◌, ◌+◌, ◌-◌, ◌<◌, ◌^◌, ◌≡◌, ◌≤◌};
 ghost use Rattle.std.specs.List.{filter, list_all};
 ghost use Rattle.poly_tiling.specs.declared.item.Item.{Item};
@@ -27,7 +28,7 @@ use poly_grid::Refusal;
 use poly_tiling::Item;
 use std::alloc::Global;
 
-// Lists the numbers that are in both rows.
+// Lists the placements whose columns are both in the row of `live` at word `at` and in the matrix's row at word `from`.
 fn list_both(matrix: &Matrix, live: &[u64], at: usize, from: usize, into: &mut Vec<u32>)
     requires wide { length matrix.now.numbers.items ≤ 64 * matrix.now.width }
     requires narrow { matrix.now.width < 2 ^ 58 }
@@ -48,7 +49,7 @@ fn list_both(matrix: &Matrix, live: &[u64], at: usize, from: usize, into: &mut V
     }
 }
 
-// Lists the open numbers of row `b`.
+// Lists the open placements that have the item at `b`.
 fn list_row(node: &Node<'_>, steps: &Steps, b: usize, into: &mut Vec<u32>)
     requires kept { IsAt node.now steps.now }
     requires row { b < length node.now.view.now.bounds }
@@ -77,7 +78,7 @@ pub(crate) fn list_options(node: &Node<'_>, steps: &Steps, item: Item, into: &mu
     }
 }
 
-/// The number of some open placement.
+/// The number of some open placement; `None` if no placement is open.
 pub(crate) fn first_open(node: &Node<'_>, steps: &Steps) -> Option<u32>
     requires kept { IsAt node.now steps.now }
     ensures { MatchOption result (list_all (λ p. not (open_in node.now.view.now node.now.trail.now p)) node.now.view.now.live ≡ true) (λ p. (mem node.now.view.now.live p ≡ true) × (open_in node.now.view.now node.now.trail.now p ≡ true)) }
@@ -96,8 +97,7 @@ pub(crate) fn first_open(node: &Node<'_>, steps: &Steps) -> Option<u32>
 // The fewest open placements for which a smaller frame saves more than it costs to make.
 const WORTH: usize = 32;
 
-/// Whether few of many placements are open, but not so few that little is left to search: a frame that begins here would
-/// be much smaller.
+/// Whether a frame that begins here is worth making: it would be much smaller, and there is still much to search.
 pub(crate) fn is_sparse(matrix: &Matrix, steps: &Steps) -> bool {
     let width = matrix.width;
     if width <= 12 || steps.live.len() < width {
@@ -107,7 +107,7 @@ pub(crate) fn is_sparse(matrix: &Matrix, steps: &Steps) -> bool {
     WORTH <= open && open < matrix.numbers.len() / 3
 }
 
-/// A matrix of what is open.
+/// A matrix with a column for each open placement and no other columns.
 pub(crate) fn narrowed_now(alloc: Global, node: &Node<'_>, steps: &Steps) -> Result<Matrix, Refusal>
     requires kept { IsAt node.now steps.now }
     ensures part { IfOk result (λ m. IsMatrix node.now.view.now m) }
@@ -131,7 +131,7 @@ pub(crate) fn stands_open(node: &Node<'_>, steps: &Steps, number: u32) -> bool
     }
 }
 
-// Whether the base has too few of the item at an index.
+// Whether too few members of the base have the item at an index.
 fn is_below(table: &Table, steps: &Steps, b: usize) -> bool
     requires have { b < length steps.now.have.items }
     requires leasts { b < length table.now.leasts.items }
@@ -140,7 +140,7 @@ fn is_below(table: &Table, steps: &Steps, b: usize) -> bool
     steps.have[b] < u64::from(table.leasts[b])
 }
 
-/// Whether the base has too few of some item of the view.
+/// Whether some item of the view is due: too few members of the base have it.
 pub(crate) fn is_short(node: &Node<'_>, steps: &Steps) -> bool
     requires kept { IsAt node.now steps.now }
     ensures short { result ≡ true → in_family node.now.view.now node.now.trail.now (base node.now.view.now node.now.trail.now) ≡ false }
@@ -170,8 +170,8 @@ pub(crate) fn judge(node: &Node<'_>, steps: &Steps, consistent: usize) -> Option
 }
 
 // How many options the item at an index has to spare: those beyond what it still needs, plus one; 0 if there are too few.
-// If that is at least `fewest`, it may be any number that is at least `fewest`. None if the base has enough. Inlined, since
-// it runs for each due item at each node, where a call would cost as much as the count.
+// If this number is at least `fewest`, the result may be any number that is at least `fewest`. `None` if the item is not due.
+// Inlined, since it runs for each due item at each node: a call would cost as much as the count.
 #[inline(always)]
 fn spare(
     node: &Node<'_>,
@@ -213,7 +213,7 @@ fn filled_words(matrix: &Matrix, b: usize) -> Occupied {
     }
 }
 
-// How many words note which items are due: room for 8,192 items. A design has at most 320.
+// The most words of notes that are read: a note for each of 8,192 items. A design has at most 320.
 const NOTED: usize = 128;
 
 // The index of a due item, if one was found, and how many options it has to spare, as `spare` counts them.
@@ -253,8 +253,8 @@ fn scarcer(
     }
 }
 
-// The scarcest of `best` and the due items whose bits are in the word, counted from `first`. Stops at one that has too few
-// options.
+// The scarcest of `best` and the due items whose bits are set in the word. Bit 0 is that of the item at `first`. Stops at an
+// item that has too few options.
 fn scarcest_in(
     node: &Node<'_>,
     steps: &Steps,
@@ -285,8 +285,8 @@ fn scarcest_in(
     best
 }
 
-// The index of an item that is noted as due and of which the base has too few: one with the fewest options beyond what
-// it still needs.
+// The index of an item that is due and noted as due; `None` if there is none. An item that has too few options comes first,
+// then one with the fewest options beyond what it still needs.
 fn next_noted(node: &Node<'_>, steps: &Steps) -> Option<usize>
     requires kept { IsAt node.now steps.now }
     ensures { IfSome result (λ b. (b < length steps.now.have.items) × (nat_lt (slice_index steps.now.have.items b) (slice_index node.now.table.now.leasts.items b) ≡ true)) }
@@ -303,7 +303,7 @@ fn next_noted(node: &Node<'_>, steps: &Steps) -> Option<usize>
     best.index
 }
 
-// The index of the item of the view that is due next: a noted one if there is any.
+// The index of an item of the view that is due; `None` if there is none. An item that is noted as due comes first.
 fn next_listed(node: &Node<'_>, steps: &Steps) -> Option<usize>
     requires kept { IsAt node.now steps.now }
     ensures { MatchOption result ((b : ℕ) → b < length node.now.view.now.bounds → nat_lt (count node.now.view.now (base node.now.view.now node.now.trail.now) (item_of node.now.view.now b)) (least_at node.now.view.now node.now.trail.now (item_of node.now.view.now b)) ≡ false) (λ b. (b < length node.now.view.now.bounds) × (nat_lt (count node.now.view.now (base node.now.view.now node.now.trail.now) (item_of node.now.view.now b)) (least_at node.now.view.now node.now.trail.now (item_of node.now.view.now b)) ≡ true)) }
@@ -314,7 +314,8 @@ fn next_listed(node: &Node<'_>, steps: &Steps) -> Option<usize>
     }
 }
 
-// The index of the due item of the view with the fewest options beyond what it still needs, whatever is noted.
+// The index of an item of the view that is due, found without the notes; `None` if there is none. An item that has too few
+// options comes first, then one with the fewest options beyond what it still needs.
 fn next_unnoted(node: &Node<'_>, steps: &Steps) -> Option<usize>
     requires kept { IsAt node.now steps.now }
     ensures { MatchOption result ((b : ℕ) → b < length node.now.view.now.bounds → nat_lt (count node.now.view.now (base node.now.view.now node.now.trail.now) (item_of node.now.view.now b)) (least_at node.now.view.now node.now.trail.now (item_of node.now.view.now b)) ≡ false) (λ b. (b < length node.now.view.now.bounds) × (nat_lt (count node.now.view.now (base node.now.view.now node.now.trail.now) (item_of node.now.view.now b)) (least_at node.now.view.now node.now.trail.now (item_of node.now.view.now b)) ≡ true)) }
@@ -337,7 +338,7 @@ fn next_unnoted(node: &Node<'_>, steps: &Steps) -> Option<usize>
     best
 }
 
-// The item of the view that is due next.
+// An item of the view that is due, as `next_listed` finds it; `None` if there is none.
 fn listed_due(node: &Node<'_>, steps: &Steps) -> Option<Item>
     requires kept { IsAt node.now steps.now }
     ensures { MatchOption result ((b : ℕ) → b < length node.now.view.now.bounds → nat_lt (count node.now.view.now (base node.now.view.now node.now.trail.now) (item_of node.now.view.now b)) (least_at node.now.view.now node.now.trail.now (item_of node.now.view.now b)) ≡ false) (λ i. nat_lt (count node.now.view.now (base node.now.view.now node.now.trail.now) i) (least_at node.now.view.now node.now.trail.now i) ≡ true) }
@@ -348,7 +349,7 @@ fn listed_due(node: &Node<'_>, steps: &Steps) -> Option<Item>
     }
 }
 
-/// An item that is due: first one that is not in the view, since it has no option.
+/// An item that is due; `None` if there is none. A due item that is not in the view comes first, since it has no option.
 pub(crate) fn next_due(node: &Node<'_>, steps: &Steps, members: &[u32]) -> Option<Item>
     requires kept { IsAt node.now steps.now }
     requires members { members.now ≡ base node.now.view.now node.now.trail.now }

@@ -1,5 +1,5 @@
-//! Whether an item is starved once a placement is taken: no placement that has it stays open. The rows tell this without a
-//! step, so an arm that leads nowhere costs little to check.
+//! Whether taking a placement starves an item that is due and that no member has: no placement that has the item stays open.
+//! The rows tell this without a step, so checking a placement that leads nowhere costs little.
 ghost use Rattle.std.specs.Prelude.{[], length, nat_le, nat_lt, not, slice_index, true, ℕ, ◌&&◌, ◌*◌, ◌++◌, ◌+◌, ◌-◌, ◌<◌, ◌==◌, ◌∷◌, ◌≡◌, ◌≤◌};
 ghost use Rattle.std.specs.List.{list_all, list_any};
 ghost use Rattle.std.specs.Int.{bit_at};
@@ -16,7 +16,7 @@ use crate::frame::steps::Steps;
 use crate::frame::table::Table;
 use poly_tiling::Item;
 
-// What is left of a word of the row, once the item at `b` has one more member.
+// What is left of a word of the row once one more member has the item at `b`.
 fn left_by(matrix: &Matrix, table: &Table, have: &[u64], b: usize, k: usize, word: u64) -> u64
     requires low { b < length have.now }
     requires limits { length table.now.limits.items ≡ length have.now }
@@ -31,7 +31,7 @@ fn left_by(matrix: &Matrix, table: &Table, have: &[u64], b: usize, k: usize, wor
     }
 }
 
-// Whether nothing is left of a word of the row, once the items at the indices have one more member.
+// Whether nothing is left of a word of the row once one more member has the items at the indices.
 fn is_shut_word(
     matrix: &Matrix,
     table: &Table,
@@ -53,7 +53,8 @@ fn is_shut_word(
     left == 0
 }
 
-// Whether the items at the indices shut each number that is both in the row at word `at` and in the one at word `from`.
+// Whether each number that is both in the row of open columns at word `at` and in the matrix's row at word `from` is shut once
+// one more member has the items at the indices.
 fn are_shut(
     matrix: &Matrix,
     table: &Table,
@@ -79,7 +80,7 @@ fn are_shut(
 }
 
 // Whether taking the number at `j` starves the item at `b`: the item is asked for and no member has it; the number is open
-// and doesn't have the item; and its items shut each open number that has it.
+// and doesn't have the item; and each open number that has the item is shut once one more member has the items of the number.
 fn is_starved_at(node: &Node<'_>, steps: &Steps, b: usize, j: usize) -> bool
     requires kept { IsAt node.now steps.now }
     requires row { b < length steps.now.have.items }
@@ -104,7 +105,8 @@ fn is_starved_at(node: &Node<'_>, steps: &Steps, b: usize, j: usize) -> bool
     )
 }
 
-/// Whether no placement that has the item is known to stay open once the placement is taken, though some are asked for.
+/// Whether it is known that some member must have the item, that no member of the base has it, and that no placement that has
+/// it stays open once the number's placement is taken.
 pub(crate) fn is_starved(node: &Node<'_>, steps: &Steps, number: u32, item: &Item) -> bool
     requires kept { IsAt node.now steps.now }
     ensures { result ≡ true → arms_fit node.now.view.now (node.now.trail.now ++ Has number ∷ []) item.now [] ≡ true }

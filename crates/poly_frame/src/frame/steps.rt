@@ -1,5 +1,6 @@
-//! What changes while a frame moves: for each step a row of what is open after it, and how many members of the base
-//! have each item. A step copies the last row and removes what it closes, so undoing the step drops the row.
+//! What changes while a frame moves: a row of what is open at the given atoms, one more row for each step, and how many
+//! members of the base have each item. A step copies the last row and removes from the copy what the step closes, so undoing
+//! the step drops that row.
 ghost use Rattle.std.specs.Prelude.{IfErr, IfOk, IfSome, List, false, length, nat_le, nat_lt, not, slice_index, true, vec_capacity, vec_len, ℕ, [], ◌&&◌, ◌*◌, ◌++◌, ◌+◌, ◌-◌, ◌<◌, ◌∷◌, ◌≡◌, ◌≤◌, take};
 ghost use Rattle.std.specs.List.{list_all, list_any};
 ghost use Rattle.poly_atom.specs.Hopeless.{base};
@@ -20,15 +21,18 @@ use poly_grid::Refusal;
 use poly_tiling::{View, has_number};
 use std::alloc::Global;
 
-/// `live` has a row of the open columns for the given atoms and one for each step. `have` counts the members of the base
-/// with each item. `raised` has the indices whose counts the steps raised, and `marks` says how many of these there were
-/// before each step. `due` has a bit for each item, set if the base has too few members with it; a wrong bit only costs time.
+/// The bits and counts that steps change.
 #[derive(Drop)]
 pub(crate) struct Steps {
+    /// A row of the open columns for the given atoms, then one for each step.
     pub(crate) live: Vec<u64>,
+    /// How many members of the base have each item.
     pub(crate) have: Vec<u64>,
+    /// The indices of the items whose counts the steps raised, in the order of the steps.
     pub(crate) raised: Vec<usize>,
+    /// How long `raised` was before each step.
     pub(crate) marks: Vec<usize>,
+    /// A bit for each item, set if too few members of the base have it; a wrong bit only costs time.
     pub(crate) due: Vec<u64>,
 }
 
@@ -68,7 +72,7 @@ fn note_list(list: &[usize], noted: &mut Vec<usize>)
     }
 }
 
-// Closes the placements that have an item at one of the indices, if the item's count says that no more may have it.
+// Closes the placements that have an item at one of the indices, if the count of that item has reached its limit.
 fn close(
     matrix: &Matrix,
     table: &Table,
@@ -168,7 +172,7 @@ pub(crate) fn back(node: &Node<'_>, steps: &mut Steps)
     steps.live.truncate(node.matrix.width * (n + 1));
 }
 
-// The row, with room for one more at each step.
+// The row, with room for one more row at each step.
 fn with_room(row: Vec<u64>, width: usize) -> Result<Vec<u64>, Refusal>
     ensures items { IfOk result (λ r. r.items ≡ row.items) }
     ensures room { IfOk result (λ r. width * (STEPS + 1) ≤ vec_capacity r) }
@@ -179,8 +183,8 @@ fn with_room(row: Vec<u64>, width: usize) -> Result<Vec<u64>, Refusal>
     Ok(rows)
 }
 
-/// The steps of a frame before its first one. `row` is the row of what is open at the node's atoms, and `have` counts the
-/// members of their base with each item. `raised` is emptied: only its room is used.
+/// The bits and counts of a frame that has no step yet. `row` is the row of what is open at the node's atoms, and `have`
+/// counts the members of their base with each item. `raised` is emptied: only its room is used.
 pub(crate) fn start(
     alloc: Global,
     node: &Node<'_>,

@@ -1,4 +1,4 @@
-//! What stays the same while a frame moves.
+//! What stays the same while a frame moves, and the first count of the members that have each item.
 ghost use Rattle.std.specs.Prelude.{IfErr, IfOk, length, slice_index, vec_capacity, ℕ, ◌<◌, ◌^◌, ◌≡◌, ◌≤◌};
 ghost use Rattle.std.specs.List.{list_all, list_any};
 ghost use Rattle.poly_tiling.specs.Puzzle.{same_item};
@@ -14,14 +14,17 @@ use poly_grid::Refusal;
 use poly_tiling::{Bound, Item, View};
 use std::alloc::Global;
 
-/// For each item, `limits` says how many members with it close its other placements (0 for a cell), and `leasts` says how
-/// many members with it the design and the atoms ask for. From index `leasts_end` on they ask for none. `listed` is whether
-/// the atoms ask only for items of the view.
+/// What the design and the given atoms say about the items of the view.
 #[derive(Drop)]
 pub(crate) struct Table {
+    /// For each item: once a member that has it is added, and at least this many members have it, all other placements that
+    /// have it are closed. 0 for a cell, since the first member that has the cell closes them.
     pub(crate) limits: Vec<u8>,
+    /// For each item, how many members with it the design and the atoms ask for.
     pub(crate) leasts: Vec<u8>,
+    /// Whether the atoms ask only for items of the view.
     pub(crate) listed: bool,
+    /// From this index on, `leasts` is 0.
     pub(crate) leasts_end: usize,
 }
 
@@ -29,7 +32,7 @@ ghost use Rattle.poly_frame.specs.Matrices.{IsMatrix};
 ghost use Rattle.poly_frame.specs.FrameTable.{LeastsShow, HasOpen, HaveShows, TableShows, MostsShow, limit_at};
 ghost use Rattle.poly_frame.specs.declared.frame.items.TheConstants.{PLACEMENT_ITEMS};
 
-/// How many of the members have each item.
+/// How many of the members have each item. `noted` is overwritten: only its room is used.
 pub(crate) fn counts_of(
     alloc: Global,
     view: &View,
@@ -97,7 +100,7 @@ fn all_listed(bounds: &[Bound], atoms: &[Atom]) -> bool
     atoms.iter().all(|a| asks_listed(bounds, a))
 }
 
-// The index after the last item that is asked for.
+// The index after the last item that is asked for; 0 if none is.
 fn end_of(leasts: &[u8]) -> usize
     ensures { (b : ℕ) → result ≤ b → b < length leasts.now → slice_index leasts.now b ≡ 0 }
 {
@@ -112,7 +115,7 @@ fn end_of(leasts: &[u8]) -> usize
     0
 }
 
-/// The table of the atoms, for a matrix with a column for each placement that is open there.
+/// The table of the atoms, for a matrix with a column for each placement that is open at them.
 pub(crate) fn table_of(
     alloc: Global,
     view: &View,

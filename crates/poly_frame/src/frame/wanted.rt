@@ -1,4 +1,4 @@
-//! How many members may have each item, and how many are asked for: the bounds of a view, narrowed by atoms.
+//! How many members may have each item, and how many are asked for.
 ghost use Rattle.std.specs.Prelude.{true, IfErr, IfOk, length, map, slice_index, ℕ, ◌<◌, ◌≡◌};
 ghost use Rattle.poly_tiling.specs.Names.{items_ascend};
 ghost use Rattle.poly_frame.specs.Plain.{most_by, least_by};
@@ -11,14 +11,16 @@ use poly_grid::Refusal;
 use poly_tiling::{Bound, View};
 use std::alloc::Global;
 
-/// For each item, how many members may have it, and how many are asked for.
+/// The bounds of each item of a view, narrowed by atoms.
 #[derive(Drop)]
 pub(crate) struct Wanted {
+    /// How many members may have each item.
     pub(crate) mosts: Vec<u8>,
+    /// How many members with each item are asked for.
     pub(crate) leasts: Vec<u8>,
 }
 
-// Lowers the most of the item that an atom names.
+// Lowers the most of the item of an `AtMost`; other atoms change nothing.
 fn lower_most(bounds: &[Bound], cells: &[usize], atom: &Atom, mosts: &mut Vec<u8>)
     requires order { items_ascend bounds.now ≡ true }
     requires len { length mosts.old.items ≡ length bounds.now }
@@ -32,7 +34,7 @@ fn lower_most(bounds: &[Bound], cells: &[usize], atom: &Atom, mosts: &mut Vec<u8
     }
 }
 
-// Raises the least of the item that an atom names.
+// Raises the least of the item of an `AtLeast`; other atoms change nothing.
 fn raise_least(bounds: &[Bound], cells: &[usize], atom: &Atom, leasts: &mut Vec<u8>)
     requires order { items_ascend bounds.now ≡ true }
     requires len { length leasts.old.items ≡ length bounds.now }

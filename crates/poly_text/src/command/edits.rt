@@ -1,4 +1,7 @@
-//! The commands that ask for an edit, each by the words after its first one.
+//! Reads the commands that ask for an edit.
+//!
+//! Each public function takes the words after the first one and returns the command of its form. It fails with the first of
+//! the causes that `asked` lists, but never with `Memory`.
 ghost use Rattle.std.specs.Prelude.{◌≡◌, ◌∷◌, codes, map};
 ghost use Rattle.poly_grid.specs.declared.grid.Grid as grid;
 ghost use Rattle.poly_text.specs.Commands.{CommandSays, NamedSays};
@@ -135,7 +138,7 @@ pub fn allow(words: &[&[u8]]) -> Result<Command, Refusal>
     Ok(Command::Edit(Edit::Allow { name, cells }))
 }
 
-// The name and the set of cells of `NAME CELL..`, the words after the first of `pin`, `forbid` and `allow`.
+// Reads `NAME CELL..`, which follows the word `pin`, `forbid` or `allow`. Returns the name and the set of the cells.
 fn named_cells(words: &[&[u8]]) -> Result<(Name, Cells), Refusal>
     ensures { NamedSays (map (λ w. w.now) words.now) result }
 {
@@ -150,8 +153,8 @@ fn named_cells(words: &[&[u8]]) -> Result<(Name, Cells), Refusal>
     Ok((name, set))
 }
 
-// The bounds of `copies`. Bounds over 16, or a least above the most, are a `BadCommand`; a number over `u64::MAX` is read as
-// `u64::MAX`, which is over 16 too.
+// The bounds that the two words give. Fails with `BadCommand` if a word isn't a number, if the least is above the most, or
+// if the most is over 16. A number over `u64::MAX` is read as `u64::MAX`, which is over 16 too.
 fn copies_of(least: &[u8], most: &[u8]) -> Result<Copies, Refusal>
     ensures { Follows (ok_or (number_of least.now) BadCommand) (λ l. Follows (ok_or (number_of most.now) BadCommand) (λ m. result ≡ ok_or (copies_of l m) BadCommand) result) result }
 {
@@ -160,14 +163,16 @@ fn copies_of(least: &[u8], most: &[u8]) -> Result<Copies, Refusal>
     Copies::new(least, most).ok_or(Refusal::BadCommand)
 }
 
-// The set of the cells that the words name; `BadShape` if there are over 16 or one comes twice.
+// The set of the cells that the words name. Fails as `cell_of` does on the leftmost word that names no cell, and otherwise
+// with `BadShape` if there are no cells, over 16 cells, or a cell twice.
 fn set_of(words: &[&[u8]]) -> Result<Cells, Refusal>
     ensures { Follows (cells_of (map (λ w. w.now) words.now)) (λ cells. SetSays cells result) result }
 {
     read_set(words)?.ok_or(Refusal::BadShape)
 }
 
-// The shape of the cells that the words name; `BadShape` if they make none.
+// The shape of the cells that the words name. Fails as `cell_of` does on the leftmost word that names no cell, and otherwise
+// with `BadShape` if the cells make no shape.
 fn shape_of(grid: Grid, words: &[&[u8]]) -> Result<Shape, Refusal>
     ensures { Follows (cells_of (map (λ w. w.now) words.now)) (λ cells. ShapeSays grid cells result) result }
 {

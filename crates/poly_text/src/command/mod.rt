@@ -26,32 +26,34 @@ pub use question::Question;
 pub enum Command {
     /// An edit of the design: `add`, `drop`, `need`, `copies`, `mirror`, `cell`, `pin`, `unpin`, `forbid` and `allow`.
     Edit(Edit),
-    /// `undo`: undoes the last change that isn't undone.
+    /// `undo`: undoes the last change that can be undone.
     Undo,
-    /// `redo`: makes again the change that was undone last.
+    /// `redo`: redoes the change that was undone last.
     Redo,
     /// `count`: asks how many tilings the design has.
     Count,
     /// `list`: asks for all tilings of the design, in order, and how many there are.
     ListAll,
-    /// `browse`: asks for what the tilings that meet the question have in common.
+    /// `browse`: asks about the tilings that meet the question: how many there are, which placements all of them have, and
+    /// for each item, how many different placements of these tilings cover it.
     Browse(Question),
     /// `classes`: asks how many tilings the design has up to its symmetries.
     Classes,
-    /// `status`: asks for the edition, and how many tilings are listed and tasks are pending.
+    /// `status`: asks for the edition, the number of listed tilings and the number of pending tasks.
     Status,
 }
 
-/// Returns the command that the line asks for, or `None` if the line has no word. The grid is that of the design.
+/// Returns the command that the line asks for, or `None` if the line has no word. `grid` is the grid of the design.
 ///
 /// Fails with the first of these causes:
 ///
 /// 1. `BadCommand` if the first word is not a command, the number of words is wrong, or a keyword is wrong;
-/// 2. word by word from the left: `BadName`, `BadCommand` if the word has another form, or `BadCell` if a coordinate is over 63;
-/// 3. `BadShape` if a list of cells has over 16 cells or a cell twice, or if those of `add` aren't connected on the grid;
+/// 2. word by word from the left: `BadName` if a name isn't 1 to 16 of `A-Z a-z 0-9 _`; `BadCommand` if a cell, a number or
+///    a word of `browse` is malformed; `BadCell` if a coordinate is over 63;
+/// 3. `BadShape` if a list of cells has over 16 cells or a cell twice, or if the cells of `add` aren't connected on the grid;
 ///    `BadCommand` if the least of `copies` is above the most, or the most is over 16.
 ///
-/// `Memory` may come in place of any of these, except for a line without words, which takes no memory.
+/// `Memory` may come in place of any result, except for a line without words: reading such a line takes no memory.
 pub fn asked(alloc: Global, grid: Grid, line: &[u8]) -> Result<Option<Command>, Refusal>
     ensures says { GivesBy (λ a. a) result (Asks grid line.now) }
     ensures blank { words_of line.now ≡ [] → result ≡ Ok None }
@@ -63,7 +65,7 @@ pub fn asked(alloc: Global, grid: Grid, line: &[u8]) -> Result<Option<Command>, 
     asked_by(alloc, grid, words.as_slice())
 }
 
-// The command of the words of a line; none if there is no word.
+// The command that the words of a line ask for; none if there is no word.
 fn asked_by(alloc: Global, grid: Grid, words: &[&[u8]]) -> Result<Option<Command>, Refusal>
     ensures { GivesBy (λ a. a) result (AskedBy grid (map (λ w. w.now) words.now)) }
 {
@@ -89,7 +91,7 @@ fn command_of(alloc: Global, grid: Grid, words: &[&[u8]]) -> Result<Command, Ref
     }
 }
 
-// Any command but `browse`.
+// The command of a line whose first word isn't `browse`.
 fn plain_command(grid: Grid, first: &[u8], rest: &[&[u8]]) -> Result<Command, Refusal>
     requires { bytes_eq first.now (codes "browse") ≡ false }
     ensures { CommandSays grid (first.now ∷ map (λ w. w.now) rest.now) result }
@@ -131,7 +133,7 @@ fn plain_command(grid: Grid, first: &[u8], rest: &[&[u8]]) -> Result<Command, Re
     }
 }
 
-// The command, which is one word: any word after it is a `BadCommand`.
+// The command, which has no words after the first. Fails with `BadCommand` if there are more words.
 fn alone(command: Command, words: &[&[u8]]) -> Result<Command, Refusal>
     ensures { (g : grid.Grid) → FormSays g (form [] [] (just command)) (map (λ w. w.now) words.now) result }
 {

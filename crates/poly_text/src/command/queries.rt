@@ -21,7 +21,7 @@ enum QueryWord {
     Covers(Item),
 }
 
-// The placement of a word `+NAME=CELL/CELL/..` or `-NAME=CELL/CELL/..`, without the sign.
+// The placement that a word `+NAME=CELL/CELL/..` or `-NAME=CELL/CELL/..` names. `text` is the word without its sign.
 #[tactic(auto, unfolding(crate::specs::Queries::named_cells))]
 fn placement_of(alloc: Global, text: &[u8]) -> Result<Option<Placement>, Refusal>
     ensures ok { IfOk result (λ made. (named : Named) × (named_cells text.now ≡ Ok named) × Makes named made) }
@@ -36,7 +36,7 @@ fn placement_of(alloc: Global, text: &[u8]) -> Result<Option<Placement>, Refusal
     }
 }
 
-// The item of a word `@x,y` or `@NAME`, without the sign.
+// The item that a word `@x,y` or `@NAME` names. `text` is the word without its `@`.
 #[tactic(auto, unfolding(crate::specs::Queries::item_of))]
 fn item_of(text: &[u8]) -> Result<Item, Refusal>
     ensures { result ≡ item_of text.now }
@@ -72,12 +72,13 @@ fn query_of(alloc: Global, word: &[u8]) -> Result<QueryWord, Refusal>
     }
 }
 
-/// Returns the question that the words of `browse` make: `+NAME=CELL/CELL/..` names a placement that a tiling has,
-/// `-NAME=CELL/CELL/..` one that it lacks, `@x,y` a cell and `@NAME` a piece that it covers.
+/// Returns the question that the words of `browse` make. A tiling must have the placement of each word
+/// `+NAME=CELL/CELL/..`, must not have the placement of `-NAME=CELL/CELL/..`, and must cover the cell of `@x,y` and use the
+/// piece of `@NAME`.
 ///
-/// The leftmost word that is refused decides the cause: `BadName`; `BadCommand` if the word has another form; `BadCell` if a
-/// coordinate is over 63. If none is, fails with `BadShape` if a list of cells has over 16 cells or a cell twice. `Memory` may come
-/// in place of any of these.
+/// Fails with the cause of the leftmost word that is refused: `BadName` if its name isn't valid, `BadCommand` if the word
+/// is malformed, `BadCell` if a coordinate is over 63. If all words are accepted, fails with `BadShape` if a list of cells
+/// has over 16 cells or a cell twice. `Memory` may come in place of any result.
 pub fn question_of(alloc: Global, words: &[&[u8]]) -> Result<Question, Refusal>
     ensures { GivesBy (λ q. q) result (λ r. Follows (read_each query_of (map (λ w. w.now) words.now)) (λ queries. QuestionSays queries r) r) }
 {

@@ -11,7 +11,7 @@ pub struct Question {
     pub has: Vec<Placement>,
     /// Placements that the tiling must not have.
     pub lacks: Vec<Placement>,
-    /// Items that the tiling must cover: for each, one of its placements has the item.
+    /// Items that the tiling must cover. A tiling covers an item if at least one placement of the tiling has the item.
     pub covers: Vec<Item>,
 }
 

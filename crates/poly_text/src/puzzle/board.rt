@@ -13,8 +13,6 @@ use serde_json::Value;
 use std::alloc::Global;
 use std::collections::BTreeMap;
 
-// The most rows of a board, and the most characters of a row.
-
 // The mode that a character gives its cell, or `None` if the cell is blocked.
 fn open_mode(byte: u8) -> Option<Mode>
     ensures { result ≡ open_mode byte }
@@ -58,7 +56,7 @@ fn are_rows(rows: &[Value]) -> bool
     rows.iter().all(|row| is_row(text(row)))
 }
 
-/// Whether there are at most 64 rows, each of at most 64 marks.
+/// Whether there are at most 64 rows, each of at most 64 marks (`#`, `+` or `.`).
 #[tactic(auto, using(crate::proofs::Testing::rows_pass, crate::proofs::Testing::rows_length))]
 pub fn is_board(rows: &[Value]) -> bool
     ensures { result ≡ is_board (rows_of rows.now) }
@@ -89,7 +87,8 @@ pub fn is_small(rows: &[Value]) -> bool
     true
 }
 
-/// Returns the cells of the board that are not blocked, each with its mode. Requires rows that make a board. Fails only with `Memory`.
+/// Returns the cells of the board that are not blocked, each with its mode. Requires rows that pass `is_board`. Fails only
+/// with `Memory`.
 pub fn cells_of_rows(alloc: Global, rows: &[Value]) -> Result<BTreeMap<Cell, Mode>, Refusal>
     requires { is_board (rows_of rows.now) ≡ true }
     ensures ok { IfOk result (λ m. m.entries ≡ board_cells (rows_of rows.now)) }
@@ -102,7 +101,7 @@ pub fn cells_of_rows(alloc: Global, rows: &[Value]) -> Result<BTreeMap<Cell, Mod
     Ok(cells)
 }
 
-// Adds the cells of row `y`. All cells of the map are in rows above it.
+// Adds the cells of row `y` that are not blocked. All cells that the map has before are in rows above `y`.
 fn put_row(cells: &mut BTreeMap<Cell, Mode>, y: u64, row: &[u8]) -> Result<(), Refusal>
     requires few { (y < SIDE) × (length row.now ≤ SIDE) }
     requires after { AreBefore (SIDE * y) cells.old.entries }
@@ -116,7 +115,7 @@ fn put_row(cells: &mut BTreeMap<Cell, Mode>, y: u64, row: &[u8]) -> Result<(), R
     Ok(())
 }
 
-// Adds the cell, unless it is blocked. All cells of the map come before it, by row, then by column.
+// Adds the cell, unless it is blocked. All cells that the map has already come before this cell, by row, then by column.
 fn put_cell(cells: &mut BTreeMap<Cell, Mode>, cell: Cell, mode: Option<Mode>) -> Result<(), Refusal>
     requires fits { cell.x < SIDE }
     requires after { AreBefore (SIDE * cell.y + cell.x) cells.old.entries }

@@ -14,7 +14,7 @@ use serde_json::Value;
 /// The fields of a piece object, each of the right kind.
 #[derive(Clone, Copy)]
 pub struct Fields<'v> {
-    /// The text at `name`, which need not be a name.
+    /// The text at `name`, which need not be a valid name.
     pub name: &'v str,
     /// The elements of `cells`, each a list of two whole numbers.
     pub cells: &'v [Value],
@@ -24,7 +24,8 @@ pub struct Fields<'v> {
     pub mirror: bool,
 }
 
-/// The fields of the value, if it has exactly the keys of the format, each with a value of the right kind.
+/// The fields of the value, if it is an object with the keys of the format and no others, each with a value of the right kind,
+/// and the copies are in range. `need`, a key of format 1 only, may be missing, and so may `mirror`.
 pub fn fields_of(format: Format, value: &Value) -> Option<Fields<'_>>
     ensures { option_map fields_view result ≡ fields_of format (view value.now) }
 {
@@ -34,7 +35,7 @@ pub fn fields_of(format: Format, value: &Value) -> Option<Fields<'_>>
     }
 }
 
-// The fields of format 1. An object has each key once, so counting its keys tells that it has no other.
+// The fields of format 1. An object has each key once, so if the number of its keys is right, it has no other keys.
 #[tactic(auto, using(crate::proofs::Testing::list_all_views), unfolding(crate::specs::Fields::fields_one))]
 fn fields_one(value: &Value) -> Option<Fields<'_>>
     ensures { option_map fields_view result ≡ fields_one (view value.now) }
@@ -104,7 +105,8 @@ fn copies_of(least: u64, most: u64) -> Option<Copies>
     Copies::new(least, most)
 }
 
-// The copies that the value at the key `need` gives, if it is valid; exactly one copy if the key is missing.
+// The copies that the value at the key `need` gives, if this is `required` or `optional`; exactly one copy if the key is
+// missing.
 fn copies_by_need(need: Option<&Value>) -> Option<Copies>
     ensures { result ≡ copies_by_need (option_map (λ v. view v.now) need.entry) }
 {
@@ -121,7 +123,7 @@ fn copies_by_need(need: Option<&Value>) -> Option<Copies>
     }
 }
 
-// The truth value at the key `mirror`, if it is one; true if the key is missing.
+// The value at the key `mirror`, if it is true or false; true if the key is missing.
 fn mirror_of(mirror: Option<&Value>) -> Option<bool>
     ensures { result ≡ mirror_of (option_map (λ v. view v.now) mirror.entry) }
 {
@@ -141,7 +143,7 @@ fn present(field: Option<&Value>) -> usize
     }
 }
 
-/// The cell of a list of two numbers, if both are from 0 to 63.
+/// The cell of the value, if it is a list of two whole numbers from 0 to 63: the column and the row.
 pub fn cell_of(value: &Value) -> Option<Cell>
     ensures { result ≡ cell_of (view value.now) }
 {

@@ -24,14 +24,14 @@ pub enum Format {
 // The outer object, each key with a value of the right kind.
 #[derive(Clone, Copy)]
 struct Outer<'v> {
-    // none for a negative number
+    // `None` for a negative number
     format: Option<u64>,
     grid: &'v str,
     board: &'v [Value],
     pieces: &'v [Value],
 }
 
-/// The outer object, with its values checked.
+/// The outer object, with everything checked except what each piece says.
 #[derive(Clone, Copy)]
 pub struct Head<'v> {
     /// How the pieces give their copies.
@@ -44,7 +44,8 @@ pub struct Head<'v> {
     pub pieces: &'v [Value],
 }
 
-// The outer object of the value, if it has exactly its four keys, each with a value of the right kind.
+// The outer object of the value, if it has exactly the keys `format`, `grid`, `board` and `pieces`, each with a value of the
+// right kind.
 #[tactic(auto, using(crate::proofs::Testing::list_all_views), unfolding(crate::specs::Outer::outer_of))]
 fn outer_of(value: &Value) -> Option<Outer<'_>>
     ensures { option_map outer_view result ≡ outer_of (view value.now) }
@@ -88,8 +89,12 @@ fn grid_of(name: &str) -> Option<Grid>
     }
 }
 
-/// Returns the outer object of the value. Fails with the first of `BadField`, `BadFormat`, `BadGrid`, `BadBoard`, `TooManyCells` and
-/// `TooManyPieces`. Never allocates.
+/// Returns the outer object of the value. Never allocates.
+///
+/// Fails with the first of these causes: `BadField` if the value is not an object, or if a key of it is missing or unknown,
+/// or has a value of the wrong kind; `BadFormat` if the format is neither 1 nor 2; `BadGrid` if the grid is neither `square`
+/// nor `hex`; `BadBoard` if the rows fail `is_board`; `TooManyCells` if over 256 cells are not blocked; `TooManyPieces` if
+/// there are over 64 pieces.
 #[tactic(auto, using(crate::proofs::Testing::length_views), unfolding(crate::specs::Head::head_of))]
 pub fn head_of(value: &Value) -> Result<Head<'_>, Refusal>
     ensures head { seen head_view result ≡ head_of (view value.now) }

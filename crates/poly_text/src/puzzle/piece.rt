@@ -75,7 +75,8 @@ fn shape_of(grid: Grid, cells: &[Cell]) -> Result<Shape, Refusal>
     Shape::from_cells(grid, cells)
 }
 
-// The piece, which has no pin and nothing forbidden. Fails with `BadShape`, or with `NameTaken` if its name is taken.
+// The piece, which has no pin and nothing forbidden. Fails with `BadShape`, or otherwise with `NameTaken` if an earlier piece
+// has its name.
 fn spec_of(
     alloc: Global,
     grid: Grid,
@@ -97,7 +98,8 @@ fn spec_of(
     })
 }
 
-/// Returns the pieces of the list by their names. Fails with the first refusal of a piece; `Memory` may come in its place.
+/// Returns the pieces of the list by their names. Fails with the first refusal: for each piece in turn `BadField`, `BadName`,
+/// `BadCell`, `BadShape` or `NameTaken`, for the causes that `puzzle_of` lists. `Memory` may come in place of any result.
 pub fn pieces_of(
     alloc: Global,
     format: Format,

@@ -114,7 +114,7 @@ did c =
       kept_shelf = g.shelf_is;
     }
 
--- the view of the scene after the change
+-- the book's view after the change is that of the plan
 scene_of : (c : goal.After-finish) → c.finish.new.parts.scene ≡ arc_value c.args.ready.plan.view
 scene_of c = c.finish.ensures.scene ∙ c.requires.prepared.view_is
 

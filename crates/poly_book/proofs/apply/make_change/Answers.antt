@@ -15,7 +15,7 @@ use Rattle.poly_book.specs.States.{State}
 use Rattle.poly_book.specs.Steps.{IsDone}
 use Rattle.poly_book.proofs.apply.make_change.Goals as goal
 
--- the book shows the same once the change is prepared
+-- preparing a change doesn't alter what the book shows
 same : (p q : Parts) → q ≡ record p { table = q.table; steps = q.steps; endings = q.endings } → q.steps.items ≡ p.steps.items → q.endings.items ≡ p.endings.items → state_of q ≡ state_of p
 same p q s steps ends = ap (λ (z : Parts). shown z.opened z.design z.scene z.listed z.log z.tasks.items z.next z.history q.steps.items q.endings.items) s ∙ (λ i. shown p.opened p.design p.scene p.listed p.log p.tasks.items p.next p.history (steps i) (ends i))
 

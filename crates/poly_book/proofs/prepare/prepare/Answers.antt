@@ -25,7 +25,7 @@ use Rattle.poly_book.proofs.Cataloguing.{listed_either}
 use Rattle.poly_book.proofs.Refusing.{gather_not_made, memory_not_made, spent_not_made}
 use Rattle.poly_book.proofs.prepare.prepare.Goals as goal
 
--- the plan's view is one of the design after
+-- the change leads to the plan's view
 leads_by : (p : Parts) (x : Change) (r : Plan) → Keeps p → HasBefore p.design x → IsDesign (changed p.design x) → IsPlanFor p.table p.design (changed p.design x) (arc_value r.view) r.delta → Leads (state_of p) x (arc_value r.view)
 leads_by p x r k has is q = record {
   before = has;
@@ -35,7 +35,7 @@ leads_by p x r k has is q = record {
   names = names_on p.scene p.table (arc_value r.view) k.grown.0 q.names;
 }
 
--- the listed tilings are those of either view
+-- each listed tiling is a tiling of the view before the change or of the plan's view
 either_by : (p : Parts) (x : Change) (r : Plan) → Keeps p → IsPlanFor p.table p.design (changed p.design x) (arc_value r.view) r.delta → AreOfEither (arc_value r.view) r.delta p.listed
 either_by p x r k q = listed_either p.scene p.table (arc_value r.view) p.design (changed p.design x) r.delta p.listed k.whole.consistent.well k.grown k.right q k.whole.consistent.partition.only
 

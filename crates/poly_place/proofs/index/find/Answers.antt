@@ -7,7 +7,7 @@ use Rattle.poly_tiling.specs.Names.{item_cmp}
 use Rattle.poly_place.proofs.Rows.{row_found, row_missing}
 use Rattle.poly_place.proofs.index.find.Goals as goal
 
--- the derived order of items is the one of the definitions
+-- the order that the code derives for items is the item order of the definitions
 derived : (i j : Item) → ghosts.cmp i j ≡ item_cmp i j
 derived (Cell c) (Cell d) = search rules
 derived (Cell c) (Piece n) = search rules

@@ -23,7 +23,7 @@ decreases-sweep_arm l = 6 * l.depth + 2
 abbrev pub decreases-sweep_below : goal.decreases-sweep_below
 decreases-sweep_below l = 6 * l.depth + 1
 
--- the options before `at` were swept, and they were left if there is one more
+-- the options before `at` were swept; if there is an option at `at`, the frame leaves those before it out
 abbrev pub invariant-sweep_options-loop-at : goal.invariant-sweep_options-loop-at
 invariant-sweep_options-loop-at l = record {
   low : l.from ≤ l.at;
@@ -35,7 +35,7 @@ invariant-sweep_options-loop-at l = record {
   swept : Partly l.fn.frame.scene l.fn.frame.atoms (behind l.fn.frame.atoms (take (l.at - l.from) (drop l.from l.fn.list.options.items))) l.fn.list.found.items l.list.found.items (lists l.fn.list.rests.items) (lists l.list.rests.items);
 }
 
--- some placements were swept and left
+-- some placements were swept and left out
 abbrev pub invariant-sweep_open-loop-placement : goal.invariant-sweep_open-loop-placement
 invariant-sweep_open-loop-placement l = record {
   path : l.frame ≡ record l.fn.frame { atoms = l.frame.atoms };

@@ -7,7 +7,7 @@ use Rattle.poly_tiling.specs.Names.{item_cmp}
 use Rattle.poly_tiling.proofs.Searched.{bound_found, bound_missing, is_there, is_nowhere}
 use Rattle.poly_tiling.proofs.view.find_bound.Goals as goal
 
--- the derived order of items is the one of the definitions
+-- the order that the code derives for items is the item order of the definitions
 derived : (i j : Item) → ghosts.cmp i j ≡ item_cmp i j
 derived (Cell c) (Cell d) = search rules
 derived (Cell c) (Piece n) = search rules

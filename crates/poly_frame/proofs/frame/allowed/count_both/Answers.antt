@@ -5,7 +5,7 @@ use Rattle.poly_frame.specs.Bits.{NoneIn, in_both}
 use Rattle.poly_frame.proofs.FrameArms.{tally_gap, tally_more}
 use Rattle.poly_frame.proofs.frame.allowed.count_both.Goals as goal
 
--- none in the rows that were looked at, so none that passes
+-- if the rows have no number in common between two indices, no number there passes the test
 fails : (ns rows rs live : List ℕ) (at from low high : ℕ) (g : ℕ → Bool) → rs ≡ rows → ((j : ℕ) → j < length ns → g (get_or ns j 0) ≡ in_both live at rows from j) → NoneIn (in_both live at rs from) low high →
     (x : ℕ) → low ≤ x → x < high → x < length ns → g (get_or ns x 0) ≡ false
 fails ns rows rs live at from low high g same h none x l m k = h x k ∙ ap (λ xs. in_both live at xs from x) (sym same) ∙ none x l m

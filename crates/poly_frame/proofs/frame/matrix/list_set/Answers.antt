@@ -6,7 +6,7 @@ use Rattle.poly_frame.proofs.frame.matrix.list_set.Goals as goal
 single : (row : List ℕ) (x : ℕ) → has_bit row x ≡ in_both row 0 row 0 x
 single row x = let e : x ≡ 64 * 0 + x = omega arith in ap (λ n. has_bit row n) e ∙ sym (in_row row 0 x)
 
--- none in the row that was looked at, so none that passes
+-- if the row has no number between two indices, no number there passes the test
 fails : (ns row : List ℕ) (low high : ℕ) (f : ℕ → Bool) → ((j : ℕ) → j < length ns → f (get_or ns j 0) ≡ has_bit row j) → NoneIn (in_both row 0 row 0) low high → (x : ℕ) → low ≤ x → x < high → x < length ns → f (get_or ns x 0) ≡ false
 fails ns row low high f h none x l m k = h x k ∙ single row x ∙ none x l m
 

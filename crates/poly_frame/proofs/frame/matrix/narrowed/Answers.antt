@@ -9,7 +9,7 @@ use Rattle.poly_frame.proofs.FrameTable.{filter_len}
 use Rattle.poly_frame.proofs.Walks.{distinct_filter, mem_filter}
 use Rattle.poly_frame.proofs.frame.matrix.narrowed.Goals as goal
 
--- the bit in the number's column is set
+-- the bit of the number's column is set
 abbrev chosen : List ℕ → List ℕ → ℕ → Bool
 chosen stands row p = has_bit row (get_or stands p 0)
 

@@ -5,7 +5,7 @@ use Rattle.poly_frame.specs.Bits.{NoneIn, in_both}
 use Rattle.poly_frame.proofs.FrameQueries.{filter_gap, filter_rest, filter_yes}
 use Rattle.poly_frame.proofs.frame.queries.list_both.Goals as goal
 
--- none in the rows that were looked at, so none that passes
+-- if the rows have no number in common between two indices, no number there passes the test
 fails : (ns rows rs live : List ℕ) (at from low high : ℕ) (f : ℕ → Bool) → rs ≡ rows → ((j : ℕ) → j < length ns → f (get_or ns j 0) ≡ in_both live at rows from j) → NoneIn (in_both live at rs from) low high →
     (x : ℕ) → low ≤ x → x < high → x < length ns → f (get_or ns x 0) ≡ false
 fails ns rows rs live at from low high f same h none x l m k = h x k ∙ ap (λ xs. in_both live at xs from x) (sym same) ∙ none x l m

@@ -2,7 +2,7 @@ use Rattle.std.proofs.Common.{List, ap, arith, get_or, inl, inr, length, ℕ, �
 use Rattle.std.proofs.lemmas.Bool.{cases_eq}
 use Rattle.poly_frame.proofs.frame.table.end_of.Goals as goal
 
--- after one more item of which none is asked for
+-- if the entries from n on are 0, and the one before them too, all from n - 1 on are 0
 quiet_more : (xs : List ℕ) (n : ℕ) → get_or xs (n - 1) 0 ≡ 0 → ((b : ℕ) → n ≤ b → b < length xs → get_or xs b 0 ≡ 0) → (b : ℕ) → n - 1 ≤ b → b < length xs → get_or xs b 0 ≡ 0
 quiet_more xs n e h b l m = elim (cases_eq b (n - 1)) [
   | inl s ↦ ap (λ k. get_or xs k 0) s ∙ e

@@ -6,7 +6,7 @@ use Rattle.poly_grid.specs.Grid.{turned_of}
 use Rattle.poly_shape.specs.Shape.{point_of}
 use Rattle.poly_shape.proofs.Corners.{some_is, some_value, turned_near}
 use Rattle.poly_grid.proofs.Points.{same_point}
-use Rattle.poly_shape.proofs.images.place.Goals as goal
+use Rattle.poly_shape.proofs.images.image_of_cell.Goals as goal
 
 pub unwrap-requires : goal.unwrap-requires
 unwrap-requires c =

@@ -7,7 +7,7 @@ use Rattle.poly_grid.specs.Spot.{Spot}
 use Rattle.poly_shape.specs.Order.{IsAscending, cells_cmp, cells_total}
 use Rattle.poly_shape.proofs.Ascending.{searchable, same_cells}
 use Rattle.poly_design.specs.Listed.{HasAt, IsGapFor}
-use Rattle.poly_design.proofs.cells_set.CellsSet.place.Goals as goal
+use Rattle.poly_design.proofs.cells_set.CellsSet.index_of.Goals as goal
 
 found : (list : List (List Spot)) (cells : List Spot) (r : Result ℕ ℕ) → IsSearchInRange r (length list) → IfOk r (HoldsAt (λ y. cells_cmp y cells ≡ Equal) list) → IfOk r (λ at. HasAt list at cells)
 found list cells (Ok at) within here = record { within = within; is = λ d. same_cells _ _ (here d) }
