@@ -1,4 +1,4 @@
--- What a search for all tilings finds may be listed.
+-- What a search for all tilings finds may be listed in a catalogue: only tilings of the view, and none of them twice.
 use Rattle.std.proofs.Common.{Bool, List, [], ap, false, refl, true, ◌&&◌, ◌∙◌, ◌≡◌, ℕ}
 use Rattle.std.specs.List.{list_all}
 use Rattle.poly_tiling.specs.Lists.{one, same_list, tally}

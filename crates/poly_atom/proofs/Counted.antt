@@ -80,7 +80,7 @@ mem_put_all ps qs x = same_truth (mem (put_all ps qs) x) (mem ps x || mem qs x)
       | inr b ↦ in_mem (put_all ps qs) x (in_put_all_right ps qs x (mem_in qs x b))
     ])
 
--- if a list has no repeats, as many of its numbers pass a test as if they are put into an ascending list
+-- if a list has no repeats, putting its numbers into an ascending list doesn't change how many of them pass a test
 once_tally : (f : ℕ → Bool) (ps : List ℕ) → distinct ps ≡ true → tally f (put_all ps []) ≡ tally f ps
 once_tally f [] d = refl
 once_tally f (p ∷ ps) d =

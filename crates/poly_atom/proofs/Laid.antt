@@ -1,4 +1,4 @@
--- The guards of a change and of its inverse are those of its differences.
+-- The guards of a change and of its inverse are those that `guards_by` makes from the lists of the change's `Delta`.
 use Rattle.std.proofs.Common.{Bool, List, [], ap, arith, cond, false, filter, inl, inr, length, length-append, map, not, nat_lt, refl, subst, sym, true, ℕ, ◌++◌, ◌+◌, ◌<◌, ◌∙◌, ◌∷◌, ◌≡◌, ◌≤◌, ◌≢◌}
 use Rattle.std.proofs.lemmas.Bool.{lt-ltb, ltb-true}
 use Rattle.std.proofs.lemmas.List.{length-map}

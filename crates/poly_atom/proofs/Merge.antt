@@ -181,7 +181,7 @@ add_at : {A : Type 0} (b : Bool) (out rest : List A) (x : A) → cond b (out ++ 
 add_at true out rest x = append_assoc out (x ∷ []) rest
 add_at false out rest x = refl
 
--- a step adds element i to `out` if it passes; `out` followed by the rest of the walk stays the same list
+-- a step adds `make x` to `out` if x, element i, passes; `out` followed by the rest of the walk stays the same list
 pub walk_step : {X A : Type 0} (lt eq : X → X → Bool) (test : X → Option X → Bool) (make : X → A) (xs : List X) (i : ℕ) (x : X) (ys zs : List X) (out : List A) (b : Bool) →
     i < length xs → x ≡ get_or xs i x → zs ≡ behind (λ y. lt y x) ys → b ≡ test x (front (λ y. eq y x) zs) →
     cond b (out ++ make x ∷ []) out ++ walk lt eq test make (drop (i + 1) xs) zs ≡ out ++ walk lt eq test make (drop i xs) ys

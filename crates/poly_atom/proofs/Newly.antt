@@ -94,7 +94,7 @@ module _ (v w : View) (x : Delta) (y : Change) (A : List Atom) (c : IsChangeOf v
       pinned : In q v.pins → ⊥
       pinned j = bad_there (in_base_pin v A q j) (pin_low v c.shown.well q j)
 
-  -- before the change, the base covers the piece of each placement that is asked for no more often than the piece's most
+  -- if the list asks for a placement, then before the change the base covers its piece no more often than the piece's most
   few_before : (p : ℕ) (i : Item) → In (Has p) A → In i (items w p) → is_piece i ≡ true → count v (base v A) i ≤ most v i
   few_before p i k j is = elim (cases_lt (most v i) (count v (base v A) i)) [
     | inl l ↦ absurd (not_bad (Has p) k (or_right _ _ (any_from (λ i. is_piece i && nat_lt (most v i) (count v (base v A) i)) (items v p) i

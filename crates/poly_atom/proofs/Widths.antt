@@ -27,7 +27,7 @@ keep_all : (ns : List ℕ) → filter (λ n. true) ns ≡ ns
 keep_all [] = refl
 keep_all (n ∷ ns) = ap (λ ms. n ∷ ms) (keep_all ns)
 
--- the placements that the numbers name, in their order
+-- from the numbers of the placements that satisfy P, in placement order, `names` makes the list of these placements
 pub placed_list : (w : View) (P : Placement → Type 0) (ns : List ℕ) → AreNumbersFor w P ns → IsListOf placement_cmp P (names w ns)
 placed_list w P ns are = record {
   ascending = subst (λ ms. IsAscending placement_cmp (names w ms)) (keep_all ns) (names_ascend w ns are.up (λ n. true));

@@ -58,7 +58,7 @@ impl Look {
         Ok(Look { board, seat })
     }
 
-    /// Makes the look know all posts, with the help of the poster. The posts that the look knew are the first of the poster's.
+    /// Makes the look know all posts, with the help of the poster. The poster's posts begin with those that the look knew.
     /// Only the law `last_post_is_seen` calls this, for its proof. Like `look`, it reads only the word.
     pub(crate) fn catch_up(&mut self, poster: &mut Poster)
         requires board { self.old.board ≡ poster.old.board }

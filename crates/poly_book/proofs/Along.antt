@@ -1,5 +1,6 @@
--- A list of atoms that is hopeless along the ways of a trail down to that of step m stays so with more atoms, and along the
--- newest ways alone if the way of step m is among these. If the step numbers of the ways fall, so do those of the newest.
+-- If a list of atoms is hopeless along the ways of a trail down to that of step m, so is each list that has all of its atoms.
+-- The list is also hopeless along the newest ways alone if the way of step m is among these. If the step numbers of the ways
+-- fall, so do those of the newest ways.
 use Rattle.std.proofs.Common.{List, [], arith, eqb, inl, inr, not, suc, sym, true, zero, ℕ, ◌&&◌, ◌<◌, ◌∷◌, ◌≡◌, ◌≤◌}
 use Rattle.std.proofs.lemmas.Bool.{and_from, and_parts, both_ways, eqb-true, not-true, or_cases, or_left, or_right, true≢false}
 use Rattle.poly_tiling.proofs.Lists.{In}

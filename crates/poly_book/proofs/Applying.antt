@@ -1,4 +1,4 @@
--- A change of the fields is the event of the change's kind.
+-- What the code does to the fields for a change is what the event of the change's kind does to the state that they show.
 use Rattle.std.proofs.Common.{Bool, List, Option, Some, [], ap, arith, length, map, refl, reverse, subst, sym, take, ℕ, ◌++◌, ◌+◌, ◌-◌, ◌<◌, ◌∙◌, ◌∷◌, ◌≡◌, ◌≤◌}
 use Rattle.std.proofs.lemmas.List.{length-drop, length_push, length-reverse}
 use Rattle.std.proofs.lemmas.Option.{slice_get_within}

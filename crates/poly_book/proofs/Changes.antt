@@ -77,7 +77,7 @@ pub changed_by_way : (x : Change) (k : Option Kept) → (way_by x k).change ≡ 
 changed_by_way x None = refl
 changed_by_way x (Some k) = refl
 
--- whether a task ends or goes on, the number of endings and the number of tasks that go on add up to one more with it
+-- whether a task ends or goes on, it adds one to the sum of the number of endings and the number of tasks that go on
 ends_or_stays : (e : ℕ) (t : Task) (p : Pending) (b : Bool) (F : List Task) (G : List Pending) →
     length (map (λ (u : Task). Hopeless u.number e) (cond b (t ∷ F) F)) + length (cond (not b) (p ∷ G) G) ≡ length (map (λ (u : Task). Hopeless u.number e) F) + length G + 1
 ends_or_stays e t p true F G = omega arith

@@ -1,4 +1,5 @@
--- What is noted in the maps for pending tasks stays noted, and what is noted once a stair is.
+-- What is noted in the maps for pending tasks stays noted. A stair is noted once its last atom and all guards before that
+-- atom are noted.
 use Rattle.std.proofs.Common.{Bool, Err, List, Ok, Result, [], ap, arith, drop, eqb, false, get_or, inl, inr, length, nat_lt, refl, subst, suc, sym, take, true, zero, ℕ, ◌+◌, ◌++◌, ◌-◌, ◌<◌, ◌∙◌, ◌∷◌, ◌≡◌, ◌≤◌}
 use Rattle.std.proofs.lemmas.Bool.Decides.{leb_tells}
 use Rattle.std.proofs.lemmas.Bool.{and_from, and_parts, cases_lt, cond_both, eqb-true, ltb-false, ltb-true, or_cases, or_left, or_right, true≢false}

@@ -1,4 +1,5 @@
--- An edit, an undo and a redo keep `StaysQuiet`: one way is pushed onto a stack, and an undo or a redo pops one off the other.
+-- An edit, an undo and a redo keep `StaysQuiet`: each pushes a way onto one of the two stacks, and an undo or a redo pops a
+-- way off the other stack.
 use Rattle.std.proofs.Common.{Bool, List, None, [], ap, arith, eqb, false, inl, inr, length, map, not, refl, subst, sym, true, ℕ, ◌&&◌, ◌+◌, ◌∙◌, ◌∷◌, ◌≡◌, ◌⊎◌}
 use Rattle.std.proofs.lemmas.Bool.{and_from, and_parts, both_ways, cond-false, cond-true, eqb-false, eqb-true, ne_eqb, not_from_false, or_cases, or_left, or_right, true≢false}
 use Rattle.poly_design.specs.Changes.{inverse_of}

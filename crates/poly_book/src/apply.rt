@@ -165,8 +165,8 @@ fn step_of(parts: &Parts, kind: Kind, change: &Change) -> Result<Step, Refusal>
     })
 }
 
-// Adds the guards to the log and exchanges the listed tilings. If it is refused, both stay as they were. A change that
-// lists no tilings again is never refused for the catalogue's limit.
+// Adds the guards to the log and exchanges the listed tilings. If it is refused, both stay as they were. A change without
+// tilings to list again is never refused for the catalogue's limit.
 fn enter(
     log: &mut GuardLog,
     listed: &mut Catalogue,

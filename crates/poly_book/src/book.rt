@@ -48,8 +48,8 @@ impl Model for Book {
 impl Book {
     /// Always returns true: its contract states what holds of every book. The tilings are shared out between the list and
     /// the pending tasks, the steps lead to the design, each kept shelf is right, and the numbers of the pending tasks rise.
-    /// Undoing a change that found nothing pending leaves nothing pending if each undo and redo since had a kept shelf; so
-    /// does redoing a change whose undo found nothing pending.
+    /// Undoing a change that found nothing pending, or redoing a change whose undo found nothing pending, leaves nothing
+    /// pending if a shelf was kept for each undo and redo since.
     pub fn whole(&self) -> bool
         ensures whole { Whole self.now }
         ensures yes { result ≡ true }

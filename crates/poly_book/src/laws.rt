@@ -134,7 +134,7 @@ pub fn still_holds(
     run(alloc, book, events)
 }
 
-/// `Whole` holds of the opening state of a design, with a view that shows the design.
+/// `Whole` holds of the opening state of a design, with a well-named view that shows the design.
 pub fn openings_are_whole()
     ensures { OpeningsAreWhole }
 {}
@@ -159,17 +159,17 @@ pub fn reports_keep_holding()
     ensures { ReportsKeepHolding }
 {}
 
-/// Undoing a change that found nothing pending leaves nothing pending, if each undo and redo since had a kept shelf.
+/// Undoing a change that found nothing pending leaves nothing pending, if a shelf was kept for each undo and redo since.
 pub fn quiet_undo()
     ensures { QuietUndo }
 {}
 
-/// Redoing a change whose undo found nothing pending leaves nothing pending, if each undo and redo since had a kept shelf.
+/// Redoing a change whose undo found nothing pending leaves nothing pending, if a shelf was kept for each undo and redo since.
 pub fn quiet_redo()
     ensures { QuietRedo }
 {}
 
-/// Each change that finds nothing pending has its shelf kept.
+/// If a change finds nothing pending, a shelf is kept for its undo or redo.
 pub fn quiet_shelves_are_kept()
     ensures { QuietShelvesAreKept }
 {}

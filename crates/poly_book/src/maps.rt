@@ -34,12 +34,12 @@ pub(crate) struct Maps {
     pub at_most: BTreeMap<u32, Row>,
 }
 
-/// The first guards of an edition, each of them noted for all tasks of a span.
+/// The first guards of a change, each of them noted for all tasks of a span.
 #[derive(Clone, Copy, Debug)]
 pub(crate) struct Prefix {
-    /// The edition whose guards these are.
+    /// The edition before the change.
     edition: u64,
-    /// How many of its guards are noted.
+    /// How many of the change's guards are noted.
     count: usize,
     /// The tasks for which each of them is noted.
     span: Span,
@@ -57,7 +57,7 @@ impl Maps {
         }
     }
 
-    /// Notes each task under its own atoms. Stairs of one edition share what is noted for the edition's guards. Fails only
+    /// Notes each task under its own atoms. Stairs of one change share what is noted for the change's guards. Fails only
     /// when out of memory. What was noted before stays noted in any case.
     pub(crate) fn note_all(&mut self, log: &GuardLog, tasks: &[Pending]) -> Result<(), Refusal>
         requires { AreTasks log.now tasks.now }

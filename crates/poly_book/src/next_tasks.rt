@@ -43,8 +43,7 @@ pub(crate) struct NextTasks {
 }
 
 /// What the change that leads to the view does to the tasks. `laid` are the guards of the change, and `stood` is the shelf
-/// that the change opens again, if there is one. Refused with `Spent` if a task number would pass its last value, or with
-/// `Memory`.
+/// that was kept for it, if there is one. Refused with `Spent` if a task number would pass its last value, or with `Memory`.
 pub(crate) fn next_tasks(
     parts: &Parts,
     view: &View,

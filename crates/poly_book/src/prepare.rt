@@ -142,7 +142,7 @@ fn plan_of_change(
     }
 }
 
-// Gathers what the change to the view adds and stores, and its effect on the tasks.
+// Gathers what the change that leads to the view adds and stores, and its effect on the tasks.
 fn gather(
     parts: &Parts,
     kind: Kind,
@@ -254,7 +254,7 @@ fn returning(alloc: Global, stood: Option<&Shelf>) -> Result<Vec<Tiling>, Refusa
     }
 }
 
-// The shelf that the change opens again, if one was kept.
+// The shelf that was kept for the undo or redo. `None` for an edit, or if no shelf was kept.
 fn shelf_ahead(history: &History<Change, Kept>, kind: Kind) -> Option<&Shelf>
     ensures { stored_of (option_copied result) ≡ stood_by kind history.now }
 {
@@ -277,7 +277,7 @@ fn shelf_of_step(step: Option<&Beside<Change, Kept>>) -> Option<&Shelf>
     }
 }
 
-/// Whether the change is an edit, or an undo or redo with a kept shelf.
+/// Whether the change is an edit, or an undo or redo for which a shelf was kept.
 pub(crate) fn is_shelved(history: &History<Change, Kept>, kind: Kind) -> bool
     ensures { result ≡ shelved_by kind history.now }
 {

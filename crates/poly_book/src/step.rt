@@ -22,7 +22,7 @@ pub struct Step {
     pub change: Change,
     /// The number of tasks that were pending before the change.
     pub pending: u64,
-    /// Whether the change is an edit, or an undo or redo with a kept shelf.
+    /// Whether the change is an edit, or an undo or redo for which a shelf was kept.
     pub shelved: bool,
 }
 

@@ -1,5 +1,5 @@
--- Two lists of numbers without repeats, `N` and `T`: `T` has all numbers of `N` exactly if as many numbers of `T` are in `N`
--- as `N` has.
+-- Two lists of numbers without repeats, `N` and `T`: `T` has all numbers of `N` exactly if the count of the numbers of `T`
+-- that are in `N` is the length of `N`.
 use Rattle.std.proofs.Common.{Bool, List, [], arith, eqb, false, inl, inr, length, not, refl, sym, ap, true, ℕ, ◌&&◌, ◌∙◌, ◌∷◌, ◌≡◌, ◌≤◌}
 use Rattle.std.proofs.lemmas.Bool.{cases_Bool, eq-eqb, eqb-true, ne_eqb, true≢false}
 use Rattle.std.specs.List.{list_all}

@@ -78,8 +78,7 @@ module _ {S : Type 0} (Says : S → Option (List ℕ) → List ℕ → S → Typ
       = rw (all, within, before) (take_all most (lines_before old.limit a.done) (omega (arith, a.lines, few))) in
       (a.taken ++ (n.taken ++ n.over), consumes_more first left last a.taken (n.taken ++ n.over) a.consumed n.consumed, (a.out, a.wrote, rw lines (goes_now Says old.limit start s a.done a.out a.goes)))
 
-  -- as many lines as there may be were answered: whatever comes next, the session may answer nothing more and end with a read
-  -- fault
+  -- if at most `count` lines are allowed, the session may answer nothing more and end with a read fault, whatever comes next
   pub limit_served : (e : Event) (n : NextLine e now new left last) → Served count (Err Read) held
   limit_served e n =
       let more = ahead now ++ (n.taken ++ n.over) in

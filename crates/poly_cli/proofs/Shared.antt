@@ -121,8 +121,8 @@ module _ (v : View) where
   same_sets [] tilings = tt
   same_sets (T ∷ all) tilings = (same_placed T (tilings T (inl refl)), same_sets all (λ U here. tilings U (inr here)))
 
--- an answer about tilings as the placements that their numbers name is also one about tilings as their placements in order;
--- the forced placements fit a reply line
+-- an answer about tilings, each given as the placements that its numbers name, is also an answer about the same tilings, each
+-- given as its placements in placement order; the answer's forced placements fit a reply line
 pub answer_is : AnswersGoBySets → ListingsShow → (q : AllTilings) (l : HasAll q) (asked : Asked) (count : ℕ) (forced : List Placement) (options : List (Item × ℕ))
     → IsAnswer q.design (map (names q.view) q.tilings) asked count forced options → IsAnswer q.design (map (placed q.view) q.tilings) asked count forced options × (covered forced ≤ MAX_CELLS)
 answer_is law listings q l asked count forced options answer =

@@ -48,7 +48,7 @@ lines_left v all i T lt is =
     ∙ flat_map-append tiling_text (map (placed v) (take (i + 1) all)) (map (placed v) (drop (i + 1) all)) ∙ ap (λ z. z ++ tail) (lines_more v all i T lt is) in
     (tail ++ end, sym (ap (λ z. z ++ end) parts ∙ append_assoc (lines_to v all i ++ tiling_text (placed v T)) tail end ∙ append_assoc (lines_to v all i) (tiling_text (placed v T)) (tail ++ end)))
 
--- the texts of one more element come after the texts of the first `i`
+-- the text of the element at `i` comes after the texts of the first `i` elements
 pub flat_next : {X : Type 0} (f : X → List ℕ) (xs : List X) (i : ℕ) (d : X) → i < length xs → flat_map f (take (i + 1) xs) ≡ flat_map f (take i xs) ++ f (get_or xs i d)
 flat_next f xs i d lt = ap (flat_map f) (take_more xs i d lt) ∙ flat_map-append f (take i xs) (get_or xs i d ∷ []) ∙ ap (λ z. flat_map f (take i xs) ++ z) (append-nil (f (get_or xs i d)))
 

@@ -42,7 +42,7 @@ Cuts limit true begun piece text rest = EndsLine limit begun piece text
 Cuts limit false begun piece text rest = EndsNone limit begun piece text × (rest ≡ [])
 
 -- the result of a read if `left` bytes may still come: some bytes, which are ahead from then on; the end; or a fault. A
--- fault takes bytes only if no more may come.
+-- fault takes bytes only if `left` is 0, and these bytes are over the limit.
 abbrev pub Reads : Event → ℕ → ℕ → Option (List ℕ) → Option (List ℕ) → List ℕ → Type 0
 Reads Line left now old new rest = Consumes old new rest × (now + length rest ≡ left)
 Reads End left now old new rest = Consumes old new [] × IsAtEnd new × (rest ≡ []) × (now ≡ left)

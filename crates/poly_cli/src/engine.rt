@@ -49,8 +49,8 @@ pub trait Engine {
 
     /// Undoes the last change that can be undone, and returns the edition after that.
     ///
-    /// Fails with `NothingToUndo` if no change can be undone; then with `Spent` if a counter is used up, or with
-    /// `CatalogueFull`, only if the design after the undo has over 1,000,000 tilings. `Memory` may come in place of any
+    /// Fails with `NothingToUndo` if no change can be undone; otherwise with `Spent` if a counter is used up, and with
+    /// `CatalogueFull` only if the design after the undo has over 1,000,000 tilings. `Memory` may come in place of any
     /// answer. A refused undo leaves the engine as it was.
     fn undo(&mut self) -> Result<u64, Refusal>
         requires ready { ready self.old }
@@ -62,8 +62,8 @@ pub trait Engine {
 
     /// Redoes the change that was undone last, and returns the edition after that.
     ///
-    /// Fails with `NothingToRedo` if no change can be redone; then with `Spent` if a counter is used up, or with
-    /// `CatalogueFull`, only if the design after the redo has over 1,000,000 tilings. `Memory` may come in place of any
+    /// Fails with `NothingToRedo` if no change can be redone; otherwise with `Spent` if a counter is used up, and with
+    /// `CatalogueFull` only if the design after the redo has over 1,000,000 tilings. `Memory` may come in place of any
     /// answer. A refused redo leaves the engine as it was.
     fn redo(&mut self) -> Result<u64, Refusal>
         requires ready { ready self.old }

@@ -185,7 +185,7 @@ fn lost_book_of(solo: &Solo) -> LostBook
     }
 }
 
-// How the crew ended, if a question about any design may fail for that reason. After any other end, for example
+// How the crew ended, if a question may be refused for that reason whatever the design is. After any other end, for example
 // with `CatalogueFull`, returns `Ok`: the book is then settled alone.
 fn stopped_by(end: Result<(), Refusal>) -> Result<(), Refusal>
     ensures { IfErr result (λ e. (d : Layout) → IsUnanswered d e ⊎ (is_unsettled e ≡ true)) }

@@ -16,7 +16,7 @@ use std::sync::Wait;
 use std::sync::ledger::{Blank, Ledger};
 use std::thread::Threads;
 
-/// A book after a crew has worked on it, or after no crew could run; and how the crew ended.
+/// A book on which a crew has worked, or for which no crew could run; and how the crew ended, or why none ran.
 #[derive(Drop)]
 pub(crate) struct Worked {
     /// The book after the work.

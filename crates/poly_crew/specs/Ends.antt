@@ -14,7 +14,8 @@ pub record IsOwner (worker : Worker ℕ Global HandleView LaneRule) : Type 0 whe
   pub owner : (worker_view worker).is_owner ≡ true
   pub no_thief : (worker_view worker).thief ≡ 0
 
--- a thief's pass belongs to this lane, and has nothing but the hints that it took
+-- the pass with which a thief steals is for this lane's deque, and its view is that of a thief: it records no hints but those
+-- that the thief took
 pub record IsThief (deque : DequeId) (pass : Pass ℕ HandleView Global) : Type 0 where
   pub here : IsPassOf deque pass
   pub taken : view pass ≡ handle_of false 0 1 [] (view pass).taken

@@ -55,7 +55,8 @@ impl Scene {
 /// Searches the job with at most `nodes` nodes that aren't Rest. Uses the kept scene if it has the job's edition, or else a
 /// new one, which is then kept. Fails only when out of memory.
 ///
-/// A kept scene with the job's edition can be used, since the bench promises the same of its view as of the job's.
+/// A kept scene with the job's edition can be used: the bench promised of its view, too, that the design may have it at that
+/// edition, and requires no more of the view of a search.
 pub(crate) fn explore_job<B: Bench>(
     alloc: Global,
     kept: &mut Option<Scene>,

@@ -27,7 +27,7 @@ leasts_one f i (Lacks p) s h = absurd (cc)
 leasts_one f i (AtLeast j n) s h = subst (λ k. f k ≡ true) (same_item_is j i s) h
 leasts_one f i (AtMost j n) s h = absurd (cc)
 
--- if no item of the view is due, and no item that an atom asks for, then no item is due
+-- if neither an item of the view nor an item that an atom asks for is due, no item is due
 pub none_due : (v : View) (A : List Atom) (T : List ℕ) →
     list_all (λ b. not (nat_lt (count v T b.item) (least_at v A b.item))) v.bounds ≡ true →
     list_all (of_asked (λ i. not (nat_lt (count v T i) (least_at v A i)))) A ≡ true →

@@ -33,7 +33,8 @@ all_bounds : (bs : List Bound) (f : Bound → Bool) → ((b : ℕ) → b < lengt
 all_bounds [] f h = refl
 all_bounds (x ∷ bs) f h = and_from _ _ (h zero (omega arith)) (all_bounds bs f (λ b l. h (suc b) (omega arith)))
 
--- if no item of the view is due, and no item outside the view that an atom asks for, then no item that an atom asks for is due
+-- if no item of the view is due, and none of the items outside the view that an atom asks for is due, then no item that an
+-- atom asks for is due
 none_elsewhere : (v : View) (A : List Atom) (T : List ℕ) (X : List Atom) → ((b : ℕ) → b < length v.bounds → nat_lt (count v T (item_of v b)) (least_at v A (item_of v b)) ≡ false) →
     list_all (of_asked (λ i. list_any (λ b. same_item b.item i) v.bounds || not (nat_lt (count v T i) (least_at v A i)))) X ≡ true → list_all (of_asked (λ i. not (nat_lt (count v T i) (least_at v A i)))) X ≡ true
 none_elsewhere v A T [] n h = refl
@@ -56,7 +57,7 @@ none_asked v A T e h n i =
     let h2 = subst (λ (xs : List ℕ). list_all (of_asked (λ i. list_any (λ b. same_item b.item i) v.bounds || not (nat_lt (count v xs i) (least_at v A i)))) A ≡ true) e h in
     none_due v A (base v A) (all_bounds v.bounds (λ b. not (nat_lt (count v (base v A) b.item) (least_at v A b.item))) (λ b l. not_from_false _ (n b l))) (none_elsewhere v A (base v A) A n h2) i
 
--- `next_due` may look only at the items of the view, if no other item is due when none of these is
+-- `next_due` need only look at the items of the view, if no other item is due when none of these is
 pub all_due : (v : View) (A : List Atom) (o : Option Item) → MatchOption o ((b : ℕ) → b < length v.bounds → nat_lt (count v (base v A) (item_of v b)) (least_at v A (item_of v b)) ≡ false) (λ i. nat_lt (count v (base v A) i) (least_at v A i) ≡ true) →
     (((b : ℕ) → b < length v.bounds → nat_lt (count v (base v A) (item_of v b)) (least_at v A (item_of v b)) ≡ false) → (i : Item) → nat_lt (count v (base v A) i) (least_at v A i) ≡ false) →
     MatchOption o ((i : Item) → nat_lt (count v (base v A) i) (least_at v A i) ≡ false) (λ i. nat_lt (count v (base v A) i) (least_at v A i) ≡ true)

@@ -120,7 +120,8 @@ pick_at false false false true f g = refl
 pick_at false false false false true g = refl
 pick_at false false false false false g = refl
 
--- taking p, which is not in the base, closes p, what is in conflict with p, and what has an item that p fills
+-- of the placements other than p, taking p, which is not in the base, closes those that are in conflict with p or have an item
+-- that p fills
 pub open_pick : (v : View) (A : List Atom) (p q : ℕ) → mem (base v A) p ≡ false → eqb p q ≡ false →
     open_in v (A ++ Has p ∷ []) q ≡ (open_in v A q && (not (conflicts v q p) && not (list_any (λ i. has_item v p i && leb (most_at v A i) (others v (base v A) q i + 1)) (items v q))))
 open_pick v A p q m n =

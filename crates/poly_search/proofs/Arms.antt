@@ -15,7 +15,7 @@ use Rattle.poly_frame.proofs.Back.{step_undone}
 use Rattle.poly_search.specs.Sweeps.{Swept, IsLighter, Partly}
 use Rattle.poly_search.proofs.Swept.{partly_swept, partly_lighter, found_swept, item_swept, option_behind, behind_more, behind}
 
--- taking a placement, undoing that step and leaving the placement is the same as only leaving it
+-- taking a placement, undoing that step and then leaving the placement out is the same as only leaving it out
 pub left_is : (w wp wq wb wl : Walk) (p : ℕ) → wp ≡ with_step w (Has p) → wq ≡ wp → wb ≡ step_back wq → wl ≡ with_step wb (Lacks p) → wl ≡ with_step w (Lacks p)
 left_is w wp wq wb wl p ep eq eb el = el ∙ ap (λ x. with_step x (Lacks p)) (eb ∙ ap step_back (eq ∙ ep) ∙ step_undone w (Has p))
 

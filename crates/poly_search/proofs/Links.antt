@@ -76,7 +76,7 @@ more_chain v A d arms p t dis m o links g fits end e =
     more_length [] x = refl
     more_length (y ∷ ys) x = omega (arith, more_length ys x)
 
--- a Rest may end a chain if one of the chain's placements is open and the chain has fewer arms than the depth allows
+-- a Rest may end a chain if one of the chain's placements is open and the number of arms is less than the depth
 pub rest_ends : (v : View) (A : List Atom) (d : ℕ) (ps : List ℕ) (p : ℕ) → In p ps → distinct v.live ≡ true → mem v.live p ≡ true → open_in v A p ≡ true → length ps < d → Ends v A d ps Rests
 rest_ends v A d ps p i dis m o h = record {
   right = refl;

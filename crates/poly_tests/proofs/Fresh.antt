@@ -1,5 +1,5 @@
--- Listed tilings without repeats, followed by those members of a second list without repeats that are not listed yet, have no
--- repeats.
+-- If neither the listed tilings nor a second list has repeats, then the listed tilings, followed by those members of the
+-- second list that are not listed yet, have none either.
 use Rattle.std.proofs.Common.{Bool, List, ap, arith, false, filter, inl, inr, not, refl, subst, true, ℕ, ◌&&◌, ◌++◌, ◌+◌, ◌∙◌, ◌≡◌}
 use Rattle.std.proofs.lemmas.Bool.{cases_eq}
 use Rattle.std.specs.Cmp.Lexicographic.{nat_list_eq_equiv, pointwise}

@@ -113,8 +113,8 @@ fn many_words_that_say_the_same(rt: HostRuntime) {
     assert_eq!(rt; summary_of(&answer), same_for_each(1, 2, 1));
 }
 
-// The summary of the answer over a list of one tiling. It has the number of the first placement and the greatest `u32`, which
-// names nothing.
+// The summary of the answer over a list of one tiling. This tiling has the number of the first placement and the greatest
+// `u32`, which names nothing.
 fn over_a_number_of_nothing(alloc: Global) -> Result<Summary, Refusal> {
     let design = design_of(alloc, DOMINOES, &[])?;
     let view = View::plain(alloc, &design)?;

@@ -229,7 +229,7 @@ fn classes_go_by_pins_and_forbidden_placements(rt: HostRuntime) {
 }
 
 // Two cells in a row, and one-cell pieces A and B. If no cell is required, a reflection exchanges the two cells, and there
-// are four classes: no piece, A alone, B alone, and both. If only the first cell is required, no reflection keeps the design,
+// are four classes: no piece, A alone, B alone, and both. If only the first cell is required, no symmetry exchanges the cells,
 // and each of the four tilings is a class: A or B on that cell, with or without the other piece next to it. If both cells are
 // required, there are two tilings, which the reflection carries to each other.
 #[test]

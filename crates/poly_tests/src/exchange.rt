@@ -18,8 +18,8 @@ use poly_tiling::{Tiling, View};
 use std::alloc::Global;
 use std::test::Fail;
 
-// How many tilings left, how many stayed, how many there are at the end, and whether each refused call left the list as
-// it was.
+// How many tilings went away, how many stayed, how many there are at the end, and whether each refused call left the list
+// as it was.
 #[derive(Debug, Clone, Copy, PartialEq, Eq)]
 struct Outcome {
     left: usize,

@@ -40,7 +40,7 @@ short_number word digits short =
     let most : 10 ^ length word ≤ 10 ^ 9 = pow-le-pow_right (lit< tt) short in
     omega (arith, below, most)
 
--- a number of at most 9 digits fits into 64 bits, so it is read as it is, which is how a coordinate is read
+-- a number of at most 9 digits fits into 64 bits, so `number_of`, cut to 64 bits, gives the same as `coordinate_of`
 pub short_is : (word : List ℕ) → length word ≤ 9 → option_map (λ n. min n (2 ^ 64 - 1)) (number_of word) ≡ coordinate_of word
 short_is word short = go (is_number word) refl
   where

@@ -7,7 +7,7 @@
 //! Each later line:
 //!
 //! - [`asked`]: what it asks for, which is nothing if it has no words; or why it is refused.
-//! - [`Command`]: an edit, an undo, a redo, a question about all tilings, or `status`.
+//! - [`Command`]: an edit, an undo, a redo, a question about the tilings, or `status`.
 //! - [`Question`]: what `browse` asks of a tiling.
 //!
 //! Replies:

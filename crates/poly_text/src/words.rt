@@ -144,7 +144,7 @@ pub fn cell_of(word: &[u8]) -> Result<Cell, Refusal>
 /// so further cells need not be kept.
 pub const ROOM: usize = 17;
 
-/// Writes the cells that the words name to `room`, as many as fit, and returns how many it wrote. The words whose cells don't
+/// Writes to `room` the cells that the words name, as many as fit, and returns how many it wrote. The words whose cells don't
 /// fit are still checked: fails as `cell_of` does on the leftmost word that names no cell.
 pub fn cells_of(words: &[&[u8]], room: &mut [Cell]) -> Result<usize, Refusal>
     ensures read { IfOk result (λ n. (cells : List Spot) × (cells_of (map (λ w. w.now) words.now) ≡ Ok cells) × (take n room.new ≡ take (length room.old) cells)) }

@@ -99,7 +99,8 @@ differ_less (suc i) (x ∷ xs) (y ∷ ys) l before =
 leading_less : (base : ℕ) (xs ys : List ℕ) (n : ℕ) → 0 < base → AreDigits base xs → AreDigits base ys → leading base xs n < leading base ys n → slice_cmp nat_cmp xs ys ≡ Less
 leading_less base xs ys n p xd yd l = let d = differ base xs ys n p xd yd l in differ_less d.position xs ys d.lower d.before
 
--- two lists compare as before if their leading digits are compared first
+-- comparing the leading digits of two lists first, and the lists themselves only if these digits are the same, has the same
+-- result as comparing the lists
 pub leading_agrees : (base : ℕ) (xs ys : List ℕ) (n : ℕ) → 0 < base → AreDigits base xs → AreDigits base ys → ordering_then (nat_cmp (leading base xs n) (leading base ys n)) (slice_cmp nat_cmp xs ys) ≡ slice_cmp nat_cmp xs ys
 leading_agrees base xs ys n p xd yd = elim (cases_lt (leading base xs n) (leading base ys n)) [
   | inl k ↦ ap (λ o. ordering_then o (slice_cmp nat_cmp xs ys)) (nat_less (leading base xs n) (leading base ys n) k) ∙ sym (leading_less base xs ys n p xd yd k)

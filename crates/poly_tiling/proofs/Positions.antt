@@ -199,7 +199,7 @@ one_option : {Y : Type 0} (ys : List Y) (o : Option Y) → ys ++ cons_option o [
 one_option ys None = refl
 one_option ys (Some y) = refl
 
--- the next element adds its value by f, if it has one
+-- taking one more element adds what f gives for this element, if f gives anything
 pub positions_more : {X Y : Type 0} (f : X → Option Y) (xs : List X) (i : ℕ) (d : X) → i < length xs → filter_map f (take (i + 1) xs) ≡ filter_map f (take i xs) ++ option_to_list (f (get_or xs i d))
 positions_more f xs i d l = rw (take_more xs i d l, filter_map-append f (take i xs) (get_or xs i d ∷ [])) (one_option (filter_map f (take i xs)) (f (get_or xs i d)))
 

@@ -94,8 +94,8 @@ impl<C: Drop, K: Drop> History<C, K> {
         self.redo.last()
     }
 
-    /// Moves the step that would be undone next to the steps to redo, where it is redone next. Keeps `kept` with this step,
-    /// and returns what was kept with it before. Requires a step to undo.
+    /// Removes the last of the steps to undo and adds it as the last of the steps to redo, so it is redone next. Keeps `kept`
+    /// with this step, and returns what was kept with it before. Requires a step to undo.
     pub fn back(&mut self, kept: Option<K>) -> Option<K>
         requires { 0 < length self.old.undo }
         ensures { Moves self.old.undo self.old.redo self.new.undo self.new.redo kept result }
@@ -106,8 +106,8 @@ impl<C: Drop, K: Drop> History<C, K> {
         stood
     }
 
-    /// Moves the step that would be redone next to the steps to undo, where it is undone next. Keeps `kept` with this step,
-    /// and returns what was kept with it before. Requires a step to redo.
+    /// Removes the last of the steps to redo and adds it as the last of the steps to undo, so it is undone next. Keeps `kept`
+    /// with this step, and returns what was kept with it before. Requires a step to redo.
     pub fn forward(&mut self, kept: Option<K>) -> Option<K>
         requires { 0 < length self.old.redo }
         ensures { Moves self.old.redo self.old.undo self.new.redo self.new.undo kept result }

@@ -20,7 +20,7 @@ pub(crate) struct Table {
     /// For each item: once a member that has it is added, and at least this many members have it, all other placements that
     /// have it are closed. 0 for a cell, since the first member that has the cell closes them.
     pub(crate) limits: Vec<u8>,
-    /// For each item, how many members with it the design and the atoms ask for.
+    /// For each item, how many members with the item are asked for by the design and the atoms.
     pub(crate) leasts: Vec<u8>,
     /// Whether the atoms ask only for items of the view.
     pub(crate) listed: bool,

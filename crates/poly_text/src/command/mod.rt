@@ -28,7 +28,7 @@ pub enum Command {
     Edit(Edit),
     /// `undo`: undoes the last change that can be undone.
     Undo,
-    /// `redo`: redoes the change that was undone last.
+    /// `redo`: of the changes that can be redone, redoes the one that was undone last.
     Redo,
     /// `count`: asks how many tilings the design has.
     Count,

@@ -101,7 +101,7 @@ pub fn cells_of_rows(alloc: Global, rows: &[Value]) -> Result<BTreeMap<Cell, Mod
     Ok(cells)
 }
 
-// Adds the cells of row `y` that are not blocked. All cells that the map has before are in rows above `y`.
+// Adds the cells of row `y` that are not blocked. Each cell that is already in the map is in an earlier row.
 fn put_row(cells: &mut BTreeMap<Cell, Mode>, y: u64, row: &[u8]) -> Result<(), Refusal>
     requires few { (y < SIDE) × (length row.now ≤ SIDE) }
     requires after { AreBefore (SIDE * y) cells.old.entries }
@@ -115,7 +115,7 @@ fn put_row(cells: &mut BTreeMap<Cell, Mode>, y: u64, row: &[u8]) -> Result<(), R
     Ok(())
 }
 
-// Adds the cell, unless it is blocked. All cells that the map has already come before this cell, by row, then by column.
+// Adds the cell, unless it is blocked. Each cell that is already in the map is before this cell, by row, then by column.
 fn put_cell(cells: &mut BTreeMap<Cell, Mode>, cell: Cell, mode: Option<Mode>) -> Result<(), Refusal>
     requires fits { cell.x < SIDE }
     requires after { AreBefore (SIDE * cell.y + cell.x) cells.old.entries }
