@@ -1,4 +1,4 @@
--- Assigning new numbers changes nothing that atoms say.
+-- Giving numbers to more placements changes nothing that atoms say.
 use Rattle.std.proofs.Common.{Bool, List, [], ap, eqb, false, inl, inr, length, map, not, refl, slice_get, sym, true, ℕ, ◌&&◌, ◌++◌, ◌<◌, ◌||◌, ◌∙◌, ◌∷◌, ◌≡◌}
 use Rattle.std.proofs.lemmas.Bool.{cases_Bool, ltb-true, not_from_false, or_left, true≢false}
 use Rattle.std.specs.List.{filter, list_all, list_any}

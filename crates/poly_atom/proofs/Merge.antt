@@ -212,7 +212,7 @@ missing_past : (v : View) (x : ℕ) (xs ys : List ℕ) → ((q : ℕ) → In q x
 missing_past v x xs [] up = refl
 missing_past v x xs (y ∷ ys) up = missing_past_at v x xs y ys up (eqb y x) refl
 
--- once number x of the first list is passed, skipping x in the second list changes nothing
+-- once the walk is beyond number x of the first list, skipping x at the front of the second list changes nothing
 pub missing_on : (v : View) (xs : List ℕ) (i x : ℕ) (ys : List ℕ) → in_order v xs ≡ true → i < length xs → x ≡ get_or xs i x →
     walk (below v) (λ p q. eqb p q) is_missing (λ p. p) (drop (i + 1) xs) (past (λ y. eqb y x) ys) ≡ walk (below v) (λ p q. eqb p q) is_missing (λ p. p) (drop (i + 1) xs) ys
 missing_on v xs i x ys up l is =

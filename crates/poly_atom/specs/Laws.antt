@@ -35,7 +35,7 @@ StairsWereHopeless = (old new : View) → list_all (λ A. hopeless old A) (stair
 abbrev pub HopelessStays : Type 0
 HopelessStays = (v w : View) (A B : List Atom) → Grown v w → hopeless v A ≡ true → hopeless w (A ++ B) ≡ true
 
--- A change to the same design has no guards.
+-- A change that leaves the design as it was has no guards.
 abbrev pub SameHasNoGuards : Type 0
 SameHasNoGuards = (v w : View) → Grown v w → guards v w ≡ []
 

@@ -28,7 +28,7 @@ abbrev pub NewlyHopelessIsTouched : Type 0
 NewlyHopelessIsTouched = (v w : View) (x : Delta) (y : Change) (A : List Atom) → (c : IsChangeOf v w x) → c.after ≡ changed c.before y → hopeless v A ≡ false → hopeless w A ≡ true →
     list_any (touched w x (item_of y)) A ≡ true
 
--- the placement may join the base: it is in the design and not in the base, no atom rules it out, it is in conflict with no
+-- the placement may join the base: it is in the design and not in the base, no atom lacks it, it is in conflict with no
 -- member of the base, and the base has room for one more placement of its piece
 pub record IsOpenFor (v : View) (A : List Atom) (p : ℕ) : Type 0 where
   pub live : mem v.live p ≡ true

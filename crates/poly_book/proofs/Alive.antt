@@ -1,4 +1,4 @@
--- If no pending task is hopeless by its own atoms, none is after an event.
+-- If no pending task is hopeless by its own atoms before an event, the same is true after it.
 use Rattle.std.proofs.Common.{Bool, List, None, Option, Some, [], map, refl, true, ℕ, ◌++◌, ◌+◌, ◌∙◌, ◌∷◌, ◌≡◌}
 use Rattle.std.proofs.lemmas.Bool.{and_from, and_parts, cond_both}
 use Rattle.std.specs.List.{filter, list_all}

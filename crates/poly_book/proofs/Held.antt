@@ -1,4 +1,4 @@
--- The tasks of the fields, as tasks of the definitions.
+-- The pending tasks that a book's fields store, read as tasks of the definitions.
 use Rattle.std.proofs.Common.{Bool, Global, List, Vec, [], ap, append_assoc, arith, cond, drop, false, get_or, length, map, not, refl, subst, suc, sym, take, true, zero, ℕ, ◌++◌, ◌+◌, ◌<◌, ◌∙◌, ◌∷◌, ◌≡◌, ◌≤◌}
 use Rattle.std.proofs.lemmas.Bool.{cond_both, not-true}
 use Rattle.std.proofs.lemmas.List.{append-nil, drop_all, drop_more, get_or_push, length-append, length_push, take_more}
@@ -30,7 +30,7 @@ flat_none zero (g ∷ gs) h = absurd (omega (arith, h))
 flat_none (suc n) [] h = refl
 flat_none (suc n) (g ∷ gs) h = flat_none n gs (omega (arith, h))
 
--- after one more change, its guards follow the atoms of each task
+-- one more change puts its guards after those that the log has from an index on
 since_push : (n : ℕ) (log : List (List Atom)) (g : List Atom) → n ≤ length log → flat (drop n (log ++ g ∷ [])) ≡ flat (drop n log) ++ g
 since_push zero log g h = flat_push log g
 since_push (suc n) [] g h = absurd (omega (arith, h))

@@ -42,6 +42,6 @@ led_on : (o : Layout) (old ss : List Step) → led_to (replayed o old).design ss
 led_on o old [] = refl
 led_on o old (x ∷ ss) = ap (λ z. led_to z ss) (sym (traced_design (replayed o old) x.kind x.change)) ∙ led_on o (x ∷ old) ss ∙ ap (λ l. (replayed o l).design) (sym (put_on x ss old))
 
--- the steps lead where their replay does
+-- the steps, the oldest first, lead to the design that their replay gives
 pub led_replay : (o : Layout) (ss : List Step) → led_to o (reverse ss) ≡ (replayed o ss).design
 led_replay o ss = led_on o [] (reverse ss) ∙ ap (λ l. (replayed o l).design) (append-nil (reverse (reverse ss)) ∙ reverse-reverse ss)

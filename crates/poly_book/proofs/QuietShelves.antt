@@ -1,5 +1,6 @@
--- The shelf of a change that finds nothing pending is kept and has frozen nothing. If the own atoms of all pending tasks are
--- hopeless along some ways, so is each list that the shelf of a change freezes.
+-- The shelf of a change that finds nothing pending is kept and has frozen nothing. If `HopelessAlong` holds of some ways, that
+-- of step m among them, and the own atoms of the pending tasks, it also holds of these ways and the lists that the shelf of a
+-- change freezes.
 use Rattle.std.proofs.Common.{List, None, Option, Some, [], ap, arith, eqb, inl, inr, length, map, refl, subst, sym, true, ℕ, ◌*◌, ◌++◌, ◌∙◌, ◌∷◌, ◌≡◌}
 use Rattle.std.proofs.lemmas.Bool.{both_ways, cond_both, eqb-true, le-leb, true≢false}
 use Rattle.std.specs.Prelude.{nat_le}
@@ -49,7 +50,7 @@ pub quiet_opens : (h : Option Stored) (S : List (List Atom)) (A : List Atom) →
 quiet_opens None S A q i = q
 quiet_opens (Some h) S A q i = let r = crossed_in h.frozen S A i in subst (λ F. In r.0 F) q r.1
 
--- if what a kept shelf has frozen is hopeless along the ways, so is what the shelf opens
+-- if each list that a kept shelf has frozen is hopeless along the ways, so is each of the shelf's `openings`
 pub shelf_hopeless : (m : ℕ) (ways : List Led) (h : Option Stored) (S : List (List Atom)) → is_kept h ≡ true → stands m ways ≡ true → HopelessAlong m ways (frozen_in h) → (A : List Atom) → In A (openings h S) → hopeless_along m ways A ≡ true
 shelf_hopeless m ways None S k y d A i = absurd (true≢false (sym k))
 shelf_hopeless m ways (Some h) S k y d A i =

@@ -120,7 +120,7 @@ pick_at false false false true f g = refl
 pick_at false false false false true g = refl
 pick_at false false false false false g = refl
 
--- of the placements other than p, taking p, which is not in the base, closes those that are in conflict with p or have an item
+-- if p is not in the base, taking p closes just those of the other open placements that are in conflict with p or have an item
 -- that p fills
 pub open_pick : (v : View) (A : List Atom) (p q : ℕ) → mem (base v A) p ≡ false → eqb p q ≡ false →
     open_in v (A ++ Has p ∷ []) q ≡ (open_in v A q && (not (conflicts v q p) && not (list_any (λ i. has_item v p i && leb (most_at v A i) (others v (base v A) q i + 1)) (items v q))))
