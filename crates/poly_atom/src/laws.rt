@@ -30,7 +30,7 @@ pub fn hopeless_stays()
     ensures { HopelessStays }
 {}
 
-/// A change to the same design has no guards.
+/// A change that leaves the design as it was has no guards.
 pub fn same_has_no_guards()
     ensures { SameHasNoGuards }
 {}

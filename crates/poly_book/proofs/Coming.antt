@@ -23,8 +23,8 @@ tasks_in n [] u i = absurd i
 tasks_in n (A ∷ As) u (inl e) = inl (ap (λ t. t.own) e)
 tasks_in n (A ∷ As) u (inr i) = inr (tasks_in (n + 1) As u i)
 
--- the own atoms of a task that is pending after a change aren't hopeless then and belonged to a pending task, or the change
--- opens them
+-- if a task is pending after a change, either its own atoms aren't hopeless after the change and were those of a task pending
+-- before it, or the change opens them
 pub came : (s : State) (kd : Kind) (xc : Change) (w : View) (h : Option Stored) (x : Bool) (us rs : List Way) (A : List Atom) → In A (owns (moved s kd xc w h x us rs).pending) →
     (In A (owns s.pending) × (hopeless w A ≡ false)) ⊎ In A (openings h (stairs (guards s.view w)))
 came s kd xc w h x us rs A i =

@@ -24,7 +24,7 @@ use Rattle.poly_book.proofs.Held.{length_of}
 use Rattle.poly_book.proofs.Indices.{at_drop, first_at}
 use Rattle.poly_book.proofs.Taking.{step_cut}
 
--- a tree whose branches and splits name only open placements has no hopeless rest if its list of atoms isn't hopeless
+-- if a list of atoms isn't hopeless, a tree for it whose branches and splits name only open placements has no hopeless rest
 pub rests_hopeful : (v : View) (A : List Atom) (t : Plan) → opened v A t ≡ true → hopeless v A ≡ false → AreHopeful v (rests v A t)
 rests_hopeful v A t o h = subst (λ b. list_all (λ B. cond b (hopeless v B) (not (hopeless v B))) (rests v A t) ≡ true) h (open_paths_add_nothing_hopeless_lem v A t o)
 

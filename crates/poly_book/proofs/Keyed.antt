@@ -1,4 +1,5 @@
--- Rows by their keys, after rows without a span are dropped.
+-- Rows keep what is noted for the pending tasks if only the spans without a pending task's number and then the rows without
+-- a span are dropped.
 use Rattle.std.proofs.Common.{Bool, List, [], ap, cond, false, inl, inr, refl, subst, sym, true, ℕ, ◌∙◌, ◌∷◌, ◌≡◌}
 use Rattle.std.proofs.lemmas.Bool.{cases_Bool, true≢false}
 use Rattle.std.proofs.lemmas.Map.Entries.{lookup_head, lookup_tail}

@@ -75,7 +75,7 @@ all_fewer f k j xs l h =
     (and_parts (list_all f (take k xs)) (list_all f (take (j - k) (drop k xs)))
     (sym (all_append f (take k xs) (take (j - k) (drop k xs))) ∙ ap (list_all f) (take_join k j xs l) ∙ h)).0
 
--- if k is 0, or the prefix covers the first k guards of the stair's edition and the span, then these guards are noted for each
+-- if k is 0, or the prefix covers the span and the first k guards of the stair's edition, then these guards are noted for each
 -- number in the span
 known_noted : (m : Maps) (log : List (List Atom)) (f : Prefix) (s : Stair) (w : Span) (k n : ℕ) → IsPrefix m log f → (k ≡ 0) ⊎ ((k ≤ f.count) × (f.edition ≡ s.edition) × (f.span.from ≤ w.from) × (w.to ≤ f.span.to)) → in_span w n ≡ true → list_all (λ a. under m a n) (take k (get_or log s.edition [])) ≡ true
 known_noted m log f s w k n p known h = elim known [
@@ -90,8 +90,8 @@ known_noted m log f s w k n p known h = elim known [
       (all_fewer (λ a. under m a n) k f.count (get_or log f.edition []) some.0 (p n (within f.span n (omega (arith, low, first)) (omega (arith, high, last)))))
 ]
 
--- if k is 0, or the prefix covers the first k guards, and the guards from index k up to the stair's index are noted, too, then
--- all guards before the stair's last atom are noted
+-- if the guards from index k to just before the stair's index are noted, and either k is 0 or the prefix covers the first k
+-- guards, then all guards before the stair's last atom are noted
 pub guards_noted : (m m2 : Maps) (log : List (List Atom)) (f : Prefix) (s : Stair) (w : Span) (k : ℕ) (g : List Atom) → g ≡ get_or log s.edition [] → IsWider m m2 → IsPrefix m log f → k ≤ s.index → (k ≡ 0) ⊎ ((k ≤ f.count) × (f.edition ≡ s.edition) × (f.span.from ≤ w.from) × (w.to ≤ f.span.to)) → ((n : ℕ) → in_span w n ≡ true → list_all (λ a. under m2 a n) (take (s.index - k) (drop k g)) ≡ true) → (n : ℕ) → in_span w n ≡ true → list_all (λ a. under m2 a n) (take s.index (get_or log s.edition [])) ≡ true
 guards_noted m m2 log f s w k g is wider p low known rest n h =
     let all = get_or log s.edition [] in

@@ -1,6 +1,6 @@
--- The shelf of a change that finds nothing pending is kept and has frozen nothing. If `HopelessAlong` holds of some ways, that
--- of step m among them, and the own atoms of the pending tasks, it also holds of these ways and the lists that the shelf of a
--- change freezes.
+-- The shelf of a change that finds nothing pending is kept and has frozen nothing. Suppose that the way of step m is among
+-- some ways, and that `HopelessAlong` holds of these ways and the own atoms of the pending tasks. Then it also holds of these
+-- ways and the lists that the shelf of a change freezes.
 use Rattle.std.proofs.Common.{List, None, Option, Some, [], ap, arith, eqb, inl, inr, length, map, refl, subst, sym, true, ℕ, ◌*◌, ◌++◌, ◌∙◌, ◌∷◌, ◌≡◌}
 use Rattle.std.proofs.lemmas.Bool.{both_ways, cond_both, eqb-true, le-leb, true≢false}
 use Rattle.std.specs.Prelude.{nat_le}

@@ -62,7 +62,7 @@ module _ (s : State) (h : Steps Change Kept) (x : Change) (w : View) (eb : s.bac
   over : (k : Kind) → IsTop k h x → 4294967296 < s.next + length (hopeful w (openings (stood_by k h) (stairs (guards s.view w)))) → 4294967296 < (step s (event_of k x w)).next
   over k t o = omega (arith, o, next_after k s h x w eb ef t)
 
-  -- what isn't prepared isn't made
+  -- if the change isn't prepared, it isn't made
   pub gather_not_made : HasWidth s.design (changed s.design x) (length (guards s.view w)) × HasWidth (changed s.design x) s.design (length (guards w s.view)) → (n : ℕ) → n ≡ length s.steps → (k : Kind) → IsTop k h x → (e : Refusal) → IsNotGathered s.view w k n s.next (stood_by k h) e → IsNotMade k x s e
   gather_not_made g n b kind.Edit t e (inl r) = inl (r.0, (is_wide g.0 g.1 r.2, (w, l, r.2)))
   gather_not_made g n b kind.Edit t e (inr (inl (is, inl m))) = inr (inl (is, inl (omega (arith, m, b))))

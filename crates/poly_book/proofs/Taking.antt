@@ -1,4 +1,4 @@
--- What the fields after a report show.
+-- What the code does to the fields for a report is what the report's event does to the state that they show.
 use Rattle.std.proofs.Common.{Bool, List, Some, [], ap, arith, cond, drop, get_or, length, subst, suc, sym, take, true, ℕ, ◌&&◌, ◌++◌, ◌+◌, ◌∙◌, ◌∷◌, ◌<◌, ◌≡◌, ◌≤◌}
 use Rattle.std.proofs.lemmas.Bool.{and_from}
 use Rattle.std.proofs.lemmas.List.{length-append, length_push}

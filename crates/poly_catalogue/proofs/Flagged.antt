@@ -15,7 +15,7 @@ use Rattle.poly_catalogue.specs.Listed.{Keeps}
 use Rattle.poly_catalogue.specs.Stays.{fits}
 use Rattle.poly_catalogue.proofs.Counted.{keeps_as}
 
--- after one more flag
+-- if the flags of all numbers below `n` are right, so are those of all numbers below `n + 1` once the flag of `n` is set
 pub flags_step : (w : View) (i : Item) (old new : List Bool) (n : ℕ) (b : Bool) → n < length old → new ≡ set old n b → b ≡ has_item w n i → ((p : ℕ) → p < n → get_or old p false ≡ has_item w p i) → (p : ℕ) → p < n + 1 → get_or new p false ≡ has_item w p i
 flags_step w i old new n b low is says h p l = elim (cases_eq p n) [
   | inl e ↦ ap (λ z. get_or z p false) is ∙ ap (λ z. get_or (set old n b) z false) e ∙ get_or-set_same old n b false low ∙ says ∙ ap (λ z. has_item w z i) (sym e)
@@ -27,7 +27,7 @@ below_more xs n m l h = all_from (λ p. nat_lt p m) xs (λ p i.
     let low = ltb-true p n (all_in (λ q. nat_lt q n) xs h p i) in
     lt-ltb p m (omega arith))
 
--- after one more number
+-- if the first numbers of a list are below `n`, and `m` is at least `n` and above the next number, all of these are below `m`
 pub below_next : (xs : List ℕ) (i n m : ℕ) → i < length xs → n ≤ m → get_or xs i 0 < m → list_all (λ p. nat_lt p n) (take i xs) ≡ true → list_all (λ p. nat_lt p m) (take (i + 1) xs) ≡ true
 below_next xs i n m l more low h =
     ap (λ z. list_all (λ p. nat_lt p m) z) (take_more xs i 0 l) ∙ all_append (λ p. nat_lt p m) (take i xs) (get_or xs i 0 ∷ [])

@@ -125,7 +125,7 @@ pub last_renamed : (ts bs rs : List (List ℕ)) (n t : ℕ) → n + 1 ≡ length
 last_renamed ts bs rs n t e l even g = respects (moved (at ts) n t) (moved (at bs) n t) (at rs) (at (swap_remove ts t [])) (at (swap_remove bs t [])) (at rs) g
     (λ a b. swapped_at ts t [] n e l a b) (λ a b p h. swapped_at bs t [] n (omega arith) l a b) (λ a b. refl)
 
--- counts after a tiling was removed
+-- a count is a sum; with this, the removal of a tiling lowers a count by one if the tiling passes, and else by nothing
 tally_sum : {X : Type 0} (f : X → Bool) (xs : List X) → tally f xs ≡ sum_by (λ x. one (f x)) xs
 tally_sum f [] = refl
 tally_sum f (x ∷ xs) = ap (λ n. one (f x) + n) (tally_sum f xs) ∙ sym (sum_by-cons (λ x. one (f x)) x xs)

@@ -46,7 +46,7 @@ row_width w n cs t whole l =
 pub cell_is : (w n : ℕ) (cs : List ℕ) (t k : ℕ) → t < n → k < w → at (rows_of w n cs) t k ≡ slice_get cs (t * w + k)
 cell_is w n cs t k l m = ap (λ r. slice_get r k) (row_is w n cs t l) ∙ get_take (drop (t * w) cs) w k m ∙ get_on (t * w) k cs
 
--- a position of the rows is below the width, in a row below the count
+-- if row `t` of the table has an element at index `k`, then `t` is below the count of rows and `k` is below the width
 pub cell_low : (w n : ℕ) (cs : List ℕ) (t k : ℕ) → length cs ≡ n * w → (t < length (rows_of w n cs)) × (k < length (row (rows_of w n cs) t)) → (t < n) × (k < w)
 cell_low w n cs t k whole low =
     let l : t < n = omega (arith, low.0, length_rows w n cs) in
@@ -124,7 +124,7 @@ take_rows w (suc m) (suc n) cs l =
     ∙ ap (λ xs. take w cs ∷ rows_of w m xs) (drop-take w (m * w) cs)
     ∙ ap (λ rs. take w cs ∷ rs) (take_rows w m n (drop w cs) (omega arith))
 
--- wider rows
+-- if all rows are made wider, each number stays at its position, and there are as many rows as before
 get_front : {X : Type 0} (xs ys : List X) (k : ℕ) (x : X) → slice_get xs k ≡ Some x → slice_get (xs ++ ys) k ≡ Some x
 get_front [] ys k x e = absurd cc
 get_front (y ∷ xs) ys zero x e = e

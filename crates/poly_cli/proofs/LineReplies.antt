@@ -45,7 +45,7 @@ module _ (Failures : Refusal → Type 0) (s : State) (g : Grid) (same_grid : g �
       go (word ∷ words) a (inr (inl m)) = inr m
       go (word ∷ words) a (inr (inr f)) = replied (word ∷ words) a (inr f)
 
-  -- if a line that has words is refused, or memory runs out, the refusal is a reply to the line's words
+  -- if a line has words, and it is refused or memory runs out, the refusal is a reply to the line's words
   pub refusal_says : (line : List ℕ) (e : Refusal) → (words_of line ≡ [] → ◌≡◌ {A = Result (Option Command) Refusal} (Err e) (Ok None)) → (e ≡ Memory) ⊎ Asks g line (Err e) → WordsSay Failures (words_of line) s (refusal_text e) s
   refusal_says line e blank a = go (words_of line) blank a
     where

@@ -77,7 +77,7 @@ takes_front port v xs items views live kept at =
 pub steals : (port : ℕ) (v : HandleView) (most : ℕ) → (v.is_owner ≡ false → v.thief ≢ 0) → Takes IsKept port v most (λ xs w. w ≡ handle_of v.is_owner v.out v.thief v.pushed (v.taken ++ xs))
 steals port v most live xs items views some_left few kept at = (handle_of v.is_owner v.out v.thief v.pushed (v.taken ++ xs), takes_front port v xs items views live kept at, refl)
 
--- one view has taken at most as many hints as have left the lane
+-- no view has taken more hints than have left the lane
 behind : (port : ℕ) (v : HandleView) (items : List ℕ) (views : List HandleView) (kept : IsKept items views) → get_elem? views port ≡ some v → length v.taken ≤ length kept.gone
 behind port v items views kept at =
     let has = total_has (λ u. weigh (λ _. 1) u.taken) views port v at in

@@ -57,7 +57,7 @@ cut_shows posts s t task x m n a b e p = record {
   endings = omega (arith, b, ap length p.endings, length_push s.endings (Cut task));
 }
 
--- after a change the edition is above the opening one, so the book may have any view
+-- after a change the edition is above the one with which the desk began, so `IsViewAt` asks nothing of the book's view
 pub change_views : (ss : List Step) (v : View) (o : Layout) (k : ℕ) (s t : State) (d : Done) (changes cuts : ℕ) → Counts o ss k s changes cuts → OneChange s t d → IsViewAt ss v (length t.steps) t.view
 change_views ss v o k s t d changes cuts c p = λ e. absurd (omega (arith, e, ap length p.last, c.changes_are))
 

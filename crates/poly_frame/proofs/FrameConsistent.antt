@@ -233,8 +233,8 @@ two_have f xs p q i j h k n = omega (arith, tally_fewer f xs p i h, some_have (�
     some_have g (x ∷ ys) y (inl e) h = omega (arith, ap one (ap g e ∙ h))
     some_have g (x ∷ ys) y (inr i) h = omega (arith, some_have g ys y i h)
 
--- if no item has more members of the base than it may, and the members are placements of the design that no atom lacks, the
--- base is consistent
+-- if at most as many members of the base have each item of the view as may have it, and at most one if it is a cell, and if
+-- the members are placements of the design that no atom lacks, the base is consistent
 module _ (v : View) (A : List Atom) (us hs : List ℕ) (well : WellNamed v) (mosts : MostsShow v A us) (have : HaveShows v (base v A) hs) (fit : AllFit v.bounds us hs) where
   fit_item : (q : ℕ) → In q v.live → (i : Item) → In i (items v q) → (count v (base v A) i ≤ most_at v A i) × (is_piece i ≡ false → count v (base v A) i ≤ 1)
   fit_item q l i k =
@@ -272,7 +272,7 @@ consistent_one v A s = record {
   levels = λ k h. ap (λ (B : List Atom). is_consistent v B) (take_all (length A + k) A (omega arith)) ∙ s;
 }
 
--- if all levels are counted so far, a step that keeps the base consistent is counted too
+-- if `consistent` counts all levels so far, the level after a step that keeps the base consistent can be counted too
 pub consistent_more : (v : View) (A : List Atom) (first consistent : ℕ) (a : Atom) → ConsistentShows v A first consistent → length A - first < consistent → first ≤ length A → (is_consistent v A ≡ true → is_consistent v (A ++ a ∷ []) ≡ true) → ConsistentShows v (A ++ a ∷ []) first (consistent + 1)
 consistent_more v A first consistent a S top low keep =
     let more = length-append A (a ∷ []) in

@@ -46,7 +46,7 @@ or_false : (b : Bool) → (b || false) ≡ b
 or_false true = refl
 or_false false = refl
 
--- if the items ascend, the indices of one item that has an index are this index alone
+-- if the items ascend and item `i` is at index `a`, the indices of `i` are `a` alone
 pub noted_one : (bs : List Bound) (i : Item) (a : ℕ) → items_ascend bs ≡ true → (a < length bs) × (same_item (item_at bs a) i ≡ true) → Noted bs (i ∷ []) (a ∷ [])
 noted_one bs i a up w = record {
   few = omega arith;

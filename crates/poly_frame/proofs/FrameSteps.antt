@@ -412,8 +412,8 @@ not_listed ns stands p s n = false_from_ne_true _ (λ m.
     let h = s w.0 w.1 in
     n w.0 w.1 (subst (λ q. q < length stands) w.2 h.0) (ap (λ q. get_or stands q 0) (sym w.2) ∙ h.1) w.2)
 
--- the row at word `at` loses exactly the placements that have an item of one of the indices, if the count of that item has
--- reached its limit
+-- the row at word `at` loses exactly the placements that have an item whose index is in `rs` and whose count has reached its
+-- limit
 abbrev pub Closes : Matrix → Table → List ℕ → List ℕ → ℕ → List ℕ → List ℕ → Type 0
 Closes matrix t hs rs at live1 live2 = (j : ℕ) → j < 64 * matrix.width → has_bit live2 (64 * at + j) ≡ (has_bit live1 (64 * at + j) && not (list_any (λ b. leb (get_or t.limits.items b 0) (get_or hs b 0) && has_bit matrix.rows.items (bit_index matrix.width b j)) rs))
 

@@ -121,7 +121,7 @@ and_spared a b c e = sym (yes (a && not b)) ∙ ap (λ x. (a && not b) && not x)
     yes true = refl
     yes false = refl
 
--- after row n, which is shut, is taken out too, exactly what is in no shut row up to n is left
+-- if all shut rows below n were taken out, and row n is shut and is taken out too, all shut rows up to n are out
 pub shut_more : (f : ℕ → Bool) (old cur new r s : Bool) (n : ℕ) → cur ≡ (old && not (any_below f n)) → new ≡ (cur && not r) → f n ≡ (s && r) → s ≡ true → new ≡ (old && not (any_below f (n + 1)))
 shut_more f old cur new r s n h e g y = e ∙ ap (λ b. b && not r) h ∙ and_more old (any_below f n) r ∙ ap (λ b. old && not (any_below f n || b)) (ap (λ b. b && r) (sym y) ∙ sym g) ∙ ap (λ b. old && not b) (sym (below_more f n))
 
@@ -159,7 +159,7 @@ shut_says v A q us hs T g well live e mosts have says = same_truth _ _
     counts : (b : ℕ) → b < length v.bounds → shut_at (item_of v b) (get_or us b 0) (get_or hs b 0) ≡ is_shut v A (item_of v b)
     counts b h = ap (λ n. shut_at (item_of v b) n (get_or hs b 0)) (mosts b h) ∙ ap (λ n. shut_at (item_of v b) (most_at v A (item_of v b)) n) (have b h ∙ ap (λ xs. count v xs (item_of v b)) e)
 
--- what is left without shut items, lacked numbers and members is what is open
+-- if what has a shut item, then what an atom lacks, and then the members are taken out, what is left is what is open
 pub left_open : (v : View) (A : List Atom) (q : ℕ) (T : List ℕ) (full shut r1 r2 r3 : Bool) → T ≡ base v A → full ≡ true → shut ≡ list_any (is_shut v A) (items v q) → r1 ≡ (full && not shut) → r2 ≡ (r1 && not (list_any (λ a. lacks a q) A)) → r3 ≡ (r2 && not (mem T q)) → r3 ≡ open_in v A q
 left_open v A q T full shut r1 r2 r3 e f s a b c =
     c ∙ ap (λ x. x && not (mem T q)) (b ∙ ap (λ x. x && not (list_any (λ a. lacks a q) A)) (a ∙ ap (λ x. x && not shut) f ∙ ap not s))

@@ -27,8 +27,8 @@ LeastsShow v A leasts = (b : ℕ) → b < length v.bounds → slice_index leasts
 abbrev pub shut_at : Item → ℕ → ℕ → Bool
 shut_at i most have = nat_le most have || (not (is_piece i) && nat_lt 0 have)
 
--- once a member that has the item is added, and at least this many members have it, all other placements that have it are
--- closed
+-- if a member that has the item is added, and at least this many members have the item then, all other placements that have
+-- it are closed
 abbrev pub limit_at : Item → ℕ → ℕ
 limit_at i most = cond (is_piece i) most 0
 

@@ -98,8 +98,8 @@ none_over A n arms h = ap (λ b. cond b ((A ++ map (λ q. Lacks q) (heads (arms_
 pub some_over : (A : List Atom) (n : ℕ) (arms : List Arm) → length arms < n → left_over A n arms ≡ (A ++ map (λ q. Lacks q) (heads (arms_list arms))) ∷ []
 some_over A n arms h = ap (λ b. cond b ((A ++ map (λ q. Lacks q) (heads (arms_list arms))) ∷ []) []) (lt-ltb (length arms) n h)
 
--- leaving out one more placement adds its atom after those left out before; with this, the leaves of a chain are those of its
--- arms, followed by those of its end
+-- if one more placement is left out, its atom comes after the atoms of those that were left out before; with this, the leaves
+-- of a chain are those of its arms, followed by those of its end
 pub behind_next : (A : List Atom) (before : List ℕ) (p : ℕ) → (A ++ map (λ q. Lacks q) before) ++ Lacks p ∷ [] ≡ A ++ map (λ q. Lacks q) (before ++ p ∷ [])
 behind_next A before p = append_assoc A (map (λ q. Lacks q) before) (Lacks p ∷ []) ∙ ap (λ xs. A ++ xs) (sym (map-append (λ q. Lacks q) before (p ∷ [])))
 

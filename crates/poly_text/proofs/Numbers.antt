@@ -40,7 +40,8 @@ short_number word digits short =
     let most : 10 ^ length word ≤ 10 ^ 9 = pow-le-pow_right (lit< tt) short in
     omega (arith, below, most)
 
--- a number of at most 9 digits fits into 64 bits, so `number_of`, cut to 64 bits, gives the same as `coordinate_of`
+-- a number of at most 9 digits fits into 64 bits, so `number_of` gives the same as `coordinate_of`, even if each number over
+-- the greatest of 64 bits is read as that greatest one
 pub short_is : (word : List ℕ) → length word ≤ 9 → option_map (λ n. min n (2 ^ 64 - 1)) (number_of word) ≡ coordinate_of word
 short_is word short = go (is_number word) refl
   where

@@ -25,8 +25,8 @@ decreases-walk_arms l = 4 * l.depth
 abbrev pub decreases-split : goal.decreases-split
 decreases-split l = 4 * l.depth
 
--- the options before `j` were walked: their arms, and what they cost; if there is an option at `j`, the frame leaves those
--- before it out
+-- the options before `j` were walked, and this says what their arms are and what they cost; if there is an option at `j`, the
+-- frame leaves out the options before it
 abbrev pub invariant-walk_arms-loop-j : goal.invariant-walk_arms-loop-j
 invariant-walk_arms-loop-j l = record {
   path : l.j < length l.options → l.frame ≡ record l.fn.frame { atoms = l.fn.frame.atoms ++ map (λ q. Lacks q) (take l.j l.options) };

@@ -23,7 +23,7 @@ decreases-sweep_arm l = 6 * l.depth + 2
 abbrev pub decreases-sweep_below : goal.decreases-sweep_below
 decreases-sweep_below l = 6 * l.depth + 1
 
--- the options before `at` were swept; if there is an option at `at`, the frame leaves those before it out
+-- the options before `at` were swept; if there is an option at `at`, the frame leaves out the options before it
 abbrev pub invariant-sweep_options-loop-at : goal.invariant-sweep_options-loop-at
 invariant-sweep_options-loop-at l = record {
   low : l.from ≤ l.at;
