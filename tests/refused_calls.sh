@@ -1,10 +1,10 @@
 #!/usr/bin/env bash
 # Runs each test below again and again: first with its first allocation refused, then with its second, and so on, until a run
-# ends before the allocation that it would be refused.
+# ends without reaching the allocation that was to be refused.
 #
-# If a call runs out of memory, the tests assert that it changed nothing, except that `settle` of a book keeps the reports that
-# it has applied, and make it a second time. So a run with a refused allocation must pass like a run without one. `rt test`
-# proves and builds the tests, unless the gate has proved them.
+# If a call runs out of memory, the tests assert that it changed nothing, and then make the call a second time. Only `settle`
+# of a book may have changed something: it keeps the reports that it has applied. So a run with a refused allocation must pass
+# like a run without one. `rt test` proves and builds the tests, unless the gate has proved them.
 . "$(dirname "${BASH_SOURCE[0]}")/setup.bash"
 
 # A crate, and the full name of one of its tests.

@@ -1,6 +1,6 @@
 #!/usr/bin/env bash
 # Runs the program again and again: the first run is refused its first allocation, the second its second, and so on, until a
-# run ends before the allocation that it would be refused.
+# run ends without reaching the allocation that was to be refused.
 #
 # One reply may then be `no 22 Memory`, and nothing else may change: the refused command leaves no trace, so all other
 # replies are those of the session without it. Only the numbers of `status` may differ, since a refused question keeps the

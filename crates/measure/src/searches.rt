@@ -1,4 +1,5 @@
-//! What a design's placements, its view, the view's matrix, frames, the leaves of a report and a search for all tilings cost.
+//! What these cost: a design's placements, its view, the view's matrix, frames, the leaves of a report, and a search for all
+//! tilings.
 ghost use Rattle.poly_frame.specs.Matrices.{IsWhole};
 
 use crate::reports::{self, NODES};
@@ -90,8 +91,8 @@ fn measure_report(rt: &HostRuntime, view: &View, matrix: &Matrix) -> io::Result<
     measure_frames(rt, view, matrix, &found.rests)
 }
 
-// Measures a frame for each of the tasks. All frames are made several times: the first ones wait for fresh memory, which is
-// rare for a worker, since it makes frames all the time.
+// Measures a frame for each of the tasks. All frames are made several times, because the first ones wait for fresh memory. A
+// worker rarely waits for that, since it makes frames all the time.
 fn measure_frames(
     rt: &HostRuntime,
     view: &View,

@@ -16,13 +16,13 @@ use Rattle.poly_shape.proofs.Ascending.{length-part, not_below_itself}
 use Rattle.poly_design.specs.Listed.{HasAt, IsCount, IsListOf}
 use Rattle.poly_design.proofs.Sets.{first, first_or_later, lacks_nil, later, takes_remove}
 
--- `rest` has the members of `whole` that are not in `parts`, and `parts` has only members of `whole`
+-- `rest` has the members of `whole` that are not in `parts`; the lengths add up because `parts` has only members of `whole`
 record IsRest {X : Type 0} (R : X → X → Ordering) (parts whole rest : List X) : Type 0 where
   pub ascending : IsAscending R rest
   pub exact : (x : X) → Contains rest x ↔ (Contains whole x × (Contains parts x → ⊥))
   pub long : length rest + length parts ≡ length whole
 
--- union has the members of both lists, and no member is in both
+-- `union` has the members of both lists; the lengths add up because no member is in both
 record IsUnion {X : Type 0} (R : X → X → Ordering) (parts others union : List X) : Type 0 where
   pub ascending : IsAscending R union
   pub exact : (x : X) → Contains union x ↔ (Contains others x ⊎ Contains parts x)
@@ -142,8 +142,8 @@ module _ {X : Type 0} {R : X → X → Ordering} (o : IsTotalOrder R) where
           },
         )
 
-    -- if P has n members, P and S agree outside Q, and inside Q `before` lists P and `after` lists S, then S has m members:
-    -- n, less the length of `before`, plus the length of `after`
+    -- P and S agree outside Q; inside Q, `before` lists the members of P and `after` lists those of S. If P has n members,
+    -- then S has m members, and m is n less the length of `before` plus the length of `after`.
     pub recounted : (P S Q : X → Type 0) (n m : ℕ) (before after : List X) → ((x : X) → Q x ⊎ (Q x → ⊥)) → ((x : X) → (Q x → ⊥) → P x ↔ S x)
         → IsCount R P n → IsListOf R (λ x. P x × Q x) before → IsListOf R (λ x. S x × Q x) after → m + length before ≡ n + length after → IsCount R S m
     recounted P S Q n m before after either outside count old new sum =

@@ -117,7 +117,7 @@ module _ {K X : Type 0} {R : K → K → Ordering} (o : IsTotalOrder R) where
       ap (λ r. match_ordering r ((k, v) ∷ e ∷ es) ((e.0, v) ∷ es) (e ∷ insert_entry R es k v)) above
       ∙ ap (λ l. e ∷ l) (put_last es rest k v (tail_up e (es ++ (k, v) ∷ rest) up))
 
-  -- the copy and the rest are still all entries after the first entry of the rest moves to the copy
+  -- the copy followed by the rest is still the list of all entries after the first entry of the rest moves to the copy
   pub copied_more : (entries copy copy' rest rest' : List (K × X)) (k : K) (v : X) → IsAscending R (keys_of entries) → copy ++ rest ≡ entries → rest ≡ (k, v) ∷ rest' → copy' ≡ insert_entry R copy k v → copy' ++ rest' ≡ entries
   copied_more entries copy copy' rest rest' k v up before next is =
       let whole : copy ++ (k, v) ∷ rest' ≡ entries = ap (λ r. copy ++ r) (sym next) ∙ before in

@@ -1,4 +1,4 @@
--- Where an orientation can lie, found by what it is moved onto.
+-- Where an orientation can lie, found by moving one of its cells onto a given cell.
 use Rattle.std.proofs.Common.{◌≡◌, ◌∙◌, ℕ, ◌<◌, ◌↔◌, List, [], length, get_or, refl, sym, ap, subst, arith}
 use Rattle.std.specs.List.{All, Contains}
 use Rattle.std.proofs.lemmas.List.{get_or_default}

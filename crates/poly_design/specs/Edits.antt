@@ -105,7 +105,7 @@ pub record IsAccepted (d : Layout) (e : Edit) (step : Change) : Type 0 where
   pub free : NoneHolds (causes d e)
   pub design : IsDesign (changed d step)
 
--- the refusal is that of the first cause to refuse the edit that holds
+-- of the causes to refuse the edit, the first that holds has this refusal
 abbrev pub IsRefused : Layout → Edit → Refusal → Type 0
 IsRefused d e refusal = IsFirst (causes d e) refusal
 

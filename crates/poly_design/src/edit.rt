@@ -49,7 +49,7 @@ pub enum Edit {
     },
     /// Set the cell's mode. `Blocked` removes the cell from the board.
     Cell {
-        /// The cell, whether it is blocked so far or not.
+        /// The cell, blocked or not.
         cell: Cell,
         /// The new mode.
         mode: Mode,
@@ -77,7 +77,7 @@ pub enum Edit {
     Allow {
         /// The name of the piece.
         name: Name,
-        /// The cells that are forbidden to the piece so far.
+        /// The cells, as one set: it has to be one of the sets that are forbidden to the piece.
         cells: Cells,
     },
 }

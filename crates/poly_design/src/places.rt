@@ -115,7 +115,7 @@ fn add_shifted(
     Ok(())
 }
 
-// How far `to` lies to the right of `from` and below it, or `None` if it lies to the left of `from` or above it.
+// How far `to` lies to the right of `from` and below `from`, or `None` if `to` lies to the left of `from` or above `from`.
 fn shift(from: Cell, to: Cell) -> Option<(u8, u8)>
     ensures some { IfSome result (λ by. IsShift by.0 by.1 from to) }
     ensures none { IfNone result ((right down : ℕ) → ¬ IsShift right down from to) }

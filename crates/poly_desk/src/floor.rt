@@ -38,7 +38,7 @@ pub struct Floor<C: Ledger, K: Ledger, O: Opening> {
     pub(crate) poster: Poster,
     /// How many changes and cuts all passes have made.
     pub(crate) totals: Totals<C, K>,
-    /// The parts of the totals that no pass has.
+    /// The parts of both ledgers that no pass has.
     pub(crate) spare: Spare<C, K>,
     /// The flags for settling up.
     pub(crate) marks: Marks,

@@ -45,7 +45,7 @@ pub(crate) struct Shares<C: Ledger, K: Ledger> {
     ghost cuts_backed: { 0 < share_of_cuts.parts },
 }
 
-/// The parts of both totals that no pass has.
+/// The parts of both ledgers that no pass has.
 #[derive(Drop)]
 pub(crate) struct Spare<C: Ledger, K: Ledger> {
     /// How many passes were made.
@@ -60,7 +60,7 @@ pub(crate) struct Spare<C: Ledger, K: Ledger> {
     ghost no_cuts: { spare_cuts.amount ≡ 0 },
 }
 
-/// Opens both ledgers. Returns the totals, which are 0, and all parts of them, since there is no pass yet.
+/// Opens both ledgers. Returns the totals, which are 0, and all parts of both ledgers, since there is no pass yet.
 pub(crate) fn open<C: Ledger, K: Ledger>(changes: Blank, cuts: Blank) -> (Totals<C, K>, Spare<C, K>)
     requires changes { (changes.name ≡ C.name) × (changes.parts ≡ C.parts) × (changes.parts ≡ PARTS) }
     requires cuts { (cuts.name ≡ K.name) × (cuts.parts ≡ K.parts) × (cuts.parts ≡ PARTS) }

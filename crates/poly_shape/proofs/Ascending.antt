@@ -1,5 +1,5 @@
--- Ascending lists over any total order: where a search ends, what an insertion there makes, and what two such lists have in
--- common.
+-- Ascending lists over any total order: where a search ends, what an insertion there makes, and what follows if one such list
+-- has all elements of another.
 use Rattle.std.proofs.Common.{◌≡◌, ℕ, zero, suc, ◌+◌, ◌-◌, ◌<◌, ◌≤◌, ◌⊎◌, List, [], ◌∷◌, ◌++◌, length, get_or, take, drop, refl, sym, ap, subst, ◌∙◌, inl, inr, arith}
 use Rattle.std.specs.declared.cmp.Ordering.{Ordering}
 use Rattle.std.specs.declared.cmp.Ordering.TheVariants.{Less, Equal, Greater}
@@ -24,7 +24,7 @@ module _ {X : Type 0} where
   contains_cons : (x : X) (xs : List X) (y : X) → Contains xs y → Contains (x ∷ xs) y
   contains_cons x xs y (k, lt, e) = (suc k, omega arith, e)
 
-  -- each element after an insertion was there before or is the new one
+  -- each element that the list has once x is inserted was there before or is x
   pub contains_insert_cases : (xs : List X) (i : ℕ) (x y : X) → Contains (insert xs i x) y → Contains xs y ⊎ (x ≡ y)
   contains_insert_cases xs i x y here =
       let whole : take i xs ++ drop i xs ≡ xs = take-append-drop i xs in
@@ -67,7 +67,7 @@ module _ {X : Type 0} {R : X → X → Ordering} (o : IsTotalOrder R) where
   pub sorted_from_ascending : (xs : List X) → IsAscending R xs → IsSortedBy (λ a b. is_lt (R a b)) xs
   sorted_from_ascending xs up k d low lt = ap is_lt (turned_less _ _ (up k (k + 1) d (omega arith) lt))
 
-  -- the comparisons with x rise along the list, as a binary search requires
+  -- the results of comparing the elements with x never fall along the list, as a binary search requires
   pub searchable : (xs : List X) (x : X) → IsAscending R xs → IsNonDecreasingBy (λ y. ordering_index (R y x)) xs
   searchable xs x up = searchable_from_sorted o (λ y. y) xs x (sorted_from_ascending xs up)
 
@@ -148,8 +148,7 @@ module _ {X : Type 0} {R : X → X → Ordering} (o : IsTotalOrder R) where
       λ i. e i ∷ rest i
 
 module _ {X : Type 0} {R : X → X → Ordering} (o : IsTotalOrder R) where
-  -- if b has all elements of a, and the first element of a comes after the first of b, then all elements of a come after the
-  -- first of b
+  -- if y ∷ ys has all elements of x ∷ xs, and ys has x, then ys has all elements of x ∷ xs
   all_later : (x y : X) (xs ys : List X) → IsAscending R (x ∷ xs) → IsAscending R (y ∷ ys) → Contains ys x
       → ((v : X) → Contains (x ∷ xs) v → Contains (y ∷ ys) v) → (v : X) → Contains (x ∷ xs) v → Contains ys v
   all_later x y xs ys up vp later ab v here = elim (contains_cons_cases y ys v (ab v here)) [

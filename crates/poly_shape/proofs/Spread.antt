@@ -35,8 +35,8 @@ columns_gradual g a b (d, lt, e) = let ex = ap (λ (p : Point). p.x) e in omega 
 rows_gradual : (g : Grid) → IsGradual g (λ c. c.y)
 rows_gradual g a b (d, lt, e) = let ey = ap (λ (p : Point). p.y) e in omega (arith, ints, small_at g d, ey)
 
--- if the cells are connected and f rises by at most one from a cell to a neighbour, each number between the values of f at two
--- of the cells is the value of f at one of them
+-- if the cells are connected and f rises by at most one from a cell to a neighbour, then each number between the values of f
+-- at two of the cells is the value of f at some cell of the list
 met : (g : Grid) (cells : List Spot) (f : Spot → ℕ) → IsGradual g f → IsConnected g cells → (a b : Spot) → Contains cells a → Contains cells b
     → (k : ℕ) → f b ≤ k → k ≤ f a → (c : Spot) × Contains cells c × (f c ≡ k)
 met g cells f gradual connected a b in_a in_b k low high = elim (cases_Bool (list_any (λ c. eqb (f c) k) cells)) [

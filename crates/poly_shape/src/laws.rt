@@ -22,8 +22,7 @@ pub fn translates_tell_the_normal_place()
     ensures { TranslatesTellTheNormalPlace }
 {}
 
-/// Each orientation of a shape has the same list of orientations as the shape, if mirror is on for all of these or off for
-/// all of these.
+/// With mirror on throughout, or off throughout, each orientation of a shape has the same list of orientations as the shape.
 pub fn orientations_are_shared()
     ensures { OrientationsAreShared }
 {}

@@ -208,10 +208,10 @@ fn browse_is_the_plain_filter(rt: HostRuntime) {
     assert_eq!(rt; agreeing(alloc, HEXES, &[]).expect(&rt, "memory"), Some(72));
 }
 
-// The board of `DOMINOES` has all symmetries of the square, and these carry its four tilings to each other. A pin at the
-// left leaves one tiling. If A may not lie on the upper row, only the identity and one reflection are left: the tilings with
-// A at the left and at the right are one class, the one with A on the lower row is another. A pin on a blocked cell leaves no
-// tiling.
+// The board of `DOMINOES` has all symmetries of the square, and these carry its four tilings to each other. If A is pinned to
+// the left column, there is one tiling. If A may not lie on the upper row, the only symmetries are the identity and one
+// reflection: the tilings with A on the left and on the right column are one class, the one with A on the lower row is
+// another. If a cell of the pin is blocked, there is no tiling.
 #[test]
 fn classes_go_by_pins_and_forbidden_placements(rt: HostRuntime) {
     let alloc = rt.alloc();

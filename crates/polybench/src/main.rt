@@ -29,7 +29,7 @@ fn main(rt: HostRuntime) -> ExitCode {
             Ok(mut solo) => status_with(&rt, &mut solo),
             Err(_) => refused_for_memory(&rt),
         },
-        // A team is made here because it needs the handle for threads, which only `main` has.
+        // A team keeps a reference to `rt`, since it starts its threads with it.
         Some(workers) => match Team::new(&rt, rt.alloc(), usize::from(workers), options.turns) {
             Ok(mut team) => status_with(&rt, &mut team),
             Err(_) => refused_for_memory(&rt),

@@ -6,7 +6,7 @@ ghost use Rattle.poly_frame.specs.FrameItems.{times};
 use poly_grid::Refusal;
 use std::alloc::Global;
 
-// Notes whether the item at `b` is due: whether `have`, the number of members of the base with the item, is too few.
+// Notes whether the item at `b` is due: whether `have`, the number of members of the base with the item, is too low.
 fn note_item(due: &mut Vec<u64>, leasts: &[u8], have: u64, b: usize) {
     let k = b / 64;
     if k >= due.len() || b >= leasts.len() {

@@ -16,7 +16,7 @@ use crate::frame::steps::Steps;
 use crate::frame::table::Table;
 use poly_tiling::Item;
 
-// What is left of a word of the row once one more member has the item at `b`.
+// `word` is word `k` of a row of open columns. Returns what is left of it once one more member has the item at `b`.
 fn left_by(matrix: &Matrix, table: &Table, have: &[u64], b: usize, k: usize, word: u64) -> u64
     requires low { b < length have.now }
     requires limits { length table.now.limits.items ≡ length have.now }
@@ -31,7 +31,8 @@ fn left_by(matrix: &Matrix, table: &Table, have: &[u64], b: usize, k: usize, wor
     }
 }
 
-// Whether nothing is left of a word of the row once one more member has the items at the indices.
+// `word` is word `k` of a row of open columns. Returns whether nothing is left of it once one more member has the items at
+// the indices.
 fn is_shut_word(
     matrix: &Matrix,
     table: &Table,
