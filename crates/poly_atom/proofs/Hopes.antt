@@ -1,5 +1,5 @@
--- Whether a list is hopeless doesn't change if it also asks for an open placement, or rules out one that is neither asked for
--- nor pinned.
+-- Whether a list is hopeless doesn't change if it also asks for a placement that may join the base (`IsOpenFor`), or if one
+-- more atom lacks a placement that is neither asked for nor pinned.
 use Rattle.std.proofs.Common.{Bool, List, None, Option, Some, [], ap, arith, eqb, false, inl, inr, nat_lt, not, refl, slice_get, subst, sym, true, ℕ, ◌&&◌, ◌++◌, ◌+◌, ◌<◌, ◌||◌, ◌∙◌, ◌∷◌, ◌≡◌, ◌≤◌, ◌⊎◌}
 use Rattle.std.proofs.lemmas.Bool.{and_from, and_parts, both_ways, cases_Bool, eq-eqb, eqb-true, false_from_ne_true, le-leb, lt-ltb, ltb-false, ltb-true, not-true, not_from_false, or_cases, or_left, or_right, true≢false}
 use Rattle.std.specs.List.{list_any}
@@ -35,7 +35,7 @@ conflict_back v p q h =
 last_one : (A : List Atom) (b a : Atom) → In a (A ++ b ∷ []) → In a A ⊎ (b ≡ a)
 last_one A b a i = elim (in_append_cases a A (b ∷ []) i) [ inl j ↦ inl j | inr (inl e) ↦ inr e | inr (inr k) ↦ absurd k ]
 
--- if a list with one more atom rules out a placement, the list or that atom does
+-- if a list with one more atom has an atom that lacks a placement, an atom of the list or the added one lacks it
 lacked_by : (A : List Atom) (b : Atom) (q : ℕ) → list_any (λ a. lacks a q) (A ++ b ∷ []) ≡ true → (list_any (λ a. lacks a q) A ≡ true) ⊎ (lacks b q ≡ true)
 lacked_by A b q h =
     let a = any_in (λ a. lacks a q) (A ++ b ∷ []) h in
@@ -145,7 +145,7 @@ taking_keeps_hope_lem v A p o = same_truth (hopeless v (A ++ Has p ∷ [])) (hop
     ])
     (λ h. hopeless_more v v A (A ++ Has p ∷ []) (grown_self v) (λ a i. in_append_left a A (Has p ∷ []) i) h)
 
--- ---- ruled out
+-- ---- one more atom that lacks a placement
 
 asked_left : (A : List Atom) (p : ℕ) → asked (A ++ Lacks p ∷ []) ≡ asked A
 asked_left [] p = refl

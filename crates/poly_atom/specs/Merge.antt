@@ -1,4 +1,4 @@
--- Two lists in the same order, read side by side.
+-- What is left of a list, and what comes first in it, while two lists in the same order are read side by side.
 use Rattle.std.specs.Prelude.{Bool, List, None, Option, Some, [], cond, ◌∷◌}
 
 -- the rest of a list from its first element that does not pass

@@ -1,5 +1,5 @@
-//! Prepares all that a change needs before anything that the book shows is changed, so that afterwards only adding to the log
-//! and exchanging the listed tilings can fail.
+//! Prepares all that a change needs, while what the book shows stays the same. Afterwards only adding to the log and
+//! exchanging the listed tilings can fail.
 ghost use Rattle.std.specs.Prelude.{◌≡◌, ◌↔◌, ◌≤◌, ◌<◌, ◌*◌, ◌⊎◌, IfErr, IfOk, OnOk, cond, length, map, nat_le, option_copied, true};
 ghost use Rattle.std.specs.Arc.{arc_value};
 ghost use Rattle.poly_design.specs.Changes.{HasBefore, changed};

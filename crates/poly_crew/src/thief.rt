@@ -1,4 +1,4 @@
-//! The end of a lane that belongs to another worker.
+//! A thief: an end of another worker's lane, from which hints are stolen.
 
 ghost use Rattle.std.specs.Prelude.{◌≡◌, ◌++◌, [], ◌∷◌, MatchOption};
 ghost use Rattle.poly_crew.specs.Views.{stolen_of};

@@ -38,7 +38,8 @@ one_first (c ∷ cs) a b f g = elim f [
   | inr h ↦ elim g [ inl k ↦ absurd (h.0 k.1) | inr k ↦ one_first cs a b h.1 k.1 ]
 ]
 
--- a check refuses early if each refusal has its cause, and `Memory` comes only if no early cause holds
+-- a check refuses early if it returns an accepted change, the refusal of the first cause that holds, or `Memory`, and
+-- `Memory` only if no early cause holds
 pub refuses_early : (d : Layout) (e : Edit) (r : Result Change Refusal) → IfOk r (λ change. IsAccepted d e change) → IfErr r (λ x. (x ≡ Memory) ⊎ IsRefused d e x)
     → (r ≡ Err Memory → NoneEarly (causes d e)) → RefusesEarly d e r
 refuses_early d e (Ok change) ok why memory x early first = absurd (none_first (causes d e) x ok.free first)

@@ -49,8 +49,8 @@ open_in v A p = not (mem (base v A) p) && not (ruled_out v A p)
 abbrev pub dead : View → List Atom → ℕ → Bool
 dead v A p = not (mem v.live p) || list_any (λ a. lacks a p) A
 
--- a Branch on the item may have these arms: they differ, each has the item, and of the other placements of the design too few
--- have the item and are not ruled out
+-- a Branch on the item may have arms for these placements: they differ, each has the item, and the other placements of the
+-- design that have the item and are not ruled out are fewer than its `least_with_base`
 abbrev pub arms_fit : View → List Atom → Item → List ℕ → Bool
 arms_fit v A i ps =
     distinct ps

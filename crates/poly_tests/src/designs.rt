@@ -25,8 +25,8 @@ use std::process::Abort;
 pub(crate) const DOMINOES: &[u8] =
     b"{\"format\":1,\"grid\":\"square\",\"board\":[\"##\",\"##\"],\"pieces\":[{\"name\":\"A\",\"cells\":[[0,0],[1,0]]},{\"name\":\"B\",\"cells\":[[0,0],[1,0]]}]}";
 
-/// The rectangle of three by twenty cells and the twelve pentominoes: 8 tilings. It has so many placements that the solver
-/// makes a smaller frame, and goes on in it, where few of them are still open.
+/// The rectangle of three by twenty cells and the twelve pentominoes: 8 tilings. It has so many placements that the solver,
+/// once few of them are still open, makes a smaller frame and goes on in it.
 pub(crate) const NARROW: &[u8] =
     b"{\"format\":1,\"grid\":\"square\",\"board\":[\"####################\",\"####################\",\"####################\"],\"pieces\":[{\"name\":\"F\",\"cells\":[[1,0],[2,0],[0,1],[1,1],[1,2]]},{\"name\":\"I\",\"cells\":[[0,0],[1,0],[2,0],[3,0],[4,0]]},{\"name\":\"L\",\"cells\":[[0,0],[0,1],[0,2],[0,3],[1,3]]},{\"name\":\"N\",\"cells\":[[1,0],[1,1],[0,2],[1,2],[0,3]]},{\"name\":\"P\",\"cells\":[[0,0],[1,0],[0,1],[1,1],[0,2]]},{\"name\":\"T\",\"cells\":[[0,0],[1,0],[2,0],[1,1],[1,2]]},{\"name\":\"U\",\"cells\":[[0,0],[2,0],[0,1],[1,1],[2,1]]},{\"name\":\"V\",\"cells\":[[0,0],[0,1],[0,2],[1,2],[2,2]]},{\"name\":\"W\",\"cells\":[[0,0],[0,1],[1,1],[1,2],[2,2]]},{\"name\":\"X\",\"cells\":[[1,0],[0,1],[1,1],[2,1],[1,2]]},{\"name\":\"Y\",\"cells\":[[1,0],[0,1],[1,1],[1,2],[1,3]]},{\"name\":\"Z\",\"cells\":[[0,0],[1,0],[1,1],[1,2],[2,2]]}]}";
 

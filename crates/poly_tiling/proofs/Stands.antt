@@ -66,7 +66,7 @@ stands_at ps ns xs e n i =
 pub at_stands : (ps : List Placement) (ns : List ℕ) (xs : List Placement) → StandFor ps ns xs → (x : Placement) → In x xs → (n : ℕ) × In n ns × (slice_get ps n ≡ Some x)
 at_stands ps ns xs e x i = map_in (λ p. slice_get ps p) ns (Some x) (subst (λ os. In (Some x) os) (sym e) (in_map (λ x. Some x) xs x i))
 
--- numbers that name ascending placements are in order
+-- if x is before each of xs, a number of x is below the numbers of xs; so numbers that name ascending placements are in order
 stand_below : (v : View) (n : ℕ) (x : Placement) (ns : List ℕ) (xs : List Placement) → slice_get v.placements n ≡ Some x → StandFor v.placements ns xs → ((y : Placement) → In y xs → placement_cmp x y ≡ Less) → list_all (λ q. below v n q) ns ≡ true
 stand_below v n x ns xs e s up = all_from (λ q. below v n q) ns (λ q i.
     let y = stands_at v.placements ns xs s q i in
