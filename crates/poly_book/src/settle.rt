@@ -18,8 +18,8 @@ use poly_grid::Refusal;
 use poly_report::Leaves;
 
 impl Book {
-    /// Takes tasks, explores each with at most `nodes` nodes that aren't Rest, and hands the result in, until nothing is
-    /// pending. Returns how many reports were applied. The design and the steps stay. `nodes` is from 1 to 4,096.
+    /// Takes tasks, grows a tree for each with at most `nodes` nodes that aren't Rest, and hands the result in, until nothing
+    /// is pending. Returns how many reports were applied. The design and the steps stay. `nodes` is from 1 to 4,096.
     ///
     /// Refused with `Unfinished` if `turns` reports were applied and a task is still pending. May be refused earlier as
     /// `hand_in` is for a report that holds: with `Spent`, `CatalogueFull` or `Memory`. Reports that were applied before a

@@ -57,7 +57,7 @@ comes_to_end limit i begun bytes line lt feeds e =
     let begins : open_line begun (take i bytes ++ x ∷ []) ≡ [] = open_append begun (take i bytes) (x ∷ []) ∙ rw feed refl in
     record { bytes = open_line begun (take i bytes); whole = rw (take_more bytes i 0 lt) whole; after = rw (take_more bytes i 0 lt) begins; line = e.line }
 
--- the bytes ahead are the first n of them and those that are ahead after these
+-- the bytes ahead are the first `n` of them, followed by those that are ahead once these are cut
 pub ahead_parts : (n start end : ℕ) (xs : List ℕ) → start + n ≤ end → take (end - start) (drop start xs) ≡ take n (take (end - start) (drop start xs)) ++ take (end - (start + n)) (drop (start + n) xs)
 ahead_parts n start end xs le =
     let m = end - (start + n) in
@@ -97,7 +97,7 @@ then_none limit a p t u e l = record {
   line = l.line ∙ ap (kept limit) (sym (open_append [] a p));
 }
 
--- the bytes that were read are those that were cut and those ahead
+-- if the bytes that were read are those that were cut and then those ahead, this stays so when `p` is cut too
 pub parts_cut : (before taken a p rest now : List ℕ) → before ++ taken ≡ a ++ now → now ≡ p ++ rest → before ++ taken ≡ (a ++ p) ++ rest
 parts_cut before taken a p rest now e f = e ∙ ap (λ z. a ++ z) f ∙ sym (append_assoc a p rest)
 
