@@ -3,7 +3,7 @@
 //! Without an argument, the first line is a puzzle line, and each further line is an edit of that design. The edits
 //! are measured one by one, and each starts from the design as it was read. With the argument `book`, the further lines are a
 //! session on one book. With the argument `desk`, each line is a puzzle line, and the calls of a desk of its design are
-//! compared with the same calls of a book.
+//! compared with the same calls of a book. Any other argument is refused.
 #![tactic(auto)]
 
 mod books;
@@ -44,7 +44,7 @@ fn refuse_argument(rt: &HostRuntime) -> io::Result<()> {
     println!(rt; "the argument is `book` or `desk`, or there is none")
 }
 
-// The subject that the first argument names; `Parts` if there is no argument.
+// Reads the first argument. Returns `Parts` if there is no argument, and `Unknown` if it names no subject.
 fn read_subject(rt: &HostRuntime) -> io::Result<Subject> {
     let words: Vec<String> = env::args(rt)?.collect(rt.alloc())?;
     match words.get(1) {

@@ -69,8 +69,8 @@ fn gather(list: &mut [Atom], atoms: &[Atom]) -> Option<usize>
     Some(count)
 }
 
-// Writes the atom to index `count` of the list if it asks for a placement that the list's first `count` atoms don't ask
-// for. Returns how many atoms are gathered then, or `None` if there is no room for the atom.
+// Adds the atom after the first `count` atoms of the list, if it asks for a placement that none of these atoms asks for.
+// Returns the number of atoms that are gathered then. Returns `None` if the atom would be added but the list is full.
 fn gather_one(list: &mut [Atom], count: usize, atom: Atom) -> Option<usize>
     requires { count ≤ length list.old }
     ensures long { length list.new ≡ length list.old }

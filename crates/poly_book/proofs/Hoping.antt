@@ -46,7 +46,7 @@ all_at f log (p ∷ ps) (suc n) (suc i) d l k h = all_at f log ps n i d (omega (
 pub hopeful_at : (p : Parts) (x : Pending) (i n : ℕ) → n ≤ i → i < length p.tasks.items → x ≡ get_or p.tasks.items i x → AreHopefulFrom n (state_of p) → hopeless p.scene (atoms_of (task_of p.log x)) ≡ false
 hopeful_at p x i n l k is from = not-true _ (ap (λ y. hoped p.scene (task_of p.log y)) is ∙ all_at (hoped p.scene) p.log p.tasks.items n i x l k from)
 
--- from the end of the list on there is no task, so none is hopeless
+-- if there are at most n pending tasks, no task from index n on is hopeless
 pub hopeful_end : (p : Parts) (n : ℕ) → length p.tasks.items ≤ n → AreHopefulFrom n (state_of p)
 hopeful_end p n l = ap (list_all (hoped p.scene)) (drop_all n (tasks_of p.log p.tasks.items) (omega (arith, length_of p.log p.tasks.items, l)))
 
