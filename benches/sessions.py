@@ -6,7 +6,7 @@ usage: benches/sessions.py
 Each session is a puzzle line and commands on standard input. Some sessions come right after a search of the same board by
 `dlx`. The table has the processor time of each session in user mode, that time divided by the time of `dlx`, the elapsed time,
 and the most memory that was resident, which is never less than what this script itself needs. Run it with nothing else running.
-The program has to be built: start `./polybench` once before.
+It measures `./polybench` from its start on. If a source was changed, start it once before, so that it is built.
 """
 import itertools
 import json
@@ -17,7 +17,7 @@ import tempfile
 import time
 
 HERE = os.path.dirname(os.path.abspath(__file__))
-PROGRAM = os.path.join(HERE, "..", "crates", "polybench", "out", "polybench")
+PROGRAM = os.path.join(HERE, "..", "polybench")
 ROUNDS = 25
 
 
@@ -82,8 +82,6 @@ def run(command, lines=()):
 
 
 def main():
-    if not os.access(PROGRAM, os.X_OK):
-        sys.exit("the program isn't built: start ./polybench once")
     with tempfile.TemporaryDirectory() as room:
         dlx = f"{room}/dlx"
         subprocess.run(["cc", "-O2", "-o", dlx, f"{HERE}/dlx.c"], check=True)

@@ -4,7 +4,7 @@
 #
 # If a call runs out of memory, the tests assert that it changed nothing, and then make the call a second time. Only `settle`
 # of a book may have changed something: it keeps the reports that it has applied. So a run with a refused allocation must pass
-# like a run without one. `rt test` proves and builds the tests, unless the gate has proved them.
+# like a run without one. The gate leaves the tests built; where it hasn't run, `rt test` proves and builds them.
 . "$(dirname "${BASH_SOURCE[0]}")/setup.bash"
 
 # A crate, and the full name of one of its tests.
@@ -26,9 +26,6 @@ fi
 # Runs the test once for each of its allocations, with that allocation refused.
 play() {
     local program=crates/$1/out/$1_tests name=$2 at=0 before=$failed status
-    if [ ! -x "$program" ]; then
-        scripts/kept.py 2>/dev/null
-    fi
     if [ ! -x "$program" ]; then
         (cd "crates/$1" && rt test) >"$room/building" 2>&1
     fi

@@ -12,8 +12,6 @@ if ! cc -O1 -shared -fPIC -o "$room/refuse.so" tests/refuse_allocation.c -ldl; t
     echo "0 passed, 1 failed"
     exit 1
 fi
-./polybench </dev/null >/dev/null 2>&1
-program=crates/polybench/out/polybench
 
 # Prints the replies of a run, one to a line: joins the lines of a list or an answer, and keeps only the edition of `status`.
 replies() {

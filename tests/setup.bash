@@ -6,8 +6,12 @@ room=$(mktemp -d)
 trap 'rm -rf "$room"' EXIT
 passed=0
 failed=0
-# Builds the program if it isn't built yet, so that no test takes the builder's output for the program's.
+# Builds the program if the release isn't that of the present sources, so that no test takes the builder's output for the
+# program's.
 ./polybench </dev/null >"$room/building" 2>&1
+# The program that `./polybench` runs, for a test that has to run it alone.
+program=release/polybench-x86_64-linux
+sha256sum -c --status release/SOURCES 2>/dev/null || program=crates/polybench/out/polybench
 
 # Prints the counts. The status is 0 only if nothing failed.
 close() {
