@@ -5,12 +5,13 @@ use Rattle.poly_tiling.specs.Lists.{ascending, mem, put_all, tally}
 use Rattle.poly_tiling.specs.Puzzle.{View}
 use Rattle.poly_tiling.proofs.Lists.{In, all_in, in_mem, mem_in}
 use Rattle.poly_tiling.proofs.Ascending.{in_put_all_left, in_put_all_right, put_all_in, put_all_up}
+use Rattle.poly_tiling.proofs.Contained.{contains_in, in_contains}
 use Rattle.poly_tiling.proofs.Counts.{ascending_distinct, tally_within}
 use Rattle.poly_tiling.proofs.Tilings.{IsTiling}
 use Rattle.poly_atom.specs.declared.atom.Atom.{Atom}
 use Rattle.poly_atom.specs.declared.atom.Atom.TheVariants.{AtLeast, AtMost, Has, Lacks}
 use Rattle.poly_atom.specs.Atoms.{meets, meets_all}
-use Rattle.poly_atom.specs.Hopeless.{asked, base, lacks}
+use Rattle.poly_atom.specs.Hopeless.{IsBaseOf, asked, base, lacks}
 
 pub in_asked : (A : List Atom) (p : ℕ) → In (Has p) A → In p (asked A)
 in_asked [] p i = absurd i
@@ -43,6 +44,16 @@ in_base_has v A p i = in_put_all_left (asked A) (put_all v.pins []) p (in_asked 
 
 pub in_base_pin : (v : View) (A : List Atom) (p : ℕ) → In p v.pins → In p (base v A)
 in_base_pin v A p i = in_put_all_right (asked A) (put_all v.pins []) p (in_put_all_left v.pins [] p i)
+
+pub base_is_set : (v : View) (A : List Atom) → IsBaseOf v A (base v A)
+base_is_set v A = record {
+  members = λ p. (
+    λ h. elim (base_in v A p (contains_in (base v A) p h)) [ inl i ↦ inl (in_contains A (Has p) i) | inr i ↦ inr (in_contains v.pins p i) ],
+    λ h. in_contains (base v A) p (elim h [ inl c ↦ in_base_has v A p (contains_in A (Has p) c) | inr c ↦ in_base_pin v A p (contains_in v.pins p c) ]),
+  );
+  up = base_up v A;
+  once = ascending_distinct (base v A) (base_up v A);
+}
 
 pub atom_met : (v : View) (T : List ℕ) (A : List Atom) → meets_all v T A ≡ true → (a : Atom) → In a A → meets v T a ≡ true
 atom_met v T A h a i = all_in (λ b. meets v T b) A h a i

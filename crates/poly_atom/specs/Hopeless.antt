@@ -1,7 +1,7 @@
 -- Hopeless lists: the atoms and the view show, without a search, that no tiling meets all of the atoms.
-use Rattle.std.specs.List.{list_any}
-use Rattle.std.specs.Prelude.{Bool, List, [], false, nat_lt, not, ℕ, ◌&&◌, ◌==◌, ◌||◌, ◌∷◌, ◌≡◌}
-use Rattle.poly_tiling.specs.Lists.{mem, put_all}
+use Rattle.std.specs.List.{Contains, list_any}
+use Rattle.std.specs.Prelude.{Bool, List, [], false, nat_lt, not, true, ℕ, ◌&&◌, ◌==◌, ◌||◌, ◌⊎◌, ◌↔◌, ◌∷◌, ◌≡◌}
+use Rattle.poly_tiling.specs.Lists.{ascending, distinct, mem, put_all}
 use Rattle.poly_tiling.specs.Puzzle.{View, is_piece, conflicts, count, items, least, most, same_item}
 use Rattle.poly_atom.specs.declared.atom.Atom.{Atom}
 use Rattle.poly_atom.specs.declared.atom.Atom.TheVariants.{AtLeast, AtMost, Has, Lacks}
@@ -17,6 +17,13 @@ asked (AtMost i n ∷ A) = asked A
 -- the placements that are asked for, and the pins: each tiling of the family has all of them
 abbrev pub base : View → List Atom → List ℕ
 base v A = put_all (asked A) (put_all v.pins [])
+
+-- the list has the placements that the Has atoms of A name and the pins of the view, and nothing else; each once, in ascending
+-- order
+pub record IsBaseOf (v : View) (A : List Atom) (list : List ℕ) : Type 0 where
+  pub members : (p : ℕ) → Contains list p ↔ (Contains A (Has p) ⊎ Contains v.pins p)
+  pub up : ascending list ≡ true
+  pub once : distinct list ≡ true
 
 abbrev pub lacks : Atom → ℕ → Bool
 lacks (Has q) p = false

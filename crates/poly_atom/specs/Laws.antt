@@ -8,7 +8,7 @@ use Rattle.poly_atom.specs.declared.atom.Atom.{Atom}
 use Rattle.poly_atom.specs.Atoms.{in_family, meets, meets_all, negated, proper}
 use Rattle.poly_atom.specs.Guards.{guards}
 use Rattle.poly_atom.specs.Stairs.{stairs}
-use Rattle.poly_atom.specs.Hopeless.{hopeless}
+use Rattle.poly_atom.specs.Hopeless.{IsBaseOf, base, hopeless}
 use Rattle.poly_atom.specs.Logs.{without_last}
 
 -- If no atom of a list is an AtLeast with 0, a set that does not meet all atoms of the list meets exactly one of its stairs,
@@ -16,6 +16,11 @@ use Rattle.poly_atom.specs.Logs.{without_last}
 abbrev pub StairsShareOut : Type 0
 StairsShareOut = (v : View) (T : List ℕ) (g : List Atom) → list_all proper g ≡ true →
     one (meets_all v T g) + tally (λ A. meets_all v T A) (stairs g) ≡ 1
+
+-- The base of a list of atoms has exactly the placements that a Has atom of the list names and the pins, each once, in ascending
+-- order.
+abbrev pub BasesAreSets : Type 0
+BasesAreSets = (v : View) (A : List Atom) → IsBaseOf v A (base v A)
 
 -- A hopeless list has an empty family.
 abbrev pub HopelessIsEmpty : Type 0

@@ -1,12 +1,18 @@
 //! Laws of the definitions, each the contract of a function that does nothing.
 ghost use Rattle.poly_atom.specs.Newly.{LeavingKeepsHope, NewlyHopelessIsTouched, TakingKeepsHope};
 ghost use Rattle.poly_atom.specs.Width.{WidthIsOne, WidthsShow};
-ghost use Rattle.poly_atom.specs.Laws.{AnswersMayGrow, FamiliesMayGrow, GuardsMayGrow, GuardsTell, HopelessIsEmpty, HopelessMayGrow, HopelessStays, NegationIsOpposite, NegationIsUndone, SameHasNoGuards, StairsShareOut, StairsWereHopeless, TakenBackIsUndone};
+ghost use Rattle.poly_atom.specs.Laws.{AnswersMayGrow, BasesAreSets, FamiliesMayGrow, GuardsMayGrow, GuardsTell, HopelessIsEmpty, HopelessMayGrow, HopelessStays, NegationIsOpposite, NegationIsUndone, SameHasNoGuards, StairsShareOut, StairsWereHopeless, TakenBackIsUndone};
 
 /// If no atom of a list is `AtLeast` with 0, a set that doesn't meet all atoms of the list meets exactly one of its stairs,
 /// and a set that meets all of them meets no stair. No guard of a change is `AtLeast` with 0.
 pub fn stairs_share_out()
     ensures { StairsShareOut }
+{}
+
+/// The base of a list of atoms has exactly the placements that a `Has` atom of the list names and the pins of the view, each
+/// once, in ascending order.
+pub fn bases_are_sets()
+    ensures { BasesAreSets }
 {}
 
 /// A hopeless list has an empty family.

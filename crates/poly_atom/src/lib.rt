@@ -26,8 +26,8 @@ pub use both::{BothGuards, both_guards, guard_counts};
 pub use change::guards;
 pub use hopelessness::hopeless;
 pub use laws::{
-    answers_may_grow, families_may_grow, guards_may_grow, guards_tell, hopeless_is_empty,
-    hopeless_may_grow, hopeless_stays, leaving_keeps_hope, negation_is_opposite,
+    answers_may_grow, bases_are_sets, families_may_grow, guards_may_grow, guards_tell,
+    hopeless_is_empty, hopeless_may_grow, hopeless_stays, leaving_keeps_hope, negation_is_opposite,
     negation_is_undone, newly_hopeless_is_touched, same_has_no_guards, stairs_share_out,
     stairs_were_hopeless, taken_back_is_undone, taking_keeps_hope, width_is_one, widths_show,
 };

@@ -11,6 +11,7 @@ use crate::covering::covering;
 use crate::keep::keep;
 use crate::leaving::leaving;
 use crate::listing::Listing;
+use crate::staying::count_staying;
 use poly_grid::Refusal;
 use poly_place::Delta;
 use poly_tiling::{Item, MAX_TILINGS, Tiling, View};
@@ -135,7 +136,7 @@ impl Catalogue {
 
     /// Does what `keep_only` and then `list_all` do, or changes nothing. Requires what both require.
     ///
-    /// Fails with `CatalogueFull` only if more than 1,000,000 would be listed at the end, and otherwise only with `Memory`.
+    /// Fails with `CatalogueFull` exactly if more than 1,000,000 would be listed at the end, and otherwise only with `Memory`.
     /// If it fails, the list stays as it was.
     pub fn exchange(
         &mut self,
@@ -148,47 +149,36 @@ impl Catalogue {
         requires once { AreOnce (self.old ++ tilings.items) }
         ensures ok { OnOk result (AreSame self.new (filter (is_tiling view.now) self.old ++ tilings.items)) }
         ensures err { OnErr result (self.new ≡ self.old) }
-        ensures full { result ≡ Err Refusal.CatalogueFull → MAX_TILINGS < length (filter (is_tiling view.now) self.old) + length tilings.items }
+        ensures full { (result ≡ Err Refusal.CatalogueFull) ↔ (MAX_TILINGS < length (filter (is_tiling view.now) self.old) + length tilings.items) }
         ensures why { IfErr result (λ e. (e ≡ Refusal.CatalogueFull) ⊎ (e ≡ Refusal.Memory)) }
     {
-        match has_room(
-            self.alloc,
-            &self.listing,
-            self.flags.len(),
-            view,
-            delta,
-            tilings.len(),
-        ) {
-            Ok(true) => {
-                add(&mut self.listing, &mut self.flags, view, tilings)?;
-                keep(&mut self.listing, &mut self.flags, view, delta);
-                Ok(())
-            }
-            Ok(false) => Err(Refusal::CatalogueFull),
-            Err(refusal) => Err(refusal),
+        if !has_room(&self.listing, &mut self.flags, view, delta, tilings.len()) {
+            return Err(Refusal::CatalogueFull);
         }
+        add(&mut self.listing, &mut self.flags, view, tilings)?;
+        keep(&mut self.listing, &mut self.flags, view, delta);
+        Ok(())
     }
 }
 
-// Whether there is room for this many more once the tilings that leave are gone. Fails only with `Memory`.
+// Whether there is room for this many more once the tilings that leave are gone. Never allocates. Before the call, the flags
+// may have any values.
 fn has_room(
-    alloc: Global,
     listing: &Listing,
-    flag_count: usize,
+    flags: &mut Vec<bool>,
     view: &View,
     delta: &Delta,
     more: usize,
-) -> Result<bool, Refusal>
+) -> bool
     requires from { AreOfEither view.now delta.now listing.now }
     requires few { length listing.now ≤ MAX_TILINGS }
-    requires flags { HasFlags listing.now flag_count }
-    ensures ok { IfOk result (λ room. room ≡ nat_le (length (filter (is_tiling view.now) listing.now) + more) MAX_TILINGS) }
-    ensures why { IfErr result (λ e. e ≡ Refusal.Memory) }
+    requires flags { HasFlags listing.now (length flags.old.items) }
+    ensures room { result ≡ nat_le (length (filter (is_tiling view.now) listing.now) + more) MAX_TILINGS }
+    ensures long { length flags.new.items ≡ length flags.old.items }
 {
-    let count = listing.len();
-    if more <= MAX_TILINGS - count {
-        return Ok(true);
+    if more <= MAX_TILINGS - listing.len() {
+        return true;
     }
-    let left = leaving(alloc, listing, flag_count, view, delta)?;
-    Ok(more <= MAX_TILINGS - (count - left.len()))
+    let count = count_staying(listing, flags, view, delta);
+    more <= MAX_TILINGS - count
 }

@@ -3,8 +3,9 @@
 //! Each placement is checked once for an item, and its number is flagged if it has the item. The placements of a tiling that
 //! have the item are then counted by flags alone. The flags are allocated when tilings are listed, so that keeping what is
 //! still a tiling never allocates.
-ghost use Rattle.std.specs.Prelude.{◌≡◌, ◌^◌, ◌<◌, ◌≤◌, IfErr, OnOk, false, length, nat_lt, slice_index_or, slice_set, true};
+ghost use Rattle.std.specs.Prelude.{◌≡◌, ◌^◌, ◌<◌, ◌≤◌, IfErr, OnOk, false, length, nat_lt, replicate, slice_index_or, slice_set, true, ℕ};
 ghost use Rattle.std.specs.List.{list_all};
+ghost use Rattle.poly_tiling.specs.Lists.{mem};
 ghost use Rattle.poly_catalogue.specs.Flags.{AreFlags, flagged, within};
 
 use poly_grid::Refusal;
@@ -54,6 +55,32 @@ fn write(flags: &mut Vec<bool>, number: usize, flag: bool)
     ensures { flags.new.items ≡ slice_set flags.old.items number flag }
 {
     flags[number] = flag;
+}
+
+/// Sets the flag of each of the numbers that has one, and clears all other flags. Adds no flags.
+pub(crate) fn flag_numbers(flags: &mut Vec<bool>, numbers: &[u32])
+    ensures long { length flags.new.items ≡ length flags.old.items }
+    ensures flags { (p : ℕ) → p < length flags.new.items → slice_index_or flags.new.items p false ≡ mem numbers.now p }
+{
+    clear(flags);
+    for number in numbers {
+        flag(flags, *number);
+    }
+}
+
+fn clear(flags: &mut Vec<bool>)
+    ensures { flags.new.items ≡ replicate (length flags.old.items) false }
+{
+    flags.fill(false);
+}
+
+// Sets the flag of the number if it has one.
+fn flag(flags: &mut Vec<bool>, number: u32)
+    ensures { flags.new.items ≡ slice_set flags.old.items number true }
+{
+    if (number as usize) < flags.len() {
+        flags[number as usize] = true;
+    }
 }
 
 /// Whether at least `least` and at most `most` of the numbers are flagged.

@@ -25,6 +25,7 @@ mod marks;
 mod positions;
 mod row;
 mod rows;
+mod staying;
 
 pub use catalogue::Catalogue;
 pub use laws::plans_lead;

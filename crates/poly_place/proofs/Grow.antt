@@ -1,5 +1,5 @@
 -- A table that gets more numbers shows the same design.
-use Rattle.std.proofs.Common.{Bool, List, [], ap, arith, inl, inr, length, refl, slice_get, sym, true, ℕ, ◌&&◌, ◌∙◌, ◌∷◌, ◌≡◌, ◌↔◌}
+use Rattle.std.proofs.Common.{Bool, List, [], ap, arith, inl, inr, length, refl, slice_get, subst, suc, sym, take, true, zero, ℕ, ◌&&◌, ◌++◌, ◌∙◌, ◌∷◌, ◌≡◌, ◌↔◌}
 use Rattle.std.specs.Prelude.{nat_lt}
 use Rattle.std.specs.List.{Contains, list_all, list_any}
 use Rattle.std.proofs.lemmas.Bool.{lt-ltb, ltb-true}
@@ -92,3 +92,31 @@ grown_marked t all x marks w g m n live = m n live ∙ sym (ap (λ o. touches_na
 
 pub grows_on : (t : View) (all : List Placement) → GoesOn t.placements all → Grown t (grown t all)
 grows_on t all g = ((g.more, g.appended), refl, refl, refl)
+
+first_part : {X : Type 0} (n : ℕ) (xs ys : List X) → length xs ≡ n → take n (xs ++ ys) ≡ xs
+first_part zero [] ys h = refl
+first_part zero (x ∷ xs) ys h = absurd (omega (arith, h))
+first_part (suc n) [] ys h = absurd (omega (arith, h))
+first_part (suc n) (x ∷ xs) ys h = ap (λ zs. x ∷ zs) (first_part n xs ys (omega (arith, h)))
+
+-- without the numbers that the earlier view lacks, the later one is the earlier one
+pub back_view : (v w : View) → Grown v w → grown w (take (length v.placements) w.placements) ≡ v
+back_view v w g =
+    let first : take (length v.placements) w.placements ≡ v.placements = ap (λ l. take (length v.placements) l) g.0.1 ∙ first_part (length v.placements) v.placements g.0.0 refl in
+    λ i. let z : View = record { placements = first i; live = g.1 i; bounds = g.2 i; pins = g.3 i } in z
+
+-- the index of the later view is that of the earlier one
+pub back_index : (v w : View) (rows : List Row) → WellNamed v → WellNamed w → Grown v w → IsIndex w rows → IsIndex v rows
+back_index v w rows a b g x =
+    let goes : GoesOn v.placements w.placements = record { more = g.0.0; appended = g.0.1; apart = λ k. b.apart } in
+    let is : w ≡ grown v w.placements = λ i. let z : View = record { placements = w.placements; live = g.1 i; bounds = g.2 i; pins = g.3 i } in z in
+    let y : IsIndex (grown v w.placements) rows = subst (λ z. IsIndex z rows) is x in
+    let same : (n : ℕ) → In n v.live → (i : Item) → has_item (grown v w.placements) n i ≡ has_item v n i =
+    λ n j i. ap (λ o. list_any (λ j. same_item j i) (items_of o)) (stays v.placements w.placements goes n (all_in (λ n. nat_lt n (length v.placements)) v.live a.named n j)) in
+    record {
+      items = y.items;
+      numbers = λ i. with_from v i (row_in rows i)
+          (λ n j. let r = with_live (grown v w.placements) i (row_in rows i) (y.numbers i) n j in (r.0, sym (same n r.0 i) ∙ r.1))
+          (λ n j h. live_with (grown v w.placements) i (row_in rows i) (y.numbers i) n j (same n j i ∙ h))
+          (y.numbers i).apart;
+    }

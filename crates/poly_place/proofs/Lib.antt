@@ -8,6 +8,7 @@ pub mod Marks
 pub mod RunOut
 pub mod Untouched
 pub mod Updated
+pub mod Ordered
 pub mod Rows
 pub mod Indexed
 pub mod Found

@@ -25,7 +25,6 @@ use Rattle.poly_tiling.specs.Lists.{distinct}
 use Rattle.poly_tiling.specs.Names.{WellNamed, below, in_order, placed_below}
 use Rattle.poly_tiling.specs.Puzzle.{View}
 use Rattle.poly_tiling.specs.Shows.{Shows}
-use Rattle.poly_tiling.specs.Tilings.{IsPin}
 use Rattle.poly_tiling.proofs.Ascending.{distinct_rest, not_head}
 use Rattle.poly_tiling.proofs.Contained.{contains_in, get_low, in_contains, one_place, pairs_cons, pairs_head, pairs_none, pairs_rest}
 use Rattle.poly_tiling.proofs.Listings.{apart_from, below_by, distinct_filter, same_placement, steps_ascend}
@@ -33,7 +32,6 @@ use Rattle.poly_tiling.proofs.Lists.{In, all_in, filter_in, in_append_cases, in_
 use Rattle.poly_tiling.proofs.Orders.{live_once}
 use Rattle.poly_tiling.proofs.Reached.{not_both}
 use Rattle.poly_tiling.proofs.Shown.{live_given, some_same}
-use Rattle.poly_place.specs.Delta.{GivesInOrder}
 use Rattle.poly_place.specs.Interned.{AreNumbersOf, GoesOnWith}
 use Rattle.poly_place.specs.Touched.{AreInOrder, AreMarked, comes_before, touches, touches_named}
 use Rattle.poly_place.proofs.Merging.{pairs_append}
@@ -207,15 +205,3 @@ updated_places v d after x marks new kept fresh both found w s m is k g f l apar
         );
       },
     )
-
-pub updated_order : (d : Layout) (x : Change) (found pins : List Placement) (old between new : List Placement) → IsListOf placement_cmp (λ p. IsPlacement d p × (touches x p ≡ true)) found → IsListOf placement_cmp (IsPin d) pins →
-    GoesOnWith old found between → GoesOnWith between pins new → GivesInOrder d old new
-updated_order d x found pins old between new l m a b = record {
-  places = a.more;
-  pins = b.more;
-  all = b.appended ∙ ap (λ l. l ++ b.more) a.appended;
-  places_up = a.ordered l.ascending;
-  are_places = λ p h. ((l.exact p).0 (a.lacked p h).1).0;
-  pins_up = b.ordered m.ascending;
-  are_pins = λ p h. (m.exact p).0 (b.lacked p h).1;
-}

@@ -45,7 +45,8 @@ pub record IsDelta (v : View) (before after : Layout) (x : Delta) : Type 0 where
   pub pinned : AreNumbersFor v (λ p. IsPin after p × (¬ IsPin before p)) x.pinned.items
   pub unpinned : AreNumbersFor v (λ p. IsPin before p × (¬ IsPin after p)) x.unpinned.items
 
--- new numbers go to placements of the design, in their order, and then to its pins, in their order
+-- new numbers go to placements of the design, in their order, and then to those of its pins that are no placements, in their
+-- order; nothing else has a new number
 pub record GivesInOrder (d : Layout) (old new : List Placement) : Type 0 where
   pub places : List Placement
   pub pins : List Placement
@@ -53,7 +54,7 @@ pub record GivesInOrder (d : Layout) (old new : List Placement) : Type 0 where
   pub places_up : IsAscending placement_cmp places
   pub are_places : (p : Placement) → Contains places p → IsPlacement d p
   pub pins_up : IsAscending placement_cmp pins
-  pub are_pins : (p : Placement) → Contains pins p → IsPin d p
+  pub are_pins : (p : Placement) → Contains pins p → IsPin d p × (¬ IsPlacement d p)
 
 -- what a plan promises: its view is right for the second design and keeps the table's numbers, new numbers are given in
 -- order, and the delta has the differences between the two designs

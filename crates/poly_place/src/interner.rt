@@ -176,8 +176,8 @@ impl Interner {
         Ok(())
     }
 
-    // Takes back the numbers that a refused call gave out.
-    fn forget_from(&mut self, number: usize)
+    /// Takes back the numbers from this one on.
+    pub(crate) fn forget_from(&mut self, number: usize)
         ensures { self.new ≡ take number self.old }
     {
         self.all.truncate(number);

@@ -1,8 +1,8 @@
 //! A design by numbers.
-ghost use Rattle.std.specs.Prelude.{◌≡◌, ◌⊎◌, ◌+◌, ◌<◌, ◌^◌, Err, OnOk, IfOk, IfErr, List, length};
+ghost use Rattle.std.specs.Prelude.{◌≡◌, ◌⊎◌, ◌+◌, ◌<◌, ◌^◌, Err, IfOk, IfErr, length};
 ghost use Rattle.poly_design.specs.Layout.{Layout};
-ghost use Rattle.poly_design.specs.declared.placement.Placement.{Placement as Place};
-ghost use Rattle.poly_place.specs.Interned.{GoesOn, GoesOnWith};
+ghost use Rattle.poly_place.specs.Delta.{GivesInOrder};
+ghost use Rattle.poly_place.specs.Interned.{GoesOn};
 ghost use Rattle.poly_place.specs.Parts.{ArePartsOf};
 ghost use Rattle.poly_place.specs.Right.{IsRight};
 ghost use Rattle.poly_place.specs.Spent.{IsSpent};
@@ -32,7 +32,7 @@ impl Numbered {
     pub(crate) fn of(names: &mut Interner, parts: Parts) -> Result<Numbered, Refusal>
         ensures right { (d : Layout) → ArePartsOf d parts.places.items parts.pins.items parts.bounds.items → IfOk result (λ s. IsRight (record { placements = names.new; live = s.live.items; bounds = s.bounds.items; pins = s.pins.items }) d) }
         ensures grows { GoesOn names.old names.new }
-        ensures gives { OnOk result ((between : List Place) × GoesOnWith names.old parts.places.items between × GoesOnWith between parts.pins.items names.new) }
+        ensures order { (d : Layout) → ArePartsOf d parts.places.items parts.pins.items parts.bounds.items → GivesInOrder d names.old names.new }
         ensures spent { (d : Layout) → ArePartsOf d parts.places.items parts.pins.items parts.bounds.items → result ≡ Err Refusal.Spent → IsSpent names.old d }
         ensures many { result ≡ Err Refusal.Spent → 2 ^ 32 < length names.old + length parts.places.items + length parts.pins.items }
         ensures why { IfErr result (λ e. (e ≡ Refusal.Spent) ⊎ (e ≡ Refusal.Memory)) }

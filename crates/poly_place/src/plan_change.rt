@@ -1,11 +1,11 @@
 //! How a plan is made.
-ghost use Rattle.std.specs.Prelude.{◌≡◌, ◌⊎◌, Err, IfOk, IfErr};
+ghost use Rattle.std.specs.Prelude.{◌≡◌, ◌⊎◌, ◌^◌, ◌≤◌, Err, IfOk, IfErr, length};
 ghost use Rattle.std.specs.Arc.{arc_value};
 ghost use Rattle.poly_design.specs.Changes.{changed};
 ghost use Rattle.poly_design.specs.Layout.{Layout};
 ghost use Rattle.poly_tiling.specs.Names.{WellNamed};
 ghost use Rattle.poly_tiling.specs.Shows.{Shows};
-ghost use Rattle.poly_place.specs.Delta.{IsDelta, IsPlanFor};
+ghost use Rattle.poly_place.specs.Delta.{GivesInOrder, IsDelta, IsPlanFor};
 ghost use Rattle.poly_place.specs.Index.{IsIndex};
 ghost use Rattle.poly_place.specs.Interned.{GoesOn};
 ghost use Rattle.poly_place.specs.Numbered.{numbered_view};
@@ -41,8 +41,10 @@ pub(crate) fn plan_change(
     requires shows { Shows (numbered_view names.old numbered.now) design.now }
     requires after { after.now ≡ changed design.now change.now }
     ensures grows { GoesOn names.old names.new }
+    ensures order { GivesInOrder after.now names.old names.new }
     ensures ok { IfOk result (λ p. IsPlanFor (numbered_view names.old numbered.now) design.now after.now (arc_value p.view) p.delta) }
     ensures given { IfOk result (λ p. (arc_value p.view).placements ≡ names.new) }
+    ensures few { IfOk result (λ p. length (arc_value p.view).placements ≤ 2 ^ 32) }
     ensures spent { result ≡ Err Refusal.Spent → IsSpent names.old after.now }
     ensures why { IfErr result (λ e. (e ≡ Refusal.Spent) ⊎ (e ≡ Refusal.Memory)) }
 {
@@ -64,6 +66,7 @@ fn plan_between(
     requires next { WellNamed (numbered_view names.now next) }
     requires indexed { IsIndex (numbered_view names.now next) index.rows.items }
     ensures view { IfOk result (λ p. arc_value p.view ≡ numbered_view names.now next) }
+    ensures few { IfOk result (λ p. length (arc_value p.view).placements ≤ 2 ^ 32) }
     ensures delta { (before after : Layout) → Shows (numbered_view names.now numbered.now) before → Shows (numbered_view names.now next) after → IfOk result (λ p. IsDelta (numbered_view names.now next) before after p.delta) }
     ensures why { IfErr result (λ e. e ≡ Refusal.Memory) }
 {

@@ -1,11 +1,11 @@
 //! The table: a design by numbers that outlast its changes.
-ghost use Rattle.std.specs.Prelude.{◌≡◌, ◌⊎◌, Err, IfOk, IfErr};
+ghost use Rattle.std.specs.Prelude.{◌≡◌, ◌⊎◌, ◌^◌, ◌≤◌, [], Err, IfOk, IfErr, length};
 ghost use Rattle.std.specs.Arc.{arc_value};
 ghost use Rattle.poly_design.specs.Changes.{changed};
 ghost use Rattle.poly_design.specs.Layout.{Layout};
 ghost use Rattle.poly_design.specs.Limits.{IsDesign};
-ghost use Rattle.poly_tiling.specs.Names.{Grown};
-ghost use Rattle.poly_place.specs.Delta.{IsPlanFor};
+ghost use Rattle.poly_tiling.specs.Names.{Grown, WellNamed};
+ghost use Rattle.poly_place.specs.Delta.{GivesInOrder, IsPlanFor};
 ghost use Rattle.poly_place.specs.Index.{AreNumbersWith};
 ghost use Rattle.poly_place.specs.Right.{IsRight};
 ghost use Rattle.poly_place.specs.Spent.{IsSpent};
@@ -53,6 +53,7 @@ impl Table {
     /// The only refusal is `Memory`.
     pub fn of(alloc: Global, design: &Design) -> Result<Table, Refusal>
         ensures right { IfOk result (λ t. IsRight t design.now) }
+        ensures order { IfOk result (λ t. GivesInOrder design.now [] t.placements) }
         ensures why { IfErr result (λ e. e ≡ Refusal.Memory) }
     {
         let mut names = Interner::new(alloc);
@@ -91,13 +92,15 @@ impl Table {
     /// Fails only with `Memory`, or with `Spent` if the placements that have numbers, and the placements and pins of the
     /// design after the change, are together more than there are numbers. The call leaves the table right for the
     /// design before the change, even if the call is refused. Numbers that the call assigned stay in use, whether or not the
-    /// plan is applied.
+    /// plan is applied. Refused or not, it gives numbers only to placements of the design after the change, in their order, and
+    /// then to those of its pins that are no placements.
     pub fn plan(&mut self, design: &Design, change: &Change) -> Result<Plan, Refusal>
         requires standing { IsRight self.old design.now }
         requires limits { IsDesign (changed design.now change.now) }
         ensures ok { IfOk result (λ p. IsPlanFor self.old design.now (changed design.now change.now) (arc_value p.view) p.delta) }
         ensures last { IfOk result (λ p. (arc_value p.view).placements ≡ self.new.placements) }
         ensures stays { Grown self.old self.new }
+        ensures order { GivesInOrder (changed design.now change.now) self.old.placements self.new.placements }
         ensures right { IsRight self.new design.now }
         ensures spent { result ≡ Err Refusal.Spent → IsSpent self.old.placements (changed design.now change.now) }
         ensures why { IfErr result (λ e. (e ≡ Refusal.Spent) ⊎ (e ≡ Refusal.Memory)) }
@@ -120,7 +123,9 @@ impl Table {
         requires after { after.now ≡ changed design.now change.now }
         ensures ok { IfOk result (λ p. IsPlanFor self.old design.now after.now (arc_value p.view) p.delta) }
         ensures last { IfOk result (λ p. (arc_value p.view).placements ≡ self.new.placements) }
+        ensures few { IfOk result (λ p. length (arc_value p.view).placements ≤ 2 ^ 32) }
         ensures stays { Grown self.old self.new }
+        ensures order { GivesInOrder after.now self.old.placements self.new.placements }
         ensures right { IsRight self.new design.now }
         ensures spent { result ≡ Err Refusal.Spent → IsSpent self.old.placements after.now }
         ensures why { IfErr result (λ e. (e ≡ Refusal.Spent) ⊎ (e ≡ Refusal.Memory)) }
@@ -134,6 +139,16 @@ impl Table {
             change,
             after,
         )
+    }
+
+    /// Takes back each number that the view doesn't have. The view must show the same design, by the table's first numbers. Never
+    /// allocates.
+    pub fn take_back(&mut self, view: &View)
+        requires well { WellNamed view.now }
+        requires first { Grown view.now self.old }
+        ensures { self.new ≡ view.now }
+    {
+        self.names.forget_from(view.number_count());
     }
 
     /// Applies the plan. The table must not have assigned a number since it made the plan. Never allocates.

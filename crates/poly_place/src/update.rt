@@ -2,7 +2,7 @@
 //!
 //! A change touches the placements that cover its cell or belong to its piece. It adds and removes no other placements. So
 //! only the placements that it touches are listed again, and their numbers are merged with those of the other placements.
-ghost use Rattle.std.specs.Prelude.{◌≡◌, ◌⊎◌, ◌++◌, Err, IfErr, IfOk, IsSome, OnOk, false, length, nat_eq, true, ◌≤◌};
+ghost use Rattle.std.specs.Prelude.{◌≡◌, ◌⊎◌, ◌++◌, Err, IfErr, IfOk, IsSome, false, length, nat_eq, true, ◌≤◌};
 ghost use Rattle.std.specs.Cmp.Lexicographic.{pointwise};
 ghost use Rattle.std.specs.List.{list_any};
 ghost use Rattle.std.specs.List.Sorted.{IsPartitionPoint, IsPermutation};
@@ -57,7 +57,7 @@ pub(crate) fn updated(
     ensures right { (d : Layout) → Shows (numbered_view names.old numbered.now) d → AreMarked (numbered_view names.old numbered.now) change.now marks.now → after.now ≡ changed d change.now → IfOk result (λ t. IsRight (numbered_view names.new t.numbered) after.now) }
     ensures found { AreMarked (numbered_view names.old numbered.now) change.now marks.now → IfOk result (λ t. AreNumbersWith (numbered_view names.new t.numbered) (item_of change.now) t.found.items) }
     ensures grows { GoesOn names.old names.new }
-    ensures gives { OnOk result (GivesInOrder after.now names.old names.new) }
+    ensures order { (d : Layout) → Shows (numbered_view names.old numbered.now) d → AreMarked (numbered_view names.old numbered.now) change.now marks.now → after.now ≡ changed d change.now → GivesInOrder after.now names.old names.new }
     ensures spent { result ≡ Err Refusal.Spent → IsSpent names.old after.now }
     ensures why { IfErr result (λ e. (e ≡ Refusal.Spent) ⊎ (e ≡ Refusal.Memory)) }
 {

@@ -1,5 +1,5 @@
 //! The leaves of a tree that holds.
-ghost use Rattle.std.specs.Prelude.{IfErr, OnOk, [], ◌++◌, ◌∷◌, ◌≡◌};
+ghost use Rattle.std.specs.Prelude.{IfErr, OnErr, OnOk, [], ◌++◌, ◌∷◌, ◌≡◌};
 ghost use Rattle.poly_report.specs.Gather.{lists};
 ghost use Rattle.poly_report.specs.Leaves.{tilings};
 ghost use Rattle.poly_report.specs.Trees.{Finds};
@@ -33,10 +33,12 @@ impl Leaves {
     }
 
     /// Adds what a Found at the frame's atoms gives: the base, if it is a tiling that meets the atoms. The only refusal is
-    /// `Memory`.
+    /// `Memory`, and it leaves the leaves as they were.
     pub fn push_found(&mut self, alloc: Global, frame: &Frame<'_>) -> Result<(), Refusal>
         ensures tilings { OnOk result (self.new.tilings.items ≡ self.old.tilings.items ++ tilings frame.now.scene frame.now.atoms Finds) }
         ensures rests { OnOk result (self.new.rests.items ≡ self.old.rests.items) }
+        ensures err_tilings { OnErr result (self.new.tilings.items ≡ self.old.tilings.items) }
+        ensures err_rests { OnErr result (self.new.rests.items ≡ self.old.rests.items) }
         ensures why { IfErr result (λ e. e ≡ Refusal.Memory) }
     {
         if let Some(base) = frame.found() {
@@ -46,10 +48,12 @@ impl Leaves {
         Ok(())
     }
 
-    /// Adds a rest with the frame's atoms. The only refusal is `Memory`.
+    /// Adds a rest with the frame's atoms. The only refusal is `Memory`, and it leaves the leaves as they were.
     pub fn push_rest(&mut self, alloc: Global, frame: &Frame<'_>) -> Result<(), Refusal>
         ensures tilings { OnOk result (self.new.tilings.items ≡ self.old.tilings.items) }
         ensures rests { OnOk result (lists self.new.rests.items ≡ lists self.old.rests.items ++ frame.now.atoms ∷ []) }
+        ensures err_tilings { OnErr result (self.new.tilings.items ≡ self.old.tilings.items) }
+        ensures err_rests { OnErr result (self.new.rests.items ≡ self.old.rests.items) }
         ensures why { IfErr result (λ e. e ≡ Refusal.Memory) }
     {
         let rest = Vec::from_slice(alloc, frame.atoms())?;
@@ -57,8 +61,9 @@ impl Leaves {
         Ok(())
     }
 
-    /// Adds a rest with the frame's atoms and one more atom, without a step on the frame. The only refusal is `Memory`.
-    pub fn push_rest_with(
+    /// Adds a rest with the frame's atoms and one more atom, without a step on the frame. The only refusal is `Memory`, and it
+    /// leaves the leaves as they were.
+    pub(crate) fn push_rest_with(
         &mut self,
         alloc: Global,
         frame: &Frame<'_>,
@@ -66,6 +71,8 @@ impl Leaves {
     ) -> Result<(), Refusal>
         ensures tilings { OnOk result (self.new.tilings.items ≡ self.old.tilings.items) }
         ensures rests { OnOk result (lists self.new.rests.items ≡ lists self.old.rests.items ++ (frame.now.atoms ++ atom ∷ []) ∷ []) }
+        ensures err_tilings { OnErr result (self.new.tilings.items ≡ self.old.tilings.items) }
+        ensures err_rests { OnErr result (self.new.rests.items ≡ self.old.rests.items) }
         ensures why { IfErr result (λ e. e ≡ Refusal.Memory) }
     {
         let mut rest = Vec::from_slice(alloc, frame.atoms())?;

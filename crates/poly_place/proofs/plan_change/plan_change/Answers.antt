@@ -10,6 +10,7 @@ use Rattle.poly_place.specs.Numbered.{numbered_view}
 use Rattle.poly_place.specs.Touched.{AreMarked}
 use Rattle.poly_place.proofs.Grow.{grown_index, grown_marked, grown_shows, grown_well}
 use Rattle.poly_place.proofs.Indexed.{low_row}
+use Rattle.poly_place.proofs.Ordered.{order_none}
 use Rattle.poly_place.proofs.Rows.{rows_up}
 use Rattle.poly_place.proofs.plan_change.plan_change.Goals as goal
 
@@ -68,9 +69,40 @@ returns-clause-ok c =
     subst (λ (w : View). IsPlanFor t c.args.design.now c.args.after.now w c.in_ok-plan.plan.delta) (sym c.in_ok-plan.ensures.view) (record {
       right = right;
       names = (g.more, g.appended);
-      order = c.in_ok-update.ensures.gives;
+      order = c.in_ok-update.ensures.order c.args.design.now c.requires.shows marked c.requires.after;
       delta = c.in_ok-plan.ensures.delta c.args.design.now c.args.after.now (grown_shows t c.updated.new.names c.args.design.now c.requires.well g c.requires.shows) right.shows;
     })
 
 pub returns-clause-given : goal.returns-clause-given
 returns-clause-given c = ap (λ (w : View). w.placements) c.in_ok-plan.ensures.view
+
+pub returns-in_err-marks-clause-order : goal.returns-in_err-marks-clause-order
+returns-in_err-marks-clause-order c = order_none c.args.after.now c.args.names.now c.args.names.now refl
+
+pub returns-in_err-update-clause-order : goal.returns-in_err-update-clause-order
+returns-in_err-update-clause-order c =
+    let t : View = numbered_view c.args.names.now c.args.numbered.now in
+    let are : AreMarked t c.args.change.now c.in_ok-marks.marks.items = c.in_ok-marks.ensures.ok t refl c.requires.indexed in
+    let marked : AreMarked t c.args.change.now c.deref.result.now = subst (λ (l : List Bool). AreMarked t c.args.change.now l) (sym c.deref.ensures.value) are in
+    c.in_err-update.ensures.order c.args.design.now c.requires.shows marked c.requires.after
+
+pub returns-in_err-next-clause-order : goal.returns-in_err-next-clause-order
+returns-in_err-next-clause-order c =
+    let t : View = numbered_view c.args.names.now c.args.numbered.now in
+    let are : AreMarked t c.args.change.now c.in_ok-marks.marks.items = c.in_ok-marks.ensures.ok t refl c.requires.indexed in
+    let marked : AreMarked t c.args.change.now c.deref.result.now = subst (λ (l : List Bool). AreMarked t c.args.change.now l) (sym c.deref.ensures.value) are in
+    c.in_ok-update.ensures.order c.args.design.now c.requires.shows marked c.requires.after
+
+pub returns-in_err-plan-clause-order : goal.returns-in_err-plan-clause-order
+returns-in_err-plan-clause-order c =
+    let t : View = numbered_view c.args.names.now c.args.numbered.now in
+    let are : AreMarked t c.args.change.now c.in_ok-marks.marks.items = c.in_ok-marks.ensures.ok t refl c.requires.indexed in
+    let marked : AreMarked t c.args.change.now c.deref.result.now = subst (λ (l : List Bool). AreMarked t c.args.change.now l) (sym c.deref.ensures.value) are in
+    c.in_ok-update.ensures.order c.args.design.now c.requires.shows marked c.requires.after
+
+pub returns-clause-order : goal.returns-clause-order
+returns-clause-order c =
+    let t : View = numbered_view c.args.names.now c.args.numbered.now in
+    let are : AreMarked t c.args.change.now c.in_ok-marks.marks.items = c.in_ok-marks.ensures.ok t refl c.requires.indexed in
+    let marked : AreMarked t c.args.change.now c.deref.result.now = subst (λ (l : List Bool). AreMarked t c.args.change.now l) (sym c.deref.ensures.value) are in
+    c.in_ok-update.ensures.order c.args.design.now c.requires.shows marked c.requires.after

@@ -1,4 +1,4 @@
-use Rattle.std.proofs.Common.{Err, List, ap, false, subst, sym, ℕ, ◌++◌, ◌∙◌, ◌≡◌}
+use Rattle.std.proofs.Common.{Err, List, ap, false, refl, subst, sym, ℕ, ◌++◌, ◌∙◌, ◌≡◌}
 use Rattle.std.specs.List.{Contains}
 use Rattle.std.specs.List.Sorted.{IsPermutation}
 use Rattle.std.specs.Prelude.{filter, not, slice_index_or}
@@ -8,10 +8,11 @@ use Rattle.poly_design.specs.declared.placement.Placement.{Placement}
 use Rattle.poly_place.specs.Interned.{AreNumbersOf, GoesOnWith}
 use Rattle.poly_place.specs.Numbered.{numbered_view}
 use Rattle.poly_place.proofs.Found.{found_numbers}
+use Rattle.poly_place.proofs.Ordered.{has_number, order_none, order_pins, order_places}
 use Rattle.poly_place.proofs.Righted.{right_from}
 use Rattle.poly_place.proofs.RunOut.{spent_pins, spent_places}
 use Rattle.poly_place.specs.Touched.{AreInOrder}
-use Rattle.poly_place.proofs.Updated.{kept_up, numbers_up, updated_order, updated_places, unmarked_in}
+use Rattle.poly_place.proofs.Updated.{kept_up, numbers_up, updated_places, unmarked_in}
 use Rattle.poly_place.proofs.update.updated.Goals as goal
 
 pub returns-in_err-fresh-clause-spent : goal.returns-in_err-fresh-clause-spent
@@ -32,12 +33,6 @@ returns-in_err-pins-clause-spent c =
     (λ q h. ((c.in_ok-found.ensures.ok.exact q).0 (subst (λ (l : List Placement). Contains l q) c.deref-2.ensures.value h)).0)
     (λ q h. (c.in_ok-pinned.ensures.ok.exact q).0 (subst (λ (l : List Placement). Contains l q) c.deref-5.ensures.value h))
     c.in_ok-fresh.ensures.gives (c.in_err-pins.ensures.spent (ap (λ x. Err x) same)))
-
-pub returns-clause-gives : goal.returns-clause-gives
-returns-clause-gives c =
-    updated_order c.args.after.now c.args.change.now c.in_ok-found.found.items c.in_ok-pinned.pinned.items c.args.names.now c.give_all.new.self c.give_all-2.new.self c.in_ok-found.ensures.ok c.in_ok-pinned.ensures.ok
-    (subst (λ (l : List Placement). GoesOnWith c.args.names.now l c.give_all.new.self) c.deref-2.ensures.value c.in_ok-fresh.ensures.gives)
-    (subst (λ (l : List Placement). GoesOnWith c.give_all.new.self l c.give_all-2.new.self) c.deref-5.ensures.value c.in_ok-pins.ensures.gives)
 
 pub merged-requires-clause-kept_up : goal.merged-requires-clause-kept_up
 merged-requires-clause-kept_up c =
@@ -97,3 +92,50 @@ returns-clause-found c = λ m.
     c.in_ok-found.ensures.ok
     (subst (λ (l : List ℕ). IsPermutation (l ++ c.in_ok-fresh.fresh.items) c.in_ok-live.live.items) c.deref-3.ensures.value
     (subst (λ (l : List ℕ). IsPermutation (c.deref-3.result.now ++ l) c.in_ok-live.live.items) c.deref-4.ensures.value c.in_ok-live.ensures.same))
+
+pub returns-in_err-found-clause-order : goal.returns-in_err-found-clause-order
+returns-in_err-found-clause-order c = λ d s m is. order_none c.args.after.now c.args.names.now c.args.names.now refl
+
+pub returns-in_err-pinned-clause-order : goal.returns-in_err-pinned-clause-order
+returns-in_err-pinned-clause-order c = λ d s m is. order_none c.args.after.now c.args.names.now c.args.names.now refl
+
+pub returns-in_err-bounds-clause-order : goal.returns-in_err-bounds-clause-order
+returns-in_err-bounds-clause-order c = λ d s m is. order_none c.args.after.now c.args.names.now c.args.names.now refl
+
+pub returns-in_err-kept-clause-order : goal.returns-in_err-kept-clause-order
+returns-in_err-kept-clause-order c = λ d s m is. order_none c.args.after.now c.args.names.now c.args.names.now refl
+
+pub returns-in_err-live-clause-order : goal.returns-in_err-live-clause-order
+returns-in_err-live-clause-order c = λ d s m is.
+    order_places c.args.after.now c.in_ok-found.found.items c.args.names.now c.give_all.new.self c.give_all.new.self c.in_ok-found.ensures.ok.ascending (λ p h. ((c.in_ok-found.ensures.ok.exact p).0 h).0)
+    (subst (λ (l : List Placement). GoesOnWith c.args.names.now l c.give_all.new.self) c.deref-2.ensures.value c.in_ok-fresh.ensures.gives) refl
+
+pub returns-in_err-fresh-clause-order : goal.returns-in_err-fresh-clause-order
+returns-in_err-fresh-clause-order c = λ d s m is. order_none c.args.after.now c.args.names.now c.give_all.new.self c.in_err-fresh.ensures.err
+
+pub returns-in_err-pins-clause-order : goal.returns-in_err-pins-clause-order
+returns-in_err-pins-clause-order c = λ d s m is.
+    order_places c.args.after.now c.in_ok-found.found.items c.args.names.now c.give_all.new.self c.give_all-2.new.self c.in_ok-found.ensures.ok.ascending (λ p h. ((c.in_ok-found.ensures.ok.exact p).0 h).0)
+    (subst (λ (l : List Placement). GoesOnWith c.args.names.now l c.give_all.new.self) c.deref-2.ensures.value c.in_ok-fresh.ensures.gives) c.in_err-pins.ensures.err
+
+pub returns-clause-order : goal.returns-clause-order
+returns-clause-order c = λ d s m is.
+    let w = c.requires in
+    let v = numbered_view c.args.names.now c.args.numbered.now in
+    let x = c.args.change.now in
+    let after = c.args.after.now in
+    let between = c.give_all.new.self in
+    let marks = c.args.marks.now in
+    let t = updated_places v d after x marks between c.in_ok-kept.kept.items c.in_ok-fresh.fresh.items c.in_ok-live.live.items c.in_ok-found.found.items w s m is
+    (c.in_ok-kept.ensures ∙ ap (λ (l : List ℕ). filter (λ n. not (slice_index_or marks n false)) l) c.deref.ensures.value)
+    (subst (λ (l : List Placement). GoesOnWith c.args.names.now l between) c.deref-2.ensures.value c.in_ok-fresh.ensures.gives)
+    (subst (λ (l : List Placement). AreNumbersOf between c.in_ok-fresh.fresh.items l) c.deref-2.ensures.value c.in_ok-fresh.ensures.ok)
+    c.in_ok-found.ensures.ok c.in_ok-fresh.ensures.numbered.apart
+    (subst (λ (l : List ℕ). IsPermutation (l ++ c.in_ok-fresh.fresh.items) c.in_ok-live.live.items) c.deref-3.ensures.value
+    (subst (λ (l : List ℕ). IsPermutation (c.deref-3.result.now ++ l) c.in_ok-live.live.items) c.deref-4.ensures.value c.in_ok-live.ensures.same))
+    c.in_ok-live.ensures.sorted in
+    order_pins after c.in_ok-found.found.items c.in_ok-pinned.pinned.items c.args.names.now between c.give_all-2.new.self c.in_ok-found.ensures.ok.ascending (λ p h. ((c.in_ok-found.ensures.ok.exact p).0 h).0)
+    (λ p h. has_number between c.in_ok-live.live.items t.0 t.1 p ((t.2.exact p).1 h))
+    c.in_ok-pinned.ensures.ok
+    (subst (λ (l : List Placement). GoesOnWith c.args.names.now l between) c.deref-2.ensures.value c.in_ok-fresh.ensures.gives)
+    (subst (λ (l : List Placement). GoesOnWith between l c.give_all-2.new.self) c.deref-5.ensures.value c.in_ok-pins.ensures.gives)

@@ -3,8 +3,9 @@ use Rattle.std.proofs.lemmas.Result.{err_from_is_err_and}
 use Rattle.poly_grid.specs.declared.refusal.Refusal.TheVariants.{Spent}
 use Rattle.std.specs.List.{Contains}
 use Rattle.poly_design.specs.declared.placement.Placement.{Placement}
-use Rattle.poly_place.specs.Interned.{AreNumbersOf}
+use Rattle.poly_place.specs.Interned.{AreNumbersOf, GoesOnWith}
 use Rattle.poly_place.proofs.Numbers.{goes_by, goes_none, goes_twice}
+use Rattle.poly_place.proofs.Ordered.{has_number, order_none, order_pins, order_places}
 use Rattle.poly_place.proofs.Righted.{right_from}
 use Rattle.poly_place.proofs.RunOut.{spent_pins, spent_places}
 use Rattle.poly_place.proofs.numbered.Numbered.of.Goals as goal
@@ -46,3 +47,22 @@ returns-in_err-pins-clause-spent c = λ d parts.
     (λ q h. (parts.places.exact q).0 (subst (λ (l : List Placement). Contains l q) c.deref.ensures.value h))
     (λ q h. (parts.pins.exact q).0 (subst (λ (l : List Placement). Contains l q) c.deref-2.ensures.value h))
     c.in_ok-live.ensures.gives (c.in_err-pins.ensures.spent (ap (λ x. Err x) same)))
+
+pub returns-in_err-live-clause-order : goal.returns-in_err-live-clause-order
+returns-in_err-live-clause-order c = λ d parts. order_none d c.args.names.now c.give_all.new.self c.in_err-live.ensures.err
+
+pub returns-in_err-pins-clause-order : goal.returns-in_err-pins-clause-order
+returns-in_err-pins-clause-order c = λ d parts.
+    let places = c.args.parts.places.items in
+    order_places d places c.args.names.now c.give_all.new.self c.give_all-2.new.self parts.places.ascending (λ p h. (parts.places.exact p).0 h)
+    (subst (λ (l : List Placement). GoesOnWith c.args.names.now l c.give_all.new.self) c.deref.ensures.value c.in_ok-live.ensures.gives) c.in_err-pins.ensures.err
+
+pub returns-clause-order : goal.returns-clause-order
+returns-clause-order c = λ d parts.
+    let places = c.args.parts.places.items in
+    let between = c.give_all.new.self in
+    order_pins d places c.args.parts.pins.items c.args.names.now between c.give_all-2.new.self parts.places.ascending (λ p h. (parts.places.exact p).0 h)
+    (λ p h. has_number between c.in_ok-live.live.items places (subst (λ (l : List Placement). AreNumbersOf between c.in_ok-live.live.items l) c.deref.ensures.value c.in_ok-live.ensures.ok) p ((parts.places.exact p).1 h))
+    parts.pins
+    (subst (λ (l : List Placement). GoesOnWith c.args.names.now l between) c.deref.ensures.value c.in_ok-live.ensures.gives)
+    (subst (λ (l : List Placement). GoesOnWith between l c.give_all-2.new.self) c.deref-2.ensures.value c.in_ok-pins.ensures.gives)

@@ -2,9 +2,11 @@ use Rattle.std.proofs.Common.{[], refl, subst, sym}
 use Rattle.std.specs.Arc.{arc_value}
 use Rattle.std.specs.Prelude.{IfOk}
 use Rattle.std.proofs.lemmas.List.{append-nil}
+use Rattle.poly_design.specs.Changes.{changed}
 use Rattle.poly_design.specs.Layout.{Layout}
 use Rattle.poly_place.specs.declared.plan.Plan.{Plan}
-use Rattle.poly_place.specs.Delta.{IsPlanFor}
+use Rattle.poly_place.specs.Delta.{GivesInOrder, IsPlanFor}
+use Rattle.poly_place.proofs.Ordered.{order_none}
 use Rattle.poly_place.proofs.table.Table.plan.Goals as goal
 
 pub returns-in-Ok-clause-ok : goal.returns-in-Ok-clause-ok
@@ -12,3 +14,9 @@ returns-in-Ok-clause-ok c = subst (λ (d : Layout). IfOk c.plan_by.result (λ (p
 
 pub returns-in-Err-clause-stays : goal.returns-in-Err-clause-stays
 returns-in-Err-clause-stays c = (([], sym (append-nil c.args.self.now.placements)), refl, refl, refl)
+
+pub returns-in-Ok-clause-order : goal.returns-in-Ok-clause-order
+returns-in-Ok-clause-order c = subst (λ (d : Layout). GivesInOrder d c.args.self.now.placements c.plan_by.new.self.placements) c.in-Ok.ensures.ok c.plan_by.ensures.order
+
+pub returns-in-Err-clause-order : goal.returns-in-Err-clause-order
+returns-in-Err-clause-order c = order_none (changed c.args.design.now c.args.change.now) c.args.self.now.placements c.args.self.now.placements refl
