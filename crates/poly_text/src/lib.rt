@@ -10,6 +10,12 @@
 //! - [`Command`]: an edit, an undo, a redo, a question about the tilings, or `status`.
 //! - [`Question`]: what `browse` asks of a tiling.
 //!
+//! Words of a line:
+//!
+//! - [`words_of`]: the words.
+//! - [`item_of`], [`placement_of`]: the item or the placement that a word names.
+//! - [`number_of`]: the number that a word writes.
+//!
 //! Replies:
 //!
 //! - [`ReplyLine`]: a buffer for one reply line, allocated once, with a method for each kind of reply line but refusals.
@@ -23,6 +29,7 @@ mod puzzle;
 mod replies;
 mod words;
 
-pub use command::{Command, Question, asked};
+pub use command::{Command, Question, asked, item_of, placement_of};
 pub use puzzle::puzzle_of;
 pub use replies::{ReplyLine, refusal_line};
+pub use words::{number_of, words_of};

@@ -19,6 +19,7 @@ mod edits;
 mod queries;
 mod question;
 
+pub use queries::{item_of, placement_of};
 pub use question::Question;
 
 /// What a command line asks for.

@@ -21,9 +21,11 @@ enum QueryWord {
     Covers(Item),
 }
 
-// The placement that a word `+NAME=CELL/CELL/..` or `-NAME=CELL/CELL/..` names. `text` is the word without its sign.
+/// Returns the placement that the text `NAME=CELL/CELL/..` names, or `None` if its list of cells has over 16 cells or a cell
+/// twice. Fails with `BadCommand` if the text has no `=`, then with `BadName` if the name isn't valid, then with `BadCommand`
+/// if a cell is malformed, then with `BadCell` if a coordinate is over 63; or with `Memory`.
 #[tactic(auto, unfolding(crate::specs::Queries::named_cells))]
-fn placement_of(alloc: Global, text: &[u8]) -> Result<Option<Placement>, Refusal>
+pub fn placement_of(alloc: Global, text: &[u8]) -> Result<Option<Placement>, Refusal>
     ensures ok { IfOk result (λ made. (named : Named) × (named_cells text.now ≡ Ok named) × Makes named made) }
     ensures why { IfErr result (λ e. (e ≡ Refusal.Memory) ⊎ (named_cells text.now ≡ Err e)) }
 {
@@ -36,9 +38,10 @@ fn placement_of(alloc: Global, text: &[u8]) -> Result<Option<Placement>, Refusal
     }
 }
 
-// The item that a word `@x,y` or `@NAME` names. `text` is the word without its `@`.
+/// Returns the item that the text names: a cell if it has a comma, otherwise a piece. Fails with `BadCommand` if a cell is
+/// malformed, with `BadCell` if a coordinate is over 63, and with `BadName` if the name of a piece isn't valid.
 #[tactic(auto, unfolding(crate::specs::Queries::item_of))]
-fn item_of(text: &[u8]) -> Result<Item, Refusal>
+pub fn item_of(text: &[u8]) -> Result<Item, Refusal>
     ensures { result ≡ item_of text.now }
 {
     if index_of(text, b',').is_some() {
