@@ -178,7 +178,7 @@ undone_full s e p (inr u) q = (u.0, u.1, u.2, made u.3)
 
     made : IsNotMade kind.Undo (inverse_of u.0.change) s e → HasOverTilings 1000000 (changed s.design (inverse_of u.0.change))
     made (inl n) = absurd (no_spent (sym n.0 ∙ q))
-    made (inr (inl f)) = subst (λ d. HasOverTilings 1000000 d) (ap (λ ws. (undone s f.1.0 ws).design) u.2) (step_over 1000000 s (Undo f.1.0) p (subst (λ ws. LeadsBy s inverse_of ws f.1.0) (sym u.2) f.1.1) f.1.2)
+    made (inr (inl f)) = subst (λ d. HasOverTilings 1000000 d) (ap (λ ws. (undone s f.1.0 ws).design) u.2) (step_over 1000000 s (Undo f.1.0) p (subst (λ ws. LeadsBy s inverse_of ws f.1.0) (sym u.2) f.1.1) f.1.2.0)
     made (inr (inr m)) = absurd (no_memory (sym m ∙ q))
 
 pub redone_full : (s : State) (e : Refusal) → Whole s → IsNotRedone s e → e ≡ CatalogueFull → RedoIsFull s
@@ -196,5 +196,5 @@ redone_full s e p (inr u) q = (u.0, u.1, u.2, made u.3)
 
     made : IsNotMade kind.Redo u.0.change s e → HasOverTilings 1000000 (changed s.design u.0.change)
     made (inl n) = absurd (no_spent (sym n.0 ∙ q))
-    made (inr (inl f)) = subst (λ d. HasOverTilings 1000000 d) (ap (λ ws. (redone s f.1.0 ws).design) u.2) (step_over 1000000 s (Redo f.1.0) p (subst (λ ws. LeadsBy s (λ x. x) ws f.1.0) (sym u.2) f.1.1) f.1.2)
+    made (inr (inl f)) = subst (λ d. HasOverTilings 1000000 d) (ap (λ ws. (redone s f.1.0 ws).design) u.2) (step_over 1000000 s (Redo f.1.0) p (subst (λ ws. LeadsBy s (λ x. x) ws f.1.0) (sym u.2) f.1.1) f.1.2.0)
     made (inr (inr m)) = absurd (no_memory (sym m ∙ q))

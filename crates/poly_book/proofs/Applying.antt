@@ -8,7 +8,7 @@ use Rattle.poly_design.specs.Limits.{IsDesign}
 use Rattle.poly_design.specs.declared.change.Change.{Change}
 use Rattle.poly_tiling.specs.Puzzle.{View}
 use Rattle.poly_tiling.specs.Names.{Grown}
-use Rattle.poly_tiling.proofs.Grown.{grown_on, grown_self}
+use Rattle.poly_tiling.proofs.Grown.{grown_self}
 use Rattle.poly_atom.specs.declared.atom.Atom.{Atom}
 use Rattle.poly_atom.specs.Guards.{guards}
 use Rattle.poly_place.specs.Right.{IsRight}
@@ -24,13 +24,14 @@ use Rattle.poly_book.specs.declared.step.Step.{Step}
 use Rattle.poly_book.specs.declared.task.Pending.{Pending}
 use Rattle.poly_book.specs.Events.{Goes, Leads, LeadsBy, moved, redone, step, undone}
 use Rattle.poly_book.specs.Keeps.{KeepsOf}
-use Rattle.poly_book.specs.Meaning.{AreTasks, shown, way_by, way_of, ways_of}
+use Rattle.poly_book.specs.Meaning.{AreHeld, AreTasks, shown, way_by, way_of, ways_of}
 use Rattle.poly_book.specs.Partition.{Becomes}
 use Rattle.poly_book.specs.Shelves.{is_kept, newest, way_back}
 use Rattle.poly_book.specs.States.{State, Way}
 use Rattle.poly_book.specs.Changing.{CanNote, IsTop, Noted, event_of, shelf_at, stood_by}
 use Rattle.poly_book.proofs.Alive.{becomes_lives}
 use Rattle.poly_book.proofs.Changes.{Did, all_numbered, changed_by_way, kept_way, moved_shown, new_tasks, newest_all, ways_newest, ways_push}
+use Rattle.poly_book.proofs.Holding.{are_held_push, held_after, held_left, is_held_push, ways_stay}
 use Rattle.poly_book.proofs.Noted.{did_noted}
 use Rattle.poly_book.proofs.Proved.{steps_keep_whole_lem}
 
@@ -44,22 +45,22 @@ can_note kind.Redo h x t = some_next h.redo t.0 t.1
 
 -- The ways of `from` are the way of `top` followed by the ways of `left`. The ways of `made` are a new way of the same change
 -- followed by the ways of `to`.
-record Moved (from to left made : List (Beside Change Kept)) (top : Beside Change Kept) (kept : Kept) : Type 0 where
-  was : ways_of from ≡ way_of top ∷ ways_of left
-  now : ways_of made ≡ way_by top.change (Some kept) ∷ ways_of to
+record Moved (log : List (List Atom)) (from to left made : List (Beside Change Kept)) (top : Beside Change Kept) (kept : Kept) : Type 0 where
+  was : ways_of log from ≡ way_of log top ∷ ways_of log left
+  now : ways_of log made ≡ way_by log top.change (Some kept) ∷ ways_of log to
 
-moves_ways : (from to left made : List (Beside Change Kept)) (kept : Kept) (stood : Option Kept) (top : Beside Change Kept) → Moves from to left made (Some kept) stood → next_of from ≡ Some top → Moved from to left made top kept
-moves_ways from to left made kept stood top m e =
+moves_ways : (log : List (List Atom)) (from to left made : List (Beside Change Kept)) (kept : Kept) (stood : Option Kept) (top : Beside Change Kept) → Moves from to left made (Some kept) stood → next_of from ≡ Some top → Moved log from to left made top kept
+moves_ways log from to left made kept stood top m e =
     let is : m.step ≡ top = step_from_next from to left made (Some kept) stood top m e in
     record {
-      was = ap (λ xs. ways_of xs) m.taken ∙ ways_push left m.step ∙ ap (λ s. way_of s ∷ ways_of left) is;
-      now = ap (λ xs. ways_of xs) m.put ∙ ways_push to _ ∙ ap (λ s. way_by s.change (Some kept) ∷ ways_of to) is;
+      was = ap (λ xs. ways_of log xs) m.taken ∙ ways_push log left m.step ∙ ap (λ s. way_of log s ∷ ways_of log left) is;
+      now = ap (λ xs. ways_of log xs) m.put ∙ ways_push log to _ ∙ ap (λ s. way_by log s.change (Some kept) ∷ ways_of log to) is;
     }
 
-length-ways : (xs : List (Beside Change Kept)) → length (ways_of xs) ≡ length xs
-length-ways xs = mapped_length (reverse xs) ∙ length-reverse xs
+length-ways : (log : List (List Atom)) (xs : List (Beside Change Kept)) → length (ways_of log xs) ≡ length xs
+length-ways log xs = mapped_length (reverse xs) ∙ length-reverse xs
   where
-    mapped_length : (ss : List (Beside Change Kept)) → length (map (λ s. way_of s) ss) ≡ length ss
+    mapped_length : (ss : List (Beside Change Kept)) → length (map (λ s. way_of log s) ss) ≡ length ss
     mapped_length [] = refl
     mapped_length (s ∷ ss) = omega (arith, mapped_length ss)
 
@@ -67,40 +68,51 @@ pub did_becomes : {o d d2 : Layout} {v w t2 : View} {ls ls2 : List (List ℕ)} {
     Did o d d2 v w t2 ls ls2 log log2 ps ps2 fresh flags n n2 h h2 ss ss2 es es2 k x kept → AreTasks log ps → length log ≡ length ss → IsTop k h x →
     Becomes (step (shown o d v ls log ps n h ss es) (event_of k x w)) (shown o d2 w ls2 log2 ps2 n2 h2 ss2 es2)
 did_becomes {o} {d} {d2} {v} {w} {t2} {ls} {ls2} {log} {log2} {ps} {ps2} {fresh} {flags} {n} {n2} {h} {h2} {ss} {ss2} {es} {es2} {x} {kept} kind.Edit c a l t =
+    let s = shown o d v ls log ps n h ss es in
     let added : Beside Change Kept = record { change = x; kept = Some kept } in
-    let back : ways_of h2.undo ≡ newest 256 (way_back (shown o d v ls log ps n h ss es) x w ∷ ways_of h.undo) =
-    ap (λ xs. ways_of xs) c.noted.0 ∙ ways_newest (h.undo ++ added ∷ []) ∙ ap (λ ws. newest 256 ws) (ways_push h.undo added ∙ ap (λ b. b ∷ ways_of h.undo) (kept_way c l x)) in
-    let forth : ways_of h2.redo ≡ [] = ap (λ xs. ways_of xs) c.noted.1 in
-    moved_shown c a l (newest 256 (way_back (shown o d v ls log ps n h ss es) x w ∷ ways_of h.undo)) [] back forth
+    let old : ways_of log2 h.undo ≡ ways_of log h.undo = ways_stay log log2 (guards v w) h.undo c.log_is c.held.0 in
+    let first : ways_of log2 (h.undo ++ added ∷ []) ≡ way_back s x w ∷ ways_of log h.undo =
+    ways_push log2 h.undo added ∙ ap (λ b. b ∷ ways_of log2 h.undo) (kept_way c l x) ∙ ap (λ bs. way_back s x w ∷ bs) old in
+    let back : ways_of log2 h2.undo ≡ newest 256 (way_back s x w ∷ ways_of log h.undo) =
+    ap (λ xs. ways_of log2 xs) c.noted.0 ∙ ways_newest log2 (h.undo ++ added ∷ []) ∙ ap (λ ws. newest 256 ws) first in
+    let forth : ways_of log2 h2.redo ≡ [] = ap (λ xs. ways_of log2 xs) c.noted.1 in
+    moved_shown c a l (newest 256 (way_back s x w ∷ ways_of log h.undo)) [] back forth
 did_becomes {o} {d} {d2} {v} {w} {t2} {ls} {ls2} {log} {log2} {ps} {ps2} {fresh} {flags} {n} {n2} {h} {h2} {ss} {ss2} {es} {es2} {x} {kept} kind.Undo c a l t =
     let s = shown o d v ls log ps n h ss es in
     let top = t.0 in
-    let b = way_of top in
-    let m = moves_ways h.undo h.redo h2.undo h2.redo kept c.noted.0 top c.noted.1 t.1 in
-    let y : b.change ≡ top.change = changed_by_way top.change top.kept in
-    let forth : ways_of h2.redo ≡ way_back s top.change w ∷ ways_of h.redo = m.now ∙ ap (λ z. z ∷ ways_of h.redo) (kept_way c l top.change) in
+    let b = way_of log top in
+    let m = moves_ways log h.undo h.redo h2.undo h2.redo kept c.noted.0 top c.noted.1 t.1 in
+    let m2 = moves_ways log2 h.undo h.redo h2.undo h2.redo kept c.noted.0 top c.noted.1 t.1 in
+    let y : b.change ≡ top.change = changed_by_way log top.change top.kept in
+    let left : ways_of log2 h2.undo ≡ ways_of log h2.undo = ways_stay log log2 (guards v w) h2.undo c.log_is (held_left log h.undo h.redo h2.undo h2.redo (Some kept) c.noted.0 c.noted.1 c.held.0) in
+    let old : ways_of log2 h.redo ≡ ways_of log h.redo = ways_stay log log2 (guards v w) h.redo c.log_is c.held.1 in
+    let forth : ways_of log2 h2.redo ≡ way_back s top.change w ∷ ways_of log h.redo = m2.now ∙ ap (λ z. z ∷ ways_of log2 h.redo) (kept_way c l top.change) ∙ ap (λ bs. way_back s top.change w ∷ bs) old in
     let e1 : x ≡ inverse_of b.change = t.2 ∙ ap inverse_of (sym y) in
-    let e2 : stood_by kind.Undo h ≡ b.shelf = ap shelf_at t.1 in
-    let same : moved s kind.Undo x w (stood_by kind.Undo h) (is_kept (stood_by kind.Undo h)) (ways_of h2.undo) (way_back s top.change w ∷ ways_of h.redo) ≡ undone s w (b ∷ ways_of h2.undo) =
-    λ i. moved s kind.Undo (e1 i) w (e2 i) (is_kept (e2 i)) (ways_of h2.undo) (way_back s (sym y i) w ∷ ways_of h.redo) in
+    let e2 : stood_by log kind.Undo h ≡ b.shelf = ap (λ z. shelf_at log z) t.1 in
+    let same : moved s kind.Undo x w (stood_by log kind.Undo h) (is_kept (stood_by log kind.Undo h)) (ways_of log h2.undo) (way_back s top.change w ∷ ways_of log h.redo) ≡ undone s w (b ∷ ways_of log h2.undo) =
+    λ i. moved s kind.Undo (e1 i) w (e2 i) (is_kept (e2 i)) (ways_of log h2.undo) (way_back s (sym y i) w ∷ ways_of log h.redo) in
     let is = same ∙ ap (λ ws. undone s w ws) (sym m.was) in
-    subst (λ z. Becomes z (shown o d2 w ls2 log2 ps2 n2 h2 ss2 es2)) is (moved_shown c a l (ways_of h2.undo) (way_back s top.change w ∷ ways_of h.redo) refl forth)
+    subst (λ z. Becomes z (shown o d2 w ls2 log2 ps2 n2 h2 ss2 es2)) is (moved_shown c a l (ways_of log h2.undo) (way_back s top.change w ∷ ways_of log h.redo) left forth)
 did_becomes {o} {d} {d2} {v} {w} {t2} {ls} {ls2} {log} {log2} {ps} {ps2} {fresh} {flags} {n} {n2} {h} {h2} {ss} {ss2} {es} {es2} {x} {kept} kind.Redo c a l t =
     let s = shown o d v ls log ps n h ss es in
     let top = t.0 in
-    let b = way_of top in
-    let m = moves_ways h.redo h.undo h2.redo h2.undo kept c.noted.0 top c.noted.1 t.1 in
-    let y : b.change ≡ top.change = changed_by_way top.change top.kept in
+    let b = way_of log top in
+    let m = moves_ways log h.redo h.undo h2.redo h2.undo kept c.noted.0 top c.noted.1 t.1 in
+    let m2 = moves_ways log2 h.redo h.undo h2.redo h2.undo kept c.noted.0 top c.noted.1 t.1 in
+    let y : b.change ≡ top.change = changed_by_way log top.change top.kept in
+    let left : ways_of log2 h2.redo ≡ ways_of log h2.redo = ways_stay log log2 (guards v w) h2.redo c.log_is (held_left log h.redo h.undo h2.redo h2.undo (Some kept) c.noted.0 c.noted.1 c.held.1) in
+    let old : ways_of log2 h.undo ≡ ways_of log h.undo = ways_stay log log2 (guards v w) h.undo c.log_is c.held.0 in
     let e1 : x ≡ b.change = t.2 ∙ sym y in
-    let e2 : stood_by kind.Redo h ≡ b.shelf = ap shelf_at t.1 in
-    let first : ways_of h2.undo ≡ way_back s b.change w ∷ ways_of h.undo = m.now ∙ ap (λ z. z ∷ ways_of h.undo) (kept_way c l top.change ∙ ap (λ z. way_back s z w) (sym y)) in
+    let e2 : stood_by log kind.Redo h ≡ b.shelf = ap (λ z. shelf_at log z) t.1 in
+    let first : ways_of log2 h2.undo ≡ way_back s b.change w ∷ ways_of log h.undo =
+    m2.now ∙ ap (λ z. z ∷ ways_of log2 h.undo) (kept_way c l top.change ∙ ap (λ z. way_back s z w) (sym y)) ∙ ap (λ bs. way_back s b.change w ∷ bs) old in
     let some = some_next h.redo top t.1 in
-    let few : length (way_back s b.change w ∷ ways_of h.undo) ≤ 256 = omega (arith, length-ways h.undo, some, c.few_ways) in
-    let back : ways_of h2.undo ≡ newest 256 (way_back s b.change w ∷ ways_of h.undo) = first ∙ sym (newest_all 256 (way_back s b.change w ∷ ways_of h.undo) few) in
-    let same : moved s kind.Redo x w (stood_by kind.Redo h) (is_kept (stood_by kind.Redo h)) (newest 256 (way_back s b.change w ∷ ways_of h.undo)) (ways_of h2.redo) ≡ redone s w (b ∷ ways_of h2.redo) =
-    λ i. moved s kind.Redo (e1 i) w (e2 i) (is_kept (e2 i)) (newest 256 (way_back s b.change w ∷ ways_of h.undo)) (ways_of h2.redo) in
+    let few : length (way_back s b.change w ∷ ways_of log h.undo) ≤ 256 = omega (arith, length-ways log h.undo, some, c.few_ways) in
+    let back : ways_of log2 h2.undo ≡ newest 256 (way_back s b.change w ∷ ways_of log h.undo) = first ∙ sym (newest_all 256 (way_back s b.change w ∷ ways_of log h.undo) few) in
+    let same : moved s kind.Redo x w (stood_by log kind.Redo h) (is_kept (stood_by log kind.Redo h)) (newest 256 (way_back s b.change w ∷ ways_of log h.undo)) (ways_of log h2.redo) ≡ redone s w (b ∷ ways_of log h2.redo) =
+    λ i. moved s kind.Redo (e1 i) w (e2 i) (is_kept (e2 i)) (newest 256 (way_back s b.change w ∷ ways_of log h.undo)) (ways_of log h2.redo) in
     let is = same ∙ ap (λ ws. redone s w ws) (sym m.was) in
-    subst (λ z. Becomes z (shown o d2 w ls2 log2 ps2 n2 h2 ss2 es2)) is (moved_shown c a l (newest 256 (way_back s b.change w ∷ ways_of h.undo)) (ways_of h2.redo) back refl)
+    subst (λ z. Becomes z (shown o d2 w ls2 log2 ps2 n2 h2 ss2 es2)) is (moved_shown c a l (newest 256 (way_back s b.change w ∷ ways_of log h.undo)) (ways_of log h2.redo) back left)
 
 few_newest : (xs : List (Beside Change Kept)) → length (newest_undo xs) ≤ 256
 few_newest xs = let l : length (newest_undo xs) ≡ length xs - (length xs - 256) = length-drop (length xs - 256) xs in omega (arith, l)
@@ -112,22 +124,22 @@ few_noted kind.Undo h h2 x kept few n = let m = n.1 in let put : Beside Change K
 few_noted kind.Redo h h2 x kept few n = let m = n.1 in let put : Beside Change Kept = record m.step { kept = Some kept } in omega (arith, few, ap length m.taken, length_push h2.redo m.step, ap length m.put, length_push h.undo put)
 
 -- the way of the step that comes next is the first of the ways
-pub top_way : (ss : List (Beside Change Kept)) (top : Beside Change Kept) → next_of ss ≡ Some top → (left : List Way) × (ways_of ss ≡ way_of top ∷ left)
-top_way ss top e = (ways_of (take (length ss - 1) ss), ap (λ xs. ways_of xs) (next_of_ends ss top e) ∙ ways_push (take (length ss - 1) ss) top)
+pub top_way : (log : List (List Atom)) (ss : List (Beside Change Kept)) (top : Beside Change Kept) → next_of ss ≡ Some top → (left : List Way) × (ways_of log ss ≡ way_of log top ∷ left)
+top_way log ss top e = (ways_of log (take (length ss - 1) ss), ap (λ xs. ways_of log xs) (next_of_ends ss top e) ∙ ways_push log (take (length ss - 1) ss) top)
 
-pub leads_top : (k : Kind) (s : State) (h : Steps Change Kept) (x : Change) (w : View) → s.back ≡ ways_of h.undo → s.forth ≡ ways_of h.redo → IsTop k h x → Leads s x w → Goes s (event_of k x w)
-leads_top kind.Edit s h x w eb ef t g = g
-leads_top kind.Undo s h x w eb ef t g =
+pub leads_top : (log : List (List Atom)) (k : Kind) (s : State) (h : Steps Change Kept) (x : Change) (w : View) → s.back ≡ ways_of log h.undo → s.forth ≡ ways_of log h.redo → IsTop k h x → Leads s x w → Goes s (event_of k x w)
+leads_top log kind.Edit s h x w eb ef t g = g
+leads_top log kind.Undo s h x w eb ef t g =
     let left = take (length h.undo - 1) h.undo in
-    let was : ways_of h.undo ≡ way_of t.0 ∷ ways_of left = ap (λ xs. ways_of xs) (next_of_ends h.undo t.0 t.1) ∙ ways_push left t.0 in
-    let e1 : x ≡ inverse_of (way_of t.0).change = t.2 ∙ ap inverse_of (sym (changed_by_way t.0.change t.0.kept)) in
-    let g2 : LeadsBy s inverse_of (way_of t.0 ∷ ways_of left) w = subst (λ z. Leads s z w) e1 g in
+    let was : ways_of log h.undo ≡ way_of log t.0 ∷ ways_of log left = ap (λ xs. ways_of log xs) (next_of_ends h.undo t.0 t.1) ∙ ways_push log left t.0 in
+    let e1 : x ≡ inverse_of (way_of log t.0).change = t.2 ∙ ap inverse_of (sym (changed_by_way log t.0.change t.0.kept)) in
+    let g2 : LeadsBy s inverse_of (way_of log t.0 ∷ ways_of log left) w = subst (λ z. Leads s z w) e1 g in
     subst (λ ws. LeadsBy s inverse_of ws w) (sym (eb ∙ was)) g2
-leads_top kind.Redo s h x w eb ef t g =
+leads_top log kind.Redo s h x w eb ef t g =
     let left = take (length h.redo - 1) h.redo in
-    let was : ways_of h.redo ≡ way_of t.0 ∷ ways_of left = ap (λ xs. ways_of xs) (next_of_ends h.redo t.0 t.1) ∙ ways_push left t.0 in
-    let e1 : x ≡ (way_of t.0).change = t.2 ∙ sym (changed_by_way t.0.change t.0.kept) in
-    let g2 : LeadsBy s (λ y. y) (way_of t.0 ∷ ways_of left) w = subst (λ z. Leads s z w) e1 g in
+    let was : ways_of log h.redo ≡ way_of log t.0 ∷ ways_of log left = ap (λ xs. ways_of log xs) (next_of_ends h.redo t.0 t.1) ∙ ways_push log left t.0 in
+    let e1 : x ≡ (way_of log t.0).change = t.2 ∙ sym (changed_by_way log t.0.change t.0.kept) in
+    let g2 : LeadsBy s (λ y. y) (way_of log t.0 ∷ ways_of log left) w = subst (λ z. Leads s z w) e1 g in
     subst (λ ws. LeadsBy s (λ y. y) ws w) (sym (ef ∙ was)) g2
 
 -- the change that was made leads to its view
@@ -142,7 +154,7 @@ pub did_keeps : {m : Register} {o d d2 : Layout} {v t w t2 : View} {ls ls2 : Lis
     KeepsOf m o d2 w t2 ls2 log2 ps2 n2 h2 ss2 es2
 did_keeps {m} {o} {d} {d2} {v} {t} {w} {t2} {ls} {ls2} {log} {log2} {ps} {ps2} {fresh} {flags} {n} {n2} {h} {h2} {ss} {ss2} {es} {es2} {x} {kept} k p c has is top =
     let s = shown o d v ls log ps n h ss es in
-    let g = leads_top k s h x w refl refl top (did_leads k c has is) in
+    let g = leads_top log k s h x w refl refl top (did_leads k c has is) in
     let b = did_becomes k c p.tasks p.log_length top in
     record {
       whole = steps_keep_whole_lem s (shown o d2 w ls2 log2 ps2 n2 h2 ss2 es2) (event_of k x w) p.whole g b;
@@ -156,11 +168,12 @@ did_keeps {m} {o} {d} {d2} {v} {t} {w} {t2} {ls} {ls2} {log} {log2} {ps} {ps2} {
       few_steps = omega (arith, c.few_steps, ap length c.steps_are ∙ length_push ss _);
       few_tasks = c.few_tasks;
       numbered = all_numbered c p.numbered;
+      held = subst (λ L. AreHeld L h2) (sym c.log_is) (held_after (log ++ guards v w ∷ []) k h h2 x kept (are_held_push log (guards v w) h.undo c.held.0, are_held_push log (guards v w) h.redo c.held.1) (is_held_push log (guards v w) kept.shelf c.kept_held) c.noted);
       few_ways = few_noted k h h2 x kept c.few_ways c.noted;
     }
 
--- what holds of the fields still holds after the table has given out more numbers, if it is still right for the design and
--- nothing else has changed
+-- what holds of the fields still holds after the table has given out numbers or has taken back some that the view lacks, if it
+-- is still right for the design and nothing else has changed
 pub still_keeps : {m : Register} {o d : Layout} {v t t2 : View} {ls : List (List ℕ)} {log : List (List Atom)} {ps : List Pending} {n : ℕ} {h : Steps Change Kept} {ss : List Step} {es : List Ending} →
-    KeepsOf m o d v t ls log ps n h ss es → Grown t t2 → IsRight t2 d → KeepsOf m o d v t2 ls log ps n h ss es
-still_keeps {v = v} {t = t} {t2 = t2} p g r = record { whole = p.whole; right = r; grown = grown_on v t t2 p.grown g; tasks = p.tasks; alive = p.alive; mapped = p.mapped; below = p.below; log_length = p.log_length; few_steps = p.few_steps; few_tasks = p.few_tasks; numbered = p.numbered; few_ways = p.few_ways }
+    KeepsOf m o d v t ls log ps n h ss es → Grown v t2 → IsRight t2 d → KeepsOf m o d v t2 ls log ps n h ss es
+still_keeps p g r = record { whole = p.whole; right = r; grown = g; tasks = p.tasks; alive = p.alive; mapped = p.mapped; below = p.below; log_length = p.log_length; few_steps = p.few_steps; few_tasks = p.few_tasks; numbered = p.numbered; held = p.held; few_ways = p.few_ways }

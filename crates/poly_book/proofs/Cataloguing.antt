@@ -21,6 +21,7 @@ use Rattle.poly_place.specs.Right.{IsRight}
 use Rattle.poly_catalogue.specs.Listed.{AreOfEither, AreOnce}
 use Rattle.poly_catalogue.proofs.Parted.{of_plan}
 use Rattle.poly_undo.specs.Steps.{Steps}
+use Rattle.poly_atom.specs.declared.atom.Atom.{Atom}
 use Rattle.poly_book.specs.declared.shelf.Kept.{Kept}
 use Rattle.poly_book.specs.declared.step.Kind.{Kind}
 use Rattle.poly_book.specs.declared.step.Kind.TheVariants as kind
@@ -79,26 +80,26 @@ pub record Lists (s z : State) (w : View) (more : List (List ℕ)) : Type 0 wher
   pub view : z.view ≡ w
   pub listed : z.listed ≡ filter (λ T. is_tiling w T) s.listed ++ more
 
-pub listed_after : (k : Kind) (s : State) (h : Steps Change Kept) (x : Change) (w : View) → s.back ≡ ways_of h.undo → s.forth ≡ ways_of h.redo → IsTop k h x → Lists s (step s (event_of k x w)) w (returned (stood_by k h))
-listed_after kind.Edit s h x w eb ef t = record { view = refl; listed = refl }
-listed_after kind.Undo s h x w eb ef t =
-    let l = top_way h.undo t.0 t.1 in
-    let is : undone s w s.back ≡ undone s w (way_of t.0 ∷ l.0) = ap (λ ws. undone s w ws) (eb ∙ l.1) in
-    let e : (way_of t.0).shelf ≡ stood_by kind.Undo h = sym (ap shelf_at t.1) in
+pub listed_after : (log : List (List Atom)) (k : Kind) (s : State) (h : Steps Change Kept) (x : Change) (w : View) → s.back ≡ ways_of log h.undo → s.forth ≡ ways_of log h.redo → IsTop k h x → Lists s (step s (event_of k x w)) w (returned (stood_by log k h))
+listed_after log kind.Edit s h x w eb ef t = record { view = refl; listed = refl }
+listed_after log kind.Undo s h x w eb ef t =
+    let l = top_way log h.undo t.0 t.1 in
+    let is : undone s w s.back ≡ undone s w (way_of log t.0 ∷ l.0) = ap (λ ws. undone s w ws) (eb ∙ l.1) in
+    let e : (way_of log t.0).shelf ≡ stood_by log kind.Undo h = sym (ap (λ z. shelf_at log z) t.1) in
     record { view = ap (λ z. z.view) is; listed = ap (λ z. z.listed) is ∙ ap (λ o. filter (λ T. is_tiling w T) s.listed ++ returned o) e }
-listed_after kind.Redo s h x w eb ef t =
-    let l = top_way h.redo t.0 t.1 in
-    let is : redone s w s.forth ≡ redone s w (way_of t.0 ∷ l.0) = ap (λ ws. redone s w ws) (ef ∙ l.1) in
-    let e : (way_of t.0).shelf ≡ stood_by kind.Redo h = sym (ap shelf_at t.1) in
+listed_after log kind.Redo s h x w eb ef t =
+    let l = top_way log h.redo t.0 t.1 in
+    let is : redone s w s.forth ≡ redone s w (way_of log t.0 ∷ l.0) = ap (λ ws. redone s w ws) (ef ∙ l.1) in
+    let e : (way_of log t.0).shelf ≡ stood_by log kind.Redo h = sym (ap (λ z. shelf_at log z) t.1) in
     record { view = ap (λ z. z.view) is; listed = ap (λ z. z.listed) is ∙ ap (λ o. filter (λ T. is_tiling w T) s.listed ++ returned o) e }
 
 -- what a change lists again may enter the catalogue
-pub change_enters : (k : Kind) (s : State) (h : Steps Change Kept) (x : Change) (w : View) → s.back ≡ ways_of h.undo → s.forth ≡ ways_of h.redo → IsTop k h x → Whole s → Leads s x w → Enters w s.listed (returned (stood_by k h))
-change_enters k s h x w eb ef t p g =
+pub change_enters : (log : List (List Atom)) (k : Kind) (s : State) (h : Steps Change Kept) (x : Change) (w : View) → s.back ≡ ways_of log h.undo → s.forth ≡ ways_of log h.redo → IsTop k h x → Whole s → Leads s x w → Enters w s.listed (returned (stood_by log k h))
+change_enters log k s h x w eb ef t p g =
     let z = step s (event_of k x w) in
-    let q = (steps_keep_whole_lem s z (event_of k x w) p (leads_top k s h x w eb ef t g) (becomes_itself z)).consistent.partition in
-    let l = listed_after k s h x w eb ef t in
-    let more = returned (stood_by k h) in
+    let q = (steps_keep_whole_lem s z (event_of k x w) p (leads_top log k s h x w eb ef t g) (becomes_itself z)).consistent.partition in
+    let l = listed_after log k s h x w eb ef t in
+    let more = returned (stood_by log k h) in
     let only : list_all (is_tiling w) (filter (λ T. is_tiling w T) s.listed ++ more) ≡ true = subst (λ v. list_all (is_tiling v) (filter (λ T. is_tiling w T) s.listed ++ more) ≡ true) l.view (subst (λ L. list_all (is_tiling z.view) L ≡ true) l.listed q.only) in
     beside w s.listed more (partition_once s p.consistent.partition) (subst AreOnce l.listed (partition_once z q)) only
 

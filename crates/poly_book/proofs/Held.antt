@@ -1,7 +1,8 @@
 -- The pending tasks that a book's fields store, read as tasks of the definitions.
-use Rattle.std.proofs.Common.{Bool, Global, List, Vec, [], ap, append_assoc, arith, cond, drop, false, get_or, length, map, not, refl, subst, suc, sym, take, true, zero, ℕ, ◌++◌, ◌+◌, ◌<◌, ◌∙◌, ◌∷◌, ◌≡◌, ◌≤◌}
+use Rattle.std.proofs.Common.{Bool, List, [], ap, append_assoc, arith, cond, drop, false, get_or, length, map, not, refl, subst, suc, sym, take, true, zero, ℕ, ◌++◌, ◌+◌, ◌<◌, ◌∙◌, ◌∷◌, ◌≡◌, ◌≤◌}
 use Rattle.std.proofs.lemmas.Bool.{cond_both, not-true}
 use Rattle.std.proofs.lemmas.List.{append-nil, drop_all, drop_more, get_or_push, length-append, length_push, take_more}
+use Rattle.std.specs.Arc.{arc_value}
 use Rattle.std.specs.List.{filter, items_where_true}
 use Rattle.poly_tiling.specs.Puzzle.{View}
 use Rattle.poly_atom.specs.declared.atom.Atom.{Atom}
@@ -16,13 +17,11 @@ use Rattle.poly_book.specs.declared.step.Ending.{Ending}
 use Rattle.poly_book.specs.declared.step.Ending.TheVariants.{Hopeless}
 use Rattle.poly_book.specs.Events.{hopeless_endings}
 use Rattle.poly_book.specs.declared.task.Own.{Own}
-use Rattle.poly_book.specs.declared.task.Own.TheVariants.{Atoms, Stair as OfStair}
+use Rattle.poly_book.specs.declared.task.Own.TheVariants.{Atoms, Crossed, Stair as OfStair}
 use Rattle.poly_book.specs.declared.task.Pending.{Pending}
-use Rattle.poly_report.specs.Gather.{lists}
-use Rattle.poly_book.specs.Shelves.{crossed}
 use Rattle.poly_book.specs.Tasks.{Task, hopeful, lay, tasks_from}
 use Rattle.poly_book.specs.Meaning.{AreTasks, IsOwn, IsTask, own_of, task_of, tasks_of}
-use Rattle.poly_book.specs.Opens.{Opens}
+use Rattle.poly_book.specs.Opens.{Opening, Opens}
 
 flat_none : (n : ℕ) (log : List (List Atom)) → length log ≤ n → flat (drop n log) ≡ []
 flat_none zero [] h = refl
@@ -31,7 +30,7 @@ flat_none (suc n) [] h = refl
 flat_none (suc n) (g ∷ gs) h = flat_none n gs (omega (arith, h))
 
 -- one more change puts its guards after those that the log has from an index on
-since_push : (n : ℕ) (log : List (List Atom)) (g : List Atom) → n ≤ length log → flat (drop n (log ++ g ∷ [])) ≡ flat (drop n log) ++ g
+pub since_push : (n : ℕ) (log : List (List Atom)) (g : List Atom) → n ≤ length log → flat (drop n (log ++ g ∷ [])) ≡ flat (drop n log) ++ g
 since_push zero log g h = flat_push log g
 since_push (suc n) [] g h = absurd (omega (arith, h))
 since_push (suc n) (x ∷ log) g h = since_push n log g (omega (arith, h))
@@ -39,10 +38,12 @@ since_push (suc n) (x ∷ log) g h = since_push n log g (omega (arith, h))
 pub own_push : (log : List (List Atom)) (g : List Atom) (o : Own) → IsOwn log o → own_of (log ++ g ∷ []) o ≡ own_of log o
 own_push log g (Atoms v) h = refl
 own_push log g (OfStair s) h = stair_stays log g s h.edition_in
+own_push log g (Crossed v s) h = ap (λ bs. (arc_value v).items ++ bs) (stair_stays log g s h.edition_in)
 
-is_own_push : (log : List (List Atom)) (g : List Atom) (o : Own) → IsOwn log o → IsOwn (log ++ g ∷ []) o
+pub is_own_push : (log : List (List Atom)) (g : List Atom) (o : Own) → IsOwn log o → IsOwn (log ++ g ∷ []) o
 is_own_push log g (Atoms v) h = tt
 is_own_push log g (OfStair s) h = is_stair_stays log g s h
+is_own_push log g (Crossed v s) h = is_stair_stays log g s h
 
 task_push : (log : List (List Atom)) (g : List Atom) (p : Pending) → IsTask log p → task_of (log ++ g ∷ []) p ≡ lay g (task_of log p)
 task_push log g p h =
@@ -102,11 +103,6 @@ length_of log (p ∷ ps) = omega (arith, length_of log ps)
 
 pub opened_length : (log : List (List Atom)) (n : ℕ) (w : View) (all : List (List Atom)) (ps : List Pending) → Opens log n w all ps → length ps ≡ length (hopeful w all)
 opened_length log n w all ps o = sym (length_of log ps) ∙ ap length o.tasks ∙ length_from n (hopeful w all)
-
--- the tasks so far, and what is still to be opened
-pub record Opening (log : List (List Atom)) (next n : ℕ) (w : View) (all rest : List (List Atom)) (ps : List Pending) : Type 0 where
-  pub are : AreTasks log ps
-  pub tasks : tasks_of log ps ++ tasks_from n (hopeful w rest) ≡ tasks_from next (hopeful w all)
 
 pub opening_start : (log : List (List Atom)) (next : ℕ) (w : View) (all : List (List Atom)) → Opening log next next w all all []
 opening_start log next w all = record { are = tt; tasks = refl }
@@ -191,19 +187,41 @@ stairs_more log g next n w j e d A ps le l is h o =
     opening_more (log ++ g ∷ []) next n w (stairs g) (stairs_from g (j + 1)) A ps p h refl own there (omega (arith, length_push log g, le))
     (subst (λ r. Opening (log ++ g ∷ []) next n w (stairs g) r ps) (stairs_next g j d l ∙ ap (λ B. B ∷ stairs_from g (j + 1)) (sym is)) o)
 
-crossed_append : (F G S : List (List Atom)) → crossed (F ++ G) S ≡ crossed F S ++ crossed G S
-crossed_append [] G S = refl
-crossed_append (A ∷ F) G S = ap (λ L. map (λ B. A ++ B) S ++ L) (crossed_append F G S) ∙ sym (append_assoc (map (λ B. A ++ B) S) (crossed F S) (crossed G S))
+-- the stairs that follow a base, from an index on
+abbrev pub crossed_from : List Atom → List Atom → ℕ → List (List Atom) → List (List Atom)
+crossed_from base gs j rest = map (λ B. base ++ B) (stairs_from gs j) ++ rest
 
-take_lists : (F : List (Vec Atom Global)) (i : ℕ) (x : Vec Atom Global) → i < length F → x ≡ get_or F i x → take (i + 1) (lists F) ≡ take i (lists F) ++ x.items ∷ []
-take_lists [] i x l e = absurd (omega (arith, l))
-take_lists (y ∷ F) zero x l e = ap (λ z. z.items ∷ []) (sym e)
-take_lists (y ∷ F) (suc i) x l e = let k : suc i + 1 ≡ suc (i + 1) = omega arith in ap (λ n. take n (lists (y ∷ F))) k ∙ ap (λ L. y.items ∷ L) (take_lists F i x (omega (arith, l)) e)
+pub crossed_next : (base gs : List Atom) (j : ℕ) (d : Atom) (A : List Atom) (rest : List (List Atom)) → j < length gs → A ≡ (base ++ take j gs) ++ negated (get_or gs j d) ∷ [] → crossed_from base gs j rest ≡ A ∷ crossed_from base gs (j + 1) rest
+crossed_next base gs j d A rest l is =
+    let e : base ++ (take j gs ++ negated (get_or gs j d) ∷ []) ≡ A = sym (is ∙ append_assoc base (take j gs) (negated (get_or gs j d) ∷ [])) in
+    ap (λ S. map (λ B. base ++ B) S ++ rest) (stairs_next gs j d l) ∙ ap (λ B. B ∷ crossed_from base gs (j + 1) rest) e
 
--- crossing the first i lists and then the next one is crossing the first i + 1
-pub crossed_more : (F : List (Vec Atom Global)) (S : List (List Atom)) (i : ℕ) (x : Vec Atom Global) → i < length F → x ≡ get_or F i x →
-    crossed (take i (lists F)) S ++ map (λ B. x.items ++ B) S ≡ crossed (take (i + 1) (lists F)) S
-crossed_more F S i x l e = sym (ap (λ L. crossed L S) (take_lists F i x l e) ∙ crossed_append (take i (lists F)) (x.items ∷ []) S ∙ ap (λ L. crossed (take i (lists F)) S ++ L) (append-nil (map (λ B. x.items ++ B) S)))
+pub crossed_end : (base gs : List Atom) (j : ℕ) (rest : List (List Atom)) → length gs ≤ j → crossed_from base gs j rest ≡ rest
+crossed_end base gs j rest l = ap (λ S. map (λ B. base ++ B) S ++ rest) (stairs_end gs j l)
+
+pub crossed_skip : (log : List (List Atom)) (g : List Atom) (next n : ℕ) (w : View) (base : List Atom) (all rest : List (List Atom)) (j : ℕ) (d : Atom) (A : List Atom) (ps : List Pending) → j < length g → A ≡ (base ++ take j g) ++ negated (get_or g j d) ∷ [] → hopeless w A ≡ true →
+    Opening (log ++ g ∷ []) next n w all (crossed_from base g j rest) ps → Opening (log ++ g ∷ []) next n w all (crossed_from base g (j + 1) rest) ps
+crossed_skip log g next n w base all rest j d A ps l is h o =
+    opening_skip (log ++ g ∷ []) next n w all (crossed_from base g (j + 1) rest) A ps h
+    (subst (λ r. Opening (log ++ g ∷ []) next n w all r ps) (crossed_next base g j d A rest l is) o)
+
+-- `own` is the base followed by the stair at the index
+pub crossed_more : (log : List (List Atom)) (g : List Atom) (next n : ℕ) (w : View) (base : List Atom) (all rest : List (List Atom)) (j e : ℕ) (d : Atom) (A : List Atom) (own : Own) (ps : List Pending) → length log ≡ e → j < length g → A ≡ (base ++ take j g) ++ negated (get_or g j d) ∷ [] → hopeless w A ≡ false →
+    ((L : List (List Atom)) → own_of L own ≡ base ++ stair_of L (record { edition = e; index = j })) → ((L : List (List Atom)) → IsStairOf L (record { edition = e; index = j }) → IsOwn L own) →
+    Opening (log ++ g ∷ []) next n w all (crossed_from base g j rest) ps →
+    Opening (log ++ g ∷ []) next (n + 1) w all (crossed_from base g (j + 1) rest) (ps ++ record { number = n; own = own; made = e + 1 } ∷ [])
+crossed_more log g next n w base all rest j e d A own ps le l is h reads stands o =
+    let s : Stair = record { edition = e; index = j } in
+    let last = log_last log g e le in
+    let p : Pending = record { number = n; own = own; made = e + 1 } in
+    let stair : stair_of (log ++ g ∷ []) s ≡ take j g ++ negated (get_or g j d) ∷ [] = ap (λ x. get_or (stairs x) j []) last ∙ stairs_at g j d l in
+    let mine : own_of (log ++ g ∷ []) own ≡ A = reads (log ++ g ∷ []) ∙ ap (λ B. base ++ B) stair ∙ sym (is ∙ append_assoc base (take j g) (negated (get_or g j d) ∷ [])) in
+    let there : IsStairOf (log ++ g ∷ []) s = record {
+      edition_in = omega (arith, length_push log g, le);
+      index_in = subst (λ x. j < length x) (sym last) l;
+    } in
+    opening_more (log ++ g ∷ []) next n w all (crossed_from base g (j + 1) rest) A ps p h refl mine (stands (log ++ g ∷ []) there) (omega (arith, length_push log g, le))
+    (subst (λ r. Opening (log ++ g ∷ []) next n w all r ps) (crossed_next base g j d A rest l is) o)
 
 endings_cons : (w : View) (e : ℕ) (u : Task) (ts rs : List Task) (xs : List Ending) (b : Bool) → hopeless w u.own ≡ b → hopeless_endings w e ts ≡ hopeless_endings w e rs ++ xs → hopeless_endings w e (u ∷ ts) ≡ hopeless_endings w e (u ∷ rs) ++ xs
 endings_cons w e u ts rs xs true h ih = let f : Bool → List Task → List Ending = λ b vs. map (λ t. Hopeless t.number e) (cond b (u ∷ filter (λ t. hopeless w t.own) vs) (filter (λ t. hopeless w t.own) vs)) in ap (λ b. f b ts) h ∙ ap (λ L. Hopeless u.number e ∷ L) ih ∙ ap (λ b. f b rs ++ xs) (sym h)

@@ -11,8 +11,10 @@ pub mod Coming
 pub mod Turning
 pub mod Stillness
 pub mod Regained
+pub mod Accounting
 pub mod Proved
 pub mod Held
+pub mod Holding
 pub mod Changes
 pub mod Alive
 pub mod Mapping
@@ -26,10 +28,12 @@ pub mod Taking
 pub mod Running
 pub mod Settles
 pub mod Nexting
+pub mod Returning
 pub mod Keyed
 pub mod Leading
 pub mod Cataloguing
 pub mod Amounts
+pub mod Enough
 pub mod Refusing
 pub mod Hoping
 pub mod Searched

@@ -86,7 +86,7 @@ did_noted {v = v} {w = w} {log = log} {log2 = log2} {ps = ps} {ps2 = ps2} {fresh
     let log3 = log ++ guards v w ∷ [] in
     let old : AreNotedBelow b m log3 ps = below_push b m log (guards v w) ps are mapped in
     let kept : AreNotedBelow b m log3 (items_where_true flags ps) = all_picked (has_below b m log3) flags ps old in
-    let new : AreNotedBelow b m log3 fresh = below_fresh b n m log3 fresh (hopeful w (openings (stood_by k h) (stairs (guards v w)))) low c.fresh_are.tasks in
+    let new : AreNotedBelow b m log3 fresh = below_fresh b n m log3 fresh (hopeful w (openings (stood_by log k h) (stairs (guards v w)))) low c.fresh_are.tasks in
     subst (λ L. AreNotedBelow b m L ps2) (sym c.log_is)
     (subst (λ qs. AreNotedBelow b m log3 qs) (sym c.tasks_are) (below_append b m log3 (items_where_true flags ps) fresh kept new))
 

@@ -9,6 +9,7 @@ use Rattle.poly_book.specs.Whole.{Runs, Whole}
 use Rattle.poly_book.proofs.Moves.{becomes_consistent, opening_consistent, step_consistent}
 use Rattle.poly_book.proofs.Traces.{becomes_replay, opening_replay, step_replay}
 use Rattle.poly_book.proofs.Lasting.{HoldsAt, becomes_holds, becomes_rises, holds_now, holds_then, step_holds, step_rises}
+use Rattle.poly_book.proofs.Accounting.{becomes_accounts, opening_accounts, step_accounts}
 use Rattle.poly_book.proofs.QuietShelves.{quiet_shelves_are_kept}
 use Rattle.poly_book.proofs.Stillness.{becomes_stays_quiet, opening_stays_quiet, step_stays_quiet}
 use Rattle.poly_book.proofs.Regained.{quiet_redo, quiet_undo}
@@ -21,6 +22,7 @@ openings_are_whole_lem d v is wn shows = record {
   stays_quiet = opening_stays_quiet d v;
   replay = opening_replay d v;
   rising = (omega arith, omega arith);
+  accounts = opening_accounts d v;
 }
 
 pub steps_keep_whole_lem : StepsKeepWhole
@@ -28,8 +30,9 @@ steps_keep_whole_lem s t e p g b = record {
   trail = trailed s e p.trail;
   consistent = becomes_consistent (step s e) t (trailed s e p.trail) b (step_consistent s e p.trail g p.consistent);
   stays_quiet = becomes_stays_quiet (step s e) t (trailed s e p.trail) b (step_stays_quiet s e p.trail g p.consistent p.stays_quiet);
-  replay = becomes_replay (step s e) t b (step_replay s e g p.replay);
+  replay = becomes_replay (step s e) t b (step_replay s e p.consistent.design g p.replay);
   rising = becomes_rises (step s e) t b (step_rises s e p.rising);
+  accounts = becomes_accounts (step s e) t b (step_accounts s e p.accounts);
 }
 
 pub runs_keep_whole_lem : RunsKeepWhole

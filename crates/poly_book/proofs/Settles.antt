@@ -1,11 +1,15 @@
 -- How many tasks settling cuts, and what it leaves as it was.
-use Rattle.std.proofs.Common.{List, [], ap, append_assoc, arith, map, refl, subst, sym, ℕ, ◌++◌, ◌+◌, ◌∙◌, ◌∷◌, ◌≡◌}
+use Rattle.std.proofs.Common.{List, [], ap, append_assoc, arith, map, refl, subst, suc, sym, ℕ, ◌++◌, ◌+◌, ◌∙◌, ◌∷◌, ◌≡◌}
+use Rattle.std.proofs.lemmas.Bool.{and_from}
 use Rattle.std.proofs.lemmas.List.{append-nil, length-append}
+use Rattle.poly_atom.specs.declared.atom.Atom.{Atom}
 use Rattle.poly_report.specs.Trees.{Plan}
+use Rattle.poly_book.specs.declared.parts.Parts.{Parts}
 use Rattle.poly_book.specs.declared.step.Applied.{Applied}
 use Rattle.poly_book.specs.declared.step.Ending.TheVariants.{Cut}
-use Rattle.poly_book.specs.Reports.{IsApplied}
-use Rattle.poly_book.specs.Settled.{Cuts, IsSettled}
+use Rattle.poly_book.specs.Keeps.{state_of}
+use Rattle.poly_book.specs.Reports.{AreFoundLeaves, IsApplied}
+use Rattle.poly_book.specs.Settled.{AreReported, Cuts, IsReported, IsSettled}
 use Rattle.poly_book.specs.States.{State}
 use Rattle.poly_book.proofs.Taking.{step_cut}
 
@@ -46,3 +50,23 @@ cuts_end s t u n a e = record {
   cuts = subst (λ z. Cuts s z n) (sym e.0) a;
   none = subst (λ z. z.pending ≡ []) (sym e.0) e.1;
 }
+
+-- a tree whose leaves were found, and whose report was applied
+pub found_reported : (nodes made index : ℕ) (p : Parts) (k : ℕ) (tree : Plan) (found : List (List ℕ)) (left : List (List Atom)) (t : State) (a : Applied) → AreFoundLeaves nodes p k index tree found left → IsApplied k made tree (state_of p) t a → IsReported nodes (state_of p) t
+found_reported nodes made index p k tree found left t a l b = record {
+  number = k;
+  task = l.leaves.task;
+  tree = tree;
+  pending = l.leaves.there;
+  right = and_from _ _ l.leaves.small l.leaves.cut.right;
+  few = l.few;
+  root = l.root;
+  smaller = l.smaller;
+  becomes = b.becomes;
+}
+
+pub reported_on : (nodes n : ℕ) (s t u : State) → AreReported nodes n s t → IsReported nodes t u → AreReported nodes (n + 1) s u
+reported_on nodes n s t u a b = let e : n + 1 ≡ suc n = omega arith in subst (λ m. AreReported nodes m s u) (sym e) (t, a, b)
+
+pub reported_end : (nodes n : ℕ) (s t u : State) → AreReported nodes n s t → u ≡ t → AreReported nodes n s u
+reported_end nodes n s t u a e = subst (λ z. AreReported nodes n s z) (sym e) a

@@ -1,5 +1,5 @@
 -- What the code does to the fields for a report is what the report's event does to the state that they show.
-use Rattle.std.proofs.Common.{Bool, List, Some, [], ap, arith, cond, drop, get_or, length, subst, suc, sym, take, true, ℕ, ◌&&◌, ◌++◌, ◌+◌, ◌∙◌, ◌∷◌, ◌<◌, ◌≡◌, ◌≤◌}
+use Rattle.std.proofs.Common.{Bool, List, Some, [], ap, arith, cond, drop, false, get_or, length, subst, suc, sym, take, true, ℕ, ◌&&◌, ◌++◌, ◌+◌, ◌∙◌, ◌∷◌, ◌<◌, ◌≡◌, ◌≤◌}
 use Rattle.std.proofs.lemmas.Bool.{and_from}
 use Rattle.std.proofs.lemmas.List.{length-append, length_push}
 use Rattle.std.specs.List.{position_from}
@@ -10,7 +10,7 @@ use Rattle.poly_tiling.specs.Lists.{tally}
 use Rattle.poly_tiling.specs.Puzzle.{View}
 use Rattle.poly_atom.specs.declared.atom.Atom.{Atom}
 use Rattle.poly_report.specs.Trees.{Plan}
-use Rattle.poly_report.specs.Sizes.{fits}
+use Rattle.poly_report.specs.Sizes.{all_fewer, fits, inner, is_rest}
 use Rattle.poly_report.specs.Holds.{holds}
 use Rattle.poly_report.specs.Leaves.{rests, tilings}
 use Rattle.poly_undo.specs.Steps.{Steps}
@@ -27,7 +27,7 @@ use Rattle.poly_book.specs.Mapped.{AreNotedBelow}
 use Rattle.poly_book.specs.Meaning.{AreTasks, shown, task_of, tasks_of}
 use Rattle.poly_book.specs.Opens.{Opens}
 use Rattle.poly_book.specs.Partition.{Becomes}
-use Rattle.poly_book.specs.Reports.{AreLeaves}
+use Rattle.poly_book.specs.Reports.{AreFoundLeaves, AreLeaves}
 use Rattle.poly_book.specs.States.{State}
 use Rattle.poly_book.specs.Tasks.{Task, atoms_of, drop_task, find_task, hopeful, tasks_from}
 use Rattle.poly_book.proofs.Alive.{becomes_lives}
@@ -50,6 +50,10 @@ pub cut_listed : (s : State) (k : ℕ) (u : Task) (tree : Plan) (found : List (L
 cut_listed s k u tree found there right is h =
     let l : 1000000 < length (s.listed ++ tilings s.view (atoms_of u) tree) = omega (arith, h, ap length is, length-append s.listed (tilings s.view (atoms_of u) tree)) in
     subst (λ z. 1000000 < length z.listed) (sym (step_cut s k u tree there right)) l
+
+pub cut_within : (s : State) (k : ℕ) (u : Task) (tree : Plan) (left : List (List Atom)) → find_task k s.pending ≡ Some u → (fits tree && holds s.view (atoms_of u) tree) ≡ true → left ≡ rests s.view (atoms_of u) tree →
+    s.next + length (hopeful s.view left) ≤ 4294967296 → (step s (Report k tree)).next ≤ 4294967296
+cut_within s k u tree left found right is h = subst (λ z. z.next ≤ 4294967296) (sym (step_cut s k u tree found right)) (subst (λ L. s.next + length (hopeful s.view L) ≤ 4294967296) is h)
 
 some_same : {X : Type 0} (x y : X) → Some x ≡ Some y → x ≡ y
 some_same x y e = cc
@@ -103,6 +107,7 @@ module _ {m : Register} {o d : Layout} {v t : View} {ls ls2 : List (List ℕ)} {
         log_length = keeps.log_length;
         few_steps = keeps.few_steps;
         few_tasks = c.few_tasks;
+        held = keeps.held;
         few_ways = keeps.few_ways;
         numbered = omega (
           arith,
@@ -154,3 +159,15 @@ leaves_at p x i tree ts rs keeps low is small right tilings_are rests_are =
       small = small;
       cut = record { right = right; tilings = tilings_are; rests = rests_are };
     }
+
+-- the leaves of a tree that was found for the task at an index
+pub found_leaves_at : (nodes : ℕ) (p : Parts) (x : Pending) (i : ℕ) (tree : Plan) (ts : List (List ℕ)) (rs : List (List Atom)) → Keeps p → i < length p.tasks.items → x ≡ get_or p.tasks.items i x → fits tree ≡ true → holds p.scene (atoms_of (task_of p.log x)) tree ≡ true →
+    ts ≡ tilings p.scene (atoms_of (task_of p.log x)) tree → rs ≡ rests p.scene (atoms_of (task_of p.log x)) tree → inner tree ≤ nodes → is_rest tree ≡ false →
+    all_fewer p.scene (atoms_of (task_of p.log x)) (rests p.scene (atoms_of (task_of p.log x)) tree) ≡ true → AreFoundLeaves nodes p x.number i tree ts rs
+unfolding leaves_at
+found_leaves_at nodes p x i tree ts rs keeps low is small right tilings_are rests_are few root smaller = record {
+  leaves = leaves_at p x i tree ts rs keeps low is small right tilings_are rests_are;
+  few = few;
+  root = root;
+  smaller = smaller;
+}

@@ -13,8 +13,8 @@ use Rattle.poly_atom.specs.Guards.{guards}
 use Rattle.poly_atom.specs.Hopeless.{hopeless}
 use Rattle.poly_atom.specs.Stairs.{stairs}
 use Rattle.poly_place.specs.Right.{IsRight}
+use Rattle.poly_place.specs.Spent.{IsSpent as NumbersAreSpent}
 use Rattle.poly_catalogue.specs.Listed.{AreOfEither}
-use Rattle.poly_undo.specs.declared.shelf.Shelf.{Shelf}
 use Rattle.poly_undo.specs.declared.step.Step.{Step as Beside}
 use Rattle.poly_undo.specs.Steps.{Moves, Steps, newest, next_of}
 use Rattle.poly_book.specs.declared.next_tasks.NextTasks.{NextTasks}
@@ -23,13 +23,14 @@ use Rattle.poly_book.specs.declared.prepare.Entry.{Entry}
 use Rattle.poly_book.specs.declared.prepare.Prepared.{Prepared}
 use Rattle.poly_book.specs.declared.prepare.TheConstants.{MAX_CHANGES, MAX_GUARDS, MAX_SHELF}
 use Rattle.poly_book.specs.declared.shelf.Kept.{Kept}
+use Rattle.poly_book.specs.declared.shelf.Shelf.{Shelf}
 use Rattle.poly_book.specs.declared.step.Kind.{Kind}
 use Rattle.poly_book.specs.declared.step.Kind.TheVariants.{Edit, Redo, Undo}
 use Rattle.poly_book.specs.declared.task.Pending.{Pending}
 use Rattle.poly_book.specs.Events.{Event, Leads, hopeless_endings}
 use Rattle.poly_book.specs.Events as event
 use Rattle.poly_book.specs.Keeps.{state_of}
-use Rattle.poly_book.specs.Meaning.{own_of, stored_of, tasks_of, way_of}
+use Rattle.poly_book.specs.Meaning.{IsHeld, own_of, stored_of, tasks_of, way_of}
 use Rattle.poly_book.specs.Opens.{Opens}
 use Rattle.poly_book.specs.Shelves.{is_kept, openings, returned}
 use Rattle.poly_book.specs.States.{Stored}
@@ -54,7 +55,8 @@ pub record IsGathered (v w : View) (listed : List (List ℕ)) (log : List (List 
   pub guards_small : AllSmall e.guards.items
   pub returned_are : e.returned.items ≡ returned stood
   pub tasks : AreNext w log ps e.guards.items stood next t
-  pub shelf_is : stored_of h ≡ shelf_by w listed log ps (length (guards w v))
+  pub shelf_held : IsHeld log h
+  pub shelf_is : stored_of log h ≡ shelf_by w listed log ps (length (guards w v))
 
 -- why a change from one view to another isn't prepared: it is an edit, and it or its inverse has over 20,000 guards; or there
 -- were 100,000 changes; or a task number would be over 4,294,967,295; or memory ran out
@@ -76,20 +78,20 @@ Noted Undo old new x k = (stood : Option Kept) × Moves old.undo old.redo new.un
 Noted Redo old new x k = (stood : Option Kept) × Moves old.redo old.undo new.redo new.undo (Some k) stood
 
 -- the shelf that is kept with a change, if there is one
-abbrev pub shelf_at : Option (Beside Change Kept) → Option Stored
-shelf_at None = None
-shelf_at (Some s) = (way_of s).shelf
+abbrev pub shelf_at : List (List Atom) → Option (Beside Change Kept) → Option Stored
+shelf_at log None = None
+shelf_at log (Some s) = (way_of log s).shelf
 
 -- the shelf that the change opens again, if there is one
-abbrev pub stood_by : Kind → Steps Change Kept → Option Stored
-stood_by Edit h = None
-stood_by Undo h = shelf_at (next_of h.undo)
-stood_by Redo h = shelf_at (next_of h.redo)
+abbrev pub stood_by : List (List Atom) → Kind → Steps Change Kept → Option Stored
+stood_by log Edit h = None
+stood_by log Undo h = shelf_at log (next_of h.undo)
+stood_by log Redo h = shelf_at log (next_of h.redo)
 
-abbrev pub shelved_by : Kind → Steps Change Kept → Bool
-shelved_by Edit h = true
-shelved_by Undo h = is_kept (stood_by Undo h)
-shelved_by Redo h = is_kept (stood_by Redo h)
+abbrev pub shelved_by : List (List Atom) → Kind → Steps Change Kept → Bool
+shelved_by log Edit h = true
+shelved_by log Undo h = is_kept (stood_by log Undo h)
+shelved_by log Redo h = is_kept (stood_by log Redo h)
 
 -- an undo makes the inverse of the next change to undo, and a redo makes the next change to redo
 abbrev pub IsTop : Kind → Steps Change Kept → Change → Type 0
@@ -105,8 +107,9 @@ pub record IsPrepared (k : Kind) (x : Change) (p : Parts) (e : Entry) (r : Prepa
   pub right : IsRight (arc_value r.plan.view) (changed p.design x)
   pub last : (arc_value r.plan.view).placements ≡ p.table.placements
   pub either : AreOfEither (arc_value r.plan.view) r.plan.delta p.listed
-  pub gathered : IsGathered p.scene (arc_value r.plan.view) p.listed p.log p.tasks.items (stood_by k p.history) p.next e r.tasks r.shelf
+  pub gathered : IsGathered p.scene (arc_value r.plan.view) p.listed p.log p.tasks.items (stood_by p.log k p.history) p.next e r.tasks r.shelf
   pub few_steps : length p.steps.items < MAX_CHANGES
+  pub enough : ¬ NumbersAreSpent p.scene.placements (changed p.design x)
   pub room_steps : vec_len p.steps < vec_capacity p.steps
   pub room_endings : vec_len p.endings + length r.tasks.ended.items ≤ vec_capacity p.endings
 

@@ -16,16 +16,17 @@ use Rattle.poly_book.specs.declared.step.Step.{Step}
 use Rattle.poly_book.specs.declared.step.Ending.{Ending}
 use Rattle.poly_book.specs.declared.task.Pending.{Pending}
 use Rattle.poly_book.specs.Mapped.{AreNotedBelow}
-use Rattle.poly_book.specs.Meaning.{AreTasks, shown, tasks_of}
+use Rattle.poly_book.specs.Meaning.{AreHeld, AreTasks, shown, tasks_of}
 use Rattle.poly_book.specs.States.{State}
 use Rattle.poly_book.specs.Tasks.{AreAlive}
 use Rattle.poly_book.specs.Whole.{Whole}
 
 -- `Whole` holds of what the fields show; the table is right for the design and has at least the view's numbers; each task
 -- was made at an edition that the log has, is noted in the maps under each of its own atoms if its number is less than
--- `m.below`, and isn't hopeless by its own atoms; if these are a stair, the log has it; `m.below` is at most the number of the
--- next task; the log has one list of guards for each step; numbers and editions are within their limits; endings and pending
--- tasks together are fewer than the number of the next task; the history has at most 256 steps.
+-- `m.below`, and isn't hopeless by its own atoms; if these are a stair, or end with one, the log has it; `m.below` is at most
+-- the number of the next task; the log has one list of guards for each step; numbers and editions are within their limits;
+-- endings and pending tasks together are fewer than the number of the next task; the log has what the frozen tasks of the
+-- history's shelves are read from; the history has at most 256 steps.
 pub record KeepsOf (m : Register) (o d : Layout) (v table : View) (ls : List (List ℕ)) (log : List (List Atom)) (ps : List Pending) (n : ℕ) (h : Steps Change Kept) (ss : List Step) (es : List Ending) : Type 0 where
   pub whole : Whole (shown o d v ls log ps n h ss es)
   pub right : IsRight table d
@@ -38,6 +39,7 @@ pub record KeepsOf (m : Register) (o d : Layout) (v table : View) (ls : List (Li
   pub few_steps : length ss ≤ MAX_CHANGES
   pub few_tasks : n ≤ 4294967296
   pub numbered : length es + length ps < n
+  pub held : AreHeld log h
   pub few_ways : length h.undo + length h.redo ≤ MAX_STEPS
 
 -- the state that the fields show

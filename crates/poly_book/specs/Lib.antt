@@ -3,10 +3,12 @@ pub mod States
 pub mod Amounts
 pub mod Shelves
 pub mod Events
+pub mod Accounts
 pub mod Partition
 pub mod Trails
 pub mod Replay
 pub mod Quiet
+pub mod QuietReturns
 pub mod Whole
 pub mod Laws
 pub mod Scenes
@@ -15,6 +17,7 @@ pub mod Mapped
 pub mod Touching
 pub mod Reaching
 pub mod Opens
+pub mod Planned
 pub mod Changing
 pub mod Keeps
 pub mod Steps

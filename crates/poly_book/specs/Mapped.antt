@@ -1,4 +1,5 @@
 -- Which tasks the maps have noted under which atoms.
+use Rattle.std.specs.Arc.{arc_value}
 use Rattle.std.specs.BTreeMap.{is_at}
 use Rattle.std.specs.List.{list_all, list_any}
 use Rattle.std.specs.Map.{lookup}
@@ -13,6 +14,8 @@ use Rattle.poly_book.specs.declared.maps.TheConstants.{FIRST_NAME}
 use Rattle.poly_book.specs.declared.maps.Maps.{Maps}
 use Rattle.poly_book.specs.declared.maps.Prefix.{Prefix}
 use Rattle.poly_book.specs.declared.rows.Span.{Span}
+use Rattle.poly_book.specs.declared.task.Own.{Own}
+use Rattle.poly_book.specs.declared.task.Own.TheVariants.{Atoms, Crossed, Stair as OfStair}
 use Rattle.poly_book.specs.declared.task.Pending.{Pending}
 use Rattle.poly_book.specs.Meaning.{own_of}
 use Rattle.poly_grid.specs.declared.cell.TheConstants.{SIDE}
@@ -53,6 +56,12 @@ under m (AtMost i k) n = spanned m.at_most.entries (key_of i) n
 -- what is noted in the first maps is noted in the second
 abbrev pub IsWider : Maps → Maps → Type 0
 IsWider old new = (a : Atom) (n : ℕ) → under old a n ≡ true → under new a n ≡ true
+
+-- the list that a crossed task's stair follows
+abbrev pub base_of : Own → List Atom
+base_of (Atoms v) = []
+base_of (OfStair s) = []
+base_of (Crossed v s) = (arc_value v).items
 
 -- each task is noted under each of its own atoms
 abbrev pub AreNoted : Maps → List (List Atom) → List Pending → Type 0

@@ -1,31 +1,34 @@
 -- What a book's fields mean.
-use Rattle.std.specs.Prelude.{List, None, Option, Some, [], drop, length, map, reverse, ℕ, ◌∷◌, ◌≡◌, ◌≤◌}
+use Rattle.std.specs.Arc.{arc_value}
+use Rattle.std.specs.Prelude.{List, None, Option, Some, [], drop, length, map, reverse, take, ℕ, ◌++◌, ◌∷◌, ◌≡◌, ◌≤◌}
 use Rattle.poly_design.specs.Layout.{Layout}
 use Rattle.poly_design.specs.declared.change.Change.{Change}
 use Rattle.poly_tiling.specs.Puzzle.{View}
 use Rattle.poly_atom.specs.declared.atom.Atom.{Atom}
 use Rattle.poly_atom.specs.Logs.{IsStairOf, flat, stair_of}
-use Rattle.poly_report.specs.Gather.{lists}
 use Rattle.poly_undo.specs.declared.step.Step.{Step as Kept_step}
 use Rattle.poly_undo.specs.Steps.{Steps}
+use Rattle.poly_book.specs.declared.shelf.Frozen.{Frozen}
 use Rattle.poly_book.specs.declared.shelf.Kept.{Kept}
-use Rattle.poly_undo.specs.declared.shelf.Shelf.{Shelf}
+use Rattle.poly_book.specs.declared.shelf.Shelf.{Shelf}
 use Rattle.poly_book.specs.declared.step.Step.{Step}
 use Rattle.poly_book.specs.declared.step.Ending.{Ending}
 use Rattle.poly_book.specs.declared.task.Own.{Own}
-use Rattle.poly_book.specs.declared.task.Own.TheVariants.{Atoms, Stair as OfStair}
+use Rattle.poly_book.specs.declared.task.Own.TheVariants.{Atoms, Crossed, Stair as OfStair}
 use Rattle.poly_book.specs.declared.task.Pending.{Pending}
 use Rattle.poly_book.specs.Tasks.{Task}
 use Rattle.poly_book.specs.States.{State, Stored, Way}
 
 abbrev pub own_of : List (List Atom) → Own → List Atom
-own_of log (Atoms v) = v.items
+own_of log (Atoms v) = (arc_value v).items
 own_of log (OfStair s) = stair_of log s
+own_of log (Crossed v s) = (arc_value v).items ++ stair_of log s
 
--- if the own atoms are a stair, the log has it
+-- if the own atoms are a stair, or end with one, the log has it
 abbrev pub IsOwn : List (List Atom) → Own → Type 0
 IsOwn log (Atoms v) = Unit {0}
 IsOwn log (OfStair s) = IsStairOf log s
+IsOwn log (Crossed v s) = IsStairOf log s
 
 -- the task, with the guards of every change since it was made
 abbrev pub task_of : List (List Atom) → Pending → Task
@@ -34,7 +37,7 @@ task_of log p = record { number = p.number; own = own_of log p.own; laid = flat 
 abbrev pub tasks_of : List (List Atom) → List Pending → List Task
 tasks_of log ps = map (λ p. task_of log p) ps
 
--- if the task's own atoms are a stair, the log has it; and the task was made at an edition that the log has
+-- if the task's own atoms are a stair, or end with one, the log has it; and the task was made at an edition that the log has
 pub record IsTask (log : List (List Atom)) (p : Pending) : Type 0 where
   pub own : IsOwn log p.own
   pub made : p.made ≤ length log
@@ -48,20 +51,55 @@ abbrev pub AreFresh : ℕ → List Pending → Type 0
 AreFresh n [] = Unit {0}
 AreFresh n (p ∷ ps) = (p.made ≡ n) × AreFresh n ps
 
-abbrev pub stored_of : Option Shelf → Option Stored
-stored_of None = None
-stored_of (Some h) = Some (record { taken = h.tilings.items; frozen = lists h.frozen.items })
+-- the frozen task's own atoms, and the first `f.count` guards that the log has since the task was made
+abbrev pub frozen_of : List (List Atom) → Frozen → List Atom
+frozen_of log f = own_of log f.own ++ take f.count (flat (drop f.made log))
 
-abbrev pub way_by : Change → Option Kept → Way
-way_by x None = record { change = x; made = 0; shelf = None }
-way_by x (Some k) = record { change = x; made = k.made; shelf = stored_of k.shelf }
+-- the log has what the frozen task's atoms are read from
+pub record IsFrozen (log : List (List Atom)) (f : Frozen) : Type 0 where
+  pub own : IsOwn log f.own
+  pub made : f.made ≤ length log
+  pub count : f.count ≤ length (flat (drop f.made log))
 
-abbrev pub way_of : Kept_step Change Kept → Way
-way_of s = way_by s.change s.kept
+abbrev pub AreFrozen : List (List Atom) → List Frozen → Type 0
+AreFrozen log [] = Unit {0}
+AreFrozen log (f ∷ fs) = IsFrozen log f × AreFrozen log fs
+
+abbrev pub stored_of : List (List Atom) → Option Shelf → Option Stored
+stored_of log None = None
+stored_of log (Some h) = Some (record { taken = h.tilings.items; frozen = map (λ f. frozen_of log f) h.frozen.items })
+
+-- the log has what the frozen tasks of the shelf are read from
+abbrev pub IsHeld : List (List Atom) → Option Shelf → Type 0
+IsHeld log None = Unit {0}
+IsHeld log (Some h) = AreFrozen log h.frozen.items
+
+abbrev pub IsHeldBy : List (List Atom) → Option Kept → Type 0
+IsHeldBy log None = Unit {0}
+IsHeldBy log (Some k) = IsHeld log k.shelf
+
+abbrev pub IsHeldAt : List (List Atom) → Option (Kept_step Change Kept) → Type 0
+IsHeldAt log None = Unit {0}
+IsHeldAt log (Some s) = IsHeldBy log s.kept
+
+-- the log has what the frozen tasks of all shelves are read from
+abbrev pub AreHeldBy : List (List Atom) → List (Kept_step Change Kept) → Type 0
+AreHeldBy log [] = Unit {0}
+AreHeldBy log (s ∷ ss) = IsHeldBy log s.kept × AreHeldBy log ss
+
+abbrev pub AreHeld : List (List Atom) → Steps Change Kept → Type 0
+AreHeld log h = AreHeldBy log h.undo × AreHeldBy log h.redo
+
+abbrev pub way_by : List (List Atom) → Change → Option Kept → Way
+way_by log x None = record { change = x; made = 0; shelf = None }
+way_by log x (Some k) = record { change = x; made = k.made; shelf = stored_of log k.shelf }
+
+abbrev pub way_of : List (List Atom) → Kept_step Change Kept → Way
+way_of log s = way_by log s.change s.kept
 
 -- the newest first
-abbrev pub ways_of : List (Kept_step Change Kept) → List Way
-ways_of ss = map (λ s. way_of s) (reverse ss)
+abbrev pub ways_of : List (List Atom) → List (Kept_step Change Kept) → List Way
+ways_of log ss = map (λ s. way_of log s) (reverse ss)
 
 -- what the fields show
 abbrev pub shown : Layout → Layout → View → List (List ℕ) → List (List Atom) → List Pending → ℕ → Steps Change Kept → List Step → List Ending → State
@@ -72,8 +110,8 @@ shown o d v ls log ps n h ss es = record {
   listed = ls;
   pending = tasks_of log ps;
   next = n;
-  back = ways_of h.undo;
-  forth = ways_of h.redo;
+  back = ways_of log h.undo;
+  forth = ways_of log h.redo;
   steps = reverse ss;
   endings = es;
 }

@@ -6,7 +6,6 @@ use Rattle.poly_design.specs.Changes.{changed, inverse_of}
 use Rattle.poly_design.specs.Edits.{IsAccepted, IsRefused}
 use Rattle.poly_design.specs.declared.change.Change.{Change}
 use Rattle.poly_design.specs.declared.edit.Edit.{Edit}
-use Rattle.poly_tiling.specs.Names.{Grown}
 use Rattle.poly_tiling.specs.Puzzle.{View}
 use Rattle.poly_tiling.specs.declared.lister.TheConstants.{MAX_TILINGS}
 use Rattle.poly_atom.specs.Guards.{guards}
@@ -31,18 +30,19 @@ LeadsTo s x P = (w : View) × Leads s x w × P w
 abbrev pub IsTooWide : Change → State → Type 0
 IsTooWide x s = IsWide s.design (changed s.design x) × LeadsTo s x (λ w. (MAX_GUARDS < length (guards s.view w)) ⊎ (MAX_GUARDS < length (guards w s.view)))
 
--- There were 100,000 changes; or a new task would get a number over 4,294,967,295; or the placement numbers don't suffice for
--- the placements that have numbers and the placements and pins of the design after the change. Refused changes may have given
--- out numbers, too.
+-- There were 100,000 changes; or a new task would get a number over 4,294,967,295; or the placements that have numbers in the
+-- view, and the placements and pins of the design after the change, are together more than there are numbers.
 abbrev pub IsSpent : Kind → Change → State → Type 0
 IsSpent k x s =
     (MAX_CHANGES ≤ length s.steps)
     ⊎ LeadsTo s x (λ w. 4294967296 < (step s (event_of k x w)).next)
-    ⊎ ((given : View) × Grown s.view given × NumbersAreSpent given.placements (changed s.design x))
+    ⊎ NumbersAreSpent s.view.placements (changed s.design x)
 
--- more than 1,000,000 tilings would be listed
+-- More than 1,000,000 tilings would be listed, although fewer than 100,000 changes were made, no new task would get a number
+-- over 4,294,967,295, and the placement numbers suffice.
 abbrev pub IsFull : Kind → Change → State → Type 0
-IsFull k x s = LeadsTo s x (λ w. MAX_TILINGS < length (step s (event_of k x w)).listed)
+IsFull k x s =
+    LeadsTo s x (λ w. (MAX_TILINGS < length (step s (event_of k x w)).listed) × (length s.steps < MAX_CHANGES) × ((step s (event_of k x w)).next ≤ 4294967296) × (¬ NumbersAreSpent s.view.placements (changed s.design x)))
 
 -- why a change of the kind isn't made
 abbrev pub IsNotMade : Kind → Change → State → Refusal → Type 0
@@ -62,11 +62,12 @@ IsNotUndone s e = ((e ≡ NothingToUndo) × (s.back ≡ [])) ⊎ ((way : Way) ×
 abbrev pub IsNotRedone : State → Refusal → Type 0
 IsNotRedone s e = ((e ≡ NothingToRedo) × (s.forth ≡ [])) ⊎ ((way : Way) × (rest : List Way) × (s.forth ≡ way ∷ rest) × IsNotMade kind.Redo way.change s e)
 
--- the report would open a task whose number is over 4,294,967,295, or more than 1,000,000 tilings would be listed, or memory
--- ran out
+-- The report would open a task whose number is over 4,294,967,295; or it would open none, and more than 1,000,000 tilings would
+-- be listed; or memory ran out.
 abbrev pub IsOver : ℕ → Plan → State → Refusal → Type 0
 IsOver k tree s e =
-    ((e ≡ Spent) × (4294967296 < (step s (Report k tree)).next)) ⊎ ((e ≡ CatalogueFull) × (MAX_TILINGS < length (step s (Report k tree)).listed)) ⊎ (e ≡ Memory)
+    ((e ≡ Spent) × (4294967296 < (step s (Report k tree)).next))
+    ⊎ ((e ≡ CatalogueFull) × (MAX_TILINGS < length (step s (Report k tree)).listed) × ((step s (Report k tree)).next ≤ 4294967296)) ⊎ (e ≡ Memory)
 
 -- The task isn't pending; or the tree doesn't fit; or it fits but doesn't hold; or a limit would be passed; or memory ran out.
 abbrev pub IsNotApplied : ℕ → Plan → State → Refusal → Type 0

@@ -1,5 +1,5 @@
 -- The stored steps, made one after the other from the opening design, give the design and the changes to undo and redo.
-use Rattle.std.specs.Prelude.{List, [], drop, map, ◌∷◌, ◌≡◌}
+use Rattle.std.specs.Prelude.{List, [], cond, drop, length, map, ℕ, ◌+◌, ◌==◌, ◌∷◌, ◌≡◌, ◌≤◌}
 use Rattle.poly_design.specs.Changes.{HasBefore, changed, inverse_of}
 use Rattle.poly_design.specs.Layout.{Layout}
 use Rattle.poly_design.specs.Limits.{IsDesign}
@@ -7,7 +7,7 @@ use Rattle.poly_design.specs.declared.change.Change.{Change}
 use Rattle.poly_book.specs.declared.step.Kind.{Kind}
 use Rattle.poly_book.specs.declared.step.Kind.TheVariants.{Edit, Redo, Undo}
 use Rattle.poly_book.specs.declared.step.Step.{Step}
-use Rattle.poly_book.specs.States.{State}
+use Rattle.poly_book.specs.States.{State, Way}
 use Rattle.poly_book.specs.Shelves.{newest}
 use Rattle.poly_undo.specs.declared.history.TheConstants.{MAX_STEPS}
 
@@ -44,8 +44,39 @@ abbrev pub AllDesigns : Layout → List Step → Type 0
 AllDesigns o [] = Unit {0}
 AllDesigns o (s ∷ ss) = IsDesign (replayed o (s ∷ ss)).design × AllDesigns o ss
 
--- the stored steps lead from the opening design to this state
+-- for each change that can be undone or redone, the number of the step that put it there; in the order of `Trace`
+pub record Origins : Type 0 where
+  pub back : List ℕ
+  pub forth : List ℕ
+
+-- step n is made
+abbrev pub put_by : Origins → Kind → ℕ → Origins
+put_by p Edit n = record { back = newest MAX_STEPS (n ∷ p.back); forth = [] }
+put_by p Undo n = record { back = drop 1 p.back; forth = n ∷ p.forth }
+put_by p Redo n = record { back = newest MAX_STEPS (n ∷ p.back); forth = drop 1 p.forth }
+
+-- the oldest step is step 1
+abbrev pub origins : List Step → Origins
+origins [] = record { back = []; forth = [] }
+origins (s ∷ ss) = put_by (origins ss) s.kind (length ss + 1)
+
+-- the design before step m
+abbrev pub design_before : ℕ → Layout → List Step → Layout
+design_before m o [] = o
+design_before m o (s ∷ ss) = cond (length ss + 1 == m) (replayed o ss).design (design_before m o ss)
+
+-- If the changes that `f` makes of the ways' changes are made, one after the other, each leads to the design before the step
+-- that put the way there.
+abbrev pub LeadBack : (Change → Change) → Layout → List Step → Layout → List Way → Type 0
+LeadBack f o ss d [] = Unit {0}
+LeadBack f o ss d (b ∷ bs) = (b.made ≤ length ss) × (changed d (f b.change) ≡ design_before b.made o ss) × LeadBack f o ss (changed d (f b.change)) bs
+
+-- The stored steps lead from the opening design to this state. The number of each way is that of the step that put it there,
+-- and the undo or redo leads to the design before that step.
 pub record Replay (s : State) : Type 0 where
   pub is : replayed s.opened s.steps ≡ record { design = s.design; back = map (λ b. b.change) s.back; forth = map (λ b. b.change) s.forth }
   pub stand : AllStand s.opened s.steps
   pub designs : AllDesigns s.opened s.steps
+  pub origins_are : origins s.steps ≡ record { back = map (λ b. b.made) s.back; forth = map (λ b. b.made) s.forth }
+  pub back_leads : LeadBack inverse_of s.opened s.steps s.design s.back
+  pub forth_leads : LeadBack (λ x. x) s.opened s.steps s.design s.forth

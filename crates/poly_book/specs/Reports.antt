@@ -1,12 +1,12 @@
 -- A report that was applied.
 use Rattle.std.specs.List.{position_from}
-use Rattle.std.specs.Prelude.{List, Some, length, nat_lt, true, ℕ, ◌&&◌, ◌+◌, ◌==◌, ◌≡◌}
+use Rattle.std.specs.Prelude.{List, Some, length, nat_lt, true, false, ℕ, ◌&&◌, ◌+◌, ◌==◌, ◌≡◌, ◌≤◌}
 use Rattle.poly_atom.specs.declared.atom.Atom.{Atom}
 use Rattle.poly_report.specs.Gather.{IsCutUp}
 use Rattle.poly_report.specs.Trees.{Plan}
-use Rattle.poly_report.specs.Sizes.{fits}
+use Rattle.poly_report.specs.Sizes.{all_fewer, fits, inner, is_rest}
 use Rattle.poly_report.specs.Holds.{holds}
-use Rattle.poly_report.specs.Leaves.{tilings}
+use Rattle.poly_report.specs.Leaves.{rests, tilings}
 use Rattle.poly_book.specs.declared.step.Applied.{Applied}
 use Rattle.poly_book.specs.declared.parts.Parts.{Parts}
 use Rattle.poly_book.specs.Events.{Report, step}
@@ -37,3 +37,11 @@ pub record AreLeaves (p : Parts) (k index : ℕ) (tree : Plan) (found : List (Li
   pub there : find_task k (state_of p).pending ≡ Some task
   pub small : fits tree ≡ true
   pub cut : IsCutUp (state_of p).view (atoms_of task) tree found left
+
+-- Besides, the tree has at most `nodes` nodes that aren't Rest, its root isn't Rest, and each of its rests has fewer open
+-- placements than the task's atoms.
+pub record AreFoundLeaves (nodes : ℕ) (p : Parts) (k index : ℕ) (tree : Plan) (found : List (List ℕ)) (left : List (List Atom)) : Type 0 where
+  pub leaves : AreLeaves p k index tree found left
+  pub few : inner tree ≤ nodes
+  pub root : is_rest tree ≡ false
+  pub smaller : all_fewer (state_of p).view (atoms_of leaves.task) (rests (state_of p).view (atoms_of leaves.task) tree) ≡ true

@@ -96,7 +96,7 @@ fn complete(
     requires keeps { Keeps parts.old }
     requires top { IsTop kind parts.old.history change }
     requires prepared { IsPrepared kind change parts.old entry ready }
-    requires step { step ≡ record { kind = kind; change = change; pending = length parts.old.tasks.items; shelved = shelved_by kind parts.old.history } }
+    requires step { step ≡ record { kind = kind; change = change; pending = length parts.old.tasks.items; shelved = shelved_by parts.old.log kind parts.old.history } }
     ensures keeps { Keeps parts.new }
     ensures ok { OnOk result (IsDone kind change (state_of parts.old) (state_of parts.new) (record { place = length parts.new.steps.items; step = step })) }
     ensures design { OnOk result (parts.new.design ≡ changed parts.old.design change) }
@@ -153,7 +153,7 @@ fn finish(parts: &mut Parts, kind: Kind, change: Change, step: Step, ready: Prep
 
 // The step that the change is about to become.
 fn step_of(parts: &Parts, kind: Kind, change: &Change) -> Result<Step, Refusal>
-    ensures ok { IfOk result (λ s. s ≡ record { kind = kind; change = change.now; pending = length parts.now.tasks.items; shelved = shelved_by kind parts.now.history }) }
+    ensures ok { IfOk result (λ s. s ≡ record { kind = kind; change = change.now; pending = length parts.now.tasks.items; shelved = shelved_by parts.now.log kind parts.now.history }) }
     ensures why { IfErr result (λ e. e ≡ Refusal.Memory) }
 {
     let copy = change.copy()?;

@@ -1,12 +1,12 @@
 //! Begins a book.
-ghost use Rattle.std.specs.Prelude.{◌≡◌, ◌∷◌, [], IfErr, IfOk, Vec as VecOf};
+ghost use Rattle.std.specs.Prelude.{◌≡◌, ◌∷◌, [], IfErr, IfOk};
 ghost use Rattle.std.specs.Arc.{arc_value};
-ghost use Rattle.std.specs.Global.{Global as GlobalOf};
-ghost use Rattle.poly_atom.specs.declared.atom.Atom.{Atom as AtomOf};
 ghost use Rattle.poly_place.specs.Right.{IsRight};
 ghost use Rattle.poly_tiling.specs.Names.{WellNamed};
 ghost use Rattle.poly_tiling.specs.Shows.{Shows};
+ghost use Rattle.poly_book.specs.Meaning.{IsOwn, own_of};
 ghost use Rattle.poly_book.specs.States.{opening};
+ghost use Rattle.poly_book.specs.declared.task.Own.{Own as OwnOf};
 
 use crate::book::Book;
 use crate::parts::Parts;
@@ -56,13 +56,14 @@ impl Book {
 
 // Task 1, without atoms.
 fn first_task(alloc: Global) -> Result<Vec<Pending>, Refusal>
-    ensures ok { IfOk result (λ ps. (own : VecOf AtomOf GlobalOf) × (own.items ≡ []) × (ps.items ≡ (record { number = 1; own = Own.Atoms own; made = 0 }) ∷ [])) }
+    ensures ok { IfOk result (λ ps. (own : OwnOf) × (own_of [] own ≡ []) × IsOwn [] own × (ps.items ≡ (record { number = 1; own = own; made = 0 }) ∷ [])) }
     ensures why { IfErr result (λ e. e ≡ Refusal.Memory) }
 {
+    let none = Arc::new(alloc, Vec::new(alloc))?;
     let mut tasks = Vec::new(alloc);
     tasks.push(Pending {
         number: 1,
-        own: Own::Atoms(Vec::new(alloc)),
+        own: Own::Atoms(none),
         made: 0,
     })?;
     Ok(tasks)

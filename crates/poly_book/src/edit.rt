@@ -1,6 +1,8 @@
 //! Edits, undos and redos. Each makes a change of the design, by `apply_change`.
 ghost use Rattle.std.specs.Prelude.{◌≡◌, IfErr, IfOk, OnErr, OnOk};
 ghost use Rattle.poly_book.specs.Amounts.{IsNarrow, RedoIsFull, UndoIsFull};
+ghost use Rattle.poly_book.specs.QuietReturns.{ReturnsQuietly};
+ghost use Rattle.poly_book.specs.Replay.{origins};
 ghost use Rattle.poly_book.specs.Refused.{IsNotEdited, IsNotRedone, IsNotUndone};
 ghost use Rattle.poly_book.specs.Steps.{IsEdited, IsRedone, IsUndone};
 
@@ -27,12 +29,15 @@ impl Book {
         apply_change(&mut self.parts, Kind::Edit, change)
     }
 
-    /// Undoes the newest change that can be undone. The history keeps at most 256 changes.
+    /// Undoes the newest change that can be undone. The history keeps at most 256 changes. If no task was pending when that
+    /// change was made, and a shelf was kept for each undo and redo since, no task is pending afterwards, and all tilings of the
+    /// design before that change are listed.
     ///
     /// Refused with `NothingToUndo` if there is none. Otherwise refused with `Spent` as for an edit, with `CatalogueFull` if
     /// over 1,000,000 tilings would be listed, or with `Memory`. A refused undo leaves the book as it was.
     pub fn undo(&mut self) -> Result<Done, Refusal>
         ensures ok { IfOk result (λ done. IsUndone self.old self.new done) }
+        ensures quiet { IfOk result (λ _. ReturnsQuietly (origins self.old.steps).back self.old self.new) }
         ensures err { OnErr result (self.new ≡ self.old) }
         ensures why { IfErr result (λ e. IsNotUndone self.old e) }
         ensures full { IfErr result (λ e. e ≡ Refusal.CatalogueFull → UndoIsFull self.old) }
@@ -44,12 +49,15 @@ impl Book {
         apply_change(&mut self.parts, Kind::Undo, change)
     }
 
-    /// Of the changes that can be redone, redoes the one that was undone last.
+    /// Of the changes that can be redone, redoes the one that was undone last. If no task was pending when it was undone, and a
+    /// shelf was kept for each undo and redo since, no task is pending afterwards, and all tilings of the design before that
+    /// undo are listed.
     ///
     /// Refused with `NothingToRedo` if there is none. Otherwise refused with `Spent` as for an edit, with `CatalogueFull` if
     /// over 1,000,000 tilings would be listed, or with `Memory`. A refused redo leaves the book as it was.
     pub fn redo(&mut self) -> Result<Done, Refusal>
         ensures ok { IfOk result (λ done. IsRedone self.old self.new done) }
+        ensures quiet { IfOk result (λ _. ReturnsQuietly (origins self.old.steps).forth self.old self.new) }
         ensures err { OnErr result (self.new ≡ self.old) }
         ensures why { IfErr result (λ e. IsNotRedone self.old e) }
         ensures full { IfErr result (λ e. e ≡ Refusal.CatalogueFull → RedoIsFull self.old) }

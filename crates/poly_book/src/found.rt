@@ -134,7 +134,7 @@ fn has_atoms(parts: &Parts, at: usize, number: u32, atoms: &[Atom]) -> Result<bo
     Ok(is_same_list(&own, atoms))
 }
 
-fn is_same_list(one: &[Atom], other: &[Atom]) -> bool
+pub(crate) fn is_same_list(one: &[Atom], other: &[Atom]) -> bool
     ensures { IsTrue result ↔ (one.now ≡ other.now) }
 {
     one == other

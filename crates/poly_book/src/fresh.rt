@@ -1,24 +1,26 @@
 //! New tasks: the stairs of a change or, if a shelf was kept for this undo or redo, each frozen list of the shelf followed by
 //! each stair; and the rests of a report. A hopeless list gets no task.
-ghost use Rattle.std.specs.Prelude.{◌≡◌, ◌≤◌, ◌<◌, ◌++◌, ◌+◌, ◌∷◌, ◌⊎◌, ℕ, [], IfErr, IfOk, OnOk, List, false, length, map, not, option_copied, true};
-ghost use Rattle.std.specs.List.{flat_map};
+ghost use Rattle.std.specs.Arc.{arc_value};
+ghost use Rattle.std.specs.Prelude.{◌≡◌, ◌≤◌, ◌<◌, ◌++◌, ◌+◌, ◌∷◌, ◌⊎◌, ℕ, [], IfErr, IfOk, List, false, length, map, not, option_copied, true};
 ghost use Rattle.poly_atom.specs.declared.atom.Atom.{Atom as AtomOf};
 ghost use Rattle.poly_atom.specs.Atoms.{AllSmall, IsSmall, negated};
 ghost use Rattle.poly_atom.specs.Hopeless.{hopeless};
+ghost use Rattle.poly_atom.specs.Logs.{IsStairOf, stair_of};
 ghost use Rattle.poly_atom.specs.Stairs.{stairs};
 ghost use Rattle.poly_report.specs.Gather.{lists};
-ghost use Rattle.poly_book.specs.Opens.{Opens};
-ghost use Rattle.poly_book.specs.Meaning.{stored_of};
+ghost use Rattle.poly_book.specs.Opens.{Opening, Opens};
+ghost use Rattle.poly_book.specs.Meaning.{AreFrozen, IsHeld, IsOwn, frozen_of, own_of, stored_of};
 ghost use Rattle.poly_book.specs.Shelves.{crossed, openings};
 ghost use Rattle.poly_book.specs.Tasks.{AreHopeful, hopeful};
 ghost use Rattle.poly_book.specs.declared.prepare.TheConstants.{MAX_CHANGES};
 
-use crate::task::{Own, Pending};
-use poly_atom::{Atom, Stair, hopeless, staircase};
+use crate::shelf::{Frozen, Shelf};
+use crate::task::{Own, Pending, frozen_atoms};
+use poly_atom::{Atom, GuardLog, Stair, hopeless};
 use poly_grid::Refusal;
 use poly_tiling::View;
-use poly_undo::Shelf;
 use std::alloc::Global;
+use std::sync::Arc;
 
 /// The greatest task number.
 const LAST: u64 = 4_294_967_295;
@@ -45,9 +47,10 @@ pub(crate) fn opened(
             if number > LAST {
                 return Err(Refusal::Spent);
             }
+            let shared = Arc::new(alloc, own)?;
             tasks.push(Pending {
                 number: number as u32,
-                own: Own::Atoms(own),
+                own: Own::Atoms(shared),
                 made,
             })?;
             number += 1;
@@ -115,57 +118,12 @@ fn next_stair(view: &View, atoms: &mut Vec<Atom>, guard: &Atom) -> Result<bool, 
     Ok(yes)
 }
 
-/// Each frozen list followed by each stair of the guards.
-pub(crate) fn crossed_lists(
-    alloc: Global,
-    frozen: &[Vec<Atom>],
-    guards: &[Atom],
-) -> Result<Vec<Vec<Atom>>, Refusal>
-    requires { AllSmall guards.now }
-    ensures ok { IfOk result (λ all. lists all.items ≡ crossed (lists frozen.now) (stairs guards.now)) }
-    ensures why { IfErr result (λ e. e ≡ Refusal.Memory) }
-{
-    let mut all = Vec::new(alloc);
-    if frozen.is_empty() {
-        return Ok(all);
-    }
-    let steps = staircase(alloc, guards)?;
-    for before in frozen {
-        add_crossed(alloc, before, &steps, &mut all)?;
-    }
-    Ok(all)
-}
-
-fn add_crossed(
-    alloc: Global,
-    before: &[Atom],
-    steps: &[Vec<Atom>],
-    all: &mut Vec<Vec<Atom>>,
-) -> Result<(), Refusal>
-    ensures ok { OnOk result (lists all.new.items ≡ lists all.old.items ++ map (λ B. before.now ++ B) (lists steps.now)) }
-    ensures why { IfErr result (λ e. e ≡ Refusal.Memory) }
-{
-    for step in steps {
-        let list = joined(alloc, before, step)?;
-        all.push(list)?;
-    }
-    Ok(())
-}
-
-fn joined(alloc: Global, before: &[Atom], after: &[Atom]) -> Result<Vec<Atom>, Refusal>
-    ensures ok { IfOk result (λ list. list.items ≡ before.now ++ after.now) }
-    ensures why { IfErr result (λ e. e ≡ Refusal.Memory) }
-{
-    let mut list = Vec::from_slice(alloc, before)?;
-    list.extend_from_slice(after)?;
-    Ok(list)
-}
-
 /// The tasks that a change opens: its stairs or, if `stood` is the shelf that was kept for it, each frozen list of the shelf
 /// followed by each stair. `edition` is the edition before the change. A hopeless list gets no task.
 pub(crate) fn fresh_tasks(
     alloc: Global,
     view: &View,
+    log: &GuardLog,
     guards: &[Atom],
     stood: Option<&Shelf>,
     next: u64,
@@ -173,32 +131,94 @@ pub(crate) fn fresh_tasks(
 ) -> Result<Vec<Pending>, Refusal>
     requires next { next ≤ 4294967296 }
     requires edition { edition ≤ MAX_CHANGES }
+    requires log { length log.now ≡ edition }
     requires small { AllSmall guards.now }
-    ensures ok { IfOk result (λ ps. (log : List (List AtomOf)) → length log ≡ edition → Opens (log ++ guards.now ∷ []) next view.now (openings (stored_of (option_copied stood.entry)) (stairs guards.now)) ps.items) }
+    requires held { IsHeld log.now (option_copied stood) }
+    ensures ok { IfOk result (λ ps. Opens (log.now ++ guards.now ∷ []) next view.now (openings (stored_of log.now (option_copied stood.entry)) (stairs guards.now)) ps.items) }
     ensures few { IfOk result (λ ps. next + length ps.items ≤ 4294967296) }
-    ensures why { IfErr result (λ e. ((e ≡ Refusal.Spent) × (4294967296 < next + length (hopeful view.now (openings (stored_of (option_copied stood.entry)) (stairs guards.now))))) ⊎ (e ≡ Refusal.Memory)) }
+    ensures why { IfErr result (λ e. ((e ≡ Refusal.Spent) × (4294967296 < next + length (hopeful view.now (openings (stored_of log.now (option_copied stood.entry)) (stairs guards.now))))) ⊎ (e ≡ Refusal.Memory)) }
 {
     match stood {
         None => opened_stairs(alloc, view, guards, next, edition),
-        Some(shelf) => fresh_crossed(alloc, view, guards, &shelf.frozen, next, edition),
+        Some(shelf) => opened_crossed(alloc, view, log, guards, &shelf.frozen, next, edition),
     }
 }
 
-fn fresh_crossed(
+// Each frozen list followed by each stair of the guards, as tasks with the numbers from `next` on. `edition` is the edition
+// before the change. A hopeless list gets no task.
+fn opened_crossed(
     alloc: Global,
     view: &View,
+    log: &GuardLog,
     guards: &[Atom],
-    frozen: &[Vec<Atom>],
+    frozen: &[Frozen],
     next: u64,
     edition: u64,
 ) -> Result<Vec<Pending>, Refusal>
     requires next { next ≤ 4294967296 }
     requires edition { edition ≤ MAX_CHANGES }
+    requires log { length log.now ≡ edition }
     requires small { AllSmall guards.now }
-    ensures ok { IfOk result (λ ps. (log : List (List AtomOf)) → length log ≡ edition → Opens (log ++ guards.now ∷ []) next view.now (crossed (lists frozen.now) (stairs guards.now)) ps.items) }
+    requires frozen { AreFrozen log.now frozen.now }
+    ensures ok { IfOk result (λ ps. Opens (log.now ++ guards.now ∷ []) next view.now (crossed (map (λ f. frozen_of log.now f) frozen.now) (stairs guards.now)) ps.items) }
     ensures few { IfOk result (λ ps. next + length ps.items ≤ 4294967296) }
-    ensures why { IfErr result (λ e. ((e ≡ Refusal.Spent) × (4294967296 < next + length (hopeful view.now (crossed (lists frozen.now) (stairs guards.now))))) ⊎ (e ≡ Refusal.Memory)) }
+    ensures why { IfErr result (λ e. ((e ≡ Refusal.Spent) × (4294967296 < next + length (hopeful view.now (crossed (map (λ f. frozen_of log.now f) frozen.now) (stairs guards.now))))) ⊎ (e ≡ Refusal.Memory)) }
 {
-    let all = crossed_lists(alloc, frozen, guards)?;
-    opened(alloc, view, all, next, edition + 1, false)
+    let mut tasks = Vec::new(alloc);
+    let mut number = next;
+    for before in frozen {
+        let base = frozen_atoms(alloc, log, before)?;
+        number = add_crossed(alloc, view, base, guards, number, edition, &mut tasks)?;
+    }
+    Ok(tasks)
+}
+
+// The base, which is shared, followed by the stair.
+fn stair_after(base: &Arc<Vec<Atom>>, stair: Stair) -> Result<Own, Refusal>
+    ensures reads { IfOk result (λ o. (log : List (List AtomOf)) → own_of log o ≡ (arc_value base.now).items ++ stair_of log stair) }
+    ensures stands { IfOk result (λ o. (log : List (List AtomOf)) → IsStairOf log stair → IsOwn log o) }
+    ensures why { IfErr result (λ e. e ≡ Refusal.Memory) }
+{
+    let shared = Arc::try_clone(base)?;
+    Ok(Own::Crossed(shared, stair))
+}
+
+// Appends the base followed by each stair of the guards, as tasks with the numbers from `start` on, which share the base. A
+// hopeless list gets no task. Returns the number after that of the last task.
+fn add_crossed(
+    alloc: Global,
+    view: &View,
+    base: Vec<Atom>,
+    guards: &[Atom],
+    start: u64,
+    edition: u64,
+    tasks: &mut Vec<Pending>,
+) -> Result<u64, Refusal>
+    requires start { start ≤ 4294967296 }
+    requires edition { edition ≤ MAX_CHANGES }
+    requires small { AllSmall guards.now }
+    ensures ok { IfOk result (λ n. (log : List (List AtomOf)) (next : ℕ) (all rest : List (List AtomOf)) → length log ≡ edition → Opening (log ++ guards.now ∷ []) next start view.now all (map (λ B. base.items ++ B) (stairs guards.now) ++ rest) tasks.old.items → Opening (log ++ guards.now ∷ []) next n view.now all rest tasks.new.items) }
+    ensures count { IfOk result (λ n. start + length tasks.new.items ≡ n + length tasks.old.items) }
+    ensures few { IfOk result (λ n. n ≤ 4294967296) }
+    ensures why { IfErr result (λ e. ((e ≡ Refusal.Spent) × ((log : List (List AtomOf)) (next : ℕ) (all rest : List (List AtomOf)) → length log ≡ edition → next + length tasks.old.items ≡ start → Opening (log ++ guards.now ∷ []) next start view.now all (map (λ B. base.items ++ B) (stairs guards.now) ++ rest) tasks.old.items → 4294967296 < next + length (hopeful view.now all))) ⊎ (e ≡ Refusal.Memory)) }
+{
+    let mut atoms = Vec::from_slice(alloc, &base)?;
+    let shared = Arc::new(alloc, base)?;
+    let mut number = start;
+    for index in 0..guards.len() {
+        if next_stair(view, &mut atoms, &guards[index])? {
+            continue;
+        }
+        if number > LAST {
+            return Err(Refusal::Spent);
+        }
+        let own = stair_after(&shared, Stair { edition, index })?;
+        tasks.push(Pending {
+            number: number as u32,
+            own,
+            made: edition + 1,
+        })?;
+        number += 1;
+    }
+    Ok(number)
 }

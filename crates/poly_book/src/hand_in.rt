@@ -1,6 +1,7 @@
 //! Applies a report: its task ends, its tilings are listed, and its rests that aren't hopeless become new tasks.
-ghost use Rattle.std.specs.Prelude.{◌≡◌, ◌<◌, ◌==◌, IfErr, IfOk, OnErr, Some, true, ℕ};
+ghost use Rattle.std.specs.Prelude.{◌≡◌, ◌<◌, ◌==◌, IfErr, IfOk, None, OnErr, Some, cond, true, ℕ};
 ghost use Rattle.std.specs.List.{position_from};
+ghost use Rattle.std.specs.List.Sorted.{IsNonDecreasingBy};
 ghost use Rattle.poly_report.specs.Gather.{lists};
 ghost use Rattle.poly_report.specs.Shapes.{plan_of};
 ghost use Rattle.poly_report.specs.Sizes.{fits};
@@ -114,14 +115,20 @@ pub(crate) fn apply_leaves(
     })
 }
 
-/// The index of the first task with the number, if there is one.
+/// The index of the first task with the number, if there is one, found by binary search. The numbers rise.
 pub(crate) fn index_of(tasks: &[Pending], number: u32) -> Option<usize>
+    requires { IsNonDecreasingBy (λ p. p.number) tasks.now }
     ensures { result ≡ position_from (λ p. p.number == number) 0 tasks.now }
 {
-    for (i, task) in tasks.iter().enumerate() {
-        if task.number == number {
-            return Some(i);
-        }
+    let index = tasks.partition_point(|task| task.number < number);
+    if index < tasks.len() {
+        return some_if(tasks[index].number == number, index);
     }
     None
+}
+
+fn some_if(yes: bool, index: usize) -> Option<usize>
+    ensures { result ≡ cond yes (Some index) None }
+{
+    if yes { Some(index) } else { None }
 }

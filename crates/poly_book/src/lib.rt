@@ -11,7 +11,8 @@
 //! - [`Which`]: which task to take. [`Job`]: a task to be worked on. [`Found`]: what a search found for it.
 //! - [`Quiet`]: all tilings of a design.
 //! - [`Numbers`]: how many changes, endings, listed tilings and pending tasks there are. [`Pending`], [`Own`]: a pending
-//!   task. [`Kept`]: what is kept for an undo or a redo.
+//!   task. [`Kept`], [`Shelf`], [`Frozen`]: what is kept for an undo or a
+//!   redo.
 //! - Limits: [`MAX_CHANGES`] of a book, [`MAX_GUARDS`] of a change, and [`MAX_SHELF`] on what is kept for an undo or a
 //!   redo.
 //! - [`laws`]: `run` and `still_holds`, which run a list of events; the laws of events and of runs of events; and the values
@@ -48,7 +49,7 @@ pub use book::{Book, Numbers};
 pub use found::Found;
 pub use prepare::{MAX_CHANGES, MAX_GUARDS, MAX_SHELF};
 pub use quiet::Quiet;
-pub use shelf::Kept;
+pub use shelf::{Frozen, Kept, Shelf};
 pub use step::{Applied, Done, Ending, Kind, Step};
 pub use take::{Job, Which};
 pub use task::{Own, Pending};

@@ -3,13 +3,14 @@
 //!
 //! Tasks that have ended may still be noted, and a task may be noted under an atom that it doesn't have. Both cost time and
 //! change nothing: each task that is found is checked.
-ghost use Rattle.std.specs.Prelude.{◌≡◌, ◌≤◌, ◌⊎◌, IfErr, OnOk, length, true, ℕ};
+ghost use Rattle.std.specs.Prelude.{◌≡◌, ◌≤◌, ◌⊎◌, IfErr, IfOk, OnOk, length, true, ℕ};
 ghost use Rattle.std.specs.List.{list_all};
 ghost use Rattle.std.specs.List.Sorted.{IsNonDecreasingBy};
 ghost use Rattle.poly_atom.specs.Logs.{IsStairOf, stair_of};
-ghost use Rattle.poly_book.specs.Mapped.{AreNoted, IsPrefix, IsWider, KeepsPending, in_span, key_of, key_of_name, under};
+ghost use Rattle.poly_book.specs.Mapped.{AreNoted, IsPrefix, IsWider, KeepsPending, base_of, in_span, key_of, key_of_name, under};
 ghost use Rattle.poly_book.specs.Meaning.{AreTasks, IsOwn, own_of};
 
+use crate::found::is_same_list;
 use crate::rows::{Row, Span, note_span, tidy_rows};
 use crate::task::{Own, Pending};
 use poly_atom::{Atom, GuardLog, Stair};
@@ -57,8 +58,9 @@ impl Maps {
         }
     }
 
-    /// Notes each task under its own atoms. Stairs of one change share what is noted for the change's guards. Fails only
-    /// when out of memory. What was noted before stays noted in any case.
+    /// Notes each task under its own atoms. Stairs of one change share what is noted for the change's guards, and successive
+    /// tasks with the same base share what is noted for the base. Fails only when out of memory. What was noted before stays
+    /// noted in any case.
     pub(crate) fn note_all(&mut self, log: &GuardLog, tasks: &[Pending]) -> Result<(), Refusal>
         requires { AreTasks log.now tasks.now }
         ensures wider { IsWider self.old self.new }
@@ -71,8 +73,18 @@ impl Maps {
             count: 0,
             span: Span { from: 0, to: 0 },
         };
-        for task in tasks {
+        let mut shared = Span { from: 1, to: 0 };
+        let mut before = 0;
+        for (i, task) in tasks.iter().enumerate() {
+            shared = self.note_base(
+                &tasks[before].own,
+                &task.own,
+                shared,
+                task.number,
+                &tasks[i..],
+            )?;
             self.note_task(log, &task.own, task.number, last, &mut prefix)?;
+            before = i;
         }
         Ok(())
     }
@@ -89,6 +101,7 @@ impl Maps {
         tidy_rows(&mut self.at_most, pending);
     }
 
+    // Notes the task under its own atoms, except for the base of a crossed task, which is noted.
     fn note_task(
         &mut self,
         log: &GuardLog,
@@ -98,6 +111,7 @@ impl Maps {
         prefix: &mut Prefix,
     ) -> Result<(), Refusal>
         requires own { IsOwn log.now own.now }
+        requires base { list_all (λ a. under self.old a number) (base_of own.now) ≡ true }
         requires prefix { IsPrefix self.old log.now prefix.old }
         ensures prefix { OnOk result (IsPrefix self.new log.now prefix.new) }
         ensures wider { IsWider self.old self.new }
@@ -113,6 +127,45 @@ impl Maps {
                 },
             ),
             Own::Stair(stair) => self.note_stair(log, stair, number, last, prefix),
+            Own::Crossed(_, stair) => self.note_stair(log, stair, number, last, prefix),
+        }
+    }
+
+    // Notes the base of a crossed task for this task and the next ones that have the same, and nothing for another task.
+    // `rest` are the tasks from this one on. Skips the base if it is noted for the tasks of `shared`, this one among them, since
+    // the task `known` has the same. Returns the tasks for which the base is noted.
+    fn note_base(
+        &mut self,
+        known: &Own,
+        own: &Own,
+        shared: Span,
+        number: u32,
+        rest: &[Pending],
+    ) -> Result<Span, Refusal>
+        requires known { (n : ℕ) → in_span shared n ≡ true → list_all (λ a. under self.old a n) (base_of known.now) ≡ true }
+        ensures noted { IfOk result (λ s. (n : ℕ) → in_span s n ≡ true → list_all (λ a. under self.new a n) (base_of own.now) ≡ true) }
+        ensures here { IfOk result (λ s. in_span s number ≡ true) }
+        ensures wider { IsWider self.old self.new }
+        ensures why { IfErr result (λ e. e ≡ Refusal.Memory) }
+    {
+        let alone = Span {
+            from: number,
+            to: number,
+        };
+        match own {
+            Own::Atoms(_) => Ok(alone),
+            Own::Stair(_) => Ok(alone),
+            Own::Crossed(base, _) => {
+                if is_shared(known, base, &shared, number) {
+                    return Ok(shared);
+                }
+                let span = Span {
+                    from: number,
+                    to: last_with(rest, base).max(number),
+                };
+                self.note_list(base, span)?;
+                Ok(span)
+            }
         }
     }
 
@@ -179,6 +232,38 @@ impl Maps {
             Atom::AtLeast(item, _) => note_span(self.alloc, &mut self.at_least, key_of(item), span),
             Atom::AtMost(item, _) => note_span(self.alloc, &mut self.at_most, key_of(item), span),
         }
+    }
+}
+
+// Whether the task `known` has this base, and the task with the number is in the span.
+fn is_shared(known: &Own, base: &[Atom], span: &Span, number: u32) -> bool
+    ensures { result ≡ true → (base_of known.now ≡ base.now) × (in_span span.now number ≡ true) }
+{
+    if number < span.from || span.to < number {
+        return false;
+    }
+    has_base(known, base)
+}
+
+// The number of the last of the first tasks that have this base; 0 if there is none.
+fn last_with(tasks: &[Pending], base: &[Atom]) -> u32 {
+    let mut last = 0;
+    for task in tasks {
+        if !has_base(&task.own, base) {
+            return last;
+        }
+        last = task.number;
+    }
+    last
+}
+
+fn has_base(own: &Own, base: &[Atom]) -> bool
+    ensures { result ≡ true → base_of own.now ≡ base.now }
+{
+    match own {
+        Own::Atoms(_) => false,
+        Own::Stair(_) => false,
+        Own::Crossed(other, _) => is_same_list(other, base),
     }
 }
 

@@ -9,7 +9,7 @@ ghost use Rattle.poly_book.specs.Changing.{AreNext};
 ghost use Rattle.poly_book.specs.Events.{hopeless_endings};
 ghost use Rattle.poly_book.specs.Keeps.{Keeps};
 ghost use Rattle.poly_book.specs.Mapped.{AreNoted};
-ghost use Rattle.poly_book.specs.Meaning.{AreTasks, IsOwn, own_of, stored_of, tasks_of};
+ghost use Rattle.poly_book.specs.Meaning.{AreTasks, IsHeld, IsOwn, own_of, stored_of, tasks_of};
 ghost use Rattle.poly_book.specs.Shelves.{openings};
 ghost use Rattle.poly_book.specs.Tasks.{hopeful};
 ghost use Rattle.poly_book.specs.Reaching.{AreEndsReached};
@@ -18,6 +18,7 @@ ghost use Rattle.poly_book.specs.Touching.{IsMadeBy};
 use crate::fresh::fresh_tasks;
 use crate::parts::Parts;
 use crate::reach::reached;
+use crate::shelf::Shelf;
 use crate::step::Ending;
 use crate::task::{Pending, is_hopeless};
 use crate::touch::Touch;
@@ -26,7 +27,6 @@ use poly_design::Change;
 use poly_grid::Refusal;
 use poly_place::Delta;
 use poly_tiling::View;
-use poly_undo::Shelf;
 use std::alloc::Global;
 
 /// The effect of a change on the tasks.
@@ -56,12 +56,13 @@ pub(crate) fn next_tasks(
     requires noted { AreNoted parts.now.register.maps parts.now.log parts.now.tasks.items }
     requires made { IsMadeBy parts.now.scene view.now delta.now change.now }
     requires small { AllSmall laid.now }
-    ensures ok { IfOk result (λ t. AreNext view.now parts.now.log parts.now.tasks.items laid.now (stored_of (option_copied stood.entry)) parts.now.next t) }
-    ensures why { IfErr result (λ e. ((e ≡ Refusal.Spent) × (4294967296 < parts.now.next + length (hopeful view.now (openings (stored_of (option_copied stood.entry)) (stairs laid.now))))) ⊎ (e ≡ Refusal.Memory)) }
+    requires held { IsHeld parts.now.log (option_copied stood) }
+    ensures ok { IfOk result (λ t. AreNext view.now parts.now.log parts.now.tasks.items laid.now (stored_of parts.now.log (option_copied stood.entry)) parts.now.next t) }
+    ensures why { IfErr result (λ e. ((e ≡ Refusal.Spent) × (4294967296 < parts.now.next + length (hopeful view.now (openings (stored_of parts.now.log (option_copied stood.entry)) (stairs laid.now))))) ⊎ (e ≡ Refusal.Memory)) }
 {
     let alloc = parts.alloc;
     let edition = parts.log.len() as u64;
-    let fresh = fresh_tasks(alloc, view, laid, stood, parts.next, edition)?;
+    let fresh = fresh_tasks(alloc, view, &parts.log, laid, stood, parts.next, edition)?;
     let flags = going_on(parts, view, delta, change)?;
     let ended = endings_of(alloc, &parts.tasks, &flags, edition + 1)?;
     let room = Vec::with_capacity(alloc, parts.tasks.len() + fresh.len())?;

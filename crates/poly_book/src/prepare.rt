@@ -1,23 +1,24 @@
 //! Prepares all that a change needs, while what the book shows stays the same. Afterwards only adding to the log and
 //! exchanging the listed tilings can fail.
-ghost use Rattle.std.specs.Prelude.{◌≡◌, ◌↔◌, ◌≤◌, ◌<◌, ◌*◌, ◌⊎◌, IfErr, IfOk, OnOk, cond, length, map, nat_le, option_copied, true};
+ghost use Rattle.std.specs.Prelude.{◌≡◌, ◌↔◌, ◌≤◌, ◌<◌, ◌*◌, ◌⊎◌, IfErr, IfOk, List, OnOk, cond, length, map, nat_le, option_copied, true};
 ghost use Rattle.std.specs.Arc.{arc_value};
 ghost use Rattle.poly_design.specs.Changes.{HasBefore, changed};
 ghost use Rattle.poly_design.specs.Limits.{IsDesign};
-ghost use Rattle.poly_tiling.specs.Names.{Grown};
+ghost use Rattle.poly_tiling.specs.Names.{Grown, WellNamed};
+ghost use Rattle.poly_tiling.specs.Shows.{Shows};
 ghost use Rattle.poly_place.specs.Between.{IsChangeOf};
-ghost use Rattle.poly_place.specs.Delta.{IsPlanFor};
 ghost use Rattle.poly_place.specs.Right.{IsRight};
 ghost use Rattle.poly_place.specs.Spent.{IsSpent as NumbersAreSpent};
+ghost use Rattle.poly_atom.specs.declared.atom.Atom.{Atom as AtomOf};
 ghost use Rattle.poly_atom.specs.Atoms.{AllSmall};
 ghost use Rattle.poly_atom.specs.Guards.{guards};
 ghost use Rattle.poly_catalogue.specs.Listed.{AreOfEither};
-ghost use Rattle.poly_report.specs.Gather.{lists};
 ghost use Rattle.poly_book.specs.Amounts.{IsNarrow};
 ghost use Rattle.poly_book.specs.Changing.{IsGathered, IsNotGathered, IsPrepared, IsTop, shelf_at, shelf_by, shelved_by, stood_by};
 ghost use Rattle.poly_book.specs.Keeps.{Keeps, state_of};
 ghost use Rattle.poly_book.specs.Mapped.{AreNoted};
-ghost use Rattle.poly_book.specs.Meaning.{AreTasks, stored_of, tasks_of};
+ghost use Rattle.poly_book.specs.Meaning.{AreFrozen, AreHeld, AreTasks, IsHeld, IsHeldAt, frozen_of, stored_of, tasks_of};
+ghost use Rattle.poly_book.specs.Planned.{IsPlanOver};
 ghost use Rattle.poly_book.specs.Refused.{IsNotMade};
 ghost use Rattle.poly_book.specs.Shelves.{returned};
 ghost use Rattle.poly_book.specs.Tasks.{atoms_of};
@@ -26,15 +27,15 @@ ghost use Rattle.poly_book.specs.Touching.{IsMadeBy};
 use crate::next_tasks::{NextTasks, next_tasks};
 use crate::parts::Parts;
 use crate::quiet::copies;
-use crate::shelf::Kept;
+use crate::shelf::{Frozen, Kept, Shelf};
 use crate::step::Kind;
-use crate::task::{Pending, all_atoms};
+use crate::task::{Pending, freeze};
 use poly_atom::{Atom, BothGuards, GuardLog, both_guards};
 use poly_design::{Change, Design};
 use poly_grid::Refusal;
 use poly_place::{Delta, Plan, Table};
 use poly_tiling::{Tiling, View};
-use poly_undo::{History, Shelf, Step as Beside};
+use poly_undo::{History, Step as Beside};
 use std::alloc::Global;
 use std::sync::Arc;
 
@@ -94,7 +95,13 @@ pub(crate) fn prepare(
 {
     parts.steps.reserve(1)?;
     let after = changed_design(&parts.design, change)?;
-    let plan = plan_of_change(&mut parts.table, &parts.design, change, &after)?;
+    let plan = plan_of_change(
+        &mut parts.table,
+        parts.scene.view(),
+        &parts.design,
+        change,
+        &after,
+    )?;
     let view = Arc::try_clone(&plan.view)?;
     let (entry, tasks, shelf) = gather(parts, kind, change, &view, &plan.delta)?;
     parts.endings.reserve(tasks.ended.len())?;
@@ -121,25 +128,55 @@ fn changed_design(design: &Design, change: &Change) -> Result<Design, Refusal>
     Ok(after)
 }
 
-// What the change does to the table, which is right for the design.
+// What the change does to the table. The view shows the design by the table's first numbers; the others were given out by
+// refused changes. If numbers run out, these are taken back.
 fn plan_of_change(
     table: &mut Table,
+    view: &View,
     design: &Design,
     change: &Change,
     after: &Design,
 ) -> Result<Plan, Refusal>
+    requires well { WellNamed view.now }
+    requires shows { Shows view.now design.now }
+    requires first { Grown view.now table.old }
     requires right { IsRight table.old design.now }
     requires after { after.now ≡ changed design.now change.now }
-    ensures ok { IfOk result (λ p. IsPlanFor table.old design.now (changed design.now change.now) (arc_value p.view) p.delta) }
+    ensures ok { IfOk result (λ p. IsPlanOver view.now design.now (changed design.now change.now) p) }
     ensures last { IfOk result (λ p. (arc_value p.view).placements ≡ table.new.placements) }
-    ensures grown { Grown table.old table.new }
+    ensures enough { OnOk result (¬ NumbersAreSpent view.now.placements (changed design.now change.now)) }
+    ensures first { Grown view.now table.new }
     ensures right { IsRight table.new design.now }
-    ensures why { IfErr result (λ e. ((e ≡ Refusal.Spent) × NumbersAreSpent table.old.placements (changed design.now change.now)) ⊎ (e ≡ Refusal.Memory)) }
+    ensures why { IfErr result (λ e. ((e ≡ Refusal.Spent) × NumbersAreSpent view.now.placements (changed design.now change.now)) ⊎ (e ≡ Refusal.Memory)) }
 {
     match table.plan_by(design, change, after) {
         Ok(plan) => Ok(plan),
-        Err(refusal) => Err(refusal),
+        Err(Refusal::Memory) => Err(Refusal::Memory),
+        Err(_) => plan_again(table, view, design, change, after),
     }
+}
+
+// What the change does to the table, once the numbers that the view lacks are taken back.
+fn plan_again(
+    table: &mut Table,
+    view: &View,
+    design: &Design,
+    change: &Change,
+    after: &Design,
+) -> Result<Plan, Refusal>
+    requires well { WellNamed view.now }
+    requires shows { Shows view.now design.now }
+    requires first { Grown view.now table.old }
+    requires after { after.now ≡ changed design.now change.now }
+    ensures ok { IfOk result (λ p. IsPlanOver view.now design.now (changed design.now change.now) p) }
+    ensures last { IfOk result (λ p. (arc_value p.view).placements ≡ table.new.placements) }
+    ensures enough { OnOk result (¬ NumbersAreSpent view.now.placements (changed design.now change.now)) }
+    ensures first { Grown view.now table.new }
+    ensures right { IsRight table.new design.now }
+    ensures why { IfErr result (λ e. ((e ≡ Refusal.Spent) × NumbersAreSpent view.now.placements (changed design.now change.now)) ⊎ (e ≡ Refusal.Memory)) }
+{
+    table.take_back(view);
+    table.plan_by(design, change, after)
 }
 
 // Gathers what the change that leads to the view adds and stores, and its effect on the tasks.
@@ -154,10 +191,10 @@ fn gather(
     requires noted { AreNoted parts.now.register.maps parts.now.log parts.now.tasks.items }
     requires made { IsMadeBy parts.now.scene view.now delta.now change.now }
     requires either { AreOfEither view.now delta.now parts.now.listed }
-    ensures ok { IfOk result (λ r. IsGathered parts.now.scene view.now parts.now.listed parts.now.log parts.now.tasks.items (stood_by kind parts.now.history) parts.now.next r.0 r.1 r.2) }
+    ensures ok { IfOk result (λ r. IsGathered parts.now.scene view.now parts.now.listed parts.now.log parts.now.tasks.items (stood_by parts.now.log kind parts.now.history) parts.now.next r.0 r.1 r.2) }
     ensures few { IfOk result (λ r. length parts.now.steps.items < MAX_CHANGES) }
     ensures narrow { OnOk result (kind ≡ Kind.Edit → (length (guards parts.now.scene view.now) ≤ MAX_GUARDS) × (length (guards view.now parts.now.scene) ≤ MAX_GUARDS)) }
-    ensures why { IfErr result (λ e. IsNotGathered parts.now.scene view.now kind (length parts.now.steps.items) parts.now.next (stood_by kind parts.now.history) e) }
+    ensures why { IfErr result (λ e. IsNotGathered parts.now.scene view.now kind (length parts.now.steps.items) parts.now.next (stood_by parts.now.log kind parts.now.history) e) }
 {
     let (guards, width) = guards_of_change(parts, kind, view, delta)?;
     if parts.steps.len() >= MAX_CHANGES {
@@ -206,14 +243,15 @@ fn check_width(kind: Kind, forth: usize, back: usize) -> Result<(), Refusal>
 fn shelve(parts: &Parts, view: &View, delta: &Delta, width: usize) -> Result<Option<Shelf>, Refusal>
     requires tasks { AreTasks parts.now.log parts.now.tasks.items }
     requires either { AreOfEither view.now delta.now parts.now.listed }
-    ensures ok { IfOk result (λ h. stored_of h ≡ shelf_by view.now parts.now.listed parts.now.log parts.now.tasks.items width) }
+    ensures ok { IfOk result (λ h. stored_of parts.now.log h ≡ shelf_by view.now parts.now.listed parts.now.log parts.now.tasks.items width) }
+    ensures held { IfOk result (λ h. IsHeld parts.now.log h) }
     ensures why { IfErr result (λ e. e ≡ Refusal.Memory) }
 {
     if !is_small(parts.tasks.len(), width) {
         return Ok(None);
     }
     let tilings = parts.listed.leaving(view, delta)?;
-    let frozen = frozen_atoms(parts.alloc, &parts.log, &parts.tasks)?;
+    let frozen = frozen_tasks(parts.alloc, &parts.log, &parts.tasks)?;
     Ok(Some(Shelf { tilings, frozen }))
 }
 
@@ -230,22 +268,23 @@ fn is_small(count: usize, width: usize) -> bool
 }
 
 // For each task, its atoms.
-fn frozen_atoms(alloc: Global, log: &GuardLog, tasks: &[Pending]) -> Result<Vec<Vec<Atom>>, Refusal>
+fn frozen_tasks(alloc: Global, log: &GuardLog, tasks: &[Pending]) -> Result<Vec<Frozen>, Refusal>
     requires { AreTasks log.now tasks.now }
-    ensures ok { IfOk result (λ v. lists v.items ≡ map (λ t. atoms_of t) (tasks_of log.now tasks.now)) }
+    ensures ok { IfOk result (λ v. map (λ f. frozen_of log.now f) v.items ≡ map (λ t. atoms_of t) (tasks_of log.now tasks.now)) }
+    ensures frozen { IfOk result (λ v. AreFrozen log.now v.items) }
     ensures why { IfErr result (λ e. e ≡ Refusal.Memory) }
 {
     let mut all = Vec::new(alloc);
     for task in tasks {
-        let atoms = all_atoms(alloc, log, task)?;
-        all.push(atoms)?;
+        let frozen = freeze(log, task)?;
+        all.push(frozen)?;
     }
     Ok(all)
 }
 
 // Copies of the tilings that a change lists again.
 fn returning(alloc: Global, stood: Option<&Shelf>) -> Result<Vec<Tiling>, Refusal>
-    ensures ok { IfOk result (λ v. v.items ≡ returned (stored_of (option_copied stood.entry))) }
+    ensures ok { IfOk result (λ v. (log : List (List AtomOf)) → v.items ≡ returned (stored_of log (option_copied stood.entry))) }
     ensures why { IfErr result (λ e. e ≡ Refusal.Memory) }
 {
     match stood {
@@ -256,7 +295,8 @@ fn returning(alloc: Global, stood: Option<&Shelf>) -> Result<Vec<Tiling>, Refusa
 
 // The shelf that was kept for the undo or redo. `None` for an edit, or if no shelf was kept.
 fn shelf_ahead(history: &History<Change, Kept>, kind: Kind) -> Option<&Shelf>
-    ensures { stored_of (option_copied result) ≡ stood_by kind history.now }
+    ensures stored { (log : List (List AtomOf)) → stored_of log (option_copied result) ≡ stood_by log kind history.now }
+    ensures held { (log : List (List AtomOf)) → AreHeld log history.now → IsHeld log (option_copied result) }
 {
     match kind {
         Kind::Edit => None,
@@ -266,7 +306,8 @@ fn shelf_ahead(history: &History<Change, Kept>, kind: Kind) -> Option<&Shelf>
 }
 
 fn shelf_of_step(step: Option<&Beside<Change, Kept>>) -> Option<&Shelf>
-    ensures { stored_of (option_copied result) ≡ shelf_at (option_copied step.entry) }
+    ensures stored { (log : List (List AtomOf)) → stored_of log (option_copied result) ≡ shelf_at log (option_copied step.entry) }
+    ensures held { (log : List (List AtomOf)) → IsHeldAt log (option_copied step.entry) → IsHeld log (option_copied result) }
 {
     match step {
         None => None,
@@ -279,7 +320,7 @@ fn shelf_of_step(step: Option<&Beside<Change, Kept>>) -> Option<&Shelf>
 
 /// Whether the change is an edit, or an undo or redo for which a shelf was kept.
 pub(crate) fn is_shelved(history: &History<Change, Kept>, kind: Kind) -> bool
-    ensures { result ≡ shelved_by kind history.now }
+    ensures { (log : List (List AtomOf)) → result ≡ shelved_by log kind history.now }
 {
     match kind {
         Kind::Edit => true,

@@ -7,7 +7,7 @@ ghost use Rattle.poly_report.specs.Holds.{holds};
 ghost use Rattle.poly_report.specs.Leaves.{rests, tilings};
 ghost use Rattle.poly_report.specs.Opened.{opened};
 ghost use Rattle.poly_report.specs.Shapes.{plan_of};
-ghost use Rattle.poly_report.specs.Sizes.{fits};
+ghost use Rattle.poly_report.specs.Sizes.{all_fewer, fits, inner, is_rest};
 ghost use Rattle.poly_book.specs.Scenes.{IsMatrixOf};
 ghost use Rattle.poly_report.specs.declared.size.TheConstants.{NODES};
 
@@ -76,6 +76,9 @@ impl Scene {
         ensures fits { IfOk result (λ e. fits (plan_of e.tree) ≡ true) }
         ensures holds { IfOk result (λ e. holds self.old atoms.now (plan_of e.tree) ≡ true) }
         ensures opened { IfOk result (λ e. opened self.old atoms.now (plan_of e.tree) ≡ true) }
+        ensures inner { IfOk result (λ e. inner (plan_of e.tree) ≤ nodes) }
+        ensures root { IfOk result (λ e. is_rest (plan_of e.tree) ≡ false) }
+        ensures smaller { IfOk result (λ e. all_fewer self.old atoms.now (rests self.old atoms.now (plan_of e.tree)) ≡ true) }
         ensures tilings { IfOk result (λ e. e.leaves.tilings.items ≡ tilings self.old atoms.now (plan_of e.tree)) }
         ensures rests { IfOk result (λ e. lists e.leaves.rests.items ≡ rests self.old atoms.now (plan_of e.tree)) }
         ensures why { IfErr result (λ e. e ≡ Refusal.Memory) }
@@ -114,6 +117,9 @@ fn explore_from(
     ensures fits { IfOk result (λ e. fits (plan_of e.tree) ≡ true) }
     ensures holds { IfOk result (λ e. holds view.now atoms.now (plan_of e.tree) ≡ true) }
     ensures opened { IfOk result (λ e. opened view.now atoms.now (plan_of e.tree) ≡ true) }
+    ensures inner { IfOk result (λ e. inner (plan_of e.tree) ≤ nodes) }
+    ensures root { IfOk result (λ e. is_rest (plan_of e.tree) ≡ false) }
+    ensures smaller { IfOk result (λ e. all_fewer view.now atoms.now (rests view.now atoms.now (plan_of e.tree)) ≡ true) }
     ensures tilings { IfOk result (λ e. e.leaves.tilings.items ≡ tilings view.now atoms.now (plan_of e.tree)) }
     ensures rests { IfOk result (λ e. lists e.leaves.rests.items ≡ rests view.now atoms.now (plan_of e.tree)) }
     ensures why { IfErr result (λ e. e ≡ Refusal.Memory) }

@@ -4,8 +4,8 @@ ghost use Rattle.poly_tiling.specs.Listings.{HasOverTilings};
 ghost use Rattle.poly_report.specs.Gather.{lists};
 ghost use Rattle.poly_report.specs.Trees.{Plan};
 ghost use Rattle.poly_book.specs.Keeps.{Keeps, state_of};
-ghost use Rattle.poly_book.specs.Reports.{AreLeaves};
-ghost use Rattle.poly_book.specs.Settled.{AreHopefulFrom, IsNotSettled, IsNotTurned, IsSettled, IsTurn};
+ghost use Rattle.poly_book.specs.Reports.{AreFoundLeaves};
+ghost use Rattle.poly_book.specs.Settled.{AreHopefulFrom, AreReported, AreReportedBefore, IsNotSettled, IsNotTurned, IsSettled, IsTurn};
 ghost use Rattle.poly_book.specs.Tasks.{AreHopeful};
 ghost use Rattle.poly_tiling.specs.declared.lister.TheConstants.{MAX_TILINGS};
 ghost use Rattle.poly_report.specs.declared.size.TheConstants.{NODES};
@@ -28,6 +28,8 @@ impl Book {
         requires some { 1 ≤ nodes }
         requires few { nodes ≤ NODES }
         ensures ok { IfOk result (λ n. IsSettled self.old self.new n) }
+        ensures reports { IfOk result (λ n. (n ≤ turns) × AreReported nodes n self.old self.new) }
+        ensures applied { IfErr result (λ e. AreReportedBefore e turns nodes self.old self.new) }
         ensures why { IfErr result (λ e. IsNotSettled turns self.old self.new e) }
         ensures full { IfErr result (λ e. e ≡ Refusal.CatalogueFull → HasOverTilings MAX_TILINGS self.old.design) }
     {
@@ -41,6 +43,8 @@ fn settle_all(parts: &mut Parts, turns: u64, nodes: u32) -> Result<u64, Refusal>
     requires keeps { Keeps parts.old }
     ensures keeps { Keeps parts.new }
     ensures ok { IfOk result (λ n. IsSettled (state_of parts.old) (state_of parts.new) n) }
+    ensures reports { IfOk result (λ n. (n ≤ turns) × AreReported nodes n (state_of parts.old) (state_of parts.new)) }
+    ensures applied { IfErr result (λ e. AreReportedBefore e turns nodes (state_of parts.old) (state_of parts.new)) }
     ensures why { IfErr result (λ e. IsNotSettled turns (state_of parts.old) (state_of parts.new) e) }
 {
     let mut unsure = parts.tasks.len();
@@ -66,7 +70,7 @@ fn settle_one(parts: &mut Parts, nodes: u32, unsure: &mut usize) -> Result<bool,
     requires sure { AreHopefulFrom unsure.old (state_of parts.old) }
     ensures keeps { Keeps parts.new }
     ensures sure { OnOk result (AreHopefulFrom unsure.new (state_of parts.new)) }
-    ensures ok { IfOk result (λ more. IsTurn (state_of parts.old) (state_of parts.new) more) }
+    ensures ok { IfOk result (λ more. IsTurn nodes (state_of parts.old) (state_of parts.new) more) }
     ensures err { OnErr result (state_of parts.new ≡ state_of parts.old) }
     ensures why { IfErr result (λ e. IsNotTurned (state_of parts.old) e) }
 {
@@ -93,7 +97,7 @@ fn explored_leaves(parts: &mut Parts, at: usize, nodes: u32) -> Result<Leaves, R
     requires keeps { Keeps parts.old }
     requires index { at < length parts.old.tasks.items }
     ensures stays { parts.new ≡ parts.old }
-    ensures leaves { IfOk result (λ l. (k : ℕ) × (tree : Plan) × AreLeaves parts.old k at tree l.tilings.items (lists l.rests.items)) }
+    ensures leaves { IfOk result (λ l. (k : ℕ) × (tree : Plan) × AreFoundLeaves nodes parts.old k at tree l.tilings.items (lists l.rests.items)) }
     ensures sure { IfOk result (λ l. (n : ℕ) → n ≤ at → AreHopefulFrom n (state_of parts.old) → AreHopeful parts.old.scene (lists l.rests.items)) }
     ensures why { IfErr result (λ e. e ≡ Refusal.Memory) }
 {

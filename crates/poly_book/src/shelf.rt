@@ -1,6 +1,28 @@
 //! What the history keeps with a change.
 
-use poly_undo::Shelf;
+use crate::task::Own;
+use poly_tiling::Tiling;
+
+/// The atoms of a task at the time of a change: its own atoms, and the guards of every change from its making up to then.
+/// These are read from the guard log, so however many they are, they take no room here.
+#[derive(Drop)]
+pub struct Frozen {
+    /// The task's own atoms.
+    pub own: Own,
+    /// The edition at which the task was made.
+    pub made: u64,
+    /// How many of the guards that the log has from that edition on are among the atoms.
+    pub count: usize,
+}
+
+/// What a change stores, so that its undo or redo need not search again for the tilings that the change took away.
+#[derive(Drop)]
+pub struct Shelf {
+    /// The listed tilings that the change took away.
+    pub tilings: Vec<Tiling>,
+    /// The atoms of each task that was pending before the change.
+    pub frozen: Vec<Frozen>,
+}
 
 /// What the history keeps with a change.
 #[derive(Drop)]

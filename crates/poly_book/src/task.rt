@@ -1,21 +1,28 @@
 //! Pending tasks.
-ghost use Rattle.std.specs.Prelude.{IfErr, IfOk, ◌≡◌};
+ghost use Rattle.std.specs.Prelude.{IfErr, IfOk, List, ◌≡◌, ◌++◌};
+ghost use Rattle.poly_atom.specs.declared.atom.Atom.{Atom as AtomOf};
 ghost use Rattle.poly_atom.specs.Hopeless.{hopeless};
-ghost use Rattle.poly_book.specs.Meaning.{IsOwn, IsTask, own_of, task_of};
+ghost use Rattle.poly_atom.specs.Logs.{IsStairOf, stair_of};
+ghost use Rattle.poly_book.specs.Meaning.{IsFrozen, IsOwn, IsTask, frozen_of, own_of, task_of};
 ghost use Rattle.poly_book.specs.Tasks.{atoms_of};
 
+use crate::shelf::Frozen;
 use poly_atom::{Atom, GuardLog, Stair, hopeless};
 use poly_grid::Refusal;
 use poly_tiling::View;
 use std::alloc::Global;
+use std::sync::Arc;
 
 /// A task's own atoms.
 #[derive(Debug, Drop)]
 pub enum Own {
     /// A list.
-    Atoms(Vec<Atom>),
+    Atoms(Arc<Vec<Atom>>),
     /// A stair of a change. Its atoms are read from the guard log.
     Stair(Stair),
+    /// The list of a frozen task, which the tasks that are opened for it share, followed by a stair of the change that opened
+    /// them.
+    Crossed(Arc<Vec<Atom>>, Stair),
 }
 
 /// A pending task.
@@ -29,7 +36,7 @@ pub struct Pending {
     pub made: u64,
 }
 
-/// Whether a task's own atoms are hopeless. Fails only when out of memory, and only for a stair.
+/// Whether a task's own atoms are hopeless. Fails only when out of memory, and not for a list.
 pub(crate) fn is_hopeless(
     alloc: Global,
     view: &View,
@@ -46,7 +53,28 @@ pub(crate) fn is_hopeless(
             let atoms = stair.atoms(alloc, log)?;
             Ok(hopeless(view, &atoms))
         }
+        Own::Crossed(base, stair) => {
+            let atoms = crossed_atoms(alloc, log, base, stair)?;
+            Ok(hopeless(view, &atoms))
+        }
     }
+}
+
+// The base, followed by the atoms of the stair.
+fn crossed_atoms(
+    alloc: Global,
+    log: &GuardLog,
+    base: &[Atom],
+    stair: &Stair,
+) -> Result<Vec<Atom>, Refusal>
+    requires { IsStairOf log.now stair.now }
+    ensures ok { IfOk result (λ atoms. atoms.items ≡ base.now ++ stair_of log.now stair.now) }
+    ensures why { IfErr result (λ e. e ≡ Refusal.Memory) }
+{
+    let after = stair.atoms(alloc, log)?;
+    let mut atoms = Vec::from_slice(alloc, base)?;
+    atoms.extend_from_slice(&after)?;
+    Ok(atoms)
 }
 
 /// A copy of the own atoms, as a list.
@@ -64,7 +92,62 @@ pub(crate) fn own_atoms(alloc: Global, log: &GuardLog, own: &Own) -> Result<Vec<
             let atoms = stair.atoms(alloc, log)?;
             Ok(atoms)
         }
+        Own::Crossed(base, stair) => {
+            let atoms = crossed_atoms(alloc, log, base, stair)?;
+            Ok(atoms)
+        }
     }
+}
+
+// The same own atoms. A list is shared.
+fn share(own: &Own) -> Result<Own, Refusal>
+    ensures same { IfOk result (λ o. (log : List (List AtomOf)) → own_of log o ≡ own_of log own.now) }
+    ensures own { IfOk result (λ o. (log : List (List AtomOf)) → IsOwn log own.now → IsOwn log o) }
+    ensures why { IfErr result (λ e. e ≡ Refusal.Memory) }
+{
+    match own {
+        Own::Atoms(atoms) => {
+            let shared = Arc::try_clone(atoms)?;
+            Ok(Own::Atoms(shared))
+        }
+        Own::Stair(stair) => Ok(Own::Stair(*stair)),
+        Own::Crossed(base, stair) => {
+            let shared = Arc::try_clone(base)?;
+            Ok(Own::Crossed(shared, *stair))
+        }
+    }
+}
+
+/// The task's atoms as they are now, to be read again later.
+pub(crate) fn freeze(log: &GuardLog, task: &Pending) -> Result<Frozen, Refusal>
+    requires { IsTask log.now task.now }
+    ensures atoms { IfOk result (λ f. frozen_of log.now f ≡ atoms_of (task_of log.now task.now)) }
+    ensures frozen { IfOk result (λ f. IsFrozen log.now f) }
+    ensures why { IfErr result (λ e. e ≡ Refusal.Memory) }
+{
+    let own = share(&task.own)?;
+    let count = log.since(task.made).len();
+    Ok(Frozen {
+        own,
+        made: task.made,
+        count,
+    })
+}
+
+/// A frozen task's atoms, as a list.
+pub(crate) fn frozen_atoms(
+    alloc: Global,
+    log: &GuardLog,
+    frozen: &Frozen,
+) -> Result<Vec<Atom>, Refusal>
+    requires { IsFrozen log.now frozen.now }
+    ensures ok { IfOk result (λ atoms. atoms.items ≡ frozen_of log.now frozen.now) }
+    ensures why { IfErr result (λ e. e ≡ Refusal.Memory) }
+{
+    let mut atoms = own_atoms(alloc, log, &frozen.own)?;
+    let since = log.since(frozen.made);
+    atoms.extend_from_slice(&since[..frozen.count])?;
+    Ok(atoms)
 }
 
 /// The task's own atoms, and the guards of every change since it was made.

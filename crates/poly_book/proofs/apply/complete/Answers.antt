@@ -1,5 +1,5 @@
 use mathlib.Core.Path.{transport}
-use Rattle.std.proofs.Common.{[], ap, arith, inl, inr, length, refl, subst, sym, true, ◌++◌, ◌+◌, ◌<◌, ◌∙◌, ◌∷◌, ◌≡◌}
+use Rattle.std.proofs.Common.{[], ap, arith, inl, inr, length, refl, subst, sym, true, ◌++◌, ◌+◌, ◌<◌, ◌∙◌, ◌∷◌, ◌≡◌, ◌≤◌}
 use Rattle.std.specs.Arc.{arc_value}
 use Rattle.std.specs.List.{filter, list_all}
 use Rattle.std.specs.Prelude.{reverse}
@@ -8,6 +8,7 @@ use Rattle.std.proofs.lemmas.Result.{err_from_is_err_and}
 use Rattle.poly_design.specs.Changes.{changed}
 use Rattle.poly_design.specs.declared.change.Change.{Change}
 use Rattle.poly_tiling.specs.Puzzle.{View, is_tiling}
+use Rattle.poly_atom.specs.Guards.{guards}
 use Rattle.poly_atom.specs.Stairs.{stairs}
 use Rattle.poly_catalogue.specs.Listed.{AreOfEither, AreOnce, AreSame}
 use Rattle.poly_place.specs.Right.{IsRight}
@@ -21,14 +22,16 @@ use Rattle.poly_book.specs.Meaning.{shown}
 use Rattle.poly_book.specs.Opens.{Opens}
 use Rattle.poly_book.specs.Partition.{Becomes}
 use Rattle.poly_book.specs.Shelves.{openings, returned}
+use Rattle.poly_book.specs.Tasks.{hopeful}
 use Rattle.poly_book.proofs.Applying.{can_note, did_becomes, did_keeps}
 use Rattle.poly_book.proofs.Cataloguing.{Enters, change_enters}
 use Rattle.poly_book.proofs.Changes.{Did, reverse_push}
+use Rattle.poly_book.proofs.Held.{opened_length}
 use Rattle.poly_book.proofs.Refusing.{full_not_made, memory_not_made}
 use Rattle.poly_book.proofs.apply.complete.Goals as goal
 
-enters_by : (p : Parts) (k : Kind) (x : Change) (w : View) → Keeps p → IsTop k p.history x → Leads (state_of p) x w → Enters w p.listed (returned (stood_by k p.history))
-enters_by p k x w keeps top l = change_enters k (state_of p) p.history x w refl refl top keeps.whole l
+enters_by : (p : Parts) (k : Kind) (x : Change) (w : View) → Keeps p → IsTop k p.history x → Leads (state_of p) x w → Enters w p.listed (returned (stood_by p.log k p.history))
+enters_by p k x w keeps top l = change_enters p.log k (state_of p) p.history x w refl refl top keeps.whole l
 
 pub enter-requires-clause-from : goal.enter-requires-clause-from
 enter-requires-clause-from c =
@@ -68,9 +71,16 @@ returns-in_err-enter-clause-why c =
     let w = arc_value c.args.ready.plan.view in
     let at : c.deref.result.now ≡ w = c.deref.ensures ∙ r.view_is in
     let back = c.args.entry.returned.items in
+    let g = r.gathered in
+    let st = stood_by a.log c.args.kind a.history in
+    let fresh = c.args.ready.tasks.fresh.items in
+    let opens = subst (λ y. Opens (a.log ++ y ∷ []) a.next w (openings st (stairs y)) fresh) g.guards_are g.tasks.fresh_are in
+    let low : a.next + length (hopeful w (openings st (stairs (guards a.scene w)))) ≤ 4294967296 =
+    omega (arith, g.tasks.few, opened_length (a.log ++ guards a.scene w ∷ []) a.next w (openings st (stairs (guards a.scene w))) fresh opens) in
     rw (p.1, p.2) (elim c.in_err-enter.ensures.why [
-      | inl m ↦ full_not_made (state_of a) a.history c.args.change w refl refl r.leads c.args.kind c.requires.top _ m.0 (subst (λ L. 0 < length L) r.gathered.returned_are m.1)
+      | inl m ↦ full_not_made a.log (state_of a) a.history c.args.change w refl refl r.leads c.args.kind c.requires.top _ m.0 (subst (λ L. 0 < length L) r.gathered.returned_are m.1)
           (subst (λ L. 1000000 < length (filter (λ T. is_tiling w T) a.listed) + length L) r.gathered.returned_are (subst (λ z. 1000000 < length (filter (λ T. is_tiling z T) a.listed) + length back) at m.2))
+          (omega (arith, r.few_steps, length-reverse a.steps.items)) low r.enough
       | inr m ↦ memory_not_made c.args.kind c.args.change (state_of a) _ m
     ])
 
@@ -89,7 +99,7 @@ did c =
     let g = r.gathered in
     let t = g.tasks in
     let w = arc_value c.args.ready.plan.view in
-    let st = stood_by c.args.kind a.history in
+    let st = stood_by a.log c.args.kind a.history in
     let laid : c.enter.new.log ≡ a.log ++ c.args.entry.guards.items ∷ [] = c.in_ok-enter.ensures.log in
     let listed : AreSame c.enter.new.listed (filter (λ T. is_tiling c.deref.result.now T) a.listed ++ c.args.entry.returned.items) = c.in_ok-enter.ensures.listed in
     let listed2 = subst (λ z. AreSame c.enter.new.listed (filter (λ T. is_tiling z T) a.listed ++ c.args.entry.returned.items)) (c.deref.ensures ∙ r.view_is) listed in
@@ -111,6 +121,8 @@ did c =
       few_ways = c.requires.keeps.few_ways;
       noted = f.history;
       kept_made = refl;
+      held = c.requires.keeps.held;
+      kept_held = g.shelf_held;
       kept_shelf = g.shelf_is;
     }
 

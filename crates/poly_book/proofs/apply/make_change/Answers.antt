@@ -34,7 +34,7 @@ complete-requires-clause-top c = subst (λ h. IsTop c.args.kind h c.args.change)
 pub complete-requires-clause-step : goal.complete-requires-clause-step
 complete-requires-clause-step c =
     let s = c.prepare.ensures.stays in
-    c.in_ok-step.ensures.ok ∙ ap (λ (z : Parts). record { kind = c.args.kind; change = c.args.change; pending = length z.tasks.items; shelved = shelved_by c.args.kind z.history }) (sym s)
+    c.in_ok-step.ensures.ok ∙ ap (λ (z : Parts). record { kind = c.args.kind; change = c.args.change; pending = length z.tasks.items; shelved = shelved_by z.log c.args.kind z.history }) (sym s)
 
 pub returns-in_err-complete-clause-err : goal.returns-in_err-complete-clause-err
 returns-in_err-complete-clause-err c =

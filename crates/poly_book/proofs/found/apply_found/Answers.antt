@@ -1,7 +1,8 @@
-use Rattle.std.proofs.Common.{None, Some, inl, inr, refl, rules, subst, true, ◌≡◌}
+use Rattle.std.proofs.Common.{None, Some, inl, inr, refl, rules, subst, sym, true, ◌≡◌}
 use Rattle.std.proofs.lemmas.Result.{IfErr-weaker, IfOk-weaker}
 use Rattle.std.specs.Arc.{arc_value}
 use Rattle.std.specs.List.{position_from}
+use Rattle.std.specs.List.Sorted.{IsNonDecreasingBy}
 use Rattle.std.specs.Prelude.{◌==◌}
 use Rattle.poly_report.specs.Gather.{lists}
 use Rattle.poly_report.specs.Shapes.{plan_of}
@@ -10,9 +11,15 @@ use Rattle.poly_book.specs.Findings.{HasAtoms}
 use Rattle.poly_book.specs.Keeps.{state_of}
 use Rattle.poly_book.specs.Refused.{IsNotApplied}
 use Rattle.poly_book.specs.Reports.{AreLeaves, IsApplied}
+use Rattle.poly_book.proofs.Halving.{numbers_rise}
 use Rattle.poly_book.proofs.Indices.{nowhere}
 use Rattle.poly_book.proofs.Searched.{found_leaves}
 use Rattle.poly_book.proofs.found.apply_found.Goals as goal
+
+pub index_of-requires : goal.index_of-requires
+index_of-requires c =
+    let a = c.args.parts.now in
+    subst (λ ps. IsNonDecreasingBy (λ (p : Pending). p.number) ps) (sym c.deref.ensures.value) (numbers_rise 0 a.next a.log a.tasks.items c.requires.keeps.whole.rising)
 
 pub returns-in_default-clause-why : goal.returns-in_default-clause-why
 returns-in_default-clause-why c =

@@ -17,7 +17,7 @@ loop-own-preserved-then-is_opened c =
     record {
       same = λ log le.
           let before = rw c.in-Some.ensures.steps.0 at c.loop-own.invariant.same log le in
-          rw c.in_ok-push.ensures.items (opening_more log c.args.next c.loop-own.number w (lists c.args.all.items) rest A c.loop-own.tasks.items _ fresh refl refl tt (sym le) before);
+          rw c.in_ok-push.ensures.items (opening_more log c.args.next c.loop-own.number w (lists c.args.all.items) rest A c.loop-own.tasks.items _ fresh refl (ap (λ v. v.items) c.in_ok-shared.ensures.ok) tt (sym le) before);
       number = grind (arith, c.loop-own.invariant.number);
       few = grind (arith, c.loop-own.invariant.few);
       sure = λ yes. (first_hopeful w A rest (rw c.in-Some.ensures.steps.0 at c.loop-own.invariant.sure yes)).1;

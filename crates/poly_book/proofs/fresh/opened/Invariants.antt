@@ -3,7 +3,7 @@ use Rattle.std.specs.Vec.Iter.{into_iter_items}
 use Rattle.poly_atom.specs.declared.atom.Atom.{Atom}
 use Rattle.poly_report.specs.Gather.{lists}
 use Rattle.poly_book.specs.Tasks.{AreHopeful}
-use Rattle.poly_book.proofs.Held.{Opening}
+use Rattle.poly_book.specs.Opens.{Opening}
 use Rattle.poly_book.proofs.fresh.opened.Given as goal
 
 abbrev pub invariant-loop-own : goal.invariant-loop-own

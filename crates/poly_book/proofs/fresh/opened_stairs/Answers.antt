@@ -5,7 +5,8 @@ use Rattle.poly_atom.specs.Atoms.{IsSmall, negated}
 use Rattle.poly_atom.specs.Hopeless.{hopeless}
 use Rattle.poly_atom.specs.Stairs.{stairs}
 use Rattle.poly_atom.proofs.Walks.{small_at}
-use Rattle.poly_book.proofs.Held.{Opening, opening_end, opening_over, stairs_end, stairs_next, stairs_from, stairs_more, stairs_skip}
+use Rattle.poly_book.specs.Opens.{Opening}
+use Rattle.poly_book.proofs.Held.{opening_end, opening_over, stairs_end, stairs_next, stairs_from, stairs_more, stairs_skip}
 use Rattle.poly_book.proofs.fresh.opened_stairs.Goals as goal
 
 pub next_stair-requires : goal.next_stair-requires

@@ -1,7 +1,8 @@
 use Rattle.std.proofs.Common.{List, [], length, take, ◌++◌, ◌+◌, ◌∷◌, ◌≡◌, ◌≤◌}
 use Rattle.poly_atom.specs.declared.atom.Atom.{Atom}
 use Rattle.poly_atom.specs.Stairs.{stairs}
-use Rattle.poly_book.proofs.Held.{Opening, stairs_from}
+use Rattle.poly_book.specs.Opens.{Opening}
+use Rattle.poly_book.proofs.Held.{stairs_from}
 use Rattle.poly_book.proofs.fresh.opened_stairs.Given as goal
 
 abbrev pub invariant-loop-index : goal.invariant-loop-index

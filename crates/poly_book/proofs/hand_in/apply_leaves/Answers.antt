@@ -1,5 +1,6 @@
-use Rattle.std.proofs.Common.{[], ap, arith, drop, get_or, length, nat_lt, refl, rules, subst, sym, take, true, ◌++◌, ◌+◌, ◌∙◌, ◌∷◌, ◌≡◌, ◌≤◌}
+use Rattle.std.proofs.Common.{Err, [], ap, arith, drop, get_or, inl, inr, length, nat_lt, refl, rules, subst, sym, take, true, ◌++◌, ◌+◌, ◌∙◌, ◌∷◌, ◌≡◌, ◌≤◌}
 use Rattle.std.proofs.lemmas.Bool.{and_from}
+use Rattle.std.proofs.lemmas.Result.{err_from_is_err_and}
 use Rattle.std.proofs.lemmas.List.{length-reverse, length_push}
 use Rattle.std.specs.List.{list_all}
 use Rattle.poly_tiling.specs.Puzzle.{is_tiling}
@@ -8,9 +9,11 @@ use Rattle.poly_report.specs.Gather.{lists}
 use Rattle.poly_book.specs.declared.step.Ending.TheVariants.{Cut}
 use Rattle.poly_book.specs.Keeps.{state_of}
 use Rattle.poly_book.specs.Opens.{Opens}
+use Rattle.poly_book.specs.Tasks.{hopeful}
 use Rattle.poly_book.proofs.Cataloguing.{cut_enters}
+use Rattle.poly_book.proofs.Held.{opened_length}
 use Rattle.poly_book.proofs.Indices.{at_below, first_at}
-use Rattle.poly_book.proofs.Taking.{took_becomes, took_from, took_keeps}
+use Rattle.poly_book.proofs.Taking.{cut_listed, cut_within, took_becomes, took_from, took_keeps}
 use Rattle.poly_book.proofs.hand_in.apply_leaves.Goals as goal
 
 pub list_all-requires-clause-tilings : goal.list_all-requires-clause-tilings
@@ -83,3 +86,21 @@ returns-clause-ok c =
       opened = refl;
       late = ap (λ n. nat_lt c.args.edition n) steps;
     }
+
+pub returns-in_err-list_all-clause-why : goal.returns-in_err-list_all-clause-why
+returns-in_err-list_all-clause-why c =
+    let p = err_from_is_err_and c.from_residual-in_err-list_all.result c.from_residual-in_err-list_all.ensures.1 in
+    let a = c.args.parts.now in
+    let s = state_of a in
+    let at : c.view.result.now ≡ a.scene = c.view.ensures in
+    let ed : c.len-now.result ≡ length a.log = c.len-now.ensures in
+    let f0 : Opens a.log a.next c.view.result.now (lists c.args.leaves.rests.items) c.in_ok-fresh.fresh.items = c.in_ok-fresh.ensures.ok a.log (sym ed) in
+    let opens = subst (λ z. Opens a.log a.next z (lists c.args.leaves.rests.items) c.in_ok-fresh.fresh.items) at f0 in
+    let few : a.next + length c.in_ok-fresh.fresh.items ≤ 4294967296 = c.in_ok-fresh.ensures.few in
+    let low : s.next + length (hopeful s.view (lists c.args.leaves.rests.items)) ≤ 4294967296 = omega (arith, few, opened_length a.log a.next a.scene (lists c.args.leaves.rests.items) c.in_ok-fresh.fresh.items opens) in
+    rw (p.1, p.2) (λ k tree l. elim c.in_err-list_all.ensures.why [
+      | inl m ↦
+          let right = and_from _ _ l.small l.cut.right in
+          inr (inl (m, cut_listed s k l.task tree c.args.leaves.tilings.items l.there right l.cut.tilings (c.in_err-list_all.ensures.full.0 (ap Err m)), cut_within s k l.task tree (lists c.args.leaves.rests.items) l.there right l.cut.rests low))
+      | inr m ↦ inr (inr m)
+    ])

@@ -1,6 +1,7 @@
 use Rattle.std.proofs.Common.{None, Some, get_or, inl, inr, rules, subst, sym, refl, false, ◌≡◌}
 use Rattle.std.proofs.lemmas.Result.{IfErr-weaker, IfOk-weaker}
 use Rattle.std.specs.List.{position_from}
+use Rattle.std.specs.List.Sorted.{IsNonDecreasingBy}
 use Rattle.std.specs.Prelude.{◌==◌}
 use Rattle.poly_report.specs.Gather.{lists}
 use Rattle.poly_report.specs.Shapes.{plan_of}
@@ -12,9 +13,15 @@ use Rattle.poly_book.specs.declared.parts.Parts.{Parts}
 use Rattle.poly_book.specs.Keeps.{Keeps, state_of}
 use Rattle.poly_book.specs.Refused.{IsNotApplied}
 use Rattle.poly_book.specs.Reports.{AreLeaves, IsApplied}
+use Rattle.poly_book.proofs.Halving.{numbers_rise}
 use Rattle.poly_book.proofs.Held.{some_of}
 use Rattle.poly_book.proofs.Indices.{at_below, at_find, first_at, nowhere}
 use Rattle.poly_book.proofs.hand_in.apply_report.Goals as goal
+
+pub index_of-requires : goal.index_of-requires
+index_of-requires c =
+    let a = c.args.parts.now in
+    subst (λ ps. IsNonDecreasingBy (λ (p : Pending). p.number) ps) (sym c.deref.ensures.value) (numbers_rise 0 a.next a.log a.tasks.items c.requires.keeps.whole.rising)
 
 pub returns-in_default-clause-why : goal.returns-in_default-clause-why
 returns-in_default-clause-why c =

@@ -16,7 +16,7 @@ returns-clause-ok c =
     let given : c.deref-2.result.now ≡ map (λ p. not (hopeless w (own_of log p.own))) c.deref.result.now = c.deref-2.ensures.value ∙ flags ∙ ap (λ qs. map (λ p. not (hopeless w (own_of log p.own))) qs) (sym all) in
     let ended : c.in_ok-ended.ended.items ≡ hopeless_endings w (c.len-edition.result + 1) (tasks_of log c.deref.result.now) = c.in_ok-ended.ensures.ok log w given in
     record {
-      fresh_are = c.in_ok-fresh.ensures.ok log (sym count);
+      fresh_are = c.in_ok-fresh.ensures.ok;
       few = search rules;
       flags_are = flags;
       ended_are = ended ∙ (λ i. hopeless_endings w (count i + 1) (tasks_of log (all i)));

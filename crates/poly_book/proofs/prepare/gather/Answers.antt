@@ -6,17 +6,21 @@ use Rattle.poly_book.specs.Meaning.{stored_of}
 use Rattle.poly_book.specs.Shelves.{returned}
 use Rattle.poly_book.proofs.prepare.gather.Goals as goal
 
+pub next_tasks-requires-clause-held : goal.next_tasks-requires-clause-held
+next_tasks-requires-clause-held c = c.shelf_ahead-stood.ensures.held c.args.parts.now.log c.requires.keeps.held
+
 pub returns-clause-ok : goal.returns-clause-ok
 returns-clause-ok c =
     let w = c.args.view.now in
     let a = c.args.parts.now in
-    let stood : stored_of (option_copied c.shelf_ahead-stood.result) ≡ stood_by c.args.kind a.history = c.shelf_ahead-stood.ensures in
+    let stood : stored_of a.log (option_copied c.shelf_ahead-stood.result) ≡ stood_by a.log c.args.kind a.history = c.shelf_ahead-stood.ensures.stored a.log in
     let given : c.deref.result.now ≡ c.in_ok-guards.guards.items = c.deref.ensures.value in
-    let tasks : AreNext w a.log a.tasks.items c.deref.result.now (stored_of (option_copied c.shelf_ahead-stood.result)) a.next c.in_ok-tasks.tasks = c.in_ok-tasks.ensures.ok in
+    let tasks : AreNext w a.log a.tasks.items c.deref.result.now (stored_of a.log (option_copied c.shelf_ahead-stood.result)) a.next c.in_ok-tasks.tasks = c.in_ok-tasks.ensures.ok in
     record {
       guards_are = c.in_ok-guards.ensures.forth;
       guards_small = c.in_ok-guards.ensures.small;
-      returned_are = c.in_ok-returned.ensures.ok ∙ ap (λ z. returned z) stood;
+      returned_are = c.in_ok-returned.ensures.ok a.log ∙ ap (λ z. returned z) stood;
       tasks = transport (λ i. AreNext w a.log a.tasks.items (given i) (stood i) a.next c.in_ok-tasks.tasks) tasks;
+      shelf_held = c.in_ok-shelf.ensures.held;
       shelf_is = c.in_ok-shelf.ensures.ok ∙ ap (λ m. shelf_by w a.listed a.log a.tasks.items m) c.in_ok-guards.ensures.back;
     }

@@ -6,53 +6,69 @@ use Rattle.std.proofs.lemmas.Result.{err_from_is_err_and}
 use Rattle.poly_design.specs.Changes.{HasBefore, changed}
 use Rattle.poly_design.specs.Limits.{IsDesign}
 use Rattle.poly_design.specs.declared.change.Change.{Change}
+use Rattle.poly_tiling.specs.Names.{Grown, WellNamed}
+use Rattle.poly_tiling.specs.Puzzle.{View}
+use Rattle.poly_tiling.specs.Shows.{Shows}
 use Rattle.poly_tiling.proofs.Grown.{names_on}
 use Rattle.poly_atom.specs.Guards.{guards}
 use Rattle.poly_atom.specs.Width.{HasWidth}
 use Rattle.poly_atom.proofs.Widths.{widths_show_lem}
 use Rattle.poly_catalogue.specs.Listed.{AreOfEither}
 use Rattle.poly_place.specs.Between.{IsChangeOf}
-use Rattle.poly_place.specs.Delta.{IsPlanFor}
+use Rattle.poly_place.specs.Spent.{IsSpent as NumbersAreSpent}
 use Rattle.poly_place.specs.declared.plan.Plan.{Plan}
 use Rattle.poly_book.specs.declared.parts.Parts.{Parts}
 use Rattle.poly_book.specs.Changing.{IsGathered, stood_by}
 use Rattle.poly_book.specs.Events.{Leads}
 use Rattle.poly_book.specs.Keeps.{Keeps, state_of}
 use Rattle.poly_book.specs.Meaning.{shown}
+use Rattle.poly_book.specs.Planned.{IsPlanOver}
 use Rattle.poly_book.specs.Touching.{IsMadeBy}
 use Rattle.poly_book.proofs.Applying.{still_keeps}
 use Rattle.poly_book.proofs.Cataloguing.{listed_either}
 use Rattle.poly_book.proofs.Refusing.{gather_not_made, memory_not_made, spent_not_made}
 use Rattle.poly_book.proofs.prepare.prepare.Goals as goal
 
+over : (p : Parts) (x : Change) (r : Plan) (v : View) → v ≡ p.scene → IsPlanOver v p.design (changed p.design x) r → IsPlanOver p.scene p.design (changed p.design x) r
+over p x r v e q = subst (λ z. IsPlanOver z p.design (changed p.design x) r) e q
+
+pub plan_of_change-requires-clause-well : goal.plan_of_change-requires-clause-well
+plan_of_change-requires-clause-well c = subst WellNamed (sym c.view.ensures) c.requires.keeps.whole.consistent.well
+
+pub plan_of_change-requires-clause-shows : goal.plan_of_change-requires-clause-shows
+plan_of_change-requires-clause-shows c = subst (λ (v : View). Shows v c.args.parts.now.design) (sym c.view.ensures) c.requires.keeps.whole.consistent.shows
+
+pub plan_of_change-requires-clause-first : goal.plan_of_change-requires-clause-first
+plan_of_change-requires-clause-first c = subst (λ (v : View). Grown v c.args.parts.now.table) (sym c.view.ensures) c.requires.keeps.grown
+
 -- the change leads to the plan's view
-leads_by : (p : Parts) (x : Change) (r : Plan) → Keeps p → HasBefore p.design x → IsDesign (changed p.design x) → IsPlanFor p.table p.design (changed p.design x) (arc_value r.view) r.delta → Leads (state_of p) x (arc_value r.view)
+leads_by : (p : Parts) (x : Change) (r : Plan) → Keeps p → HasBefore p.design x → IsDesign (changed p.design x) → IsPlanOver p.scene p.design (changed p.design x) r → Leads (state_of p) x (arc_value r.view)
 leads_by p x r k has is q = record {
   before = has;
   design = is;
-  well = q.right.well;
-  shows = q.right.shows;
-  names = names_on p.scene p.table (arc_value r.view) k.grown.0 q.names;
+  well = q.plan.right.well;
+  shows = q.plan.right.shows;
+  names = names_on p.scene q.table (arc_value r.view) q.first.0 q.plan.names;
 }
 
 -- each listed tiling is a tiling of the view before the change or of the plan's view
-either_by : (p : Parts) (x : Change) (r : Plan) → Keeps p → IsPlanFor p.table p.design (changed p.design x) (arc_value r.view) r.delta → AreOfEither (arc_value r.view) r.delta p.listed
-either_by p x r k q = listed_either p.scene p.table (arc_value r.view) p.design (changed p.design x) r.delta p.listed k.whole.consistent.well k.grown k.right q k.whole.consistent.partition.only
+either_by : (p : Parts) (x : Change) (r : Plan) → Keeps p → IsPlanOver p.scene p.design (changed p.design x) r → AreOfEither (arc_value r.view) r.delta p.listed
+either_by p x r k q = listed_either p.scene q.table (arc_value r.view) p.design (changed p.design x) r.delta p.listed k.whole.consistent.well q.first q.right q.plan k.whole.consistent.partition.only
 
 -- the plan's differences are those of the change
-abbrev change_by : (p : Parts) (x : Change) (r : Plan) → Keeps p → IsDesign (changed p.design x) → IsPlanFor p.table p.design (changed p.design x) (arc_value r.view) r.delta → IsChangeOf p.scene (arc_value r.view) r.delta
+abbrev change_by : (p : Parts) (x : Change) (r : Plan) → Keeps p → IsDesign (changed p.design x) → IsPlanOver p.scene p.design (changed p.design x) r → IsChangeOf p.scene (arc_value r.view) r.delta
 change_by p x r k is q = record {
   before = p.design;
   after = changed p.design x;
   shown = record { well = k.whole.consistent.well; shows = k.whole.consistent.shows };
-  updated = q.right;
+  updated = q.plan.right;
   first = k.whole.consistent.design;
   second = is;
-  names = names_on p.scene p.table (arc_value r.view) k.grown.0 q.names;
-  delta = q.delta;
+  names = names_on p.scene q.table (arc_value r.view) q.first.0 q.plan.names;
+  delta = q.plan.delta;
 }
 
-widths_by : (p : Parts) (x : Change) (r : Plan) → Keeps p → IsDesign (changed p.design x) → IsPlanFor p.table p.design (changed p.design x) (arc_value r.view) r.delta →
+widths_by : (p : Parts) (x : Change) (r : Plan) → Keeps p → IsDesign (changed p.design x) → IsPlanOver p.scene p.design (changed p.design x) r →
     HasWidth p.design (changed p.design x) (length (guards p.scene (arc_value r.view))) × HasWidth (changed p.design x) p.design (length (guards (arc_value r.view) p.scene))
 widths_by p x r k is q = widths_show_lem p.scene (arc_value r.view) r.delta (change_by p x r k is q)
 
@@ -60,20 +76,20 @@ pub gather-requires-clause-made : goal.gather-requires-clause-made
 gather-requires-clause-made c =
     let shown : arc_value c.in_ok-view.view ≡ arc_value c.in_ok-plan.plan.view = search rules in
     let at : c.deref.result.now ≡ arc_value c.in_ok-plan.plan.view = c.deref.ensures ∙ shown in
-    subst (λ w. IsMadeBy c.args.parts.now.scene w c.in_ok-plan.plan.delta c.args.change.now) (sym at) (change_by c.args.parts.now c.args.change.now c.in_ok-plan.plan c.requires.keeps c.requires.design c.in_ok-plan.ensures.ok, refl)
+    subst (λ w. IsMadeBy c.args.parts.now.scene w c.in_ok-plan.plan.delta c.args.change.now) (sym at) (change_by c.args.parts.now c.args.change.now c.in_ok-plan.plan c.requires.keeps c.requires.design (over c.args.parts.now c.args.change.now c.in_ok-plan.plan c.view.result.now c.view.ensures c.in_ok-plan.ensures.ok), refl)
 
 pub gather-requires-clause-either : goal.gather-requires-clause-either
 gather-requires-clause-either c =
     let shown : arc_value c.in_ok-view.view ≡ arc_value c.in_ok-plan.plan.view = search rules in
     let at : c.deref.result.now ≡ arc_value c.in_ok-plan.plan.view = c.deref.ensures ∙ shown in
-    subst (λ w. AreOfEither w c.in_ok-plan.plan.delta c.args.parts.now.listed) (sym at) (either_by c.args.parts.now c.args.change.now c.in_ok-plan.plan c.requires.keeps c.in_ok-plan.ensures.ok)
+    subst (λ w. AreOfEither w c.in_ok-plan.plan.delta c.args.parts.now.listed) (sym at) (either_by c.args.parts.now c.args.change.now c.in_ok-plan.plan c.requires.keeps (over c.args.parts.now c.args.change.now c.in_ok-plan.plan c.view.result.now c.view.ensures c.in_ok-plan.ensures.ok))
 
 pub returns-in_err-plan-clause-why : goal.returns-in_err-plan-clause-why
 returns-in_err-plan-clause-why c =
     let p = err_from_is_err_and c.from_residual-in_err-plan.result c.from_residual-in_err-plan.ensures.1 in
     let a = c.args.parts.now in
     rw (p.1, p.2) (elim c.in_err-plan.ensures.why [
-      | inl m ↦ spent_not_made c.args.kind c.args.change.now (state_of a) a.table _ m.0 c.requires.keeps.grown m.1
+      | inl m ↦ spent_not_made c.args.kind c.args.change.now (state_of a) _ m.0 (subst (λ (v : View). NumbersAreSpent v.placements (changed a.design c.args.change.now)) c.view.ensures m.1)
       | inr m ↦ memory_not_made c.args.kind c.args.change.now (state_of a) _ m
     ])
 
@@ -83,13 +99,13 @@ returns-in_err-entry-clause-why c =
     let s = state_of c.args.parts.now in
     let shown : arc_value c.in_ok-view.view ≡ arc_value c.in_ok-plan.plan.view = search rules in
     let at : c.deref.result.now ≡ arc_value c.in_ok-plan.plan.view = c.deref.ensures ∙ shown in
-    let l = leads_by c.args.parts.now c.args.change.now c.in_ok-plan.plan c.requires.keeps c.requires.before c.requires.design c.in_ok-plan.ensures.ok in
-    let g = widths_by c.args.parts.now c.args.change.now c.in_ok-plan.plan c.requires.keeps c.requires.design c.in_ok-plan.ensures.ok in
+    let l = leads_by c.args.parts.now c.args.change.now c.in_ok-plan.plan c.requires.keeps c.requires.before c.requires.design (over c.args.parts.now c.args.change.now c.in_ok-plan.plan c.view.result.now c.view.ensures c.in_ok-plan.ensures.ok) in
+    let g = widths_by c.args.parts.now c.args.change.now c.in_ok-plan.plan c.requires.keeps c.requires.design (over c.args.parts.now c.args.change.now c.in_ok-plan.plan c.view.result.now c.view.ensures c.in_ok-plan.ensures.ok) in
     let n : length c.reserve.new.self.items ≡ length s.steps = ap length c.reserve.ensures.items ∙ sym (length-reverse c.args.parts.now.steps.items) in
-    rw (p.1, p.2) (gather_not_made s c.args.parts.now.history c.args.change.now (arc_value c.in_ok-plan.plan.view) refl refl l g (length c.reserve.new.self.items) n c.args.kind c.requires.top _ (rw (sym at) c.in_err-entry.ensures.why))
+    rw (p.1, p.2) (gather_not_made c.args.parts.now.log s c.args.parts.now.history c.args.change.now (arc_value c.in_ok-plan.plan.view) refl refl l g (length c.reserve.new.self.items) n c.args.kind c.requires.top _ (rw (sym at) c.in_err-entry.ensures.why))
 
 pub returns-in_err-reserve-2-clause-keeps : goal.returns-in_err-reserve-2-clause-keeps
-returns-in_err-reserve-2-clause-keeps c = rw (c.reserve.ensures.items, c.reserve-2.ensures.items) (still_keeps c.requires.keeps c.in_ok-plan.ensures.grown c.in_ok-plan.ensures.right)
+returns-in_err-reserve-2-clause-keeps c = rw (c.reserve.ensures.items, c.reserve-2.ensures.items) (still_keeps c.requires.keeps (subst (λ (v : View). Grown v c.plan_of_change.new.table) c.view.ensures c.in_ok-plan.ensures.first) c.in_ok-plan.ensures.right)
 
 pub returns-in_err-reserve-2-clause-why : goal.returns-in_err-reserve-2-clause-why
 returns-in_err-reserve-2-clause-why c =
@@ -97,7 +113,7 @@ returns-in_err-reserve-2-clause-why c =
     rw p.1 (memory_not_made c.args.kind c.args.change.now (state_of c.args.parts.now) p.0 p.2)
 
 pub returns-clause-keeps : goal.returns-clause-keeps
-returns-clause-keeps c = rw (c.reserve.ensures.items, c.reserve-2.ensures.items) (still_keeps c.requires.keeps c.in_ok-plan.ensures.grown c.in_ok-plan.ensures.right)
+returns-clause-keeps c = rw (c.reserve.ensures.items, c.reserve-2.ensures.items) (still_keeps c.requires.keeps (subst (λ (v : View). Grown v c.plan_of_change.new.table) c.view.ensures c.in_ok-plan.ensures.first) c.in_ok-plan.ensures.right)
 
 pub returns-clause-narrow : goal.returns-clause-narrow
 returns-clause-narrow c = λ edit.
@@ -106,7 +122,7 @@ returns-clause-narrow c = λ edit.
     let w = arc_value c.in_ok-plan.plan.view in
     let shown : arc_value c.in_ok-view.view ≡ w = search rules in
     let at : c.deref.result.now ≡ w = c.deref.ensures ∙ shown in
-    let widths = widths_by a x c.in_ok-plan.plan c.requires.keeps c.requires.design c.in_ok-plan.ensures.ok in
+    let widths = widths_by a x c.in_ok-plan.plan c.requires.keeps c.requires.design (over c.args.parts.now c.args.change.now c.in_ok-plan.plan c.view.result.now c.view.ensures c.in_ok-plan.ensures.ok) in
     let few = subst (λ v. (length (guards a.scene v) ≤ 20000) × (length (guards v a.scene) ≤ 20000)) at (c.in_ok-entry.ensures.narrow edit) in
     record {
       forth = _;
@@ -122,7 +138,7 @@ returns-clause-ok c =
     let a = c.args.parts.now in
     let x = c.args.change.now in
     let w = arc_value c.in_ok-plan.plan.view in
-    let q = c.in_ok-plan.ensures.ok in
+    let q = over a x c.in_ok-plan.plan c.view.result.now c.view.ensures c.in_ok-plan.ensures.ok in
     let shown_view : arc_value c.in_ok-view.view ≡ w = search rules in
     let at : c.deref.result.now ≡ w = c.deref.ensures ∙ shown_view in
     let steps : c.reserve.new.self.items ≡ a.steps.items = c.reserve.ensures.items in
@@ -132,11 +148,12 @@ returns-clause-ok c =
       after_is = c.in_ok-after.ensures.ok;
       view_is = shown_view;
       leads = transport (λ i. Leads (shown a.opened a.design a.scene a.listed a.log a.tasks.items a.next a.history (sym steps i) (sym ends i)) x w) l;
-      right = q.right;
+      right = q.plan.right;
       last = c.in_ok-plan.ensures.last;
       either = either_by a x c.in_ok-plan.plan c.requires.keeps q;
-      gathered = subst (λ v. IsGathered a.scene v a.listed a.log a.tasks.items (stood_by c.args.kind a.history) a.next c.in_ok-entry.entry c.in_ok-entry.tasks c.in_ok-entry.shelf) at c.in_ok-entry.ensures.ok;
+      gathered = subst (λ v. IsGathered a.scene v a.listed a.log a.tasks.items (stood_by a.log c.args.kind a.history) a.next c.in_ok-entry.entry c.in_ok-entry.tasks c.in_ok-entry.shelf) at c.in_ok-entry.ensures.ok;
       few_steps = c.in_ok-entry.ensures.few;
+      enough = subst (λ (v : View). ¬ NumbersAreSpent v.placements (changed a.design x)) c.view.ensures c.in_ok-plan.ensures.enough;
       room_steps = search rules;
       room_endings = search rules;
     }

@@ -4,11 +4,12 @@ use Rattle.poly_report.specs.Holds.{holds}
 use Rattle.poly_report.specs.Leaves.{rests, tilings}
 use Rattle.poly_report.specs.Opened.{opened}
 use Rattle.poly_report.specs.Shapes.{plan_of}
+use Rattle.poly_report.specs.Sizes.{all_fewer}
 use Rattle.poly_book.specs.Meaning.{IsTask, task_of}
 use Rattle.poly_book.specs.Tasks.{AreHopeful, atoms_of}
 use Rattle.poly_book.proofs.Held.{task_at}
 use Rattle.poly_book.proofs.Hoping.{hopeful_at, rests_hopeful}
-use Rattle.poly_book.proofs.Taking.{leaves_at}
+use Rattle.poly_book.proofs.Taking.{found_leaves_at}
 use Rattle.poly_book.proofs.settle.explored_leaves.Goals as goal
 
 pub all_atoms-requires : goal.all_atoms-requires
@@ -31,7 +32,11 @@ returns-clause-leaves c =
     let right : holds v (atoms_of u) tree ≡ true = sym (ap (λ A. holds v A tree) atoms) ∙ c.in_ok-found.ensures.holds in
     let found : c.in_ok-found.found.leaves.tilings.items ≡ tilings v (atoms_of u) tree = c.in_ok-found.ensures.tilings ∙ ap (λ A. tilings v A tree) atoms in
     let left : lists c.in_ok-found.found.leaves.rests.items ≡ rests v (atoms_of u) tree = c.in_ok-found.ensures.rests ∙ ap (λ A. rests v A tree) atoms in
-    (x.number, tree, leaves_at a x c.args.at tree c.in_ok-found.found.leaves.tilings.items (lists c.in_ok-found.found.leaves.rests.items) c.requires.keeps c.requires.index is c.in_ok-found.ensures.fits right found left)
+    let fewer : all_fewer v (atoms_of u) (rests v (atoms_of u) tree) ≡ true = sym (ap (λ A. all_fewer v A (rests v A tree)) atoms) ∙ c.in_ok-found.ensures.smaller in (
+      x.number,
+      tree,
+      found_leaves_at c.args.nodes a x c.args.at tree c.in_ok-found.found.leaves.tilings.items (lists c.in_ok-found.found.leaves.rests.items) c.requires.keeps c.requires.index is c.in_ok-found.ensures.fits right found left c.in_ok-found.ensures.inner c.in_ok-found.ensures.root fewer,
+    )
 
 pub returns-clause-sure : goal.returns-clause-sure
 returns-clause-sure c =

@@ -2,7 +2,7 @@ use Rattle.std.proofs.Common.{arith, inr, length, rules, subst, sym, true, ◌�
 use Rattle.poly_book.specs.Keeps.{state_of}
 use Rattle.poly_book.specs.Settled.{Cuts, IsNotTurned, IsTurn}
 use Rattle.poly_book.proofs.Nexting.{none_pending}
-use Rattle.poly_book.proofs.Settles.{cuts_on}
+use Rattle.poly_book.proofs.Settles.{cuts_on, reported_on}
 use Rattle.poly_book.proofs.settle.settle_all.Goals as goal
 
 pub returns-in-Err-clause-why : goal.returns-in-Err-clause-why
@@ -15,9 +15,11 @@ loop-applied-preserved c =
     let test : c.in-Ok-true.field-0 ≡ true = search rules in
     let before = state_of c.loop-applied.parts in
     let after = state_of c.settle_one.new.parts in
+    let turn = subst (λ b. IsTurn c.args.nodes before after b) test c.in-Ok-true.ensures.ok in
     record {
       keeps = c.settle_one.ensures.keeps;
-      cuts = cuts_on (state_of c.args.parts.now) before after c.loop-applied.applied c.loop-applied.invariant.cuts (subst (λ b. IsTurn before after b) test c.in-Ok-true.ensures.ok);
+      cuts = cuts_on (state_of c.args.parts.now) before after c.loop-applied.applied c.loop-applied.invariant.cuts turn.0;
+      reports = reported_on c.args.nodes c.loop-applied.applied (state_of c.args.parts.now) before after c.loop-applied.invariant.reports turn.1;
       sure = c.in-Ok-true.ensures.sure;
     }
 

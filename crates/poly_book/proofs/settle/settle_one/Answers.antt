@@ -4,11 +4,11 @@ use Rattle.poly_report.specs.Gather.{lists}
 use Rattle.poly_report.specs.Trees.{Plan}
 use Rattle.poly_book.specs.declared.parts.Parts.{Parts}
 use Rattle.poly_book.specs.Keeps.{Keeps, state_of}
-use Rattle.poly_book.specs.Reports.{AreLeaves}
-use Rattle.poly_book.specs.Settled.{AreHopefulFrom, Cuts, IsNotTurned}
+use Rattle.poly_book.specs.Reports.{AreFoundLeaves, AreLeaves}
+use Rattle.poly_book.specs.Settled.{AreHopefulFrom, Cuts, IsNotTurned, IsReported}
 use Rattle.poly_book.specs.Tasks.{AreHopeful}
 use Rattle.poly_book.proofs.Hoping.{hopeful_on}
-use Rattle.poly_book.proofs.Settles.{applied_cuts}
+use Rattle.poly_book.proofs.Settles.{applied_cuts, found_reported}
 use Rattle.poly_book.proofs.settle.settle_one.Goals as goal
 
 pub apply_leaves-requires-clause-keeps : goal.apply_leaves-requires-clause-keeps
@@ -17,7 +17,8 @@ apply_leaves-requires-clause-keeps c = subst (λ (p : Parts). Keeps p) (sym c.in
 pub apply_leaves-requires-clause-leaves : goal.apply_leaves-requires-clause-leaves
 apply_leaves-requires-clause-leaves c =
     let l = c.in_ok-leaves.leaves in
-    subst (λ (p : Parts). (k : ℕ) × (tree : Plan) × AreLeaves p k (c.len-at.result - 1) tree l.tilings.items (lists l.rests.items)) (sym c.in_ok-leaves.ensures.stays) c.in_ok-leaves.ensures.leaves
+    let m = c.in_ok-leaves.ensures.leaves in
+    subst (λ (p : Parts). (k : ℕ) × (tree : Plan) × AreLeaves p k (c.len-at.result - 1) tree l.tilings.items (lists l.rests.items)) (sym c.in_ok-leaves.ensures.stays) (m.0, m.1, m.2.leaves)
 
 pub apply_leaves-requires-clause-sure : goal.apply_leaves-requires-clause-sure
 apply_leaves-requires-clause-sure c = λ yes.
@@ -33,7 +34,7 @@ returns-in-Ok-clause-sure c =
     let same = c.in_ok-leaves.ensures.stays in
     let n = c.args.unsure.now in
     let at = c.len-at.result - 1 in
-    let there : AreLeaves b l.0 at l.1 f.tilings.items (lists f.rests.items) = subst (λ (p : Parts). AreLeaves p l.0 at l.1 f.tilings.items (lists f.rests.items)) (sym same) l.2 in
+    let there : AreLeaves b l.0 at l.1 f.tilings.items (lists f.rests.items) = subst (λ (p : Parts). AreLeaves p l.0 at l.1 f.tilings.items (lists f.rests.items)) (sym same) l.2.leaves in
     let before : AreHopefulFrom n (state_of b) = subst (λ (p : Parts). AreHopefulFrom n (state_of p)) (sym same) c.requires.sure in
     let last : length b.tasks.items ≤ at + 1 = omega (arith, c.len-at.ensures, ap (λ (p : Parts). length p.tasks.items) same) in
     subst (λ m. AreHopefulFrom m (state_of c.apply_leaves.new.parts)) (sym c.min.ensures)
@@ -45,9 +46,14 @@ returns-in-Ok-clause-ok c =
     let f = c.in_ok-leaves.leaves in
     let l = c.in_ok-leaves.ensures.leaves in
     let same = c.in_ok-leaves.ensures.stays in
-    let there : AreLeaves b l.0 (c.len-at.result - 1) l.1 f.tilings.items (lists f.rests.items) = subst (λ (p : Parts). AreLeaves p l.0 (c.len-at.result - 1) l.1 f.tilings.items (lists f.rests.items)) (sym same) l.2 in
-    subst (λ (p : Parts). Cuts (state_of p) (state_of c.apply_leaves.new.parts) 1) same
-    (applied_cuts l.0 c.len-edition.result l.1 (state_of b) (state_of c.apply_leaves.new.parts) c.in-Ok.field-0 (c.in-Ok.ensures.ok l.0 l.1 there))
+    let there : AreLeaves b l.0 (c.len-at.result - 1) l.1 f.tilings.items (lists f.rests.items) = subst (λ (p : Parts). AreLeaves p l.0 (c.len-at.result - 1) l.1 f.tilings.items (lists f.rests.items)) (sym same) l.2.leaves in
+    let made = c.in-Ok.ensures.ok l.0 l.1 there in
+    let grown : AreFoundLeaves c.args.nodes b l.0 (c.len-at.result - 1) l.1 f.tilings.items (lists f.rests.items) = subst (λ (p : Parts). AreFoundLeaves c.args.nodes p l.0 (c.len-at.result - 1) l.1 f.tilings.items (lists f.rests.items)) (sym same) l.2 in
+    let turn : Cuts (state_of b) (state_of c.apply_leaves.new.parts) 1 × IsReported c.args.nodes (state_of b) (state_of c.apply_leaves.new.parts) = (
+      applied_cuts l.0 c.len-edition.result l.1 (state_of b) (state_of c.apply_leaves.new.parts) c.in-Ok.field-0 made,
+      found_reported c.args.nodes c.len-edition.result (c.len-at.result - 1) b l.0 l.1 f.tilings.items (lists f.rests.items) (state_of c.apply_leaves.new.parts) c.in-Ok.field-0 grown made,
+    ) in
+    subst (λ (p : Parts). Cuts (state_of p) (state_of c.apply_leaves.new.parts) 1 × IsReported c.args.nodes (state_of p) (state_of c.apply_leaves.new.parts)) same turn
 
 pub returns-in-Err-clause-err : goal.returns-in-Err-clause-err
 returns-in-Err-clause-err c = c.in-Err.ensures.err ∙ ap (λ (p : Parts). state_of p) c.in_ok-leaves.ensures.stays
@@ -58,6 +64,6 @@ returns-in-Err-clause-why c =
     let f = c.in_ok-leaves.leaves in
     let l = c.in_ok-leaves.ensures.leaves in
     let same = c.in_ok-leaves.ensures.stays in
-    let there : AreLeaves b l.0 (c.len-at.result - 1) l.1 f.tilings.items (lists f.rests.items) = subst (λ (p : Parts). AreLeaves p l.0 (c.len-at.result - 1) l.1 f.tilings.items (lists f.rests.items)) (sym same) l.2 in
+    let there : AreLeaves b l.0 (c.len-at.result - 1) l.1 f.tilings.items (lists f.rests.items) = subst (λ (p : Parts). AreLeaves p l.0 (c.len-at.result - 1) l.1 f.tilings.items (lists f.rests.items)) (sym same) l.2.leaves in
     let not : IsNotTurned (state_of b) c.in-Err.refusal = inr (l.0, l.1, there.small, (there.task, there.there, there.cut.right), c.in-Err.ensures.why l.0 l.1 there) in
     subst (λ (p : Parts). IsNotTurned (state_of p) c.in-Err.refusal) same not

@@ -1,14 +1,21 @@
 use Rattle.std.proofs.Common.{None, Some, ap, arith, get_or, rules, subst, sym, ◌∙◌, ◌≡◌}
 use Rattle.std.proofs.lemmas.List.{length-reverse}
 use Rattle.std.specs.List.{position_from}
+use Rattle.std.specs.List.Sorted.{IsNonDecreasingBy}
 use Rattle.std.specs.Prelude.{◌==◌}
 use Rattle.poly_book.specs.declared.task.Pending.{Pending}
 use Rattle.poly_book.specs.Meaning.{IsTask, task_of, tasks_of}
 use Rattle.poly_book.specs.Tasks.{find_task}
+use Rattle.poly_book.proofs.Halving.{numbers_rise}
 use Rattle.poly_book.proofs.Held.{task_at}
 use Rattle.poly_book.proofs.Numbered.{found_in}
 use Rattle.poly_book.proofs.Indices.{at_below, at_find, first_at, nowhere}
 use Rattle.poly_book.proofs.take.take_number.Goals as goal
+
+pub index_of-requires : goal.index_of-requires
+index_of-requires c =
+    let a = c.args.parts.now in
+    subst (λ ps. IsNonDecreasingBy (λ (p : Pending). p.number) ps) (sym c.deref.ensures.value) (numbers_rise 0 a.next a.log a.tasks.items c.requires.whole.rising)
 
 pub returns-in_default-clause-ok : goal.returns-in_default-clause-ok
 returns-in_default-clause-ok c =

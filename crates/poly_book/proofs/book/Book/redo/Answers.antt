@@ -1,5 +1,5 @@
 use Rattle.std.proofs.Common.{Some, inr, refl, rules, subst, sym, ◌≡◌}
-use Rattle.std.specs.Prelude.{IfErr}
+use Rattle.std.specs.Prelude.{IfErr, IfOk}
 use Rattle.std.proofs.lemmas.Result.{IfErr-weaker, IfOk-weaker, err_from_is_err_and}
 use Rattle.poly_grid.specs.declared.refusal.Refusal.TheVariants.{CatalogueFull}
 use Rattle.poly_design.specs.Changes.{HasBefore, changed}
@@ -7,9 +7,13 @@ use Rattle.poly_design.specs.Limits.{IsDesign}
 use Rattle.poly_undo.specs.Steps.{next_of}
 use Rattle.poly_book.specs.Keeps.{state_of}
 use Rattle.poly_book.specs.declared.step.Kind.TheVariants.{Redo}
+use Rattle.poly_book.specs.QuietReturns.{ReturnsQuietly}
+use Rattle.poly_book.specs.Replay.{origins}
+use Rattle.poly_book.specs.Steps.{IsDone}
 use Rattle.poly_book.specs.Refused.{IsNotMade, IsNotRedone}
 use Rattle.poly_book.specs.Amounts.{RedoIsFull}
 use Rattle.poly_book.proofs.Amounts.{redone_full}
+use Rattle.poly_book.proofs.Returning.{redone_returns}
 use Rattle.poly_book.proofs.Tops.{can_redo, not_redone_from, redone_from}
 use Rattle.poly_book.proofs.book.Book.redo.Goals as goal
 
@@ -31,7 +35,7 @@ returns-clause-ok c =
     let h = c.self.inside.parts.history in
     let e : next_of h.redo ≡ Some top = search rules in
     let x : c.in_ok-change.change ≡ top.change = c.in_ok-change.ensures.ok in
-    rw (← c.self.view_is) (IfOk-weaker c.apply_change.result _ _ (λ done made. redone_from h top c.in_ok-change.change done refl e x made) c.apply_change.ensures.ok)
+    rw (← c.self.view_is) (IfOk-weaker c.apply_change.result _ _ (λ done made. redone_from c.self.inside.parts.log h top c.in_ok-change.change done refl e x made) c.apply_change.ensures.ok)
 
 pub returns-clause-why : goal.returns-clause-why
 returns-clause-why c =
@@ -40,7 +44,7 @@ returns-clause-why c =
     let s = state_of c.self.inside.parts in
     let e : next_of h.redo ≡ Some top = search rules in
     let x : c.in_ok-change.change ≡ top.change = c.in_ok-change.ensures.ok in
-    subst (λ z. IfErr c.apply_change.result (λ r. IsNotRedone z r)) c.self.view_is (IfErr-weaker c.apply_change.result (λ r. IsNotMade Redo c.in_ok-change.change s r) (λ r. IsNotRedone s r) (λ r made. not_redone_from {s = s} h top c.in_ok-change.change r refl e x made) c.apply_change.ensures.why)
+    subst (λ z. IfErr c.apply_change.result (λ r. IsNotRedone z r)) c.self.view_is (IfErr-weaker c.apply_change.result (λ r. IsNotMade Redo c.in_ok-change.change s r) (λ r. IsNotRedone s r) (λ r made. not_redone_from {s = s} c.self.inside.parts.log h top c.in_ok-change.change r refl e x made) c.apply_change.ensures.why)
 
 pub returns-clause-full : goal.returns-clause-full
 returns-clause-full c =
@@ -50,7 +54,7 @@ returns-clause-full c =
     let e : next_of h.redo ≡ Some top = search rules in
     let x : c.in_ok-change.change ≡ top.change = c.in_ok-change.ensures.ok in
     subst (λ z. IfErr c.apply_change.result (λ r. r ≡ CatalogueFull → RedoIsFull z)) c.self.view_is (IfErr-weaker c.apply_change.result (λ r. IsNotMade Redo c.in_ok-change.change s r) (λ r. r ≡ CatalogueFull → RedoIsFull s)
-    (λ r made q. redone_full s r c.self.invariant.whole (not_redone_from {s = s} h top c.in_ok-change.change r refl e x made) q) c.apply_change.ensures.why)
+    (λ r made q. redone_full s r c.self.invariant.whole (not_redone_from {s = s} c.self.inside.parts.log h top c.in_ok-change.change r refl e x made) q) c.apply_change.ensures.why)
 
 pub returns-in_err-change-clause-why : goal.returns-in_err-change-clause-why
 returns-in_err-change-clause-why c =
@@ -59,4 +63,15 @@ returns-in_err-change-clause-why c =
     let h = c.self.inside.parts.history in
     let s = state_of c.self.inside.parts in
     let e : next_of h.redo ≡ Some top = search rules in
-    rw (p.1, p.2) (subst (λ z. IsNotRedone z c.in_err-change.field-0.0) c.self.view_is (not_redone_from {s = s} h top top.change c.in_err-change.field-0.0 refl e refl (inr (inr c.in_err-change.ensures.why))))
+    rw (p.1, p.2) (subst (λ z. IsNotRedone z c.in_err-change.field-0.0) c.self.view_is (not_redone_from {s = s} c.self.inside.parts.log h top top.change c.in_err-change.field-0.0 refl e refl (inr (inr c.in_err-change.ensures.why))))
+
+pub returns-clause-quiet : goal.returns-clause-quiet
+returns-clause-quiet c =
+    let top = c.in-Some.step.now in
+    let h = c.self.inside.parts.history in
+    let s = state_of c.self.inside.parts in
+    let t = state_of c.apply_change.new.parts in
+    let e : next_of h.redo ≡ Some top = search rules in
+    let x : c.in_ok-change.change ≡ top.change = c.in_ok-change.ensures.ok in
+    subst (λ z. IfOk c.apply_change.result (λ _. ReturnsQuietly (origins z.steps).forth z t)) c.self.view_is (IfOk-weaker c.apply_change.result (λ done. IsDone Redo c.in_ok-change.change s t done) (λ _. ReturnsQuietly (origins s.steps).forth s t)
+    (λ done made. redone_returns s t done c.self.invariant.whole (redone_from {s = s} {t = t} c.self.inside.parts.log h top c.in_ok-change.change done refl e x made)) c.apply_change.ensures.ok)

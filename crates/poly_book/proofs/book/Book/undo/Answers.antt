@@ -1,5 +1,5 @@
 use Rattle.std.proofs.Common.{Some, ap, inr, refl, rules, subst, sym, ◌∙◌, ◌≡◌}
-use Rattle.std.specs.Prelude.{IfErr}
+use Rattle.std.specs.Prelude.{IfErr, IfOk}
 use Rattle.std.proofs.lemmas.Result.{IfErr-weaker, IfOk-weaker, err_from_is_err_and}
 use Rattle.poly_grid.specs.declared.refusal.Refusal.TheVariants.{CatalogueFull}
 use Rattle.poly_design.specs.Changes.{HasBefore, changed, inverse_of}
@@ -7,9 +7,13 @@ use Rattle.poly_design.specs.Limits.{IsDesign}
 use Rattle.poly_undo.specs.Steps.{next_of}
 use Rattle.poly_book.specs.Keeps.{state_of}
 use Rattle.poly_book.specs.declared.step.Kind.TheVariants.{Undo}
+use Rattle.poly_book.specs.QuietReturns.{ReturnsQuietly}
+use Rattle.poly_book.specs.Replay.{origins}
+use Rattle.poly_book.specs.Steps.{IsDone}
 use Rattle.poly_book.specs.Refused.{IsNotMade, IsNotUndone}
 use Rattle.poly_book.specs.Amounts.{UndoIsFull}
 use Rattle.poly_book.proofs.Amounts.{undone_full}
+use Rattle.poly_book.proofs.Returning.{undone_returns}
 use Rattle.poly_book.proofs.Tops.{can_undo, not_undone_from, undone_from}
 use Rattle.poly_book.proofs.book.Book.undo.Goals as goal
 
@@ -31,7 +35,7 @@ returns-clause-ok c =
     let h = c.self.inside.parts.history in
     let e : next_of h.undo ≡ Some top = search rules in
     let x : c.inverse-change.result ≡ inverse_of top.change = c.inverse-change.ensures.value ∙ ap inverse_of c.in_ok-copy.ensures.ok in
-    rw (← c.self.view_is) (IfOk-weaker c.apply_change.result _ _ (λ done made. undone_from h top c.inverse-change.result done refl e x made) c.apply_change.ensures.ok)
+    rw (← c.self.view_is) (IfOk-weaker c.apply_change.result _ _ (λ done made. undone_from c.self.inside.parts.log h top c.inverse-change.result done refl e x made) c.apply_change.ensures.ok)
 
 pub returns-clause-why : goal.returns-clause-why
 returns-clause-why c =
@@ -40,7 +44,7 @@ returns-clause-why c =
     let s = state_of c.self.inside.parts in
     let e : next_of h.undo ≡ Some top = search rules in
     let x : c.inverse-change.result ≡ inverse_of top.change = c.inverse-change.ensures.value ∙ ap inverse_of c.in_ok-copy.ensures.ok in
-    subst (λ z. IfErr c.apply_change.result (λ r. IsNotUndone z r)) c.self.view_is (IfErr-weaker c.apply_change.result (λ r. IsNotMade Undo c.inverse-change.result s r) (λ r. IsNotUndone s r) (λ r made. not_undone_from {s = s} h top c.inverse-change.result r refl e x made) c.apply_change.ensures.why)
+    subst (λ z. IfErr c.apply_change.result (λ r. IsNotUndone z r)) c.self.view_is (IfErr-weaker c.apply_change.result (λ r. IsNotMade Undo c.inverse-change.result s r) (λ r. IsNotUndone s r) (λ r made. not_undone_from {s = s} c.self.inside.parts.log h top c.inverse-change.result r refl e x made) c.apply_change.ensures.why)
 
 pub returns-clause-full : goal.returns-clause-full
 returns-clause-full c =
@@ -50,7 +54,7 @@ returns-clause-full c =
     let e : next_of h.undo ≡ Some top = search rules in
     let x : c.inverse-change.result ≡ inverse_of top.change = c.inverse-change.ensures.value ∙ ap inverse_of c.in_ok-copy.ensures.ok in
     subst (λ z. IfErr c.apply_change.result (λ r. r ≡ CatalogueFull → UndoIsFull z)) c.self.view_is (IfErr-weaker c.apply_change.result (λ r. IsNotMade Undo c.inverse-change.result s r) (λ r. r ≡ CatalogueFull → UndoIsFull s)
-    (λ r made q. undone_full s r c.self.invariant.whole (not_undone_from {s = s} h top c.inverse-change.result r refl e x made) q) c.apply_change.ensures.why)
+    (λ r made q. undone_full s r c.self.invariant.whole (not_undone_from {s = s} c.self.inside.parts.log h top c.inverse-change.result r refl e x made) q) c.apply_change.ensures.why)
 
 pub returns-in_err-copy-clause-why : goal.returns-in_err-copy-clause-why
 returns-in_err-copy-clause-why c =
@@ -59,4 +63,15 @@ returns-in_err-copy-clause-why c =
     let h = c.self.inside.parts.history in
     let s = state_of c.self.inside.parts in
     let e : next_of h.undo ≡ Some top = search rules in
-    rw (p.1, p.2) (subst (λ z. IsNotUndone z c.in_err-copy.field-0.0) c.self.view_is (not_undone_from {s = s} h top (inverse_of top.change) c.in_err-copy.field-0.0 refl e refl (inr (inr c.in_err-copy.ensures.why))))
+    rw (p.1, p.2) (subst (λ z. IsNotUndone z c.in_err-copy.field-0.0) c.self.view_is (not_undone_from {s = s} c.self.inside.parts.log h top (inverse_of top.change) c.in_err-copy.field-0.0 refl e refl (inr (inr c.in_err-copy.ensures.why))))
+
+pub returns-clause-quiet : goal.returns-clause-quiet
+returns-clause-quiet c =
+    let top = c.in-Some.step.now in
+    let h = c.self.inside.parts.history in
+    let s = state_of c.self.inside.parts in
+    let t = state_of c.apply_change.new.parts in
+    let e : next_of h.undo ≡ Some top = search rules in
+    let x : c.inverse-change.result ≡ inverse_of top.change = c.inverse-change.ensures.value ∙ ap inverse_of c.in_ok-copy.ensures.ok in
+    subst (λ z. IfOk c.apply_change.result (λ _. ReturnsQuietly (origins z.steps).back z t)) c.self.view_is (IfOk-weaker c.apply_change.result (λ done. IsDone Undo c.inverse-change.result s t done) (λ _. ReturnsQuietly (origins s.steps).back s t)
+    (λ done made. undone_returns s t done c.self.invariant.whole (undone_from {s = s} {t = t} c.self.inside.parts.log h top c.inverse-change.result done refl e x made)) c.apply_change.ensures.ok)

@@ -1,23 +1,41 @@
-use Rattle.std.proofs.Common.{subst, sym, take, true, ◌≡◌}
+use Rattle.std.proofs.Common.{[], arith, get_or, slice_index_or, subst, sym, take, true, ◌∙◌, ◌≡◌}
+use Rattle.std.proofs.lemmas.List.{get_or_default}
 use Rattle.std.specs.List.{list_all}
-use Rattle.poly_book.specs.Mapped.{under}
+use Rattle.poly_book.specs.Mapped.{base_of, under}
 use Rattle.poly_book.specs.Meaning.{IsTask, own_of}
 use Rattle.poly_book.proofs.Held.{task_at}
-use Rattle.poly_book.proofs.Mapping.{all_more, wide_tasks}
+use Rattle.poly_book.proofs.Mapping.{all_more, wide_atoms, wide_tasks}
 use Rattle.poly_book.proofs.maps.Maps.note_all.Goals as goal
 
-pub note_task-requires-clause-own : goal.note_task-requires-clause-own
-note_task-requires-clause-own c = (subst (λ p. IsTask c.args.log.now p) (sym c.task-item.is) (task_at c.args.log.now c.args.tasks.now c.loop-task.task-index c.task-item.result c.requires c.loop-task-test.true)).own
+pub note_base-requires : goal.note_base-requires
+note_base-requires c = record { known = λ n h. c.loop-i.invariant.base c.index-tasks-before.result n h }
 
-pub loop-task-preserved : goal.loop-task-preserved
-loop-task-preserved c =
+pub note_task-requires-clause-own : goal.note_task-requires-clause-own
+note_task-requires-clause-own c = (subst (λ p. IsTask c.args.log.now p) (sym c.index-tasks-i.is) (task_at c.args.log.now c.args.tasks.now c.loop-i.i c.index-tasks-i.result c.requires c.loop-i-test.true)).own
+
+pub note_task-requires-clause-base : goal.note_task-requires-clause-base
+note_task-requires-clause-base c = c.in_ok-shared.ensures.noted c.index-tasks-i.result.number c.in_ok-shared.ensures.here
+
+pub note_task-requires-clause-prefix : goal.note_task-requires-clause-prefix
+note_task-requires-clause-prefix c =
+    let f = c.loop-i.prefix in
+    λ n h. wide_atoms c.loop-i.self c.note_base.new.self n (take f.count (slice_index_or c.args.log.now f.edition [])) c.note_base.ensures.wider (c.loop-i.invariant.prefix n h)
+
+pub loop-i-preserved : goal.loop-i-preserved
+loop-i-preserved c =
     let m = c.note_task.new.self in
-    let i = c.loop-task.task-index in
+    let m1 = c.note_base.new.self in
+    let i = c.loop-i.i in
     let log = c.args.log.now in
+    let ps = c.args.tasks.now in
+    let x = c.index-tasks-i.result in
     record {
-      wider = λ a n h. c.note_task.ensures.wider a n (c.loop-task.invariant.wider a n h);
+      wider = λ a n h. c.note_task.ensures.wider a n (c.note_base.ensures.wider a n (c.loop-i.invariant.wider a n h));
       prefix = c.in_ok-note_task.ensures.prefix;
-      noted = all_more (λ p. list_all (λ a. under m a p.number) (own_of log p.own)) c.args.tasks.now i c.task-item.result c.loop-task-test.true
-          (wide_tasks c.loop-task.self m log (take i c.args.tasks.now) c.note_task.ensures.wider c.loop-task.invariant.noted)
-          (subst (λ p. list_all (λ a. under m a p.number) (own_of log p.own) ≡ true) c.task-item.is c.in_ok-note_task.ensures.ok);
+      noted = all_more (λ p. list_all (λ a. under m a p.number) (own_of log p.own)) ps i x c.loop-i-test.true
+          (wide_tasks m1 m log (take i ps) c.note_task.ensures.wider (wide_tasks c.loop-i.self m1 log (take i ps) c.note_base.ensures.wider c.loop-i.invariant.noted))
+          (subst (λ p. list_all (λ a. under m a p.number) (own_of log p.own) ≡ true) c.index-tasks-i.is c.in_ok-note_task.ensures.ok);
+      low = omega arith;
+      base = λ d n h. wide_atoms m1 m n (base_of (get_or ps i d).own) c.note_task.ensures.wider
+          (subst (λ p. list_all (λ a. under m1 a n) (base_of p.own) ≡ true) (c.index-tasks-i.is ∙ get_or_default ps i x d c.loop-i-test.true) (c.in_ok-shared.ensures.noted n h));
     }

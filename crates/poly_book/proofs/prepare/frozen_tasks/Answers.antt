@@ -1,0 +1,18 @@
+use Rattle.std.proofs.Common.{ap, map, subst, sym, ◌∙◌}
+use Rattle.poly_book.specs.Meaning.{AreFrozen, IsTask, frozen_of}
+use Rattle.poly_book.proofs.Held.{task_at}
+use Rattle.poly_book.proofs.Holding.{frozen_more, frozen_push_one}
+use Rattle.poly_book.proofs.prepare.frozen_tasks.Goals as goal
+
+pub freeze-requires : goal.freeze-requires
+freeze-requires c = subst (λ p. IsTask c.args.log.now p) (sym c.task-item.is) (task_at c.args.log.now c.args.tasks.now c.loop-task.task-index c.task-item.result c.requires c.loop-task-test.true)
+
+pub loop-task-preserved : goal.loop-task-preserved
+loop-task-preserved c =
+    let log = c.args.log.now in
+    let ps = c.args.tasks.now in
+    let x = c.in_ok-frozen.frozen in
+    record {
+      atoms = ap (λ fs. map (λ f. frozen_of log f) fs) c.in_ok-push.ensures.items ∙ frozen_more log ps c.loop-task.task-index c.task-item.result c.loop-task.all.items x c.loop-task-test.true c.task-item.is c.loop-task.invariant.atoms c.in_ok-frozen.ensures.atoms;
+      frozen = subst (λ fs. AreFrozen log fs) (sym c.in_ok-push.ensures.items) (frozen_push_one log c.loop-task.all.items x c.loop-task.invariant.frozen c.in_ok-frozen.ensures.frozen);
+    }
