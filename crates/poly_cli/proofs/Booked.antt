@@ -1,7 +1,7 @@
 -- What a session sees of a book: edits, undo and redo.
-use Rattle.std.proofs.Common.{Bool, List, [], ap, arith, drop, false, length, length-drop, map, refl, reverse, subst, suc, sym, take, zero, inl, inr, ℕ, ◌+◌, ◌++◌, ◌-◌, ◌∙◌, ◌∷◌, ◌≡◌, ◌≤◌}
+use Rattle.std.proofs.Common.{Bool, List, None, [], ap, arith, false, length, length-drop, map, refl, reverse, subst, suc, sym, take, true, zero, inl, inr, ℕ, ◌+◌, ◌++◌, ◌∙◌, ◌∷◌, ◌≡◌, ◌≤◌}
 use Rattle.std.proofs.lemmas.List.{length-map, reverse-append, reverse-reverse}
-use Rattle.std.specs.Prelude.{◌⊎◌}
+use Rattle.std.specs.Prelude.{◌⊎◌, ◌≢◌}
 use Rattle.poly_grid.specs.declared.refusal.Refusal.{Refusal}
 use Rattle.poly_grid.specs.declared.refusal.Refusal.TheVariants.{CatalogueFull, Memory}
 use Rattle.poly_design.specs.Changes.{inverse_of}
@@ -27,13 +27,13 @@ use Rattle.poly_book.proofs.Changes.{newest_all}
 use Rattle.poly_tiling.specs.declared.lister.TheConstants.{MAX_TILINGS}
 use Rattle.poly_undo.specs.declared.history.TheConstants.{MAX_STEPS}
 use Rattle.poly_cli.specs.Books.{changes_of, session_of}
-use Rattle.poly_cli.specs.States.{EditRefused, Edits, IsUnanswered, RedoRefused, Redoes, State, UndoRefused, Undoes}
+use Rattle.poly_cli.specs.States.{EditRefused, Edits, IsUnanswered, IsUnfinished, RedoRefused, Redoes, State, UndoRefused, Undoes}
 
 -- ---- lists of changes
 
 same_state : {d e : Layout} {m n : ℕ} {u v r q : List Change} {a b : Bool} → d ≡ e → m ≡ n → u ≡ v → r ≡ q → a ≡ b
-    → ◌≡◌ {A = State} (record { design = d; edition = m; undo = u; redo = r; settled = a }) (record { design = e; edition = n; undo = v; redo = q; settled = b })
-same_state p s t w x = λ i. record { design = p i; edition = s i; undo = t i; redo = w i; settled = x i }
+    → ◌≡◌ {A = State} (record { design = d; edition = m; undo = u; redo = r; settled = a; failed = None }) (record { design = e; edition = n; undo = v; redo = q; settled = b; failed = None })
+same_state p s t w x = λ i. record { design = p i; edition = s i; undo = t i; redo = w i; settled = x i; failed = None }
 
 -- the change of the newest way is the last change
 changes_push : (way : Way) (ways : List Way) → changes_of (way ∷ ways) ≡ changes_of ways ++ way.change ∷ []
@@ -158,10 +158,16 @@ module _ (s : Book) (flag : Bool) (e : Refusal) where
       go (inr (inl over)) = let f = full over.0 in inl (inr (f.0.change, changes_of f.1, ap changes_of f.2 ∙ changes_push f.0 f.1, inr (over.0, f.3)))
       go (inr (inr memory)) = inr memory
 
--- if settling a book fails, a question about its design may fail with the same refusal
-pub unsettled : (turns : ℕ) (s t : Book) (e : Refusal) → IsNotSettled turns s t e → (e ≡ CatalogueFull → HasOverTilings MAX_TILINGS s.design) → IsUnanswered s.design e
-unsettled turns s t e (inl unfinished) full = inl unfinished.0
-unsettled turns s t e (inr (n, less, cuts, inl memory)) full = inr (inr (inl memory))
-unsettled turns s t e (inr (n, less, cuts, inr (k, tree, small, holds, inl spent))) full = inr (inl spent.0)
+-- why settling a book fails
+pub unsettled : (turns : ℕ) (s t : Book) (e : Refusal) → IsNotSettled turns s t e → (e ≡ CatalogueFull → HasOverTilings MAX_TILINGS s.design) → (e ≡ Memory) ⊎ IsUnfinished s.design e
+unsettled turns s t e (inl unfinished) full = inr (inl unfinished.0)
+unsettled turns s t e (inr (n, less, cuts, inl memory)) full = inl memory
+unsettled turns s t e (inr (n, less, cuts, inr (k, tree, small, holds, inl spent))) full = inr (inr (inl spent.0))
 unsettled turns s t e (inr (n, less, cuts, inr (k, tree, small, holds, inr (inl over)))) full = inr (inr (inr (over.0, full over.0)))
-unsettled turns s t e (inr (n, less, cuts, inr (k, tree, small, holds, inr (inr memory)))) full = inr (inr (inl memory))
+unsettled turns s t e (inr (n, less, cuts, inr (k, tree, small, holds, inr (inr memory)))) full = inl memory
+
+-- if settling the book of a session fails, tasks were pending, so no question was answered since the last change
+pub unanswered : (s : Book) (settled : Bool) (e : Refusal) → (settled ≡ true → s.pending ≡ []) → s.pending ≢ [] → (e ≡ Memory) ⊎ IsUnfinished s.design e → IsUnanswered (session_of s settled) e
+unanswered s settled e none some (inl memory) = inl memory
+unanswered s true e none some (inr unfinished) = absurd (some (none refl))
+unanswered s false e none some (inr unfinished) = inr (refl, unfinished)

@@ -1,5 +1,5 @@
 -- The reply to a line, by what the line asks for.
-use Rattle.std.proofs.Common.{false, true, ◌≡◌, ℕ, ◌+◌, List, [], ◌∷◌, refl, sym, ap, subst, inl, inr, Option, Some, None, Result, Ok, Err}
+use Rattle.std.proofs.Common.{true, true≢false, ◌≡◌, ◌∙◌, ℕ, ◌+◌, List, [], ◌∷◌, refl, sym, ap, subst, inl, inr, Option, Some, None, Result, Ok, Err}
 use Rattle.std.specs.Prelude.{◌⊎◌, IfErr, IfOk, OnErr, OnOk}
 use Rattle.poly_grid.specs.declared.grid.Grid.{Grid}
 use Rattle.poly_grid.specs.declared.refusal.Refusal.{Refusal}
@@ -12,10 +12,10 @@ use Rattle.poly_text.specs.declared.command.Command.{Command}
 use Rattle.poly_text.specs.Commands.{AskedBy, Asks, CommandSays}
 use Rattle.poly_text.specs.Gives.{◌>>=◌}
 use Rattle.poly_text.specs.Replies.{ok_text, refusal_text, step_text}
-use Rattle.poly_cli.specs.Slow.{Answers, Fails, IsRefusal, Replies, Steps, WordsSay, is_status}
+use Rattle.poly_cli.specs.Slow.{Answers, AnswersFailed, AnswersOf, IsRefusal, Replies, Responds, Steps, WordsSay}
 use Rattle.poly_cli.specs.Questions.{AnswersQuestion}
 use Rattle.poly_cli.specs.Current.{IsCurrent}
-use Rattle.poly_cli.specs.States.{IsUnanswered, State, answered}
+use Rattle.poly_cli.specs.States.{IsNotAnswered, IsRefusedFor, IsUnanswered, State, answered}
 use Rattle.poly_text.specs.Words.{words_of}
 
 same_command : (r : Result Command Refusal) (c : Command) → Ok (Some c) ≡ (r >>= λ x. Ok (Some x)) → r ≡ Ok c
@@ -26,9 +26,9 @@ same_refusal : (r : Result Command Refusal) (e : Refusal) → Err e ≡ (r >>= �
 same_refusal (Ok c) e h = absurd cc
 same_refusal (Err f) e h = cc
 
--- the outcome of a command: its answer, a refusal because memory ran out, or a failure
+-- the outcome of a command: its reply, or a refusal because memory ran out
 abbrev pub IsOutcome : (Refusal → Type 0) → Command → State → List ℕ → State → Type 0
-IsOutcome Failures c s out t = Answers c s out t ⊎ IsRefusal Memory s out t ⊎ ((is_status c ≡ false) × Fails Failures s out t)
+IsOutcome Failures c s out t = Responds Failures c s out t ⊎ IsRefusal Memory s out t
 
 module _ (Failures : Refusal → Type 0) (s : State) (g : Grid) (same_grid : g ≡ s.design.grid) where
   -- if a line asks for a command, an outcome of the command is a reply to the line's words
@@ -41,9 +41,8 @@ module _ (Failures : Refusal → Type 0) (s : State) (g : Grid) (same_grid : g �
 
       go : (words : List (List ℕ)) → AskedBy g words (Ok (Some c)) → IsOutcome Failures c s out t → WordsSay Failures words s out t
       go [] a h = absurd cc
-      go (word ∷ words) a (inl h) = replied (word ∷ words) a (inl h)
-      go (word ∷ words) a (inr (inl m)) = inr m
-      go (word ∷ words) a (inr (inr f)) = replied (word ∷ words) a (inr f)
+      go (word ∷ words) a (inl h) = replied (word ∷ words) a h
+      go (word ∷ words) a (inr m) = inr m
 
   -- if a line has words, and it is refused or memory runs out, the refusal is a reply to the line's words
   pub refusal_says : (line : List ℕ) (e : Refusal) → (words_of line ≡ [] → ◌≡◌ {A = Result (Option Command) Refusal} (Err e) (Ok None)) → (e ≡ Memory) ⊎ Asks g line (Err e) → WordsSay Failures (words_of line) s (refusal_text e) s
@@ -54,44 +53,45 @@ module _ (Failures : Refusal → Type 0) (s : State) (g : Grid) (same_grid : g �
       go (word ∷ words) blank (inl m) = inr (refl, ap refusal_text m)
       go (word ∷ words) blank (inr a) = inl (a.0, subst (λ d. CommandSays d (word ∷ words) a.0) same_grid a.1, subst (λ r. Replies Failures r s (refusal_text e) s) (sym (same_refusal a.0 e a.2)) (refl, refl))
 
+-- the answer of an engine that hasn't failed is a reply to the command
+alive_says : (Failures : Refusal → Type 0) (c : Command) (s t : State) (out : List ℕ) → s.failed ≡ None → Answers Failures c s out t → Responds Failures c s out t
+alive_says Failures c s t out alive h = subst (λ f. AnswersOf Failures f c s out t) (sym alive) h
+
 -- the engine's answer to a step is an outcome of the command
-pub step_says : (Failures : Refusal → Type 0) (Leads : State → Type 0) (Refused : Refusal → Type 0) (s t : State) (r : Result ℕ Refusal) → OnOk r (Leads t) → IfOk r (λ n. n ≡ s.edition + 1) → OnErr r (t ≡ s)
-    → IfErr r (λ e. (Refused e ⊎ (e ≡ Memory)) ⊎ Failures e) → Steps Leads Refused s (step_text r) t ⊎ IsRefusal Memory s (step_text r) t ⊎ ((false ≡ false) × Fails Failures s (step_text r) t)
-step_says Failures Leads Refused s t (Ok n) leads next same why = inl (inl (leads, ap ok_text next))
-step_says Failures Leads Refused s t (Err e) leads next same (inl (inl refused)) = inl (inr (e, refused, (same, refl)))
-step_says Failures Leads Refused s t (Err e) leads next same (inl (inr m)) = inr (inl (same, ap refusal_text m))
-step_says Failures Leads Refused s t (Err e) leads next same (inr failed) = inr (inr (refl, (e, failed, (same, refl))))
+pub step_says : (Failures : Refusal → Type 0) (c : Command) (Leads : State → Type 0) (Refused : Refusal → Type 0) (s t : State) (r : Result ℕ Refusal)
+    → ((out : List ℕ) → Steps Leads Refused s out t → Answers Failures c s out t) → ((failure : Refusal) (out : List ℕ) → IsRefusal failure s out t → AnswersFailed failure c s out t)
+    → OnOk r ((s.failed ≡ None) × Leads t) → IfOk r (λ n. n ≡ s.edition + 1) → OnErr r (t ≡ s) → IfErr r (λ e. IsRefusedFor (λ cause. Refused cause ⊎ (cause ≡ Memory)) s.failed e) → IsOutcome Failures c s (step_text r) t
+step_says Failures c Leads Refused s t (Ok n) into into_failed leads next same why = inl (alive_says Failures c s t (ok_text n) leads.0 (into (ok_text n) (inl (leads.1, ap ok_text next))))
+step_says Failures c Leads Refused s t (Err e) into into_failed leads next same why = go s.failed why
+  where
+    go : (f : Option Refusal) → IsRefusedFor (λ cause. Refused cause ⊎ (cause ≡ Memory)) f e → AnswersOf Failures f c s (refusal_text e) t ⊎ IsRefusal Memory s (refusal_text e) t
+    go None (inl refused) = inl (into (refusal_text e) (inr (e, refused, (same, refl))))
+    go None (inr memory) = inr (same, ap refusal_text memory)
+    go (Some failure) is = inl (into_failed failure (refusal_text e) (same, ap refusal_text is))
 
--- the answer to a question is an outcome of the command
-pub question_says : (Failures : Refusal → Type 0) (Says : Layout → List (List Placement) → List ℕ → Type 0) (s t : State) (out : List ℕ) → AnswersQuestion Says s out t ⊎ Fails Failures s out t
-    → AnswersQuestion Says s out t ⊎ IsRefusal Memory s out t ⊎ ((false ≡ false) × Fails Failures s out t)
-question_says Failures Says s t out (inl answer) = inl answer
-question_says Failures Says s t out (inr failed) = inr (inr (refl, failed))
+module _ (Failures : Refusal → Type 0) (c : Command) (Says : Layout → List (List Placement) → List ℕ → Type 0) (s t : State)
+    (into : (out : List ℕ) → AnswersQuestion Failures Says s out t → Answers Failures c s out t) where
+  -- if the output is what the design's tilings give, the question is answered
+  pub question_answered : (all : List (List Placement)) (out : List ℕ) → (s.failed ≡ None) × (t ≡ answered s) → IsListOfTilings s.design all → Says s.design all out → Responds Failures c s out t
+  question_answered all out is list says = alive_says Failures c s t out is.0 (into out (inl (is.1, (all, list, says))))
 
--- if the output is what the design's tilings give, the question is answered
-pub question_answered : (Failures : Refusal → Type 0) (Says : Layout → List (List Placement) → List ℕ → Type 0) (s t : State) (all : List (List Placement)) (out : List ℕ) → t ≡ answered s → IsListOfTilings s.design all → Says s.design all out
-    → AnswersQuestion Says s out t ⊎ Fails Failures s out t
-question_answered Failures Says s t all out is list says = inl (inl (is, (all, list, says)))
+  -- the same if memory may run out after the engine gave the tilings
+  pub answered_or_memory : (d : Layout) (all : List (List Placement)) (out : List ℕ) → (s.failed ≡ None) × (t ≡ answered s) → d ≡ s.design → IsListOfTilings d all → Says d all out ⊎ (out ≡ refusal_text Memory) → Responds Failures c s out t
+  answered_or_memory d all out is same list (inl says) = question_answered all out is (subst (λ e. IsListOfTilings e all) same list) (subst (λ e. Says e all out) same says)
+  answered_or_memory d all out is same list (inr none) = alive_says Failures c s t out is.0 (into out (inr (inl (Memory, inl refl, inr is.1, none))))
 
--- the same if memory may run out after the engine gave the tilings
-pub answered_or_memory : (Failures : Refusal → Type 0) (Says : Layout → List (List Placement) → List ℕ → Type 0) (s t : State) (d : Layout) (all : List (List Placement)) (out : List ℕ) → t ≡ answered s → d ≡ s.design → IsListOfTilings d all →
-    Says d all out ⊎ (out ≡ refusal_text Memory) → AnswersQuestion Says s out t ⊎ Fails Failures s out t
-answered_or_memory Failures Says s t d all out is same list (inl says) = question_answered Failures Says s t all out is (subst (λ e. IsListOfTilings e all) same list) (subst (λ e. Says e all out) same says)
-answered_or_memory Failures Says s t d all out is same list (inr none) = inl (inr (Memory, inr (inr (inl refl)), inr is, none))
+  -- if the engine doesn't answer, the question is refused with the engine's refusal
+  pub question_refused : (e : Refusal) → ((failure : Refusal) (out : List ℕ) → IsRefusal failure s out t → AnswersFailed failure c s out t) → IsNotAnswered Failures s e t → Responds Failures c s (refusal_text e) t
+  question_refused e into_failed (inr fails) = alive_says Failures c s t (refusal_text e) fails.0 (into (refusal_text e) (inr (inr (e, fails, refl))))
+  question_refused e into_failed (inl (same, why)) = go s.failed why
+    where
+      go : (f : Option Refusal) → IsRefusedFor (IsUnanswered s) f e → AnswersOf Failures f c s (refusal_text e) t
+      go None unanswered = into (refusal_text e) (inr (inl (e, unanswered, inl same, refl)))
+      go (Some failure) is = into_failed failure (refusal_text e) (same, ap refusal_text is)
 
 -- a state in which a question was answered stays the same if one is answered again
 pub answered_again : (s : State) → s.settled ≡ true → s ≡ answered s
-answered_again s e = λ i. record { design = s.design; edition = s.edition; undo = s.undo; redo = s.redo; settled = e i }
-
--- if the engine refuses to settle, the question is refused with the engine's refusal
-pub question_refused : (Failures : Refusal → Type 0) (Says : Layout → List (List Placement) → List ℕ → Type 0) (s t : State) (e : Refusal) → t ≡ s → IsUnanswered s.design e ⊎ Failures e
-    → AnswersQuestion Says s (refusal_text e) t ⊎ Fails Failures s (refusal_text e) t
-question_refused Failures Says s t e same (inl why) = inl (inr (e, why, inl same, refl))
-question_refused Failures Says s t e same (inr failed) = inr (e, failed, (same, refl))
-
--- if memory runs out after the engine has settled, the question is refused
-pub refused_after_search : (Failures : Refusal → Type 0) (Says : Layout → List (List Placement) → List ℕ → Type 0) (s t : State) (e : Refusal) → t ≡ answered s → e ≡ Memory → AnswersQuestion Says s (refusal_text e) t ⊎ Fails Failures s (refusal_text e) t
-refused_after_search Failures Says s t e is memory = inl (inr (e, inr (inr (inl memory)), inr is, refl))
+answered_again s e = λ i. record { design = s.design; edition = s.edition; undo = s.undo; redo = s.redo; settled = e i; failed = s.failed }
 
 -- ---- what a session keeps
 
@@ -100,13 +100,16 @@ pub current_none : (o : Option AllTilings) (s : State) → o ≡ None → IsCurr
 current_none o s none = subst (λ z. IsCurrent z s) (sym none) tt
 
 -- the tilings with which a question was just answered are current
-pub current_new : (q : AllTilings) (s t : State) → t ≡ answered s → q.design ≡ s.design → IsCurrent (Some q) t
-current_new q s t is same = subst (IsCurrent (Some q)) (sym is) (same, refl)
+pub current_new : (q : AllTilings) (s t : State) → (s.failed ≡ None) × (t ≡ answered s) → q.design ≡ s.design → IsCurrent (Some q) t
+current_new q s t is same = subst (IsCurrent (Some q)) (sym is.1) (same, refl, is.0)
 
 -- an answer leaves the design as it is, so the kept tilings are still all tilings of it
-pub current_answered : (o : Option AllTilings) (s t : State) → t ≡ answered s → IsCurrent o s → IsCurrent o t
+pub current_answered : (o : Option AllTilings) (s t : State) → (s.failed ≡ None) × (t ≡ answered s) → IsCurrent o s → IsCurrent o t
 current_answered None s t is h = tt
 current_answered (Some q) s t is h = current_new q s t is h.0
 
-pub current_same : (o : Option AllTilings) (s t : State) → t ≡ s → IsCurrent o s → IsCurrent o t
-current_same o s t is h = subst (IsCurrent o) (sym is) h
+-- if a question isn't answered, what is kept stays current: an engine fails only while nothing is kept
+pub current_refused : (Failures : Refusal → Type 0) (o : Option AllTilings) (s t : State) (e : Refusal) → IsNotAnswered Failures s e t → IsCurrent o s → IsCurrent o t
+current_refused Failures o s t e (inl h) current = subst (IsCurrent o) (sym h.0) current
+current_refused Failures None s t e (inr fails) current = tt
+current_refused Failures (Some q) s t e (inr fails) current = absurd (true≢false (sym current.1 ∙ fails.1))

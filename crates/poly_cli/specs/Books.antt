@@ -1,5 +1,5 @@
 -- The state of a session, read from the state of its book.
-use Rattle.std.specs.Prelude.{Bool, List, length, map, reverse}
+use Rattle.std.specs.Prelude.{Bool, List, None, length, map, reverse}
 use Rattle.poly_design.specs.declared.change.Change.{Change}
 use Rattle.poly_book.specs.States.{State as Book, Way}
 use Rattle.poly_cli.specs.States.{State}
@@ -10,4 +10,4 @@ abbrev pub changes_of : List Way → List Change
 changes_of ways = reverse (map (λ w. w.change) ways)
 
 abbrev pub session_of : Book → Bool → State
-session_of b settled = record { design = b.design; edition = length b.steps; undo = changes_of b.back; redo = changes_of b.forth; settled = settled }
+session_of b settled = record { design = b.design; edition = length b.steps; undo = changes_of b.back; redo = changes_of b.forth; settled = settled; failed = None }

@@ -11,7 +11,7 @@ use Rattle.poly_browse.specs.Classes.{AreClasses}
 use Rattle.poly_text.specs.Asked.{Asked as Question}
 use Rattle.poly_text.specs.Replies.{classes_text, forced_text, item_text, matches_text, refusal_text, status_text, tiling_text, tilings_text}
 use Rattle.poly_book.specs.declared.book.Numbers.{Numbers}
-use Rattle.poly_cli.specs.States.{AreNumbers, IsUnanswered, State, answered}
+use Rattle.poly_cli.specs.States.{AreNumbers, Fails, IsUnanswered, State, answered}
 
 -- a line for each tiling, in order, and their number
 abbrev pub list_text : List (List Placement) → List ℕ
@@ -38,12 +38,13 @@ answer_text forced options count = forced_text forced ++ (flat_map (λ o. item_t
 abbrev pub BrowseSays : Question → Layout → List (List Placement) → List ℕ → Type 0
 BrowseSays q d all out = (count : ℕ) × (forced : List Placement) × (options : List (Item × ℕ)) × IsAnswer d all (asked_of q) count forced options × (out ≡ answer_text forced options count)
 
--- A question about all tilings of the design is answered or refused. Even if it is refused, the search may have finished
--- before that.
-abbrev pub AnswersQuestion : (Layout → List (List Placement) → List ℕ → Type 0) → State → List ℕ → State → Type 0
-AnswersQuestion Says s out t =
+-- A question about all tilings of the design is answered or refused, or the engine fails at it. Even if it is refused, the
+-- search may have finished before that.
+abbrev pub AnswersQuestion : (Refusal → Type 0) → (Layout → List (List Placement) → List ℕ → Type 0) → State → List ℕ → State → Type 0
+AnswersQuestion Failures Says s out t =
     ((t ≡ answered s) × ((all : List (List Placement)) × IsListOfTilings s.design all × Says s.design all out))
-    ⊎ ((e : Refusal) × IsUnanswered s.design e × ((t ≡ s) ⊎ (t ≡ answered s)) × (out ≡ refusal_text e))
+    ⊎ ((e : Refusal) × IsUnanswered s e × ((t ≡ s) ⊎ (t ≡ answered s)) × (out ≡ refusal_text e))
+    ⊎ ((e : Refusal) × Fails Failures s e t × (out ≡ refusal_text e))
 
 -- the output is a `status` line with right numbers, and nothing changes
 abbrev pub AnswersStatus : State → List ℕ → State → Type 0

@@ -1,7 +1,6 @@
 -- The slow session: the answer to each line after the puzzle line, and the next state. It knows only the definitions: no
--- engine, no placement numbers, no tables, no search. Its one parameter is the set of refusals by which an engine says that
--- it failed.
-use Rattle.std.specs.Prelude.{Bool, false, true, ◌≡◌, ◌⊎◌, ℕ, ◌+◌, List, [], ◌∷◌, Option, Some, None, Result, Ok, Err}
+-- engine, no placement numbers, no tables, no search. Its one parameter is the set of refusals with which an engine may fail.
+use Rattle.std.specs.Prelude.{◌≡◌, ◌⊎◌, ℕ, ◌+◌, List, [], ◌∷◌, Option, Some, None, Result, Ok, Err}
 use Rattle.poly_grid.specs.declared.refusal.Refusal.{Refusal}
 use Rattle.poly_grid.specs.declared.refusal.Refusal.TheVariants.{LineTooLong, Memory}
 use Rattle.poly_text.specs.declared.command.Command.{Command}
@@ -20,30 +19,35 @@ IsRefusal e s out t = (t ≡ s) × (out ≡ refusal_text e)
 abbrev pub Steps : (State → Type 0) → (Refusal → Type 0) → State → List ℕ → State → Type 0
 Steps Leads Refused s out t = (Leads t × (out ≡ ok_text (s.edition + 1))) ⊎ ((e : Refusal) × Refused e × IsRefusal e s out t)
 
+-- the reply to a command, if the engine hasn't failed before
+abbrev pub Answers : (Refusal → Type 0) → Command → State → List ℕ → State → Type 0
+Answers Failures (command.Edit edit) s out t = Steps (Edits s edit) (EditRefused s edit) s out t
+Answers Failures command.Undo s out t = Steps (Undoes s) (UndoRefused s) s out t
+Answers Failures command.Redo s out t = Steps (Redoes s) (RedoRefused s) s out t
+Answers Failures command.Status s out t = AnswersStatus s out t
+Answers Failures command.Count s out t = AnswersQuestion Failures CountSays s out t
+Answers Failures command.ListAll s out t = AnswersQuestion Failures ListSays s out t
+Answers Failures (command.Browse question) s out t = AnswersQuestion Failures (BrowseSays question) s out t
+Answers Failures command.Classes s out t = AnswersQuestion Failures ClassesSay s out t
+
+-- The reply of an engine that has failed before. It still has its numbers, for `status`. Every other command is refused with
+-- the refusal with which the engine failed.
+abbrev pub AnswersFailed : Refusal → Command → State → List ℕ → State → Type 0
+AnswersFailed failure command.Status s out t = AnswersStatus s out t
+AnswersFailed failure _ s out t = IsRefusal failure s out t
+
+-- the reply to a command of an engine that hasn't failed, or failed with a refusal
+abbrev pub AnswersOf : (Refusal → Type 0) → Option Refusal → Command → State → List ℕ → State → Type 0
+AnswersOf Failures None c s out t = Answers Failures c s out t
+AnswersOf Failures (Some failure) c s out t = AnswersFailed failure c s out t
+
 -- the reply to a command
-abbrev pub Answers : Command → State → List ℕ → State → Type 0
-Answers (command.Edit edit) s out t = Steps (Edits s edit) (EditRefused s edit) s out t
-Answers command.Undo s out t = Steps (Undoes s) (UndoRefused s) s out t
-Answers command.Redo s out t = Steps (Redoes s) (RedoRefused s) s out t
-Answers command.Status s out t = AnswersStatus s out t
-Answers command.Count s out t = AnswersQuestion CountSays s out t
-Answers command.ListAll s out t = AnswersQuestion ListSays s out t
-Answers (command.Browse question) s out t = AnswersQuestion (BrowseSays question) s out t
-Answers command.Classes s out t = AnswersQuestion ClassesSay s out t
+abbrev pub Responds : (Refusal → Type 0) → Command → State → List ℕ → State → Type 0
+Responds Failures c s out t = AnswersOf Failures s.failed c s out t
 
--- the command asks only for numbers, which even an engine that has failed still has
-abbrev pub is_status : Command → Bool
-is_status command.Status = true
-is_status _ = false
-
--- the engine has failed and says so, and nothing changes
-abbrev pub Fails : (Refusal → Type 0) → State → List ℕ → State → Type 0
-Fails Failures s out t = (e : Refusal) × Failures e × IsRefusal e s out t
-
--- The reply to a command, or the refusal of words that make no command. A failure of the engine may take the place of the
--- reply to any command but `status`.
+-- the reply to a command, or the refusal of words that make no command
 abbrev pub Replies : (Refusal → Type 0) → Result Command Refusal → State → List ℕ → State → Type 0
-Replies Failures (Ok c) s out t = Answers c s out t ⊎ ((is_status c ≡ false) × Fails Failures s out t)
+Replies Failures (Ok c) s out t = Responds Failures c s out t
 Replies Failures (Err e) s out t = IsRefusal e s out t
 
 -- The reply to the words of a line: none if there are no words. `Memory` may take the place of any reply.

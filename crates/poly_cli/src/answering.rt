@@ -3,12 +3,12 @@
 //! Putting all tilings in order takes about as long as answering a question about them, so a session keeps the tilings
 //! from one such question to the next. Before an edit, an undo or a redo it drops them, so their memory is free while the
 //! engine works.
-ghost use Rattle.std.specs.Prelude.{false, ◌≡◌, ◌⊎◌, ◌≤◌, ℕ, List, None, IfErr, IfOk, option_map, vec_capacity};
+ghost use Rattle.std.specs.Prelude.{◌≡◌, ◌⊎◌, ◌≤◌, ℕ, List, None, IfErr, IfOk, option_map, vec_capacity};
 ghost use Rattle.poly_text.specs.Replies.{refusal_text, step_text};
 ghost use Rattle.poly_cli.specs.Current.{IsCurrent};
 ghost use Rattle.poly_cli.specs.Questions.{AnswersStatus};
 ghost use Rattle.poly_cli.specs.Runs.{Writes};
-ghost use Rattle.poly_cli.specs.Slow.{Answers, Fails, IsRefusal, Slow, is_status};
+ghost use Rattle.poly_cli.specs.Slow.{IsRefusal, Responds, Slow};
 ghost use Rattle.poly_cli.specs.declared.answering.TheConstants.{MOST_PLACED};
 
 use crate::engine::Engine;
@@ -91,8 +91,7 @@ impl Answerer {
         requires kept { IsCurrent self.old.kept (E.state engine.old) }
         ensures ready { E.ready engine.new }
         ensures kept { IsCurrent self.new.kept (E.state engine.new) }
-        ensures says { (out : List ℕ) × (Answers command (E.state engine.old) out (E.state engine.new) ⊎ IsRefusal Refusal.Memory (E.state engine.old) out (E.state engine.new)
-            ⊎ ((is_status command ≡ false) × Fails E.failures (E.state engine.old) out (E.state engine.new)))
+        ensures says { (out : List ℕ) × (Responds E.failures command (E.state engine.old) out (E.state engine.new) ⊎ IsRefusal Refusal.Memory (E.state engine.old) out (E.state engine.new))
             × Writes result (W.contents writer.old) (W.contents writer.new) out }
     {
         match command {

@@ -2,11 +2,11 @@
 //!
 //! A session doesn't know how an engine searches or what the engine keeps between two questions. It knows only the engine's
 //! state, in terms of the definitions.
-ghost use Rattle.std.specs.Prelude.{◌≡◌, ◌⊎◌, ◌+◌, List, length, IfOk, IfErr, OnOk, OnErr};
+ghost use Rattle.std.specs.Prelude.{◌≡◌, ◌⊎◌, ◌+◌, List, None, length, IfOk, IfErr, OnOk, OnErr};
 ghost use Rattle.poly_grid.specs.declared.refusal.Refusal.{Refusal as Cause};
 ghost use Rattle.poly_design.specs.declared.placement.Placement.{Placement as Placed};
 ghost use Rattle.poly_tiling.specs.Listings.{IsListOfTilings};
-ghost use Rattle.poly_cli.specs.States.{State, AreNumbers, EditRefused, IsUnanswered, Edits, RedoRefused, Redoes, UndoRefused, Undoes, answered, opened};
+ghost use Rattle.poly_cli.specs.States.{State, AreNumbers, EditRefused, Edits, IsNotAnswered, IsRefusedFor, RedoRefused, Redoes, UndoRefused, Undoes, answered, opened};
 
 use poly_book::{Numbers, Quiet};
 use poly_design::{Design, Edit};
@@ -14,25 +14,25 @@ use poly_grid::Refusal;
 
 /// A design that is edited, and all its tilings.
 pub trait Engine {
-    /// The design with its edition, its steps to undo and redo, and whether a question about all tilings was answered since
-    /// the last change. How these are kept is up to the engine.
+    /// The design with its edition, its steps to undo and redo, whether a question about all tilings was answered since the
+    /// last change, and the refusal with which the engine failed, if it did. How these are kept is up to the engine.
     ghost state: { Self → State };
 
     /// Holds before and after each call.
     ghost ready: { Self → Type 0 } = { λ _. Unit {0} };
 
-    /// The refusals with which a failed engine may answer any call but `begin` and `numbers`. A call that is answered so
-    /// changes nothing.
+    /// The refusals with which the engine may fail at a question about all tilings. It may stay failed: then it answers that
+    /// question and each later call but `numbers` with the same refusal, `begin` included, and nothing changes any more.
     ghost failures: { Cause → Type 0 } = { λ _. ⊥ };
 
-    /// Begins anew with the design, at edition 0 and without steps, even after a failure. Fails only with `Memory`, and
+    /// Begins anew with the design, at edition 0 and without steps. Fails with `Memory`, or as the engine failed before, and
     /// then leaves the engine as it was.
     fn begin(&mut self, design: Design) -> Result<(), Refusal>
         requires ready { ready self.old }
         ensures ready { ready self.new }
-        ensures ok { OnOk result (state self.new ≡ opened design) }
+        ensures ok { OnOk result (((state self.old).failed ≡ None) × (state self.new ≡ opened design)) }
         ensures err { OnErr result (state self.new ≡ state self.old) }
-        ensures why { IfErr result (λ e. e ≡ Refusal.Memory) };
+        ensures why { IfErr result (λ e. IsRefusedFor (λ cause. cause ≡ Refusal.Memory) (state self.old).failed e) };
 
     /// Makes the edit, and returns the edition after it.
     ///
@@ -42,10 +42,10 @@ pub trait Engine {
     fn edit(&mut self, edit: Edit) -> Result<u64, Refusal>
         requires ready { ready self.old }
         ensures ready { ready self.new }
-        ensures ok { OnOk result (Edits (state self.old) edit (state self.new)) }
+        ensures ok { OnOk result (((state self.old).failed ≡ None) × Edits (state self.old) edit (state self.new)) }
         ensures next { IfOk result (λ n. n ≡ (state self.old).edition + 1) }
         ensures err { OnErr result (state self.new ≡ state self.old) }
-        ensures why { IfErr result (λ e. (EditRefused (state self.old) edit e ⊎ (e ≡ Refusal.Memory)) ⊎ failures e) };
+        ensures why { IfErr result (λ e. IsRefusedFor (λ cause. EditRefused (state self.old) edit cause ⊎ (cause ≡ Refusal.Memory)) (state self.old).failed e) };
 
     /// Undoes the last change that can be undone, and returns the edition after that.
     ///
@@ -55,10 +55,10 @@ pub trait Engine {
     fn undo(&mut self) -> Result<u64, Refusal>
         requires ready { ready self.old }
         ensures ready { ready self.new }
-        ensures ok { OnOk result (Undoes (state self.old) (state self.new)) }
+        ensures ok { OnOk result (((state self.old).failed ≡ None) × Undoes (state self.old) (state self.new)) }
         ensures next { IfOk result (λ n. n ≡ (state self.old).edition + 1) }
         ensures err { OnErr result (state self.new ≡ state self.old) }
-        ensures why { IfErr result (λ e. (UndoRefused (state self.old) e ⊎ (e ≡ Refusal.Memory)) ⊎ failures e) };
+        ensures why { IfErr result (λ e. IsRefusedFor (λ cause. UndoRefused (state self.old) cause ⊎ (cause ≡ Refusal.Memory)) (state self.old).failed e) };
 
     /// Redoes the change that was undone last, and returns the edition after that.
     ///
@@ -68,31 +68,35 @@ pub trait Engine {
     fn redo(&mut self) -> Result<u64, Refusal>
         requires ready { ready self.old }
         ensures ready { ready self.new }
-        ensures ok { OnOk result (Redoes (state self.old) (state self.new)) }
+        ensures ok { OnOk result (((state self.old).failed ≡ None) × Redoes (state self.old) (state self.new)) }
         ensures next { IfOk result (λ n. n ≡ (state self.old).edition + 1) }
         ensures err { OnErr result (state self.new ≡ state self.old) }
-        ensures why { IfErr result (λ e. (RedoRefused (state self.old) e ⊎ (e ≡ Refusal.Memory)) ⊎ failures e) };
+        ensures why { IfErr result (λ e. IsRefusedFor (λ cause. RedoRefused (state self.old) cause ⊎ (cause ≡ Refusal.Memory)) (state self.old).failed e) };
 
     /// Returns all tilings of the design, each once, in the order of tilings.
     ///
-    /// Fails with `Unfinished` if the turns are used up, with `Spent` if a counter is used up, with `CatalogueFull` only if
-    /// there are over 1,000,000 tilings, and with `Memory`. A failed engine may answer with one of its `failures` instead.
+    /// May fail with `Memory`. If no question about all tilings was answered since the last change, it may also fail with
+    /// `Unfinished` if the turns are used up, with `Spent` if a counter is used up, with `CatalogueFull` only if there are over
+    /// 1,000,000 tilings, or with one of the engine's `failures`.
     fn settle(&mut self) -> Result<Quiet, Refusal>
         requires ready { ready self.old }
         ensures ready { ready self.new }
-        ensures ok { OnOk result (state self.new ≡ answered (state self.old)) }
+        ensures ok { OnOk result (((state self.old).failed ≡ None) × (state self.new ≡ answered (state self.old))) }
         ensures design { IfOk result (λ quiet. quiet.design ≡ (state self.old).design) }
-        ensures err { OnErr result (state self.new ≡ state self.old) }
-        ensures why { IfErr result (λ e. IsUnanswered (state self.old).design e ⊎ failures e) };
+        ensures edition { IfOk result (λ quiet. quiet.edition ≡ (state self.old).edition) }
+        ensures err { IfErr result (λ e. IsNotAnswered failures (state self.old) e (state self.new)) };
 
-    /// Returns the number of all tilings of the design, without copying any. Fails as `settle` does.
+    /// Returns the number of all tilings of the design. Fails as `settle` does.
     fn count(&mut self) -> Result<u64, Refusal>
         requires ready { ready self.old }
         ensures ready { ready self.new }
-        ensures ok { OnOk result (state self.new ≡ answered (state self.old)) }
+        ensures ok { OnOk result (((state self.old).failed ≡ None) × (state self.new ≡ answered (state self.old))) }
         ensures count { IfOk result (λ n. (all : List (List Placed)) × IsListOfTilings (state self.old).design all × (n ≡ length all)) }
-        ensures err { OnErr result (state self.new ≡ state self.old) }
-        ensures why { IfErr result (λ e. IsUnanswered (state self.old).design e ⊎ failures e) };
+        ensures err { IfErr result (λ e. IsNotAnswered failures (state self.old) e (state self.new)) }
+    {
+        let quiet = self.settle()?;
+        Ok(quiet.tilings().len() as u64)
+    }
 
     /// Returns the edition, and how many tilings are listed and how many tasks are pending at the moment. Settles nothing and
     /// takes no memory.

@@ -1,7 +1,7 @@
 //! What a team keeps between two commands.
 ghost use Rattle.std.specs.Prelude.{◌≡◌, true};
 ghost use Rattle.poly_desk.specs.Seen.{is_unsettled};
-ghost use Rattle.poly_cli.specs.States.{AreNumbers};
+ghost use Rattle.poly_cli.specs.States.{AreNumbers, after_failure};
 
 use crate::solo::Solo;
 use poly_book::Numbers;
@@ -27,6 +27,6 @@ pub(crate) struct LostBook {
     pub(crate) numbers: Numbers,
     /// Why the book counts as lost: an `Unsettled`.
     pub(crate) why: Refusal,
-    ghost numbers_are: { AreNumbers was.value numbers },
+    ghost numbers_are: { AreNumbers (after_failure was.value why) numbers },
     ghost failed: { is_unsettled why ≡ true },
 }

@@ -8,10 +8,10 @@ ghost use Rattle.poly_browse.specs.Browsing.{IsAnswer};
 ghost use Rattle.poly_grid.specs.declared.refusal.Refusal.TheVariants.{Memory};
 ghost use Rattle.poly_text.specs.Replies.{covered, refusal_text};
 ghost use Rattle.poly_cli.specs.Current.{IsCurrent};
-ghost use Rattle.poly_cli.specs.Questions.{AnswersQuestion, BrowseSays, ClassesSay, CountSays, ListSays, asked_of, list_text};
+ghost use Rattle.poly_cli.specs.Questions.{BrowseSays, ClassesSay, asked_of, list_text};
 ghost use Rattle.poly_cli.specs.Runs.{Writes};
-ghost use Rattle.poly_cli.specs.Slow.{Fails};
-ghost use Rattle.poly_cli.specs.States.{IsUnanswered, answered};
+ghost use Rattle.poly_cli.specs.Slow.{Responds};
+ghost use Rattle.poly_cli.specs.States.{IsNotAnswered, answered};
 
 use crate::answering::{Answerer, refuse};
 use crate::engine::Engine;
@@ -20,7 +20,7 @@ use poly_book::Quiet;
 use poly_browse::laws::answers_go_by_sets;
 use poly_browse::{Answer, Query, browse, classes_of};
 use poly_grid::Refusal;
-use poly_text::Question;
+use poly_text::{Command, Question};
 use poly_tiling::{listings_show, numbers_show};
 use std::alloc::Global;
 use std::io::Write;
@@ -36,7 +36,7 @@ impl Answerer {
         requires kept { IsCurrent self.old.kept (E.state engine.old) }
         ensures ready { E.ready engine.new }
         ensures kept { IsCurrent self.new.kept (E.state engine.new) }
-        ensures says { (out : List ℕ) × (AnswersQuestion CountSays (E.state engine.old) out (E.state engine.new) ⊎ Fails E.failures (E.state engine.old) out (E.state engine.new)) × Writes result (W.contents writer.old) (W.contents writer.new) out }
+        ensures says { (out : List ℕ) × Responds E.failures Command.Count (E.state engine.old) out (E.state engine.new) × Writes result (W.contents writer.old) (W.contents writer.new) out }
     {
         match engine.count() {
             Ok(count) => {
@@ -57,7 +57,7 @@ impl Answerer {
         requires kept { IsCurrent self.old.kept (E.state engine.old) }
         ensures ready { E.ready engine.new }
         ensures kept { IsCurrent self.new.kept (E.state engine.new) }
-        ensures says { (out : List ℕ) × (AnswersQuestion ListSays (E.state engine.old) out (E.state engine.new) ⊎ Fails E.failures (E.state engine.old) out (E.state engine.new)) × Writes result (W.contents writer.old) (W.contents writer.new) out }
+        ensures says { (out : List ℕ) × Responds E.failures Command.ListAll (E.state engine.old) out (E.state engine.new) × Writes result (W.contents writer.old) (W.contents writer.new) out }
     {
         match self.all_tilings(engine) {
             Ok(quiet) => {
@@ -81,7 +81,7 @@ impl Answerer {
         requires kept { IsCurrent self.old.kept (E.state engine.old) }
         ensures ready { E.ready engine.new }
         ensures kept { IsCurrent self.new.kept (E.state engine.new) }
-        ensures says { (out : List ℕ) × (AnswersQuestion (BrowseSays question) (E.state engine.old) out (E.state engine.new) ⊎ Fails E.failures (E.state engine.old) out (E.state engine.new)) × Writes result (W.contents writer.old) (W.contents writer.new) out }
+        ensures says { (out : List ℕ) × Responds E.failures (Command.Browse question) (E.state engine.old) out (E.state engine.new) × Writes result (W.contents writer.old) (W.contents writer.new) out }
     {
         match self.all_tilings(engine) {
             Ok(quiet) => {
@@ -103,7 +103,7 @@ impl Answerer {
         requires kept { IsCurrent self.old.kept (E.state engine.old) }
         ensures ready { E.ready engine.new }
         ensures kept { IsCurrent self.new.kept (E.state engine.new) }
-        ensures says { (out : List ℕ) × (AnswersQuestion ClassesSay (E.state engine.old) out (E.state engine.new) ⊎ Fails E.failures (E.state engine.old) out (E.state engine.new)) × Writes result (W.contents writer.old) (W.contents writer.new) out }
+        ensures says { (out : List ℕ) × Responds E.failures Command.Classes (E.state engine.old) out (E.state engine.new) × Writes result (W.contents writer.old) (W.contents writer.new) out }
     {
         match self.all_tilings(engine) {
             Ok(quiet) => {
@@ -121,10 +121,9 @@ impl Answerer {
         requires kept { IsCurrent self.old.kept (E.state engine.old) }
         ensures ready { E.ready engine.new }
         ensures none { self.new.kept ≡ None }
-        ensures ok { OnOk result (E.state engine.new ≡ answered (E.state engine.old)) }
+        ensures ok { OnOk result (((E.state engine.old).failed ≡ None) × (E.state engine.new ≡ answered (E.state engine.old))) }
         ensures design { IfOk result (λ quiet. quiet.design ≡ (E.state engine.old).design) }
-        ensures err { OnErr result (E.state engine.new ≡ E.state engine.old) }
-        ensures why { IfErr result (λ e. IsUnanswered (E.state engine.old).design e ⊎ E.failures e) }
+        ensures err { IfErr result (λ e. IsNotAnswered E.failures (E.state engine.old) e (E.state engine.new)) }
     {
         match self.kept.take() {
             Some(quiet) => Ok(quiet),

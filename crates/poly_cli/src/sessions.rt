@@ -23,16 +23,17 @@ pub const LINE_COUNT: u64 = 1_000_000;
 pub enum End {
     /// The input ended.
     Done,
-    /// The puzzle line was refused, or memory ran out before it was read. Nothing after it was answered.
+    /// The puzzle line was refused, or memory ran out before a byte was read. Nothing after it was answered.
     Refused,
 }
 
 /// Runs a whole session: the first line gives the design with which the engine begins, and each later line is answered with
 /// the engine. Each answer is written whole and flushed before the next line is read.
 ///
-/// Returns `Done` at the end of the input, and `Refused` if the puzzle line is refused or memory runs out before it is
-/// read. Fails with `Read` if a read fails or the input goes over `INPUT_LIMIT` or `LINE_COUNT`, and with `Write` if a
-/// write or a flush fails; lines read whole before a read fault are answered.
+/// Returns `Done` at the end of the input, and `Refused` if the puzzle line is refused or memory runs out before a byte is
+/// read. An engine that has failed before refuses every puzzle line that gives a design. Fails with `Read` if a read fails or
+/// the input goes over `INPUT_LIMIT` or `LINE_COUNT`, and with `Write` if a write or a flush fails; lines read whole before a
+/// read fault are answered.
 pub fn session<R: Read, W: Write, E: Engine>(
     alloc: Global,
     reader: &mut R,
@@ -42,7 +43,7 @@ pub fn session<R: Read, W: Write, E: Engine>(
     requires { E.ready engine.old }
     ensures ready { E.ready engine.new }
     ensures run { (taken : List ℕ) × Consumes (R.remaining reader.old) (R.remaining reader.new) taken
-        × SessionSays E.failures session_limits taken result (R.remaining reader.new) (W.contents writer.old) (W.contents writer.new) }
+        × SessionSays E.failures (E.state engine.old).failed session_limits taken result (R.remaining reader.new) (W.contents writer.old) (W.contents writer.new) }
 {
     match buffers(alloc) {
         Ok((mut lines, mut answerer)) => {
@@ -92,7 +93,7 @@ fn run<R: Read, W: Write, E: Engine>(
     requires ready { E.ready engine.old }
     ensures ready { E.ready engine.new }
     ensures run { (taken : List ℕ) × Consumes (R.remaining reader.old) (R.remaining reader.new) taken
-        × SessionSays E.failures (limits_from most lines.old) taken result
+        × SessionSays E.failures (E.state engine.old).failed (limits_from most lines.old) taken result
         (R.remaining reader.new) (W.contents writer.old) (W.contents writer.new) }
 {
     match lines.next_line(reader) {
@@ -124,7 +125,7 @@ fn run<R: Read, W: Write, E: Engine>(
 fn open<E: Engine>(alloc: Global, line: Option<&[u8]>, engine: &mut E) -> Result<Grid, Refusal>
     requires { E.ready engine.old }
     ensures ready { E.ready engine.new }
-    ensures opens { Opens (option_map (λ l. l.now) line.entry) result (E.state engine.new) }
+    ensures opens { Opens (E.state engine.old).failed (option_map (λ l. l.now) line.entry) result (E.state engine.new) }
 {
     let Some(text) = line else {
         return Err(Refusal::LineTooLong);

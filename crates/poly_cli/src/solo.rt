@@ -1,7 +1,7 @@
 //! An engine that works alone: it keeps a book, and settles it on the spot whenever all tilings are asked for.
-ghost use Rattle.std.specs.Prelude.{◌≡◌, ◌≢◌, [], IfErr, IfOk, IsTrue, OnErr, OnOk, false, true};
+ghost use Rattle.std.specs.Prelude.{◌≡◌, ◌≢◌, ◌⊎◌, [], IfErr, IfOk, IsTrue, None, OnErr, OnOk, false, true};
 ghost use Rattle.poly_cli.specs.Books.{session_of};
-ghost use Rattle.poly_cli.specs.States.{IsUnanswered, opened};
+ghost use Rattle.poly_cli.specs.States.{IsUnfinished, opened};
 
 use crate::engine::Engine;
 use poly_book::{Book, Numbers, Quiet};
@@ -80,7 +80,8 @@ impl Solo {
 
     /// Whether tasks are pending.
     pub(crate) fn is_pending(&self) -> bool
-        ensures { IsTrue result → self.now.settled ≡ false }
+        ensures unsettled { IsTrue result → self.now.settled ≡ false }
+        ensures alive { self.now.failed ≡ None }
     {
         self.book.numbers().pending > 0
     }
@@ -145,7 +146,7 @@ fn settle_book(book: &mut Book, turns: u64) -> Result<(), Refusal>
     ensures same { session_of book.new false ≡ session_of book.old false }
     ensures none { OnOk result (book.new.pending ≡ []) }
     ensures some { OnErr result (book.old.pending ≢ []) }
-    ensures why { IfErr result (IsUnanswered book.old.design) }
+    ensures why { IfErr result (λ e. (e ≡ Refusal.Memory) ⊎ IsUnfinished book.old.design e) }
 {
     if book.numbers().pending == 0 {
         return Ok(());

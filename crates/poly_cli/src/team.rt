@@ -2,14 +2,13 @@
 //!
 //! Between two commands the team keeps a book, as `Solo` does. If tasks are pending when all tilings are asked for, the book
 //! goes to a desk, the crew works there, and the book comes back. If the desk can't be settled up, the book is lost, and the
-//! team has failed until it begins anew.
-ghost use Rattle.std.specs.Prelude.{◌≡◌, ◌≤◌, ◌⊎◌, [], IfErr, IfOk, false, true};
+//! team has failed for good.
+ghost use Rattle.std.specs.Prelude.{◌≡◌, ◌≤◌, ◌⊎◌, [], IfErr, IfOk, None, OnOk, false, true};
 ghost use Rattle.std.specs.Thread.{IsSync};
-ghost use Rattle.poly_design.specs.Layout.{Layout};
 ghost use Rattle.poly_crew.specs.declared.crewing.TheConstants.{MOST_TURNS, MOST_WORKERS};
 ghost use Rattle.poly_desk.specs.Seen.{is_unsettled};
-ghost use Rattle.poly_cli.specs.States.{IsUnanswered, opened};
-ghost use Rattle.poly_cli.specs.Teams.{state_of};
+ghost use Rattle.poly_cli.specs.States.{IsNotAnswered, IsUnanswered, State, opened};
+ghost use Rattle.poly_cli.specs.Teams.{state_of, stops};
 
 use crate::engine::Engine;
 use crate::kept::{Kept, LostBook};
@@ -66,9 +65,10 @@ impl<'a, R: Threads + Wait + Sync> Engine for Team<'a, R> {
     ghost failures = { λ e. is_unsettled e ≡ true };
 
     fn begin(&mut self, design: Design) -> Result<(), Refusal> {
-        let solo = Solo::on(self.alloc, self.crewing.turns, design)?;
-        self.kept = Kept::Whole(solo);
-        Ok(())
+        match &mut self.kept {
+            Kept::Whole(solo) => solo.begin(design),
+            Kept::Lost(lost) => Err(lost.why),
+        }
     }
 
     fn edit(&mut self, edit: Edit) -> Result<u64, Refusal> {
@@ -125,8 +125,8 @@ fn crew_on<R: Threads + Wait + Sync>(
     crewing: &Crewing,
     kept: &mut Kept,
 ) -> Result<(), Refusal>
-    ensures same { state_of kept.new ≡ state_of kept.old }
-    ensures why { IfErr result (λ e. (d : Layout) → IsUnanswered d e ⊎ (is_unsettled e ≡ true)) }
+    ensures ok { OnOk result (state_of kept.new ≡ state_of kept.old) }
+    ensures err { IfErr result (λ e. IsNotAnswered (λ f. is_unsettled f ≡ true) (state_of kept.old) e (state_of kept.new)) }
 {
     let lost = match &*kept {
         Kept::Whole(solo) => {
@@ -154,9 +154,10 @@ fn work_with<R: Threads + Wait + Sync>(
     crewing: &Crewing,
     solo: Solo,
 ) -> (Kept, Result<(), Refusal>)
-    requires { solo.settled ≡ false }
-    ensures same { state_of result.0 ≡ solo }
-    ensures why { IfErr result.1 (λ e. (d : Layout) → IsUnanswered d e ⊎ (is_unsettled e ≡ true)) }
+    requires unsettled { solo.settled ≡ false }
+    requires alive { solo.failed ≡ None }
+    ensures ok { OnOk result.1 (state_of result.0 ≡ solo) }
+    ensures err { IfErr result.1 (λ e. IsNotAnswered (λ f. is_unsettled f ≡ true) solo e (state_of result.0)) }
 {
     let was = Snapshot::of(&solo);
     let numbers = solo.numbers();
@@ -188,7 +189,8 @@ fn lost_book_of(solo: &Solo) -> LostBook
 // How the crew ended, if a question may be refused for that reason whatever the design is. After any other end, for example
 // with `CatalogueFull`, returns `Ok`: the book is then settled alone.
 fn stopped_by(end: Result<(), Refusal>) -> Result<(), Refusal>
-    ensures { IfErr result (λ e. (d : Layout) → IsUnanswered d e ⊎ (is_unsettled e ≡ true)) }
+    ensures why { IfErr result (λ e. (s : State) → s.settled ≡ false → IsUnanswered s e ⊎ (is_unsettled e ≡ true)) }
+    ensures stops { IfErr end (λ e. stops e ≡ true → result ≡ end) }
 {
     match end {
         Err(Refusal::Unfinished | Refusal::Memory | Refusal::Spent | Refusal::Unsettled { .. }) =>

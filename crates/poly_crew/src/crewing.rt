@@ -2,7 +2,7 @@
 ghost use Rattle.std.specs.Prelude.{◌≡◌, ◌≤◌, ◌<◌, ◌*◌, ℕ, length, map, slice_index_or, sum_by, vec_len};
 ghost use Rattle.std.specs.List.{AllZip};
 ghost use Rattle.poly_crew.specs.Counts.{added};
-ghost use Rattle.poly_crew.specs.Worked.{IsWorked};
+ghost use Rattle.poly_crew.specs.Worked.{HasRun, Leaves};
 ghost use Rattle.poly_report.specs.declared.size.TheConstants.{NODES};
 
 use crate::gate::Gate;
@@ -25,7 +25,10 @@ pub const MOST_TURNS: u64 = 1_000_000_000;
 /// Runs a worker for each pass, each in a thread of its own. A worker takes tasks of the bench, searches them and hands the
 /// results in, until no task is left to take, it has used up its `turns` turns, or a refusal ends it. A turn whose hint names
 /// a task that has ended, or whose report is refused with `Gone`, counts but doesn't end the worker. If memory for the workers
-/// runs out before they begin, none of them runs.
+/// runs out before they begin, none of them runs, and there are no lists of receipts. Otherwise there is a list for each pass.
+///
+/// The crew ends with `Ok` only if the bench answered each worker that no task is pending, and otherwise as the first worker,
+/// in the order of the passes, that ended in another way.
 ///
 /// A worker first tries the tasks that its own reports opened, as a rule those of the latest report before others; then a task
 /// that another worker's report opened; then any task. Each tree has at most `nodes` nodes that aren't Rest.
@@ -51,6 +54,7 @@ where
     ensures cuts { map B.cuts result.passes.items ≡ added (map B.cuts passes.items) (map (λ rs. vec_len rs) result.receipts.items) }
     ensures applied { result.applied ≡ sum_by (λ rs. vec_len rs) result.receipts.items }
     ensures few { result.applied ≤ length passes.items * turns }
+    ensures leaves { Leaves B.gave B.found_none B.refused passes.items result.passes.items result.receipts.items result.end }
 {
     let room = match room_for(alloc, passes.len()) {
         Ok(room) => room,
@@ -99,7 +103,7 @@ where
     B::Pass: Send,
     requires some { 1 ≤ length workers.old.items }
     requires few { length workers.old.items ≤ MOST_WORKERS }
-    ensures { AllZip (IsWorked B.changes B.cuts work.now.turns) workers.old.items workers.new.items }
+    ensures { AllZip (HasRun B.changes B.cuts B.gave B.found_none B.refused work.now.turns) workers.old.items workers.new.items }
 {
     run_each(rt, work, workers.as_mut_slice());
 }
@@ -114,7 +118,7 @@ where
     requires some { 1 ≤ length workers.old }
     requires few { length workers.old ≤ MOST_WORKERS }
     ensures count { length workers.new ≡ length workers.old }
-    ensures each { (k : ℕ) (d : _) → k < length workers.old → IsWorked B.changes B.cuts work.now.turns (slice_index_or workers.old k d) (slice_index_or workers.new k d) }
+    ensures each { (k : ℕ) (d : _) → k < length workers.old → HasRun B.changes B.cuts B.gave B.found_none B.refused work.now.turns (slice_index_or workers.old k d) (slice_index_or workers.new k d) }
 {
     let count = workers.len();
     thread::for_each_mut(
@@ -123,7 +127,7 @@ where
         count,
         &|i, worker|
             requires { i < 4294967296 }
-            ensures { IsWorked B.changes B.cuts work.entry.now.turns worker.entry.now worker.exit.now }
+            ensures { HasRun B.changes B.cuts B.gave B.found_none B.refused work.entry.now.turns worker.entry.now worker.exit.now }
         { run(rt, work, i as u32, worker) },
     );
 }

@@ -1,5 +1,6 @@
 //! What a crew allocates before its workers begin, and how the passes go to the workers and come back.
 ghost use Rattle.std.specs.Prelude.{◌≡◌, ◌≤◌, [], All, IfErr, IfOk, length, map, sum_by, vec_capacity, vec_len};
+ghost use Rattle.poly_crew.specs.Worked.{first_of};
 ghost use Rattle.poly_crew.specs.declared.crewing.TheConstants.{MOST_TURNS, MOST_WORKERS};
 ghost use Rattle.poly_grid.specs.declared.refusal.Refusal.TheVariants.{Memory};
 
@@ -81,7 +82,9 @@ pub(crate) fn applied_by<P: Drop>(workers: &[Worker<P>]) -> u64
 
 /// Succeeds if each worker ended because no task was left to take. Otherwise fails with the `end` of the first worker that
 /// ended in another way.
-pub(crate) fn first_refusal<P: Drop>(workers: &[Worker<P>]) -> Result<(), Refusal> {
+pub(crate) fn first_refusal<P: Drop>(workers: &[Worker<P>]) -> Result<(), Refusal>
+    ensures { result ≡ first_of (map (λ w. w.end) workers.now) }
+{
     for worker in workers {
         worker.end?;
     }

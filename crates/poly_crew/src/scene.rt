@@ -1,5 +1,5 @@
 //! The design that a worker explored last. Its cover matrix serves all tasks of that design.
-ghost use Rattle.std.specs.Prelude.{◌≡◌, ◌≤◌, IfOk, IfSome};
+ghost use Rattle.std.specs.Prelude.{◌≡◌, ◌≤◌, IfErr, IfOk, IfSome};
 ghost use Rattle.std.specs.Arc.{arc_value};
 ghost use Rattle.poly_frame.specs.Matrices.{IsWhole};
 ghost use Rattle.poly_report.specs.declared.size.TheConstants.{NODES};
@@ -29,6 +29,7 @@ impl Scene {
     fn of(alloc: Global, job: &Job) -> Result<Scene, Refusal>
         ensures edition { IfOk result (λ s. s.edition ≡ job.now.edition) }
         ensures view { IfOk result (λ s. arc_value s.view ≡ arc_value job.now.view) }
+        ensures why { IfErr result (λ e. e ≡ Refusal.Memory) }
     {
         let view = Arc::try_clone(&job.view)?;
         let matrix = Matrix::new(alloc, &view)?;
@@ -45,6 +46,7 @@ impl Scene {
         requires few { nodes ≤ NODES }
         ensures edition { IfOk result (λ f. f.report.edition ≡ job.edition) }
         ensures view { IfOk result (λ f. arc_value f.view ≡ arc_value self.now.view) }
+        ensures why { IfErr result (λ e. e ≡ Refusal.Memory) }
     {
         let view = Arc::try_clone(&self.view)?;
         let found = Found::explore(alloc, view, &self.matrix, job, nodes)?;
@@ -69,6 +71,7 @@ pub(crate) fn explore_job<B: Bench>(
     requires few { nodes ≤ NODES }
     ensures kept { IfSome kept.new (λ s. B.is_view_at s.edition (arc_value s.view)) }
     ensures searched { IfOk result (λ f. B.is_view_at f.report.edition (arc_value f.view)) }
+    ensures why { IfErr result (λ e. e ≡ Refusal.Memory) }
 {
     let scene = scene_of::<B>(alloc, kept.take(), &job)?;
     let found = scene.explore(alloc, job, nodes);
@@ -76,12 +79,13 @@ pub(crate) fn explore_job<B: Bench>(
     found
 }
 
-// The kept scene if it has the job's edition, or else a new one.
+// The kept scene if it has the job's edition, or else a new one. Fails only when out of memory.
 fn scene_of<B: Bench>(alloc: Global, kept: Option<Scene>, job: &Job) -> Result<Scene, Refusal>
     requires kept { IfSome kept (λ s. B.is_view_at s.edition (arc_value s.view)) }
     requires job { B.is_view_at job.now.edition (arc_value job.now.view) }
     ensures edition { IfOk result (λ s. s.edition ≡ job.now.edition) }
     ensures view { IfOk result (λ s. B.is_view_at s.edition (arc_value s.view)) }
+    ensures why { IfErr result (λ e. e ≡ Refusal.Memory) }
 {
     if let Some(scene) = kept {
         if scene.edition == job.edition {

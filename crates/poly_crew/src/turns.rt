@@ -1,7 +1,7 @@
 //! The turns of a worker: it takes tasks, searches them and hands the results in.
-ghost use Rattle.std.specs.Prelude.{◌≤◌, IfSome};
+ghost use Rattle.std.specs.Prelude.{◌≡◌, ◌≤◌, ◌⊎◌, IfErr, IfOk, IfSome, false};
 ghost use Rattle.std.specs.Arc.{arc_value};
-ghost use Rattle.poly_crew.specs.Worked.{IsWorked};
+ghost use Rattle.poly_crew.specs.Worked.{HasRun, IsWorked};
 ghost use Rattle.poly_report.specs.declared.size.TheConstants.{NODES};
 
 use crate::gate::Gate;
@@ -38,9 +38,8 @@ pub(crate) fn run<R: Wait, B: Bench, G: Gate>(
     number: u32,
     worker: &mut Worker<B::Pass>,
 )
-    ensures { IsWorked B.changes B.cuts work.now.turns worker.old worker.new }
+    ensures { HasRun B.changes B.cuts B.gave B.found_none B.refused work.now.turns worker.old worker.new }
 {
-    worker.end = Err(Refusal::Unfinished);
     let mut scene: Option<Scene> = None;
     for turn in 0..work.turns {
         match take_turn(rt, work, number, turn, &mut scene, worker) {
@@ -55,6 +54,7 @@ pub(crate) fn run<R: Wait, B: Bench, G: Gate>(
             }
         }
     }
+    worker.end = Err(Refusal::Unfinished);
 }
 
 // One turn: takes a task, searches it and hands the result in. Returns `false` if no task is left to take. If the hinted task
@@ -69,11 +69,16 @@ fn take_turn<R: Wait, B: Bench, G: Gate>(
 ) -> Result<bool, Refusal>
     requires scene { IfSome scene.old (λ s. B.is_view_at s.edition (arc_value s.view)) }
     ensures scene { IfSome scene.new (λ s. B.is_view_at s.edition (arc_value s.view)) }
-    ensures worked { IsWorked B.changes B.cuts 1 worker.old worker.new }
+    ensures worked { IsWorked B.changes B.cuts B.gave 1 worker.old worker.new }
+    ensures none { IfOk result (λ more. more ≡ false → B.found_none worker.new.pass) }
+    ensures why { IfErr result (λ e. (e ≡ Refusal.Memory) ⊎ B.refused worker.new.pass e) }
 {
     let which = worker.hints.next();
     let Some(job) = work.bench.take(rt, &mut worker.pass, which)? else {
-        return Ok(which != Which::Any);
+        return match which {
+            Which::Any => Ok(false),
+            Which::Task(_) => Ok(true),
+        };
     };
     work.gate.enter(number, turn);
     let found = explore_job::<B>(work.alloc, scene, job, work.nodes);
@@ -91,7 +96,8 @@ fn hand_in<R: Wait, B: Bench>(
     found: Found,
 ) -> Result<(), Refusal>
     requires searched { B.is_view_at found.report.edition (arc_value found.view) }
-    ensures { IsWorked B.changes B.cuts 1 worker.old worker.new }
+    ensures worked { IsWorked B.changes B.cuts B.gave 1 worker.old worker.new }
+    ensures why { IfErr result (λ e. (e ≡ Refusal.Memory) ⊎ B.refused worker.new.pass e) }
 {
     worker.receipts.reserve(1)?;
     match bench.hand_in_found(rt, &mut worker.pass, found) {

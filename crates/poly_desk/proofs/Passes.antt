@@ -3,7 +3,7 @@ use Rattle.std.proofs.Common.{Bool, List, None, Option, Some, [], ap, arith, fal
 use Rattle.std.specs.Arc.{arc_value}
 use Rattle.std.specs.Prelude.{IfSome, MatchOption}
 use Rattle.poly_grid.specs.declared.refusal.Refusal.{Refusal}
-use Rattle.poly_grid.specs.declared.refusal.Refusal.TheVariants.{Busy, Memory, Spent}
+use Rattle.poly_grid.specs.declared.refusal.Refusal.TheVariants.{Busy, Memory, Spent, Unsettled}
 use Rattle.poly_design.specs.Edits.{IsAccepted}
 use Rattle.poly_design.specs.declared.change.Change.{Change}
 use Rattle.poly_design.specs.declared.edit.Edit.{Edit}
@@ -29,7 +29,7 @@ use Rattle.poly_desk.specs.Calls.{HasNoted, IsBehind, IsRefused}
 use Rattle.poly_desk.specs.Changes.{IsChanged, OneChange}
 use Rattle.poly_desk.specs.Floors.{IsViewAt}
 use Rattle.poly_desk.specs.Noted.{Held}
-use Rattle.poly_desk.specs.Seen.{IsAskedFor, IsMade, IsRefusedAtDesk, IsUnsettled, Later, is_unsettled}
+use Rattle.poly_desk.specs.Seen.{IsAskedFor, IsCut, IsMade, IsRefusedAtDesk, IsUnsettled, Later, MayRefuse, is_unsettled}
 use Rattle.poly_desk.specs.declared.ledgers.TheConstants.{MOST_PASSES}
 use Rattle.poly_desk.specs.declared.receipt.Receipt.{Receipt}
 use Rattle.poly_desk.specs.declared.receipt.Receipt.TheVariants as receipt
@@ -53,6 +53,14 @@ behind_unsettled s p q e h = record { found = length s.steps; why = h.why; behin
 refused_at_desk : (s : State) (p q : Held) (e : Refusal) (cause : Type 0) → (cause → is_unsettled e ≡ false) → IsRefused s p q e cause → IsRefusedAtDesk p q e
 refused_at_desk s p q e cause f (inl h) = inl (behind_unsettled s p q e h)
 refused_at_desk s p q e cause f (inr h) = inr (noted_later s p q h.0, f h.1)
+
+-- what a desk's refusal says of the pass as the call left it
+pub may_refuse : (p q : Held) (e : Refusal) → IsRefusedAtDesk p q e → MayRefuse q e
+may_refuse p q e (inl h) = inl (h.found, h.why ∙ ap (λ (z : Held). Unsettled z.noted.edition h.found) (sym h.pass), subst (λ (z : Held). h.found < z.noted.edition) (sym h.pass) h.behind)
+may_refuse p q e (inr h) = inr h.1
+
+pub cut_given : (r : Receipt) (place task : ℕ) → r ≡ receipt.Cut place task → IsCut r
+cut_given r place task is = subst IsCut (sym is) tt
 
 either : {A B C : Type 0} → (A → C) → (B → C) → A ⊎ B → C
 either f g (inl a) = f a

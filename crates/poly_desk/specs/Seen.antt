@@ -45,6 +45,16 @@ is_unsettled _ = false
 abbrev pub IsRefusedAtDesk : Held → Held → Refusal → Type 0
 IsRefusedAtDesk p q e = IsUnsettled p q e ⊎ (Later p q 0 0 × (is_unsettled e ≡ false))
 
+-- why a call may have been refused that leaves the pass so: the edition found was below the one that the pass has noted, or it
+-- was another cause than that
+abbrev pub MayRefuse : Held → Refusal → Type 0
+MayRefuse q e = ((found : ℕ) × (e ≡ Unsettled q.noted.edition found) × (found < q.noted.edition)) ⊎ (is_unsettled e ≡ false)
+
+-- the receipt is of a cut
+abbrev pub IsCut : Receipt → Type 0
+IsCut (receipt.Changed place step) = ⊥
+IsCut (receipt.Cut place task) = Unit {0}
+
 -- the receipt is of a change of the kind, and its place is above the edition that the pass had noted before the call, and not
 -- above the one that it has noted now
 abbrev pub IsMade : Kind → Held → Held → Receipt → Type 0

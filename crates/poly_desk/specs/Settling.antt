@@ -5,6 +5,7 @@ use Rattle.poly_grid.specs.declared.refusal.Refusal.TheVariants.{Unsettled}
 use Rattle.poly_design.specs.Layout.{Layout}
 use Rattle.poly_book.specs.declared.step.Step.{Step}
 use Rattle.poly_book.specs.States.{State}
+use Rattle.poly_book.specs.Whole.{Whole}
 use Rattle.poly_desk.specs.Floors.{Counts}
 use Rattle.poly_desk.specs.Receipts.{IsBadReceipt}
 use Rattle.poly_desk.specs.declared.receipt.Receipt.{Receipt}
@@ -24,11 +25,16 @@ HasMismatch b changes cuts changes_given cuts_given rs e =
     IsWrongSum changes_given changes e
     ⊎ ((changes_given ≡ changes) × (IsWrongSum cuts_given cuts e ⊎ ((cuts_given ≡ cuts) × IsBadReceipt b rs e)))
 
--- the refusal names such a mismatch, for some book of a desk that began with this opening and for passes whose shares add up
--- to `changes_given` and `cuts_given`
-pub record IsNotSettled (o : Layout) (ss : List Step) (k changes_given cuts_given : ℕ) (rs : List Receipt) (e : Refusal) : Type 0 where
-  pub book : State
+-- the refusal names such a mismatch between this book of a desk that began with this opening and passes whose shares add up to
+-- `changes_given` and `cuts_given`
+pub record IsMismatchOf (b : State) (o : Layout) (ss : List Step) (k changes_given cuts_given : ℕ) (rs : List Receipt) (e : Refusal) : Type 0 where
   pub changes : ℕ
   pub cuts : ℕ
-  pub counts : Counts o ss k book changes cuts
-  pub mismatch : HasMismatch book changes cuts changes_given cuts_given rs e
+  pub counts : Counts o ss k b changes cuts
+  pub mismatch : HasMismatch b changes cuts changes_given cuts_given rs e
+
+-- the same of a book of the desk that contracts can't name: all that holds of every book holds of it
+pub record IsNotSettled (o : Layout) (ss : List Step) (k changes_given cuts_given : ℕ) (rs : List Receipt) (e : Refusal) : Type 0 where
+  pub book : State
+  pub whole : Whole book
+  pub mismatch : IsMismatchOf book o ss k changes_given cuts_given rs e

@@ -1,8 +1,11 @@
 //! A desk as a worker sees it.
-ghost use Rattle.std.specs.Prelude.{◌≡◌, ◌+◌, ℕ, IfOk, IfSome, OnErr, OnOk};
+ghost use Rattle.std.specs.Prelude.{◌≡◌, ◌+◌, ℕ, IfErr, IfOk, IfSome, None, OnErr, OnOk};
 ghost use Rattle.std.specs.Arc.{arc_value};
 ghost use Rattle.poly_tiling.specs.Puzzle.{View as ViewOf};
+ghost use Rattle.poly_grid.specs.declared.refusal.Refusal.{Refusal as Cause};
 ghost use Rattle.poly_desk.specs.Floors.{IsViewAt};
+ghost use Rattle.poly_desk.specs.Seen.{IsCut, MayRefuse};
+ghost use Rattle.poly_desk.specs.declared.receipt.Receipt.{Receipt as Given};
 
 use crate::desk::Desk;
 use crate::opening::Opening;
@@ -29,6 +32,15 @@ pub trait Bench {
     /// each search's view.
     ghost is_view_at: { ℕ → ViewOf → Type 0 };
 
+    /// What the bench promises of a pass right after it answered, with this pass, that no task is pending.
+    ghost found_none: { Self.Pass → Type 0 } = { λ _. Unit {0} };
+
+    /// What the bench promises of a pass right after it refused a call with this pass.
+    ghost refused: { Self.Pass → Cause → Type 0 } = { λ _ _. Unit {0} };
+
+    /// What the bench promises of each receipt that it gave to a pass. It keeps the promise.
+    ghost gave: { Self.Pass → Given → Type 0 } = { λ _ _. Unit {0} };
+
     /// Returns any pending task, or the one with the given number. Returns `None` only if there is no such task.
     fn take<R: Wait>(
         &self,
@@ -38,6 +50,9 @@ pub trait Bench {
     ) -> Result<Option<Job>, Refusal>
         ensures changes { changes pass.new ≡ changes pass.old }
         ensures cuts { cuts pass.new ≡ cuts pass.old }
+        ensures none { IfOk result (λ o. o ≡ None → which ≡ Which.Any → found_none pass.new) }
+        ensures why { IfErr result (λ e. refused pass.new e) }
+        ensures gave { (r : Given) → gave pass.old r → gave pass.new r }
         ensures view { IfOk result (λ o. IfSome o (λ j. is_view_at j.edition (arc_value j.view))) };
 
     /// Hands the report in, and returns what the report changed, with the receipt of its cut. The pass then has one more cut.
@@ -51,7 +66,10 @@ pub trait Bench {
         ensures changes { changes pass.new ≡ changes pass.old }
         ensures cut { OnOk result (cuts pass.new ≡ cuts pass.old + 1) }
         ensures no_cut { OnErr result (cuts pass.new ≡ cuts pass.old) }
-        ensures receipt { IfOk result (λ r. r.1 ≡ Receipt.Cut r.0.place report.task) };
+        ensures receipt { IfOk result (λ r. r.1 ≡ Receipt.Cut r.0.place report.task) }
+        ensures given { IfOk result (λ r. gave pass.new r.1) }
+        ensures why { IfErr result (λ e. refused pass.new e) }
+        ensures gave { (r : Given) → gave pass.old r → gave pass.new r };
 
     /// `hand_in` for a report that a search made. The bench may trust the search.
     fn hand_in_found<R: Wait>(
@@ -64,7 +82,10 @@ pub trait Bench {
         ensures changes { changes pass.new ≡ changes pass.old }
         ensures cut { OnOk result (cuts pass.new ≡ cuts pass.old + 1) }
         ensures no_cut { OnErr result (cuts pass.new ≡ cuts pass.old) }
-        ensures receipt { IfOk result (λ r. r.1 ≡ Receipt.Cut r.0.place found.report.task) };
+        ensures receipt { IfOk result (λ r. r.1 ≡ Receipt.Cut r.0.place found.report.task) }
+        ensures given { IfOk result (λ r. gave pass.new r.1) }
+        ensures why { IfErr result (λ e. refused pass.new e) }
+        ensures gave { (r : Given) → gave pass.old r → gave pass.new r };
 }
 
 impl<C: Ledger, K: Ledger, O: Opening> Bench for Desk<C, K, O> {
@@ -75,6 +96,10 @@ impl<C: Ledger, K: Ledger, O: Opening> Bench for Desk<C, K, O> {
     ghost cuts = { λ p. p.cuts };
 
     ghost is_view_at = { λ edition view. IsViewAt O.steps O.view edition view };
+
+    ghost refused = { λ p e. MayRefuse p e };
+
+    ghost gave = { λ _ r. IsCut r };
 
     fn take<R: Wait>(
         &self,

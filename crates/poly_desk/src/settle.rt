@@ -2,7 +2,7 @@
 ghost use Rattle.std.specs.Prelude.{◌≡◌, IfErr, IfOk, OnOk, sum_by};
 ghost use Rattle.poly_desk.specs.Floors.{Counts};
 ghost use Rattle.poly_desk.specs.Receipts.{AreReceipts, all_of};
-ghost use Rattle.poly_desk.specs.Settling.{IsNotSettled};
+ghost use Rattle.poly_desk.specs.Settling.{IsMismatchOf, IsNotSettled};
 
 use crate::desk::{Desk, NotSettled};
 use crate::floor::Floor;
@@ -43,21 +43,25 @@ impl<C: Ledger, K: Ledger, O: Opening> Desk<C, K, O> {
         let mut floor = floor.into_inner();
         match floor.check_all(&passes, &receipts) {
             Ok(()) => Ok(floor.into_book()),
-            Err(why) => Err(NotSettled {
-                desk: Desk {
-                    floor: Mutex::new(floor),
-                },
-                passes,
-                receipts,
-                why,
-            }),
+            Err(why) => {
+                // The contract of this call guarantees what holds of every book.
+                floor.book.whole();
+                Err(NotSettled {
+                    desk: Desk {
+                        floor: Mutex::new(floor),
+                    },
+                    passes,
+                    receipts,
+                    why,
+                })
+            }
         }
     }
 }
 
 impl<C: Ledger, K: Ledger, O: Opening> Floor<C, K, O> {
-    /// Succeeds if the passes made all changes and cuts, each receipt is right, and no two receipts of one kind have the same
-    /// place.
+    /// Succeeds if the passes made all changes and cuts of this floor's book, each receipt is right for it, and no two
+    /// receipts of one kind have the same place. If not, the refusal names what doesn't fit this book.
     fn check_all(
         &mut self,
         passes: &[Pass<C, K, O>],
@@ -66,7 +70,7 @@ impl<C: Ledger, K: Ledger, O: Opening> Floor<C, K, O> {
         ensures stays { self.new ≡ self.old }
         ensures ok { OnOk result (Counts O.design O.steps O.cuts self.new.book (sum_by (λ p. p.changes) passes.now) (sum_by (λ p. p.cuts) passes.now)) }
         ensures right { OnOk result (AreReceipts self.new.book (all_of receipts.now)) }
-        ensures why { IfErr result (λ e. IsNotSettled O.design O.steps O.cuts (sum_by (λ p. p.changes) passes.now) (sum_by (λ p. p.cuts) passes.now) (all_of receipts.now) e) }
+        ensures why { IfErr result (λ e. IsMismatchOf self.old.book O.design O.steps O.cuts (sum_by (λ p. p.changes) passes.now) (sum_by (λ p. p.cuts) passes.now) (all_of receipts.now) e) }
     {
         check_shares(passes, self.totals.changes, self.totals.cuts)?;
         self.marks.clear();
