@@ -1,11 +1,11 @@
 -- Each task number that was given out is that of one pending task or of one ending.
-use Rattle.std.proofs.Common.{Bool, List, None, Option, Some, [], ap, arith, cond, eqb, false, inl, inr, length, map, not, refl, subst, sym, true, ℕ, ◌&&◌, ◌++◌, ◌+◌, ◌<◌, ◌∙◌, ◌∷◌, ◌≡◌, ◌≤◌, ◌⊎◌}
+use Rattle.std.proofs.Common.{Bool, List, None, Option, Some, [], ap, arith, cond, eqb, false, inl, inr, length, map, not, refl, subst, sym, true, ℕ, ◌&&◌, ◌+◌, ◌<◌, ◌∷◌, ◌≡◌, ◌≤◌}
 use Rattle.std.proofs.lemmas.Bool.{cases_lt, cond_both, eq-eqb, eqb-false, eqb-true, ne_eqb}
 use Rattle.std.specs.List.{filter}
 use Rattle.poly_design.specs.Changes.{inverse_of}
 use Rattle.poly_design.specs.Layout.{Layout}
 use Rattle.poly_design.specs.declared.change.Change.{Change}
-use Rattle.poly_tiling.specs.Lists.{one, tally}
+use Rattle.poly_tiling.specs.Lists.{one}
 use Rattle.poly_tiling.specs.Puzzle.{View}
 use Rattle.poly_tiling.proofs.Lists.{tally_append}
 use Rattle.poly_atom.specs.declared.atom.Atom.{Atom}
@@ -16,7 +16,6 @@ use Rattle.poly_report.specs.Holds.{holds}
 use Rattle.poly_report.specs.Leaves.{rests}
 use Rattle.poly_report.specs.Sizes.{fits}
 use Rattle.poly_report.specs.Trees.{Plan}
-use Rattle.poly_book.specs.declared.step.Ending.{Ending}
 use Rattle.poly_book.specs.declared.step.Ending.TheVariants.{Cut, Hopeless}
 use Rattle.poly_book.specs.declared.step.Kind.{Kind}
 use Rattle.poly_book.specs.declared.step.Kind.TheVariants as kind

@@ -17,7 +17,7 @@ use Rattle.poly_book.specs.declared.step.Ending.{Ending}
 use Rattle.poly_book.specs.declared.step.Ending.TheVariants.{Hopeless}
 use Rattle.poly_book.specs.Events.{hopeless_endings}
 use Rattle.poly_book.specs.declared.task.Own.{Own}
-use Rattle.poly_book.specs.declared.task.Own.TheVariants.{Atoms, Crossed, Stair as OfStair}
+use Rattle.poly_book.specs.declared.task.Own.TheVariants.{Crossed, Listed, Stair as OfStair}
 use Rattle.poly_book.specs.declared.task.Pending.{Pending}
 use Rattle.poly_book.specs.Tasks.{Task, hopeful, lay, tasks_from}
 use Rattle.poly_book.specs.Meaning.{AreTasks, IsOwn, IsTask, own_of, task_of, tasks_of}
@@ -36,12 +36,12 @@ since_push (suc n) [] g h = absurd (omega (arith, h))
 since_push (suc n) (x ∷ log) g h = since_push n log g (omega (arith, h))
 
 pub own_push : (log : List (List Atom)) (g : List Atom) (o : Own) → IsOwn log o → own_of (log ++ g ∷ []) o ≡ own_of log o
-own_push log g (Atoms v) h = refl
+own_push log g (Listed v i) h = refl
 own_push log g (OfStair s) h = stair_stays log g s h.edition_in
 own_push log g (Crossed v s) h = ap (λ bs. (arc_value v).items ++ bs) (stair_stays log g s h.edition_in)
 
 pub is_own_push : (log : List (List Atom)) (g : List Atom) (o : Own) → IsOwn log o → IsOwn (log ++ g ∷ []) o
-is_own_push log g (Atoms v) h = tt
+is_own_push log g (Listed v i) h = h
 is_own_push log g (OfStair s) h = is_stair_stays log g s h
 is_own_push log g (Crossed v s) h = is_stair_stays log g s h
 

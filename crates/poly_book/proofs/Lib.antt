@@ -37,4 +37,3 @@ pub mod Enough
 pub mod Refusing
 pub mod Hoping
 pub mod Searched
-pub mod Exact

@@ -3,7 +3,7 @@ use Rattle.std.proofs.Common.{List, [], ap, map, subst, sym, true, ℕ, ◌∙�
 use Rattle.poly_design.specs.Changes.{inverse_of}
 use Rattle.poly_book.specs.declared.step.Done.{Done}
 use Rattle.poly_book.specs.Events.{Event, Goes, LeadsBy, Redo, Undo, redone, step, undone}
-use Rattle.poly_book.specs.Partition.{Becomes, Complete}
+use Rattle.poly_book.specs.Partition.{Becomes}
 use Rattle.poly_book.specs.Quiet.{quiet_since}
 use Rattle.poly_book.specs.QuietReturns.{HasOldTilings, ReturnsQuietly}
 use Rattle.poly_book.specs.Replay.{LeadBack, design_before, origins}

@@ -15,7 +15,7 @@ use Rattle.poly_book.specs.declared.maps.Maps.{Maps}
 use Rattle.poly_book.specs.declared.maps.Prefix.{Prefix}
 use Rattle.poly_book.specs.declared.rows.Span.{Span}
 use Rattle.poly_book.specs.declared.task.Own.{Own}
-use Rattle.poly_book.specs.declared.task.Own.TheVariants.{Atoms, Crossed, Stair as OfStair}
+use Rattle.poly_book.specs.declared.task.Own.TheVariants.{Crossed, Listed, Stair as OfStair}
 use Rattle.poly_book.specs.declared.task.Pending.{Pending}
 use Rattle.poly_book.specs.Meaning.{own_of}
 use Rattle.poly_grid.specs.declared.cell.TheConstants.{SIDE}
@@ -59,7 +59,7 @@ IsWider old new = (a : Atom) (n : ℕ) → under old a n ≡ true → under new 
 
 -- the list that a crossed task's stair follows
 abbrev pub base_of : Own → List Atom
-base_of (Atoms v) = []
+base_of (Listed v i) = []
 base_of (OfStair s) = []
 base_of (Crossed v s) = (arc_value v).items
 

@@ -1,6 +1,6 @@
 -- What a book's fields mean.
 use Rattle.std.specs.Arc.{arc_value}
-use Rattle.std.specs.Prelude.{List, None, Option, Some, [], drop, length, map, reverse, take, ℕ, ◌++◌, ◌∷◌, ◌≡◌, ◌≤◌}
+use Rattle.std.specs.Prelude.{List, None, Option, Some, [], drop, length, map, reverse, slice_index_or, take, ℕ, ◌++◌, ◌<◌, ◌∷◌, ◌≡◌, ◌≤◌}
 use Rattle.poly_design.specs.Layout.{Layout}
 use Rattle.poly_design.specs.declared.change.Change.{Change}
 use Rattle.poly_tiling.specs.Puzzle.{View}
@@ -14,19 +14,19 @@ use Rattle.poly_book.specs.declared.shelf.Shelf.{Shelf}
 use Rattle.poly_book.specs.declared.step.Step.{Step}
 use Rattle.poly_book.specs.declared.step.Ending.{Ending}
 use Rattle.poly_book.specs.declared.task.Own.{Own}
-use Rattle.poly_book.specs.declared.task.Own.TheVariants.{Atoms, Crossed, Stair as OfStair}
+use Rattle.poly_book.specs.declared.task.Own.TheVariants.{Crossed, Listed, Stair as OfStair}
 use Rattle.poly_book.specs.declared.task.Pending.{Pending}
 use Rattle.poly_book.specs.Tasks.{Task}
 use Rattle.poly_book.specs.States.{State, Stored, Way}
 
 abbrev pub own_of : List (List Atom) → Own → List Atom
-own_of log (Atoms v) = (arc_value v).items
+own_of log (Listed v i) = slice_index_or (arc_value v) i []
 own_of log (OfStair s) = stair_of log s
 own_of log (Crossed v s) = (arc_value v).items ++ stair_of log s
 
--- if the own atoms are a stair, or end with one, the log has it
+-- the own atoms can be read: there is such a list, or the log has the stair that they are or end with
 abbrev pub IsOwn : List (List Atom) → Own → Type 0
-IsOwn log (Atoms v) = Unit {0}
+IsOwn log (Listed v i) = i < length (arc_value v)
 IsOwn log (OfStair s) = IsStairOf log s
 IsOwn log (Crossed v s) = IsStairOf log s
 
@@ -37,7 +37,7 @@ task_of log p = record { number = p.number; own = own_of log p.own; laid = flat 
 abbrev pub tasks_of : List (List Atom) → List Pending → List Task
 tasks_of log ps = map (λ p. task_of log p) ps
 
--- if the task's own atoms are a stair, or end with one, the log has it; and the task was made at an edition that the log has
+-- the task's own atoms can be read, and the task was made at an edition that the log has
 pub record IsTask (log : List (List Atom)) (p : Pending) : Type 0 where
   pub own : IsOwn log p.own
   pub made : p.made ≤ length log

@@ -18,6 +18,7 @@ use poly_catalogue::Catalogue;
 use poly_design::Design;
 use poly_grid::Refusal;
 use poly_place::Table;
+use poly_report::AtomLists;
 use poly_tiling::View;
 use poly_undo::History;
 use std::alloc::Global;
@@ -59,11 +60,13 @@ fn first_task(alloc: Global) -> Result<Vec<Pending>, Refusal>
     ensures ok { IfOk result (λ ps. (own : OwnOf) × (own_of [] own ≡ []) × IsOwn [] own × (ps.items ≡ (record { number = 1; own = own; made = 0 }) ∷ [])) }
     ensures why { IfErr result (λ e. e ≡ Refusal.Memory) }
 {
-    let none = Arc::new(alloc, Vec::new(alloc))?;
+    let mut lists = AtomLists::new(alloc);
+    lists.push(&[])?;
+    let shared = Arc::new(alloc, lists)?;
     let mut tasks = Vec::new(alloc);
     tasks.push(Pending {
         number: 1,
-        own: Own::Atoms(none),
+        own: Own::Listed(shared, 0),
         made: 0,
     })?;
     Ok(tasks)

@@ -5,7 +5,6 @@ ghost use Rattle.std.specs.Arc.{arc_value};
 ghost use Rattle.std.specs.List.{position_from};
 ghost use Rattle.poly_tiling.specs.Listings.{HasOverTilings};
 ghost use Rattle.poly_frame.specs.Matrices.{IsWhole};
-ghost use Rattle.poly_report.specs.Gather.{lists};
 ghost use Rattle.poly_report.specs.Shapes.{plan_of};
 ghost use Rattle.poly_report.specs.Sizes.{inner, is_rest};
 ghost use Rattle.poly_book.specs.Findings.{HasAtoms, IsFound};
@@ -40,7 +39,7 @@ pub struct Found {
     pub view: Arc<View>,
     /// The leaves of the report's tree.
     pub leaves: Leaves,
-    ghost right: { IsFound (arc_value view) atoms.items (plan_of report.tree) leaves.tilings.items (lists leaves.rests.items) },
+    ghost right: { IsFound (arc_value view) atoms.items (plan_of report.tree) leaves.tilings.items leaves.rests },
 }
 
 impl Found {

@@ -1,13 +1,12 @@
 //! New tasks: the stairs of a change or, if a shelf was kept for this undo or redo, each frozen list of the shelf followed by
 //! each stair; and the rests of a report. A hopeless list gets no task.
 ghost use Rattle.std.specs.Arc.{arc_value};
-ghost use Rattle.std.specs.Prelude.{◌≡◌, ◌≤◌, ◌<◌, ◌++◌, ◌+◌, ◌∷◌, ◌⊎◌, ℕ, [], IfErr, IfOk, List, false, length, map, not, option_copied, true};
+ghost use Rattle.std.specs.Prelude.{◌≡◌, ◌≤◌, ◌<◌, ◌++◌, ◌+◌, ◌∷◌, ◌⊎◌, ℕ, [], IfErr, IfOk, List, false, length, map, not, option_copied, slice_index_or, true};
 ghost use Rattle.poly_atom.specs.declared.atom.Atom.{Atom as AtomOf};
 ghost use Rattle.poly_atom.specs.Atoms.{AllSmall, IsSmall, negated};
 ghost use Rattle.poly_atom.specs.Hopeless.{hopeless};
 ghost use Rattle.poly_atom.specs.Logs.{IsStairOf, stair_of};
 ghost use Rattle.poly_atom.specs.Stairs.{stairs};
-ghost use Rattle.poly_report.specs.Gather.{lists};
 ghost use Rattle.poly_book.specs.Opens.{Opening, Opens};
 ghost use Rattle.poly_book.specs.Meaning.{AreFrozen, IsHeld, IsOwn, frozen_of, own_of, stored_of};
 ghost use Rattle.poly_book.specs.Shelves.{crossed, openings};
@@ -18,6 +17,7 @@ use crate::shelf::{Frozen, Shelf};
 use crate::task::{Own, Pending, frozen_atoms};
 use poly_atom::{Atom, GuardLog, Stair, hopeless};
 use poly_grid::Refusal;
+use poly_report::AtomLists;
 use poly_tiling::View;
 use std::alloc::Global;
 use std::sync::Arc;
@@ -25,32 +25,35 @@ use std::sync::Arc;
 /// The greatest task number.
 const LAST: u64 = 4_294_967_295;
 
-/// The lists that aren't hopeless, as tasks with the numbers from `next` on. If `sure`, none of the lists is hopeless.
+/// The lists that aren't hopeless, as tasks with the numbers from `next` on, which share the lists. If `sure`, none of the lists
+/// is hopeless, and none is read.
 pub(crate) fn opened(
     alloc: Global,
     view: &View,
-    all: Vec<Vec<Atom>>,
+    all: AtomLists,
     next: u64,
     made: u64,
     sure: bool,
 ) -> Result<Vec<Pending>, Refusal>
     requires next { next ≤ 4294967296 }
-    requires sure { sure ≡ true → AreHopeful view.now (lists all.items) }
-    ensures ok { IfOk result (λ ps. (log : List (List AtomOf)) → length log ≡ made → Opens log next view.now (lists all.items) ps.items) }
+    requires sure { sure ≡ true → AreHopeful view.now all }
+    ensures ok { IfOk result (λ ps. (log : List (List AtomOf)) → length log ≡ made → Opens log next view.now all ps.items) }
     ensures few { IfOk result (λ ps. next + length ps.items ≤ 4294967296) }
-    ensures why { IfErr result (λ e. ((e ≡ Refusal.Spent) × (4294967296 < next + length (hopeful view.now (lists all.items)))) ⊎ (e ≡ Refusal.Memory)) }
+    ensures why { IfErr result (λ e. ((e ≡ Refusal.Spent) × (4294967296 < next + length (hopeful view.now all))) ⊎ (e ≡ Refusal.Memory)) }
 {
     let mut tasks = Vec::new(alloc);
     let mut number = next;
-    for own in all {
-        if is_opened(view, &own, sure) {
+    let mut buffer = Vec::new(alloc);
+    let count = all.len();
+    let shared = Arc::new(alloc, all)?;
+    for index in 0..count {
+        if is_opened(view, &shared, index, &mut buffer, sure)? {
             if number > LAST {
                 return Err(Refusal::Spent);
             }
-            let shared = Arc::new(alloc, own)?;
             tasks.push(Pending {
                 number: number as u32,
-                own: Own::Atoms(shared),
+                own: Own::Listed(Arc::try_clone(&shared)?, index),
                 made,
             })?;
             number += 1;
@@ -59,12 +62,24 @@ pub(crate) fn opened(
     Ok(tasks)
 }
 
-// Whether the list isn't hopeless. If `sure`, this is known to be true, and nothing is computed.
-fn is_opened(view: &View, own: &[Atom], sure: bool) -> bool
-    requires { sure ≡ true → hopeless view.now own.now ≡ false }
-    ensures { result ≡ not (hopeless view.now own.now) }
+// Whether the list at the index isn't hopeless. If `sure`, this is known to be true, and nothing is read.
+fn is_opened(
+    view: &View,
+    all: &AtomLists,
+    index: usize,
+    buffer: &mut Vec<Atom>,
+    sure: bool,
+) -> Result<bool, Refusal>
+    requires index { index < length all.now }
+    requires sure { sure ≡ true → hopeless view.now (slice_index_or all.now index []) ≡ false }
+    ensures ok { IfOk result (λ yes. yes ≡ not (hopeless view.now (slice_index_or all.now index []))) }
+    ensures why { IfErr result (λ e. e ≡ Refusal.Memory) }
 {
-    sure || !hopeless(view, own)
+    if sure {
+        return Ok(true);
+    }
+    all.read(index, buffer)?;
+    Ok(!hopeless(view, buffer))
 }
 
 /// The stairs of the guards, as tasks with the numbers from `next` on. `edition` is the edition before the change. A hopeless

@@ -2,7 +2,6 @@
 ghost use Rattle.std.specs.Prelude.{◌≡◌, ◌<◌, ◌==◌, IfErr, IfOk, None, OnErr, Some, cond, true, ℕ};
 ghost use Rattle.std.specs.List.{position_from};
 ghost use Rattle.std.specs.List.Sorted.{IsNonDecreasingBy};
-ghost use Rattle.poly_report.specs.Gather.{lists};
 ghost use Rattle.poly_report.specs.Shapes.{plan_of};
 ghost use Rattle.poly_report.specs.Sizes.{fits};
 ghost use Rattle.poly_report.specs.Trees.{Plan};
@@ -63,7 +62,7 @@ fn checked_leaves(parts: &mut Parts, at: usize, report: &Report) -> Result<Leave
     requires index { position_from (λ q. q.number == report.now.task) 0 parts.old.tasks.items ≡ Some at }
     requires small { fits (plan_of report.now.tree) ≡ true }
     ensures stays { parts.new ≡ parts.old }
-    ensures leaves { IfOk result (λ l. AreLeaves parts.old report.now.task at (plan_of report.now.tree) l.tilings.items (lists l.rests.items)) }
+    ensures leaves { IfOk result (λ l. AreLeaves parts.old report.now.task at (plan_of report.now.tree) l.tilings.items l.rests) }
     ensures why { IfErr result (λ e. IsNotApplied report.now.task (plan_of report.now.tree) (state_of parts.old) e) }
 {
     let atoms = all_atoms(parts.alloc, &parts.log, &parts.tasks[at])?;
@@ -83,12 +82,12 @@ pub(crate) fn apply_leaves(
     sure: bool,
 ) -> Result<Applied, Refusal>
     requires keeps { Keeps parts.old }
-    requires leaves { (k : ℕ) × (tree : Plan) × AreLeaves parts.old k at tree leaves.tilings.items (lists leaves.rests.items) }
-    requires sure { sure ≡ true → AreHopeful parts.old.scene (lists leaves.rests.items) }
+    requires leaves { (k : ℕ) × (tree : Plan) × AreLeaves parts.old k at tree leaves.tilings.items leaves.rests }
+    requires sure { sure ≡ true → AreHopeful parts.old.scene leaves.rests }
     ensures keeps { Keeps parts.new }
-    ensures ok { IfOk result (λ a. (k : ℕ) (tree : Plan) → AreLeaves parts.old k at tree leaves.tilings.items (lists leaves.rests.items) → IsApplied k edition tree (state_of parts.old) (state_of parts.new) a) }
+    ensures ok { IfOk result (λ a. (k : ℕ) (tree : Plan) → AreLeaves parts.old k at tree leaves.tilings.items leaves.rests → IsApplied k edition tree (state_of parts.old) (state_of parts.new) a) }
     ensures err { OnErr result (state_of parts.new ≡ state_of parts.old) }
-    ensures why { IfErr result (λ e. (k : ℕ) (tree : Plan) → AreLeaves parts.old k at tree leaves.tilings.items (lists leaves.rests.items) → IsOver k tree (state_of parts.old) e) }
+    ensures why { IfErr result (λ e. (k : ℕ) (tree : Plan) → AreLeaves parts.old k at tree leaves.tilings.items leaves.rests → IsOver k tree (state_of parts.old) e) }
 {
     let Leaves { tilings, rests } = leaves;
     let now = parts.log.len() as u64;

@@ -74,6 +74,7 @@ impl Maps {
             span: Span { from: 0, to: 0 },
         };
         let mut shared = Span { from: 1, to: 0 };
+        let mut buffer = Vec::new(self.alloc);
         let mut before = 0;
         for (i, task) in tasks.iter().enumerate() {
             shared = self.note_base(
@@ -83,7 +84,7 @@ impl Maps {
                 task.number,
                 &tasks[i..],
             )?;
-            self.note_task(log, &task.own, task.number, last, &mut prefix)?;
+            self.note_task(log, &task.own, task.number, last, &mut prefix, &mut buffer)?;
             before = i;
         }
         Ok(())
@@ -101,7 +102,7 @@ impl Maps {
         tidy_rows(&mut self.at_most, pending);
     }
 
-    // Notes the task under its own atoms, except for the base of a crossed task, which is noted.
+    // Notes the task under its own atoms, except for the base of a crossed task, which is noted. Lists are read into the buffer.
     fn note_task(
         &mut self,
         log: &GuardLog,
@@ -109,6 +110,7 @@ impl Maps {
         number: u32,
         last: u32,
         prefix: &mut Prefix,
+        buffer: &mut Vec<Atom>,
     ) -> Result<(), Refusal>
         requires own { IsOwn log.now own.now }
         requires base { list_all (λ a. under self.old a number) (base_of own.now) ≡ true }
@@ -119,13 +121,16 @@ impl Maps {
         ensures why { IfErr result (λ e. e ≡ Refusal.Memory) }
     {
         match own {
-            Own::Atoms(atoms) => self.note_list(
-                atoms,
-                Span {
-                    from: number,
-                    to: number,
-                },
-            ),
+            Own::Listed(lists, index) => {
+                lists.read(*index, buffer)?;
+                self.note_list(
+                    buffer,
+                    Span {
+                        from: number,
+                        to: number,
+                    },
+                )
+            }
             Own::Stair(stair) => self.note_stair(log, stair, number, last, prefix),
             Own::Crossed(_, stair) => self.note_stair(log, stair, number, last, prefix),
         }
@@ -153,7 +158,7 @@ impl Maps {
             to: number,
         };
         match own {
-            Own::Atoms(_) => Ok(alone),
+            Own::Listed(_, _) => Ok(alone),
             Own::Stair(_) => Ok(alone),
             Own::Crossed(base, _) => {
                 if is_shared(known, base, &shared, number) {
@@ -261,7 +266,7 @@ fn has_base(own: &Own, base: &[Atom]) -> bool
     ensures { result ≡ true → base_of own.now ≡ base.now }
 {
     match own {
-        Own::Atoms(_) => false,
+        Own::Listed(_, _) => false,
         Own::Stair(_) => false,
         Own::Crossed(other, _) => is_same_list(other, base),
     }

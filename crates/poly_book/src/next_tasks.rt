@@ -109,10 +109,11 @@ fn surviving(
     ensures why { IfErr result (λ e. e ≡ Refusal.Memory) }
 {
     let mut flags = Vec::new(alloc);
+    let mut buffer = Vec::new(alloc);
     let mut far = 0;
     for (i, task) in tasks.iter().enumerate() {
         far = reach[i].max(far);
-        let ends = ends_by(alloc, view, log, task, far)?;
+        let ends = ends_by(alloc, view, log, task, far, &mut buffer)?;
         flags.push(!ends)?;
     }
     Ok(flags)
@@ -125,6 +126,7 @@ fn ends_by(
     log: &GuardLog,
     task: &Pending,
     far: u32,
+    buffer: &mut Vec<Atom>,
 ) -> Result<bool, Refusal>
     requires own { IsOwn log.now task.now.own }
     requires reached { hopeless view.now (own_of log.now task.now.own) ≡ true → task.now.number ≤ far }
@@ -134,7 +136,7 @@ fn ends_by(
     if task.number > far {
         return Ok(false);
     }
-    is_hopeless(alloc, view, log, &task.own)
+    is_hopeless(alloc, view, log, &task.own, buffer)
 }
 
 // The endings of the tasks that don't go on.

@@ -2,7 +2,7 @@
 ghost use Rattle.std.specs.Prelude.{◌≡◌, ◌≤◌, IfErr, IfOk, MatchOption, None, false, true};
 ghost use Rattle.std.specs.Arc.{arc_value};
 ghost use Rattle.poly_frame.specs.Matrices.{IsWhole};
-ghost use Rattle.poly_report.specs.Gather.{IsCutUp, lists};
+ghost use Rattle.poly_report.specs.Gather.{IsCutUp};
 ghost use Rattle.poly_report.specs.Holds.{holds};
 ghost use Rattle.poly_report.specs.Leaves.{rests, tilings};
 ghost use Rattle.poly_report.specs.Opened.{opened};
@@ -80,7 +80,7 @@ impl Scene {
         ensures root { IfOk result (λ e. is_rest (plan_of e.tree) ≡ false) }
         ensures smaller { IfOk result (λ e. all_fewer self.old atoms.now (rests self.old atoms.now (plan_of e.tree)) ≡ true) }
         ensures tilings { IfOk result (λ e. e.leaves.tilings.items ≡ tilings self.old atoms.now (plan_of e.tree)) }
-        ensures rests { IfOk result (λ e. lists e.leaves.rests.items ≡ rests self.old atoms.now (plan_of e.tree)) }
+        ensures rests { IfOk result (λ e. e.leaves.rests ≡ rests self.old atoms.now (plan_of e.tree)) }
         ensures why { IfErr result (λ e. e ≡ Refusal.Memory) }
     {
         explore_from(alloc, &self.view, &mut self.matrix, atoms, nodes)
@@ -95,7 +95,7 @@ impl Scene {
     ) -> Result<Option<Leaves>, Refusal>
         requires { fits (plan_of tree.now) ≡ true }
         ensures stays { self.new ≡ self.old }
-        ensures value { IfOk result (λ o. MatchOption o (holds self.old atoms.now (plan_of tree.now) ≡ false) (λ l. IsCutUp self.old atoms.now (plan_of tree.now) l.tilings.items (lists l.rests.items))) }
+        ensures value { IfOk result (λ o. MatchOption o (holds self.old atoms.now (plan_of tree.now) ≡ false) (λ l. IsCutUp self.old atoms.now (plan_of tree.now) l.tilings.items l.rests)) }
         ensures why { IfErr result (λ e. e ≡ Refusal.Memory) }
     {
         cut_up_from(alloc, &self.view, &mut self.matrix, atoms, tree)
@@ -121,7 +121,7 @@ fn explore_from(
     ensures root { IfOk result (λ e. is_rest (plan_of e.tree) ≡ false) }
     ensures smaller { IfOk result (λ e. all_fewer view.now atoms.now (rests view.now atoms.now (plan_of e.tree)) ≡ true) }
     ensures tilings { IfOk result (λ e. e.leaves.tilings.items ≡ tilings view.now atoms.now (plan_of e.tree)) }
-    ensures rests { IfOk result (λ e. lists e.leaves.rests.items ≡ rests view.now atoms.now (plan_of e.tree)) }
+    ensures rests { IfOk result (λ e. e.leaves.rests ≡ rests view.now atoms.now (plan_of e.tree)) }
     ensures why { IfErr result (λ e. e ≡ Refusal.Memory) }
 {
     let whole = take_matrix(alloc, view, slot)?;
@@ -142,7 +142,7 @@ fn cut_up_from(
     requires matrix { IsMatrixOf view.now slot.old }
     requires small { fits (plan_of tree.now) ≡ true }
     ensures matrix { IsMatrixOf view.now slot.new }
-    ensures value { IfOk result (λ o. MatchOption o (holds view.now atoms.now (plan_of tree.now) ≡ false) (λ l. IsCutUp view.now atoms.now (plan_of tree.now) l.tilings.items (lists l.rests.items))) }
+    ensures value { IfOk result (λ o. MatchOption o (holds view.now atoms.now (plan_of tree.now) ≡ false) (λ l. IsCutUp view.now atoms.now (plan_of tree.now) l.tilings.items l.rests)) }
     ensures why { IfErr result (λ e. e ≡ Refusal.Memory) }
 {
     let whole = take_matrix(alloc, view, slot)?;

@@ -1,7 +1,6 @@
 //! Settling: taking tasks, exploring them and handing the results in until nothing is pending.
 ghost use Rattle.std.specs.Prelude.{◌≡◌, ◌≤◌, ◌<◌, IfErr, IfOk, OnErr, OnOk, length, ℕ};
 ghost use Rattle.poly_tiling.specs.Listings.{HasOverTilings};
-ghost use Rattle.poly_report.specs.Gather.{lists};
 ghost use Rattle.poly_report.specs.Trees.{Plan};
 ghost use Rattle.poly_book.specs.Keeps.{Keeps, state_of};
 ghost use Rattle.poly_book.specs.Reports.{AreFoundLeaves};
@@ -97,8 +96,8 @@ fn explored_leaves(parts: &mut Parts, at: usize, nodes: u32) -> Result<Leaves, R
     requires keeps { Keeps parts.old }
     requires index { at < length parts.old.tasks.items }
     ensures stays { parts.new ≡ parts.old }
-    ensures leaves { IfOk result (λ l. (k : ℕ) × (tree : Plan) × AreFoundLeaves nodes parts.old k at tree l.tilings.items (lists l.rests.items)) }
-    ensures sure { IfOk result (λ l. (n : ℕ) → n ≤ at → AreHopefulFrom n (state_of parts.old) → AreHopeful parts.old.scene (lists l.rests.items)) }
+    ensures leaves { IfOk result (λ l. (k : ℕ) × (tree : Plan) × AreFoundLeaves nodes parts.old k at tree l.tilings.items l.rests) }
+    ensures sure { IfOk result (λ l. (n : ℕ) → n ≤ at → AreHopefulFrom n (state_of parts.old) → AreHopeful parts.old.scene l.rests) }
     ensures why { IfErr result (λ e. e ≡ Refusal.Memory) }
 {
     let atoms = all_atoms(parts.alloc, &parts.log, &parts.tasks[at])?;

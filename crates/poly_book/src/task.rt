@@ -1,5 +1,5 @@
 //! Pending tasks.
-ghost use Rattle.std.specs.Prelude.{IfErr, IfOk, List, ◌≡◌, ◌++◌};
+ghost use Rattle.std.specs.Prelude.{IfErr, IfOk, List, OnOk, ◌≡◌, ◌++◌};
 ghost use Rattle.poly_atom.specs.declared.atom.Atom.{Atom as AtomOf};
 ghost use Rattle.poly_atom.specs.Hopeless.{hopeless};
 ghost use Rattle.poly_atom.specs.Logs.{IsStairOf, stair_of};
@@ -9,6 +9,7 @@ ghost use Rattle.poly_book.specs.Tasks.{atoms_of};
 use crate::shelf::Frozen;
 use poly_atom::{Atom, GuardLog, Stair, hopeless};
 use poly_grid::Refusal;
+use poly_report::AtomLists;
 use poly_tiling::View;
 use std::alloc::Global;
 use std::sync::Arc;
@@ -16,8 +17,8 @@ use std::sync::Arc;
 /// A task's own atoms.
 #[derive(Debug, Drop)]
 pub enum Own {
-    /// A list.
-    Atoms(Arc<Vec<Atom>>),
+    /// The list at this index. The tasks that were opened for the rests of one report share their lists.
+    Listed(Arc<AtomLists>, usize),
     /// A stair of a change. Its atoms are read from the guard log.
     Stair(Stair),
     /// The list of a frozen task, which the tasks that are opened for it share, followed by a stair of the change that opened
@@ -36,26 +37,46 @@ pub struct Pending {
     pub made: u64,
 }
 
-/// Whether a task's own atoms are hopeless. Fails only when out of memory, and not for a list.
+/// Whether a task's own atoms are hopeless. They are read into the buffer, in place of what it had. Fails only when out of
+/// memory.
 pub(crate) fn is_hopeless(
     alloc: Global,
     view: &View,
     log: &GuardLog,
     own: &Own,
+    buffer: &mut Vec<Atom>,
 ) -> Result<bool, Refusal>
     requires { IsOwn log.now own.now }
     ensures ok { IfOk result (λ yes. yes ≡ hopeless view.now (own_of log.now own.now)) }
     ensures why { IfErr result (λ e. e ≡ Refusal.Memory) }
 {
+    read_own(alloc, log, own, buffer)?;
+    Ok(hopeless(view, buffer))
+}
+
+/// Writes a task's own atoms to the buffer, in place of what it had.
+pub(crate) fn read_own(
+    alloc: Global,
+    log: &GuardLog,
+    own: &Own,
+    buffer: &mut Vec<Atom>,
+) -> Result<(), Refusal>
+    requires { IsOwn log.now own.now }
+    ensures ok { OnOk result (buffer.new.items ≡ own_of log.now own.now) }
+    ensures why { IfErr result (λ e. e ≡ Refusal.Memory) }
+{
     match own {
-        Own::Atoms(atoms) => Ok(hopeless(view, atoms)),
+        Own::Listed(lists, index) => {
+            lists.read(*index, buffer)?;
+            Ok(())
+        }
         Own::Stair(stair) => {
-            let atoms = stair.atoms(alloc, log)?;
-            Ok(hopeless(view, &atoms))
+            *buffer = stair.atoms(alloc, log)?;
+            Ok(())
         }
         Own::Crossed(base, stair) => {
-            let atoms = crossed_atoms(alloc, log, base, stair)?;
-            Ok(hopeless(view, &atoms))
+            *buffer = crossed_atoms(alloc, log, base, stair)?;
+            Ok(())
         }
     }
 }
@@ -83,32 +104,21 @@ pub(crate) fn own_atoms(alloc: Global, log: &GuardLog, own: &Own) -> Result<Vec<
     ensures ok { IfOk result (λ atoms. atoms.items ≡ own_of log.now own.now) }
     ensures why { IfErr result (λ e. e ≡ Refusal.Memory) }
 {
-    match own {
-        Own::Atoms(atoms) => {
-            let copy = Vec::from_slice(alloc, atoms)?;
-            Ok(copy)
-        }
-        Own::Stair(stair) => {
-            let atoms = stair.atoms(alloc, log)?;
-            Ok(atoms)
-        }
-        Own::Crossed(base, stair) => {
-            let atoms = crossed_atoms(alloc, log, base, stair)?;
-            Ok(atoms)
-        }
-    }
+    let mut atoms = Vec::new(alloc);
+    read_own(alloc, log, own, &mut atoms)?;
+    Ok(atoms)
 }
 
-// The same own atoms. A list is shared.
+// The same own atoms. Lists are shared.
 fn share(own: &Own) -> Result<Own, Refusal>
     ensures same { IfOk result (λ o. (log : List (List AtomOf)) → own_of log o ≡ own_of log own.now) }
     ensures own { IfOk result (λ o. (log : List (List AtomOf)) → IsOwn log own.now → IsOwn log o) }
     ensures why { IfErr result (λ e. e ≡ Refusal.Memory) }
 {
     match own {
-        Own::Atoms(atoms) => {
-            let shared = Arc::try_clone(atoms)?;
-            Ok(Own::Atoms(shared))
+        Own::Listed(lists, index) => {
+            let shared = Arc::try_clone(lists)?;
+            Ok(Own::Listed(shared, *index))
         }
         Own::Stair(stair) => Ok(Own::Stair(*stair)),
         Own::Crossed(base, stair) => {

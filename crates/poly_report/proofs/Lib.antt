@@ -6,3 +6,5 @@ pub mod Rows
 pub mod Measures
 pub mod Cuts
 pub mod Rests
+pub mod Exact
+mod Linking

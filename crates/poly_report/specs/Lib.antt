@@ -6,3 +6,4 @@ pub mod Leaves
 pub mod Gather
 pub mod Opened
 pub mod Laws
+pub mod Linked

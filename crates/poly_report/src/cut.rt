@@ -7,7 +7,7 @@ ghost use Rattle.poly_report.specs.Shapes.{arms_list, plan_of};
 ghost use Rattle.poly_report.specs.Sizes.{arms_total, fits, total};
 ghost use Rattle.poly_report.specs.Holds.{arms_hold, holds};
 ghost use Rattle.poly_report.specs.Leaves.{arms_rests, arms_tilings, rests, tilings};
-ghost use Rattle.poly_report.specs.Gather.{IsCutUp, lists, taken_holds, taken_rests, taken_tilings};
+ghost use Rattle.poly_report.specs.Gather.{IsCutUp, taken_holds, taken_rests, taken_tilings};
 ghost use Rattle.poly_frame.specs.declared.frame.TheConstants.{STEPS};
 
 use crate::arms::arms_fit;
@@ -34,13 +34,13 @@ fn walk(
     ensures same { IfOk result (λ yes. yes ≡ true → frame.new ≡ frame.old) }
     ensures says { IfOk result (λ yes. yes ≡ holds frame.old.scene frame.old.atoms (plan_of tree.now)) }
     ensures tilings { IfOk result (λ yes. yes ≡ true → keep ≡ true → out.new.tilings.items ≡ out.old.tilings.items ++ tilings frame.old.scene frame.old.atoms (plan_of tree.now)) }
-    ensures rests { IfOk result (λ yes. yes ≡ true → keep ≡ true → lists out.new.rests.items ≡ lists out.old.rests.items ++ rests frame.old.scene frame.old.atoms (plan_of tree.now)) }
+    ensures rests { IfOk result (λ yes. yes ≡ true → keep ≡ true → out.new.rests ≡ out.old.rests ++ rests frame.old.scene frame.old.atoms (plan_of tree.now)) }
     ensures why { IfErr result (λ e. e ≡ Refusal.Memory) }
 {
     match tree {
         Tree::Rest => {
             if keep {
-                out.push_rest(alloc, frame)?;
+                out.push_rest(frame)?;
             }
             Ok(true)
         }
@@ -95,7 +95,7 @@ fn walk_arms(
     ensures same { IfOk result (λ yes. yes ≡ true → frame.new ≡ frame.old) }
     ensures says { IfOk result (λ yes. yes ≡ arms_hold frame.old.scene frame.old.atoms [] (arms_list arms.now)) }
     ensures tilings { IfOk result (λ yes. yes ≡ true → keep ≡ true → out.new.tilings.items ≡ out.old.tilings.items ++ arms_tilings frame.old.scene frame.old.atoms [] (arms_list arms.now)) }
-    ensures rests { IfOk result (λ yes. yes ≡ true → keep ≡ true → lists out.new.rests.items ≡ lists out.old.rests.items ++ arms_rests frame.old.scene frame.old.atoms [] (arms_list arms.now)) }
+    ensures rests { IfOk result (λ yes. yes ≡ true → keep ≡ true → out.new.rests ≡ out.old.rests ++ arms_rests frame.old.scene frame.old.atoms [] (arms_list arms.now)) }
     ensures why { IfErr result (λ e. e ≡ Refusal.Memory) }
 {
     let level = frame.level();
@@ -126,7 +126,7 @@ fn walk_taken(
     ensures same { IfOk result (λ yes. yes ≡ true → frame.new ≡ frame.old) }
     ensures says { IfOk result (λ yes. yes ≡ taken_holds frame.old.scene frame.old.atoms placement (plan_of tree.now)) }
     ensures tilings { IfOk result (λ yes. yes ≡ true → keep ≡ true → out.new.tilings.items ≡ out.old.tilings.items ++ taken_tilings frame.old.scene frame.old.atoms placement (plan_of tree.now)) }
-    ensures rests { IfOk result (λ yes. yes ≡ true → keep ≡ true → lists out.new.rests.items ≡ lists out.old.rests.items ++ taken_rests frame.old.scene frame.old.atoms placement (plan_of tree.now)) }
+    ensures rests { IfOk result (λ yes. yes ≡ true → keep ≡ true → out.new.rests ≡ out.old.rests ++ taken_rests frame.old.scene frame.old.atoms placement (plan_of tree.now)) }
     ensures why { IfErr result (λ e. e ≡ Refusal.Memory) }
 {
     if frame.dead(placement) {
@@ -134,7 +134,7 @@ fn walk_taken(
     }
     if let Tree::Rest = tree {
         if keep {
-            out.push_rest_with(alloc, frame, Atom::Has(placement))?;
+            out.push_rest_with(frame, Atom::Has(placement))?;
         }
         return Ok(true);
     }
@@ -173,7 +173,7 @@ pub fn leaves(alloc: Global, view: &View, atoms: &[Atom], tree: &Tree) -> Result
     requires small { fits (plan_of tree.now) ≡ true }
     requires right { holds view.now atoms.now (plan_of tree.now) ≡ true }
     ensures tilings { IfOk result (λ l. l.tilings.items ≡ tilings view.now atoms.now (plan_of tree.now)) }
-    ensures rests { IfOk result (λ l. lists l.rests.items ≡ rests view.now atoms.now (plan_of tree.now)) }
+    ensures rests { IfOk result (λ l. l.rests ≡ rests view.now atoms.now (plan_of tree.now)) }
     ensures why { IfErr result (λ e. e ≡ Refusal.Memory) }
 {
     let mut frame = Frame::new(alloc, view, atoms)?;
@@ -191,7 +191,7 @@ pub fn cut_up(
     tree: &Tree,
 ) -> Result<Option<Leaves>, Refusal>
     requires { fits (plan_of tree.now) ≡ true }
-    ensures value { IfOk result (λ o. MatchOption o (holds view.now atoms.now (plan_of tree.now) ≡ false) (λ l. IsCutUp view.now atoms.now (plan_of tree.now) l.tilings.items (lists l.rests.items))) }
+    ensures value { IfOk result (λ o. MatchOption o (holds view.now atoms.now (plan_of tree.now) ≡ false) (λ l. IsCutUp view.now atoms.now (plan_of tree.now) l.tilings.items (l.rests))) }
     ensures why { IfErr result (λ e. e ≡ Refusal.Memory) }
 {
     let whole = Matrix::new(alloc, view)?;
@@ -211,7 +211,7 @@ pub fn cut_up_over(
 ) -> Result<Option<Leaves>, Refusal>
     requires small { fits (plan_of tree.now) ≡ true }
     requires whole { IsWhole view.now whole.now }
-    ensures value { IfOk result (λ o. MatchOption o (holds view.now atoms.now (plan_of tree.now) ≡ false) (λ l. IsCutUp view.now atoms.now (plan_of tree.now) l.tilings.items (lists l.rests.items))) }
+    ensures value { IfOk result (λ o. MatchOption o (holds view.now atoms.now (plan_of tree.now) ≡ false) (λ l. IsCutUp view.now atoms.now (plan_of tree.now) l.tilings.items (l.rests))) }
     ensures why { IfErr result (λ e. e ≡ Refusal.Memory) }
 {
     let mut frame = Frame::over(alloc, view, whole, atoms)?;

@@ -13,12 +13,14 @@
 #![tactic(auto)]
 
 mod arms;
+mod atom_lists;
 mod cut;
 mod laws;
 mod leaf;
 mod size;
 mod tree;
 
+pub use atom_lists::AtomLists;
 pub use cut::{cut_up, cut_up_over, holds, leaves};
 pub use laws::{
     limits_of_trees, open_paths_add_nothing_hopeless, tree_tilings_belong, trees_keep_holding,

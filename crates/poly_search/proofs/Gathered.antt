@@ -189,9 +189,5 @@ split_rests w wp wl q t u old left new m o ep el first more =
     ∙ ap (λ (x : Walk). (old ++ rests x.scene x.atoms t) ++ b) ep ∙ append_assoc old a b ∙ ap (λ d. old ++ (cond d [] a ++ b)) (sym (open_alive v w.atoms q m o))
 
 -- the leaves of a tree, removed again
-pub tilings_cut : (old new short more : List (List ℕ)) (n : ℕ) → n ≡ length old → new ≡ old ++ more → short ≡ take n new → short ≡ old
-tilings_cut old new short more n len e cut = cut ∙ ap (take n) e ∙ take_at old more n (sym len)
-
-pub rests_cut : (xs ys short : List (Vec Atom Global)) (more : List (List Atom)) (n : ℕ) → n ≡ length xs → lists ys ≡ lists xs ++ more → short ≡ take n ys → lists short ≡ lists xs
-rests_cut xs ys short more n len e cut =
-    ap lists cut ∙ sym (take-map (λ v. v.items) n ys) ∙ ap (take n) e ∙ take_at (lists xs) more n (length-map xs (λ v. v.items) ∙ sym len)
+pub leaves_cut : {X : Type 0} (old new short more : List X) (n : ℕ) → n ≡ length old → new ≡ old ++ more → short ≡ take n new → short ≡ old
+leaves_cut old new short more n len e cut = cut ∙ ap (take n) e ∙ take_at old more n (sym len)

@@ -12,7 +12,6 @@ ghost use Rattle.std.specs.Prelude.{◌≡◌, ◌&&◌, ◌^◌, ◌++◌, [], 
 ghost use Rattle.poly_tiling.specs.Lists.{distinct, mem};
 ghost use Rattle.poly_report.specs.Trees.{Branches, NoArms, Rests};
 ghost use Rattle.poly_report.specs.Shapes.{plan_of, arms_list};
-ghost use Rattle.poly_report.specs.Gather.{lists};
 ghost use Rattle.poly_report.specs.Leaves.{arms_rests, arms_tilings, rests, tilings};
 ghost use Rattle.poly_report.specs.Opened.{arms_opened, opened};
 ghost use Rattle.poly_report.specs.Sizes.{total, arms_total, inner, arms_inner, is_rest, Grown};
@@ -82,17 +81,17 @@ fn dead_end(alloc: Global, growth: &mut Growth, item: Item) -> Tree
     }
 }
 
-fn rest(alloc: Global, frame: &Frame<'_>, growth: &mut Growth) -> Result<Tree, Refusal>
+fn rest(frame: &Frame<'_>, growth: &mut Growth) -> Result<Tree, Refusal>
     requires { 1 ≤ growth.old.nodes }
     ensures tree { IfOk result (λ t. plan_of t ≡ Rests) }
     ensures nodes { OnOk result (growth.new.nodes + 1 ≡ growth.old.nodes) }
     ensures inner { OnOk result (growth.new.inner ≡ growth.old.inner) }
     ensures tilings { OnOk result (growth.new.leaves.tilings.items ≡ growth.old.leaves.tilings.items) }
-    ensures rests { OnOk result (lists growth.new.leaves.rests.items ≡ lists growth.old.leaves.rests.items ++ frame.now.atoms ∷ []) }
+    ensures rests { OnOk result (growth.new.leaves.rests ≡ growth.old.leaves.rests ++ frame.now.atoms ∷ []) }
     ensures why { IfErr result (λ e. e ≡ Refusal.Memory) }
 {
     growth.nodes -= 1;
-    growth.leaves.push_rest(alloc, frame)?;
+    growth.leaves.push_rest(frame)?;
     Ok(Tree::Rest)
 }
 
@@ -119,13 +118,13 @@ pub fn grow(
     ensures nodes { IfOk result (λ t. growth.new.nodes + total (plan_of t) ≡ growth.old.nodes) }
     ensures inner { IfOk result (λ t. growth.new.inner + inner (plan_of t) ≤ growth.old.inner) }
     ensures tilings { IfOk result (λ t. growth.new.leaves.tilings.items ≡ growth.old.leaves.tilings.items ++ tilings frame.old.scene frame.old.atoms (plan_of t)) }
-    ensures rests { IfOk result (λ t. lists growth.new.leaves.rests.items ≡ lists growth.old.leaves.rests.items ++ rests frame.old.scene frame.old.atoms (plan_of t)) }
+    ensures rests { IfOk result (λ t. growth.new.leaves.rests ≡ growth.old.leaves.rests ++ rests frame.old.scene frame.old.atoms (plan_of t)) }
     ensures kept { OnOk result (kept ≤ growth.new.nodes) }
     ensures root { IfOk result (λ t. root ≡ true → kept + 3 ≤ growth.old.nodes → 1 ≤ growth.old.inner → 2 ≤ depth → is_rest (plan_of t) ≡ false) }
     ensures why { IfErr result (λ e. e ≡ Refusal.Memory) }
 {
     if growth.inner == 0 {
-        return rest(alloc, frame, growth);
+        return rest(frame, growth);
     }
     let open = match frame.first_open() {
         None => {
@@ -137,7 +136,7 @@ pub fn grow(
         Some(p) => p,
     };
     if depth < 2 {
-        return rest(alloc, frame, growth);
+        return rest(frame, growth);
     }
     if let Some(item) = frame.next_due() {
         let options = list_options(alloc, frame, item, &mut growth.spare)?;
@@ -146,7 +145,7 @@ pub fn grow(
         }
         if options.len() < (growth.nodes - kept) as usize {
             if !root && growth.inner < 2 {
-                return rest(alloc, frame, growth);
+                return rest(frame, growth);
             }
             let tree = branch(alloc, frame, growth, kept, depth, &item, &options)?;
             growth.spare.push(options)?;
@@ -154,7 +153,7 @@ pub fn grow(
         }
     }
     if growth.nodes - kept < 3 {
-        return rest(alloc, frame, growth);
+        return rest(frame, growth);
     }
     split(alloc, frame, growth, kept, depth, open)
 }
@@ -180,7 +179,7 @@ fn child(
     ensures nodes { IfOk result (λ t. growth.new.nodes + total (plan_of t) ≡ growth.old.nodes) }
     ensures inner { IfOk result (λ t. growth.new.inner + inner (plan_of t) ≤ growth.old.inner) }
     ensures tilings { IfOk result (λ t. growth.new.leaves.tilings.items ≡ growth.old.leaves.tilings.items ++ tilings frame.old.scene frame.old.atoms (plan_of t)) }
-    ensures rests { IfOk result (λ t. lists growth.new.leaves.rests.items ≡ lists growth.old.leaves.rests.items ++ rests frame.old.scene frame.old.atoms (plan_of t)) }
+    ensures rests { IfOk result (λ t. growth.new.leaves.rests ≡ growth.old.leaves.rests ++ rests frame.old.scene frame.old.atoms (plan_of t)) }
     ensures kept { OnOk result (kept ≤ growth.new.nodes) }
     ensures why { IfErr result (λ e. e ≡ Refusal.Memory) }
 {
@@ -193,7 +192,7 @@ fn child(
         growth.nodes = nodes;
         growth.leaves.tilings.truncate(tilings);
         growth.leaves.rests.truncate(rests);
-        let cut = rest(alloc, frame, growth)?;
+        let cut = rest(frame, growth)?;
         return Ok(cut);
     }
     Ok(tree)
@@ -231,7 +230,7 @@ fn walk_arms(
     ensures nodes { IfOk result (λ a. growth.new.nodes + arms_total (arms_list a.arms.items) ≡ growth.old.nodes) }
     ensures inner { IfOk result (λ a. growth.new.inner + arms_inner (arms_list a.arms.items) + a.held ≤ growth.old.inner) }
     ensures tilings { IfOk result (λ a. growth.new.leaves.tilings.items ≡ growth.old.leaves.tilings.items ++ arms_tilings frame.old.scene frame.old.atoms [] (arms_list a.arms.items)) }
-    ensures rests { IfOk result (λ a. lists growth.new.leaves.rests.items ≡ lists growth.old.leaves.rests.items ++ (arms_rests frame.old.scene frame.old.atoms [] (arms_list a.arms.items) ++ left_over frame.old.atoms (length options.now) a.arms.items)) }
+    ensures rests { IfOk result (λ a. growth.new.leaves.rests ≡ growth.old.leaves.rests ++ (arms_rests frame.old.scene frame.old.atoms [] (arms_list a.arms.items) ++ left_over frame.old.atoms (length options.now) a.arms.items)) }
     ensures why { IfErr result (λ e. e ≡ Refusal.Memory) }
 {
     let start = frame.level();
@@ -247,7 +246,7 @@ fn walk_arms(
                 && j <= held as usize + 1
                 && j <= (growth.nodes - kept) as usize
             {
-                growth.leaves.push_rest(alloc, frame)?;
+                growth.leaves.push_rest(frame)?;
                 frame.backtrack_to(start);
                 return Ok(Arms { arms, held });
             }
@@ -299,7 +298,7 @@ fn branch(
     ensures nodes { IfOk result (λ t. growth.new.nodes + total (plan_of t) ≡ growth.old.nodes) }
     ensures inner { IfOk result (λ t. growth.new.inner + inner (plan_of t) ≤ growth.old.inner) }
     ensures tilings { IfOk result (λ t. growth.new.leaves.tilings.items ≡ growth.old.leaves.tilings.items ++ tilings frame.old.scene frame.old.atoms (plan_of t)) }
-    ensures rests { IfOk result (λ t. lists growth.new.leaves.rests.items ≡ lists growth.old.leaves.rests.items ++ rests frame.old.scene frame.old.atoms (plan_of t)) }
+    ensures rests { IfOk result (λ t. growth.new.leaves.rests ≡ growth.old.leaves.rests ++ rests frame.old.scene frame.old.atoms (plan_of t)) }
     ensures kept { OnOk result (kept ≤ growth.new.nodes) }
     ensures root { IfOk result (λ t. is_rest (plan_of t) ≡ false) }
     ensures why { IfErr result (λ e. e ≡ Refusal.Memory) }
@@ -364,7 +363,7 @@ fn split(
     ensures nodes { IfOk result (λ t. growth.new.nodes + total (plan_of t) ≡ growth.old.nodes) }
     ensures inner { IfOk result (λ t. growth.new.inner + inner (plan_of t) ≤ growth.old.inner) }
     ensures tilings { IfOk result (λ t. growth.new.leaves.tilings.items ≡ growth.old.leaves.tilings.items ++ tilings frame.old.scene frame.old.atoms (plan_of t)) }
-    ensures rests { IfOk result (λ t. lists growth.new.leaves.rests.items ≡ lists growth.old.leaves.rests.items ++ rests frame.old.scene frame.old.atoms (plan_of t)) }
+    ensures rests { IfOk result (λ t. growth.new.leaves.rests ≡ growth.old.leaves.rests ++ rests frame.old.scene frame.old.atoms (plan_of t)) }
     ensures kept { OnOk result (kept ≤ growth.new.nodes) }
     ensures root { IfOk result (λ t. is_rest (plan_of t) ≡ false) }
     ensures why { IfErr result (λ e. e ≡ Refusal.Memory) }

@@ -2,7 +2,6 @@
 ghost use Rattle.std.specs.Prelude.{◌≡◌, ◌≤◌, true, false, IfOk, IfErr};
 ghost use Rattle.poly_frame.specs.Matrices.{IsWhole};
 ghost use Rattle.poly_report.specs.Holds.{holds};
-ghost use Rattle.poly_report.specs.Gather.{lists};
 ghost use Rattle.poly_report.specs.Leaves.{rests, tilings};
 ghost use Rattle.poly_report.specs.Opened.{opened};
 ghost use Rattle.poly_report.specs.Shapes.{plan_of};
@@ -42,7 +41,7 @@ pub fn explore_with_leaves(
     ensures root { IfOk result (λ e. is_rest (plan_of e.tree) ≡ false) }
     ensures smaller { IfOk result (λ e. all_fewer view.now atoms.now (rests view.now atoms.now (plan_of e.tree)) ≡ true) }
     ensures tilings { IfOk result (λ e. e.leaves.tilings.items ≡ tilings view.now atoms.now (plan_of e.tree)) }
-    ensures rests { IfOk result (λ e. lists e.leaves.rests.items ≡ rests view.now atoms.now (plan_of e.tree)) }
+    ensures rests { IfOk result (λ e. e.leaves.rests ≡ rests view.now atoms.now (plan_of e.tree)) }
     ensures why { IfErr result (λ e. e ≡ Refusal.Memory) }
 {
     let whole = Matrix::new(alloc, view)?;
@@ -69,7 +68,7 @@ pub fn explore_over(
     ensures root { IfOk result (λ e. is_rest (plan_of e.tree) ≡ false) }
     ensures smaller { IfOk result (λ e. all_fewer view.now atoms.now (rests view.now atoms.now (plan_of e.tree)) ≡ true) }
     ensures tilings { IfOk result (λ e. e.leaves.tilings.items ≡ tilings view.now atoms.now (plan_of e.tree)) }
-    ensures rests { IfOk result (λ e. lists e.leaves.rests.items ≡ rests view.now atoms.now (plan_of e.tree)) }
+    ensures rests { IfOk result (λ e. e.leaves.rests ≡ rests view.now atoms.now (plan_of e.tree)) }
     ensures why { IfErr result (λ e. e ≡ Refusal.Memory) }
 {
     let mut frame = Frame::over(alloc, view, whole, atoms)?;

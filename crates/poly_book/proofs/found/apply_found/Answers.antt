@@ -1,10 +1,9 @@
-use Rattle.std.proofs.Common.{None, Some, inl, inr, refl, rules, subst, sym, true, ◌≡◌}
+use Rattle.std.proofs.Common.{None, Some, ap, inl, inr, refl, rules, subst, sym, true, ◌∙◌, ◌≡◌}
 use Rattle.std.proofs.lemmas.Result.{IfErr-weaker, IfOk-weaker}
 use Rattle.std.specs.Arc.{arc_value}
 use Rattle.std.specs.List.{position_from}
 use Rattle.std.specs.List.Sorted.{IsNonDecreasingBy}
 use Rattle.std.specs.Prelude.{◌==◌}
-use Rattle.poly_report.specs.Gather.{lists}
 use Rattle.poly_report.specs.Shapes.{plan_of}
 use Rattle.poly_book.specs.declared.task.Pending.{Pending}
 use Rattle.poly_book.specs.Findings.{HasAtoms}
@@ -32,10 +31,10 @@ returns-then-branch-clause-ok c =
     let f = c.args.found in
     let k = f.report.task in
     let tree = plan_of f.report.tree in
-    let first : position_from (λ (p : Pending). p.number == k) 0 a.tasks.items ≡ Some c.in-Some.at = search rules in
+    let first : position_from (λ (p : Pending). p.number == k) 0 a.tasks.items ≡ Some c.in-Some.at = ap (λ ps. position_from (λ (p : Pending). p.number == k) 0 ps) (sym c.deref.ensures.value) ∙ sym c.index_of.ensures ∙ c.in-Some.is in
     let same : c.in_ok-has_atoms.field-0 ≡ true = search rules in
     let has = subst (λ A. HasAtoms (state_of a).pending k A) c.deref-2.ensures.value (c.in_ok-has_atoms.ensures.same.0 same) in
-    let l : AreLeaves a k c.in-Some.at tree f.leaves.tilings.items (lists f.leaves.rests.items) = found_leaves a k c.in-Some.at (arc_value f.view) f.atoms.items tree f.leaves.tilings.items (lists f.leaves.rests.items) c.requires.view f.right first has in
+    let l : AreLeaves a k c.in-Some.at tree f.leaves.tilings.items f.leaves.rests = found_leaves a k c.in-Some.at (arc_value f.view) f.atoms.items tree f.leaves.tilings.items f.leaves.rests c.requires.view f.right first has in
     IfOk-weaker c.apply_leaves.result _ (λ x. IsApplied k f.report.edition tree (state_of a) (state_of c.apply_leaves.new.parts) x) (λ x h. h k tree l) c.apply_leaves.ensures.ok
 
 pub returns-then-branch-clause-why : goal.returns-then-branch-clause-why
@@ -44,8 +43,8 @@ returns-then-branch-clause-why c =
     let f = c.args.found in
     let k = f.report.task in
     let tree = plan_of f.report.tree in
-    let first : position_from (λ (p : Pending). p.number == k) 0 a.tasks.items ≡ Some c.in-Some.at = search rules in
+    let first : position_from (λ (p : Pending). p.number == k) 0 a.tasks.items ≡ Some c.in-Some.at = ap (λ ps. position_from (λ (p : Pending). p.number == k) 0 ps) (sym c.deref.ensures.value) ∙ sym c.index_of.ensures ∙ c.in-Some.is in
     let same : c.in_ok-has_atoms.field-0 ≡ true = search rules in
     let has = subst (λ A. HasAtoms (state_of a).pending k A) c.deref-2.ensures.value (c.in_ok-has_atoms.ensures.same.0 same) in
-    let l : AreLeaves a k c.in-Some.at tree f.leaves.tilings.items (lists f.leaves.rests.items) = found_leaves a k c.in-Some.at (arc_value f.view) f.atoms.items tree f.leaves.tilings.items (lists f.leaves.rests.items) c.requires.view f.right first has in
+    let l : AreLeaves a k c.in-Some.at tree f.leaves.tilings.items f.leaves.rests = found_leaves a k c.in-Some.at (arc_value f.view) f.atoms.items tree f.leaves.tilings.items f.leaves.rests c.requires.view f.right first has in
     IfErr-weaker c.apply_leaves.result _ (λ e. IsNotApplied k tree (state_of a) e) (λ e h. inr (inr (h k tree l))) c.apply_leaves.ensures.why

@@ -1,40 +1,71 @@
-use Rattle.std.proofs.Common.{List, [], ap, arith, inl, replicate, rules, sym, refl, ◌∙◌, ◌≡◌, false}
-use Rattle.std.proofs.lemmas.List.{length-replicate}
-use Rattle.std.specs.Vec.Iter.{into_iter_items}
+use Rattle.std.proofs.Common.{Bool, List, [], ap, arith, drop, false, get_or, inl, length, not, refl, replicate, subst, suc, sym, true, ◌+◌, ◌<◌, ◌∙◌, ◌∷◌, ◌≡◌}
+use Rattle.std.proofs.Math.Seq.{drop-cons}
+use Rattle.std.proofs.lemmas.List.{length-replicate, length_push}
+use Rattle.std.specs.Arc.{arc_value}
 use Rattle.poly_atom.specs.declared.atom.Atom.{Atom}
 use Rattle.poly_atom.specs.Hopeless.{hopeless}
-use Rattle.poly_report.specs.Gather.{lists}
-use Rattle.poly_book.proofs.Held.{opening_more, opening_over}
+use Rattle.poly_book.specs.Tasks.{AreHopeful}
+use Rattle.poly_book.specs.declared.task.Own.TheVariants.{Listed}
+use Rattle.poly_book.specs.declared.task.Pending.{Pending}
+use Rattle.poly_book.proofs.Held.{opening_more, opening_over, opening_skip}
 use Rattle.poly_book.proofs.Hoping.{first_hopeful}
+use Rattle.poly_book.proofs.fresh.opened.Goals.{then-branch+else-number-gt-LAST+in_ok-try_clone+in_ok-push, else-branch}
 use Rattle.poly_book.proofs.fresh.opened.Goals as goal
 
-pub loop-own-preserved-then-is_opened : goal.loop-own-preserved-then-is_opened
-loop-own-preserved-then-is_opened c =
-    let w = c.args.view.now in
-    let A = c.in-Some.own.items in
-    let fresh : hopeless w A ≡ false = search rules in
-    let rest = lists (into_iter_items c.next.new.self) in
-    record {
-      same = λ log le.
-          let before = rw c.in-Some.ensures.steps.0 at c.loop-own.invariant.same log le in
-          rw c.in_ok-push.ensures.items (opening_more log c.args.next c.loop-own.number w (lists c.args.all.items) rest A c.loop-own.tasks.items _ fresh refl (ap (λ v. v.items) c.in_ok-shared.ensures.ok) tt (sym le) before);
-      number = grind (arith, c.loop-own.invariant.number);
-      few = grind (arith, c.loop-own.invariant.few);
-      sure = λ yes. (first_hopeful w A rest (rw c.in-Some.ensures.steps.0 at c.loop-own.invariant.sure yes)).1;
-    }
+opposite : (b c : Bool) → not b ≡ c → b ≡ not c
+opposite true c h = ap not h
+opposite false c h = ap not h
 
-pub is_opened-requires : goal.is_opened-requires
-is_opened-requires c =
+-- the lists from an index on are the one at the index and those after it
+from_here : (all : List (List Atom)) (i : _) → i < length all → drop i all ≡ get_or all i [] ∷ drop (i + 1) all
+from_here all i within = let next : suc i ≡ i + 1 = omega arith in drop-cons all i [] within ∙ ap (λ n. get_or all i [] ∷ drop n all) next
+
+pub loop-index-preserved : goal.loop-index-preserved
+loop-index-preserved c =
     let w = c.args.view.now in
-    let rest = lists (into_iter_items c.next.new.self) in
-    λ yes. ap (hopeless w) c.deref.ensures.value ∙ (first_hopeful w c.in-Some.own.items rest (rw c.in-Some.ensures.steps.0 at c.loop-own.invariant.sure yes)).0
+    let i = c.loop-index.index in
+    let all = c.args.all in
+    let A = get_or all i [] in
+    let rest = drop (i + 1) all in
+    let within : i < length all = omega (arith, c.len-count.ensures, c.loop-index-test.true) in
+    let cons = from_here all i within in
+    let read : c.in_ok-is_opened.field-0 ≡ not (hopeless w A) = c.in_ok-is_opened.ensures.ok ∙ ap (λ l. not (hopeless w (get_or l i []))) (c.deref.ensures ∙ c.in_ok-shared.ensures.ok) in
+    let sure : c.args.sure ≡ true → AreHopeful w rest = λ yes. (first_hopeful w A rest (subst (AreHopeful w) cons (c.loop-index.invariant.sure yes))).1 in
+    elim c.if-branch.branch [
+      | then-branch+else-number-gt-LAST+in_ok-try_clone+in_ok-push k ↦
+          let fresh = opposite (hopeless w A) true (sym read ∙ k.if-branch.true) in
+          let lists : arc_value k.in_ok-try_clone.field-0 ≡ all = k.in_ok-try_clone.ensures ∙ c.in_ok-shared.ensures.ok in
+          let here : i < length (arc_value k.in_ok-try_clone.field-0) = omega (arith, ap length lists, within) in
+          let task : Pending = record { number = c.loop-index.number; own = Listed k.in_ok-try_clone.field-0 i; made = c.args.made } in
+          let pushed = ap (λ t. t.items) k.tasks-is ∙ k.in_ok-push.ensures.items in
+          record {
+            same = λ log le.
+                rw (pushed, k.number-is)
+                (opening_more log c.args.next c.loop-index.number w all rest A c.loop-index.tasks.items _ fresh refl (ap (λ l. get_or l i []) lists) here (sym le) (rw cons at c.loop-index.invariant.same log le));
+            number = omega (arith, k.number-is, ap length pushed, length_push c.loop-index.tasks.items task, c.loop-index.invariant.number);
+            few = omega (arith, k.number-is, k.if-number-gt-LAST.false);
+            sure = sure;
+          }
+      | else-branch k ↦
+          let gone = opposite (hopeless w A) false (sym read ∙ k.if-branch.false) in
+          record {
+            same = λ log le. rw (ap (λ t. t.items) k.tasks-is, k.number-is) (opening_skip log c.args.next c.loop-index.number w all rest A c.loop-index.tasks.items gone (rw cons at c.loop-index.invariant.same log le));
+            number = omega (arith, k.number-is, ap (λ t. length t.items) k.tasks-is, c.loop-index.invariant.number);
+            few = omega (arith, k.number-is, c.loop-index.invariant.few);
+            sure = sure;
+          }
+    ]
 
 pub returns-then-number-gt-LAST-clause-why : goal.returns-then-number-gt-LAST-clause-why
 returns-then-number-gt-LAST-clause-why c =
     let w = c.args.view.now in
-    let A = c.in-Some.own.items in
-    let fresh : hopeless w A ≡ false = search rules in
-    let rest = lists (into_iter_items c.next.new.self) in
+    let i = c.loop-index.index in
+    let all = c.args.all in
+    let A = get_or all i [] in
+    let within : i < length all = omega (arith, c.len-count.ensures, c.loop-index-test.true) in
+    let cons = from_here all i within in
+    let read : c.in_ok-is_opened.field-0 ≡ not (hopeless w A) = c.in_ok-is_opened.ensures.ok ∙ ap (λ l. not (hopeless w (get_or l i []))) (c.deref.ensures ∙ c.in_ok-shared.ensures.ok) in
+    let fresh = opposite (hopeless w A) true (sym read ∙ c.if-branch.true) in
     let log : List (List Atom) = replicate c.args.made [] in
-    let before = rw c.in-Some.ensures.steps.0 at c.loop-own.invariant.same log (length-replicate c.args.made []) in
-    inl (refl, opening_over log c.args.next c.loop-own.number w (lists c.args.all.items) rest A c.loop-own.tasks.items fresh before c.loop-own.invariant.number c.if-number-gt-LAST.true)
+    let before = rw cons at c.loop-index.invariant.same log (length-replicate c.args.made []) in
+    inl (refl, opening_over log c.args.next c.loop-index.number w all (drop (i + 1) all) A c.loop-index.tasks.items fresh before c.loop-index.invariant.number c.if-number-gt-LAST.true)

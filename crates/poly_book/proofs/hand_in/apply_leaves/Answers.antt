@@ -5,7 +5,6 @@ use Rattle.std.proofs.lemmas.List.{length-reverse, length_push}
 use Rattle.std.specs.List.{list_all}
 use Rattle.poly_tiling.specs.Puzzle.{is_tiling}
 use Rattle.poly_catalogue.specs.Listed.{AreOnce}
-use Rattle.poly_report.specs.Gather.{lists}
 use Rattle.poly_book.specs.declared.step.Ending.TheVariants.{Cut}
 use Rattle.poly_book.specs.Keeps.{state_of}
 use Rattle.poly_book.specs.Opens.{Opens}
@@ -45,15 +44,15 @@ returns-clause-keeps c =
     let l = c.requires.leaves.2 in
     let at : c.view.result.now ≡ a.scene = c.view.ensures in
     let ed : c.len-now.result ≡ length a.log = c.len-now.ensures in
-    let f0 : Opens a.log a.next c.view.result.now (lists c.args.leaves.rests.items) c.in_ok-fresh.fresh.items = c.in_ok-fresh.ensures.ok a.log (sym ed) in
-    let opens = subst (λ z. Opens a.log a.next z (lists c.args.leaves.rests.items) c.in_ok-fresh.fresh.items) at f0 in
+    let f0 : Opens a.log a.next c.view.result.now c.args.leaves.rests c.in_ok-fresh.fresh.items = c.in_ok-fresh.ensures.ok a.log (sym ed) in
+    let opens = subst (λ z. Opens a.log a.next z c.args.leaves.rests c.in_ok-fresh.fresh.items) at f0 in
     let is : x ≡ get_or a.tasks.items c.args.at x = search rules in
     let listed : c.list_all.new.self ≡ a.listed ++ c.args.leaves.tilings.items = c.in_ok-list_all.ensures.ok in
     let tasks : c.push_tasks.new.out.items ≡ (take c.args.at a.tasks.items ++ drop (c.args.at + 1) a.tasks.items) ++ c.in_ok-fresh.fresh.items = search rules in
     let more : c.len-more.result ≡ length c.in_ok-fresh.fresh.items = search rules in
     let few : a.next + length c.in_ok-fresh.fresh.items ≤ 4294967296 = c.in_ok-fresh.ensures.few in
     let ended : c.push_reserved.new.self.items ≡ a.endings.items ++ Cut x.number ∷ [] = search rules in
-    took_keeps c.requires.keeps (took_from a c.requires.leaves.0 c.args.at c.requires.leaves.1 c.args.leaves.tilings.items (lists c.args.leaves.rests.items) x c.list_all.new.self c.push_tasks.new.out.items c.in_ok-fresh.fresh.items c.len-more.result c.push_reserved.new.self.items l is listed tasks opens more few ended)
+    took_keeps c.requires.keeps (took_from a c.requires.leaves.0 c.args.at c.requires.leaves.1 c.args.leaves.tilings.items c.args.leaves.rests x c.list_all.new.self c.push_tasks.new.out.items c.in_ok-fresh.fresh.items c.len-more.result c.push_reserved.new.self.items l is listed tasks opens more few ended)
 
 pub returns-clause-ok : goal.returns-clause-ok
 returns-clause-ok c =
@@ -61,8 +60,8 @@ returns-clause-ok c =
     let x = c.remove-task.result in
     let at : c.view.result.now ≡ a.scene = c.view.ensures in
     let ed : c.len-now.result ≡ length a.log = c.len-now.ensures in
-    let f0 : Opens a.log a.next c.view.result.now (lists c.args.leaves.rests.items) c.in_ok-fresh.fresh.items = c.in_ok-fresh.ensures.ok a.log (sym ed) in
-    let opens = subst (λ z. Opens a.log a.next z (lists c.args.leaves.rests.items) c.in_ok-fresh.fresh.items) at f0 in
+    let f0 : Opens a.log a.next c.view.result.now c.args.leaves.rests c.in_ok-fresh.fresh.items = c.in_ok-fresh.ensures.ok a.log (sym ed) in
+    let opens = subst (λ z. Opens a.log a.next z c.args.leaves.rests c.in_ok-fresh.fresh.items) at f0 in
     let is : x ≡ get_or a.tasks.items c.args.at x = search rules in
     let listed : c.list_all.new.self ≡ a.listed ++ c.args.leaves.tilings.items = c.in_ok-list_all.ensures.ok in
     let tasks : c.push_tasks.new.out.items ≡ (take c.args.at a.tasks.items ++ drop (c.args.at + 1) a.tasks.items) ++ c.in_ok-fresh.fresh.items = search rules in
@@ -74,7 +73,7 @@ returns-clause-ok c =
     let long : length c.push_reserved.new.self.items ≡ length a.endings.items + 1 = ap length ended ∙ length_push a.endings.items (Cut x.number) in
     let steps : c.len-now.result ≡ length (state_of a).steps = ed ∙ c.requires.keeps.log_length ∙ sym (length-reverse a.steps.items) in
     λ k tree l.
-    let t = took_from a k c.args.at tree c.args.leaves.tilings.items (lists c.args.leaves.rests.items) x c.list_all.new.self c.push_tasks.new.out.items c.in_ok-fresh.fresh.items c.len-more.result c.push_reserved.new.self.items l is listed tasks opens more few ended in
+    let t = took_from a k c.args.at tree c.args.leaves.tilings.items c.args.leaves.rests x c.list_all.new.self c.push_tasks.new.out.items c.in_ok-fresh.fresh.items c.len-more.result c.push_reserved.new.self.items l is listed tasks opens more few ended in
     record {
       task = l.task;
       found = l.there;
@@ -94,13 +93,13 @@ returns-in_err-list_all-clause-why c =
     let s = state_of a in
     let at : c.view.result.now ≡ a.scene = c.view.ensures in
     let ed : c.len-now.result ≡ length a.log = c.len-now.ensures in
-    let f0 : Opens a.log a.next c.view.result.now (lists c.args.leaves.rests.items) c.in_ok-fresh.fresh.items = c.in_ok-fresh.ensures.ok a.log (sym ed) in
-    let opens = subst (λ z. Opens a.log a.next z (lists c.args.leaves.rests.items) c.in_ok-fresh.fresh.items) at f0 in
+    let f0 : Opens a.log a.next c.view.result.now c.args.leaves.rests c.in_ok-fresh.fresh.items = c.in_ok-fresh.ensures.ok a.log (sym ed) in
+    let opens = subst (λ z. Opens a.log a.next z c.args.leaves.rests c.in_ok-fresh.fresh.items) at f0 in
     let few : a.next + length c.in_ok-fresh.fresh.items ≤ 4294967296 = c.in_ok-fresh.ensures.few in
-    let low : s.next + length (hopeful s.view (lists c.args.leaves.rests.items)) ≤ 4294967296 = omega (arith, few, opened_length a.log a.next a.scene (lists c.args.leaves.rests.items) c.in_ok-fresh.fresh.items opens) in
+    let low : s.next + length (hopeful s.view c.args.leaves.rests) ≤ 4294967296 = omega (arith, few, opened_length a.log a.next a.scene c.args.leaves.rests c.in_ok-fresh.fresh.items opens) in
     rw (p.1, p.2) (λ k tree l. elim c.in_err-list_all.ensures.why [
       | inl m ↦
           let right = and_from _ _ l.small l.cut.right in
-          inr (inl (m, cut_listed s k l.task tree c.args.leaves.tilings.items l.there right l.cut.tilings (c.in_err-list_all.ensures.full.0 (ap Err m)), cut_within s k l.task tree (lists c.args.leaves.rests.items) l.there right l.cut.rests low))
+          inr (inl (m, cut_listed s k l.task tree c.args.leaves.tilings.items l.there right l.cut.tilings (c.in_err-list_all.ensures.full.0 (ap Err m)), cut_within s k l.task tree c.args.leaves.rests l.there right l.cut.rests low))
       | inr m ↦ inr (inr m)
     ])

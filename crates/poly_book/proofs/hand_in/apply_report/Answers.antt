@@ -3,7 +3,6 @@ use Rattle.std.proofs.lemmas.Result.{IfErr-weaker, IfOk-weaker}
 use Rattle.std.specs.List.{position_from}
 use Rattle.std.specs.List.Sorted.{IsNonDecreasingBy}
 use Rattle.std.specs.Prelude.{◌==◌}
-use Rattle.poly_report.specs.Gather.{lists}
 use Rattle.poly_report.specs.Shapes.{plan_of}
 use Rattle.poly_report.specs.Sizes.{fits}
 use Rattle.poly_book.specs.declared.task.Pending.{Pending}
@@ -36,7 +35,7 @@ apply_leaves-requires-clause-leaves c =
     let f = c.in_ok-leaves.leaves in
     let k = c.args.report.now.task in
     let tree = plan_of c.args.report.now.tree in
-    (k, tree, subst (λ (p : Parts). AreLeaves p k c.in-Some.at tree f.tilings.items (lists f.rests.items)) (sym c.in_ok-leaves.ensures.stays) c.in_ok-leaves.ensures.leaves)
+    (k, tree, subst (λ (p : Parts). AreLeaves p k c.in-Some.at tree f.tilings.items f.rests) (sym c.in_ok-leaves.ensures.stays) c.in_ok-leaves.ensures.leaves)
 
 pub returns-clause-ok : goal.returns-clause-ok
 returns-clause-ok c =
@@ -45,7 +44,7 @@ returns-clause-ok c =
     let k = c.args.report.now.task in
     let tree = plan_of c.args.report.now.tree in
     let same = c.in_ok-leaves.ensures.stays in
-    let l : AreLeaves b k c.in-Some.at tree f.tilings.items (lists f.rests.items) = subst (λ (p : Parts). AreLeaves p k c.in-Some.at tree f.tilings.items (lists f.rests.items)) (sym same) c.in_ok-leaves.ensures.leaves in
+    let l : AreLeaves b k c.in-Some.at tree f.tilings.items f.rests = subst (λ (p : Parts). AreLeaves p k c.in-Some.at tree f.tilings.items f.rests) (sym same) c.in_ok-leaves.ensures.leaves in
     subst (λ (p : Parts). IfOk c.apply_leaves.result (λ a. IsApplied k c.args.report.now.edition tree (state_of p) (state_of c.apply_leaves.new.parts) a)) same
     (IfOk-weaker c.apply_leaves.result _ (λ a. IsApplied k c.args.report.now.edition tree (state_of b) (state_of c.apply_leaves.new.parts) a) (λ a h. h k tree l) c.apply_leaves.ensures.ok)
 
@@ -59,7 +58,7 @@ returns-clause-why c =
     let k = c.args.report.now.task in
     let tree = plan_of c.args.report.now.tree in
     let same = c.in_ok-leaves.ensures.stays in
-    let l : AreLeaves b k c.in-Some.at tree f.tilings.items (lists f.rests.items) = subst (λ (p : Parts). AreLeaves p k c.in-Some.at tree f.tilings.items (lists f.rests.items)) (sym same) c.in_ok-leaves.ensures.leaves in
+    let l : AreLeaves b k c.in-Some.at tree f.tilings.items f.rests = subst (λ (p : Parts). AreLeaves p k c.in-Some.at tree f.tilings.items f.rests) (sym same) c.in_ok-leaves.ensures.leaves in
     subst (λ (p : Parts). IfErr c.apply_leaves.result (λ e. IsNotApplied k tree (state_of p) e)) same
     (IfErr-weaker c.apply_leaves.result _ (λ e. IsNotApplied k tree (state_of b) e) (λ e h. inr (inr (h k tree l))) c.apply_leaves.ensures.why)
 

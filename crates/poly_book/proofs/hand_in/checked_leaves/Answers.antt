@@ -1,5 +1,5 @@
 use Rattle.std.proofs.Common.{Some, ap, arith, get_or, inl, inr, rules, subst, sym, refl, false, ◌∙◌, ◌≡◌}
-use Rattle.poly_report.specs.Gather.{IsCutUp, lists}
+use Rattle.poly_report.specs.Gather.{IsCutUp}
 use Rattle.poly_report.specs.Holds.{holds}
 use Rattle.poly_report.specs.Shapes.{plan_of}
 use Rattle.poly_book.specs.Meaning.{IsTask, task_of}
@@ -32,8 +32,8 @@ returns-clause-leaves c =
     let x = c.index.result.now in
     let is : x ≡ get_or ps c.args.at x = search rules in
     let atoms : c.deref.result.now ≡ atoms_of (task_of log x) = c.deref.ensures.value ∙ c.in_ok-atoms.ensures.ok in
-    let m0 : IsCutUp v c.deref.result.now tree found.tilings.items (lists found.rests.items) = rw c.in-Some.is at c.in_ok-leaves.ensures.value in
-    let m1 = subst (λ A. IsCutUp v A tree found.tilings.items (lists found.rests.items)) atoms m0 in
+    let m0 : IsCutUp v c.deref.result.now tree found.tilings.items found.rests = rw c.in-Some.is at c.in_ok-leaves.ensures.value in
+    let m1 = subst (λ A. IsCutUp v A tree found.tilings.items found.rests) atoms m0 in
     record {
       task = task_of log x;
       first = e;

@@ -1,4 +1,3 @@
-use Rattle.std.proofs.Common.{◌≡◌}
 use Rattle.poly_design.specs.Changes.{changed}
 use Rattle.poly_tiling.proofs.Grown.{grown_on}
 use Rattle.poly_book.proofs.Enough.{plan_enough, plan_over}

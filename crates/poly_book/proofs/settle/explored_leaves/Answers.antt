@@ -1,5 +1,4 @@
 use Rattle.std.proofs.Common.{ap, get_or, rules, subst, sym, true, ◌∙◌, ◌≡◌}
-use Rattle.poly_report.specs.Gather.{lists}
 use Rattle.poly_report.specs.Holds.{holds}
 use Rattle.poly_report.specs.Leaves.{rests, tilings}
 use Rattle.poly_report.specs.Opened.{opened}
@@ -31,11 +30,11 @@ returns-clause-leaves c =
     let atoms : c.deref.result.now ≡ atoms_of u = c.deref.ensures.value ∙ c.in_ok-atoms.ensures.ok in
     let right : holds v (atoms_of u) tree ≡ true = sym (ap (λ A. holds v A tree) atoms) ∙ c.in_ok-found.ensures.holds in
     let found : c.in_ok-found.found.leaves.tilings.items ≡ tilings v (atoms_of u) tree = c.in_ok-found.ensures.tilings ∙ ap (λ A. tilings v A tree) atoms in
-    let left : lists c.in_ok-found.found.leaves.rests.items ≡ rests v (atoms_of u) tree = c.in_ok-found.ensures.rests ∙ ap (λ A. rests v A tree) atoms in
+    let left : c.in_ok-found.found.leaves.rests ≡ rests v (atoms_of u) tree = c.in_ok-found.ensures.rests ∙ ap (λ A. rests v A tree) atoms in
     let fewer : all_fewer v (atoms_of u) (rests v (atoms_of u) tree) ≡ true = sym (ap (λ A. all_fewer v A (rests v A tree)) atoms) ∙ c.in_ok-found.ensures.smaller in (
       x.number,
       tree,
-      found_leaves_at c.args.nodes a x c.args.at tree c.in_ok-found.found.leaves.tilings.items (lists c.in_ok-found.found.leaves.rests.items) c.requires.keeps c.requires.index is c.in_ok-found.ensures.fits right found left c.in_ok-found.ensures.inner c.in_ok-found.ensures.root fewer,
+      found_leaves_at c.args.nodes a x c.args.at tree c.in_ok-found.found.leaves.tilings.items c.in_ok-found.found.leaves.rests c.requires.keeps c.requires.index is c.in_ok-found.ensures.fits right found left c.in_ok-found.ensures.inner c.in_ok-found.ensures.root fewer,
     )
 
 pub returns-clause-sure : goal.returns-clause-sure
@@ -49,5 +48,5 @@ returns-clause-sure c =
     let is : x ≡ get_or ps c.args.at x = search rules in
     let atoms : c.deref.result.now ≡ atoms_of u = c.deref.ensures.value ∙ c.in_ok-atoms.ensures.ok in
     let free : opened v (atoms_of u) tree ≡ true = sym (ap (λ A. opened v A tree) atoms) ∙ c.in_ok-found.ensures.opened in
-    let left : lists c.in_ok-found.found.leaves.rests.items ≡ rests v (atoms_of u) tree = c.in_ok-found.ensures.rests ∙ ap (λ A. rests v A tree) atoms in
+    let left : c.in_ok-found.found.leaves.rests ≡ rests v (atoms_of u) tree = c.in_ok-found.ensures.rests ∙ ap (λ A. rests v A tree) atoms in
     λ n low from. subst (λ L. AreHopeful v L) (sym left) (rests_hopeful v (atoms_of u) tree free (hopeful_at a x c.args.at n low c.requires.index is from))

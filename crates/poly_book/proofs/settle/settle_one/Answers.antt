@@ -1,6 +1,5 @@
 use Rattle.std.proofs.Common.{ap, arith, inr, length, subst, sym, ℕ, ◌+◌, ◌-◌, ◌∙◌, ◌≤◌}
 use Rattle.std.proofs.lemmas.Bool.{leb-true}
-use Rattle.poly_report.specs.Gather.{lists}
 use Rattle.poly_report.specs.Trees.{Plan}
 use Rattle.poly_book.specs.declared.parts.Parts.{Parts}
 use Rattle.poly_book.specs.Keeps.{Keeps, state_of}
@@ -18,13 +17,13 @@ pub apply_leaves-requires-clause-leaves : goal.apply_leaves-requires-clause-leav
 apply_leaves-requires-clause-leaves c =
     let l = c.in_ok-leaves.leaves in
     let m = c.in_ok-leaves.ensures.leaves in
-    subst (λ (p : Parts). (k : ℕ) × (tree : Plan) × AreLeaves p k (c.len-at.result - 1) tree l.tilings.items (lists l.rests.items)) (sym c.in_ok-leaves.ensures.stays) (m.0, m.1, m.2.leaves)
+    subst (λ (p : Parts). (k : ℕ) × (tree : Plan) × AreLeaves p k (c.len-at.result - 1) tree l.tilings.items l.rests) (sym c.in_ok-leaves.ensures.stays) (m.0, m.1, m.2.leaves)
 
 pub apply_leaves-requires-clause-sure : goal.apply_leaves-requires-clause-sure
 apply_leaves-requires-clause-sure c = λ yes.
     let l = c.in_ok-leaves.leaves in
     let low : c.args.unsure.now ≤ c.len-at.result - 1 = leb-true _ _ yes in
-    subst (λ (p : Parts). AreHopeful p.scene (lists l.rests.items)) (sym c.in_ok-leaves.ensures.stays) (c.in_ok-leaves.ensures.sure c.args.unsure.now low c.requires.sure)
+    subst (λ (p : Parts). AreHopeful p.scene l.rests) (sym c.in_ok-leaves.ensures.stays) (c.in_ok-leaves.ensures.sure c.args.unsure.now low c.requires.sure)
 
 pub returns-in-Ok-clause-sure : goal.returns-in-Ok-clause-sure
 returns-in-Ok-clause-sure c =
@@ -34,11 +33,11 @@ returns-in-Ok-clause-sure c =
     let same = c.in_ok-leaves.ensures.stays in
     let n = c.args.unsure.now in
     let at = c.len-at.result - 1 in
-    let there : AreLeaves b l.0 at l.1 f.tilings.items (lists f.rests.items) = subst (λ (p : Parts). AreLeaves p l.0 at l.1 f.tilings.items (lists f.rests.items)) (sym same) l.2.leaves in
+    let there : AreLeaves b l.0 at l.1 f.tilings.items f.rests = subst (λ (p : Parts). AreLeaves p l.0 at l.1 f.tilings.items f.rests) (sym same) l.2.leaves in
     let before : AreHopefulFrom n (state_of b) = subst (λ (p : Parts). AreHopefulFrom n (state_of p)) (sym same) c.requires.sure in
     let last : length b.tasks.items ≤ at + 1 = omega (arith, c.len-at.ensures, ap (λ (p : Parts). length p.tasks.items) same) in
     subst (λ m. AreHopefulFrom m (state_of c.apply_leaves.new.parts)) (sym c.min.ensures)
-    (hopeful_on b (state_of c.apply_leaves.new.parts) l.0 c.len-edition.result l.1 c.in-Ok.field-0 at n f.tilings.items (lists f.rests.items) there last (c.in-Ok.ensures.ok l.0 l.1 there) before)
+    (hopeful_on b (state_of c.apply_leaves.new.parts) l.0 c.len-edition.result l.1 c.in-Ok.field-0 at n f.tilings.items f.rests there last (c.in-Ok.ensures.ok l.0 l.1 there) before)
 
 pub returns-in-Ok-clause-ok : goal.returns-in-Ok-clause-ok
 returns-in-Ok-clause-ok c =
@@ -46,12 +45,12 @@ returns-in-Ok-clause-ok c =
     let f = c.in_ok-leaves.leaves in
     let l = c.in_ok-leaves.ensures.leaves in
     let same = c.in_ok-leaves.ensures.stays in
-    let there : AreLeaves b l.0 (c.len-at.result - 1) l.1 f.tilings.items (lists f.rests.items) = subst (λ (p : Parts). AreLeaves p l.0 (c.len-at.result - 1) l.1 f.tilings.items (lists f.rests.items)) (sym same) l.2.leaves in
+    let there : AreLeaves b l.0 (c.len-at.result - 1) l.1 f.tilings.items f.rests = subst (λ (p : Parts). AreLeaves p l.0 (c.len-at.result - 1) l.1 f.tilings.items f.rests) (sym same) l.2.leaves in
     let made = c.in-Ok.ensures.ok l.0 l.1 there in
-    let grown : AreFoundLeaves c.args.nodes b l.0 (c.len-at.result - 1) l.1 f.tilings.items (lists f.rests.items) = subst (λ (p : Parts). AreFoundLeaves c.args.nodes p l.0 (c.len-at.result - 1) l.1 f.tilings.items (lists f.rests.items)) (sym same) l.2 in
+    let grown : AreFoundLeaves c.args.nodes b l.0 (c.len-at.result - 1) l.1 f.tilings.items f.rests = subst (λ (p : Parts). AreFoundLeaves c.args.nodes p l.0 (c.len-at.result - 1) l.1 f.tilings.items f.rests) (sym same) l.2 in
     let turn : Cuts (state_of b) (state_of c.apply_leaves.new.parts) 1 × IsReported c.args.nodes (state_of b) (state_of c.apply_leaves.new.parts) = (
       applied_cuts l.0 c.len-edition.result l.1 (state_of b) (state_of c.apply_leaves.new.parts) c.in-Ok.field-0 made,
-      found_reported c.args.nodes c.len-edition.result (c.len-at.result - 1) b l.0 l.1 f.tilings.items (lists f.rests.items) (state_of c.apply_leaves.new.parts) c.in-Ok.field-0 grown made,
+      found_reported c.args.nodes c.len-edition.result (c.len-at.result - 1) b l.0 l.1 f.tilings.items f.rests (state_of c.apply_leaves.new.parts) c.in-Ok.field-0 grown made,
     ) in
     subst (λ (p : Parts). Cuts (state_of p) (state_of c.apply_leaves.new.parts) 1 × IsReported c.args.nodes (state_of p) (state_of c.apply_leaves.new.parts)) same turn
 
@@ -64,6 +63,6 @@ returns-in-Err-clause-why c =
     let f = c.in_ok-leaves.leaves in
     let l = c.in_ok-leaves.ensures.leaves in
     let same = c.in_ok-leaves.ensures.stays in
-    let there : AreLeaves b l.0 (c.len-at.result - 1) l.1 f.tilings.items (lists f.rests.items) = subst (λ (p : Parts). AreLeaves p l.0 (c.len-at.result - 1) l.1 f.tilings.items (lists f.rests.items)) (sym same) l.2.leaves in
+    let there : AreLeaves b l.0 (c.len-at.result - 1) l.1 f.tilings.items f.rests = subst (λ (p : Parts). AreLeaves p l.0 (c.len-at.result - 1) l.1 f.tilings.items f.rests) (sym same) l.2.leaves in
     let not : IsNotTurned (state_of b) c.in-Err.refusal = inr (l.0, l.1, there.small, (there.task, there.there, there.cut.right), c.in-Err.ensures.why l.0 l.1 there) in
     subst (λ (p : Parts). IsNotTurned (state_of p) c.in-Err.refusal) same not

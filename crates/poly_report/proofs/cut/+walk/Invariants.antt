@@ -4,7 +4,6 @@ use Rattle.poly_report.specs.Shapes.{arms_list}
 use Rattle.poly_report.specs.Sizes.{arms_total}
 use Rattle.poly_report.specs.Holds.{arms_hold}
 use Rattle.poly_report.specs.Leaves.{arms_rests, arms_tilings}
-use Rattle.poly_report.specs.Gather.{lists}
 use Rattle.poly_report.proofs.cut.+walk.Given as goal
 
 abbrev pub decreases-walk : goal.decreases-walk
@@ -28,5 +27,5 @@ invariant-walk_arms-loop-arm l =
       steps : l.arm-index + arms_total more ≤ arms_total (arms_list l.arms);
       says : arms_hold v A [] (arms_list l.arms) ≡ arms_hold v A before more;
       tilings : l.keep ≡ true → l.out.tilings.items ++ arms_tilings v A before more ≡ l.fn.out.tilings.items ++ arms_tilings v A [] (arms_list l.arms);
-      rests : l.keep ≡ true → lists l.out.rests.items ++ arms_rests v A before more ≡ lists l.fn.out.rests.items ++ arms_rests v A [] (arms_list l.arms);
+      rests : l.keep ≡ true → l.out.rests ++ arms_rests v A before more ≡ l.fn.out.rests ++ arms_rests v A [] (arms_list l.arms);
     }

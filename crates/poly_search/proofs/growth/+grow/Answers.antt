@@ -5,13 +5,12 @@ use Rattle.poly_report.specs.declared.leaf.Leaves.{Leaves}
 use Rattle.poly_report.specs.Trees.{Plan, heads}
 use Rattle.poly_report.proofs.Rows.{plan_of-Branch}
 use Rattle.poly_report.specs.Shapes.{arms_list, plan_of}
-use Rattle.poly_report.specs.Gather.{lists}
 use Rattle.poly_report.specs.Leaves.{rests, tilings}
 use Rattle.std.proofs.lemmas.Bool.{eqb-true, true≢false}
 use Rattle.poly_report.specs.Sizes.{Grown, inner, total}
 use Rattle.poly_frame.specs.Walk.{Walk, is_due}
 use Rattle.poly_search.specs.declared.growth.Growth.{Growth}
-use Rattle.poly_search.proofs.Gathered.{arm_path, branch_rests, branch_tilings, linked_rests, linked_tilings, named_once, rests_cut, rests_next, split_rests, split_tilings, tilings_next}
+use Rattle.poly_search.proofs.Gathered.{arm_path, branch_rests, branch_tilings, linked_rests, linked_tilings, named_once, leaves_cut, rests_next, split_rests, split_tilings, tilings_next}
 use Rattle.poly_search.proofs.Nodes.{back_is, branch_of, option_at, take_whole, split_of, past_next, past_back, dead_end_grown, names_next, total_next, inner_next, grown_next, total_some}
 use Rattle.poly_search.proofs.Links.{chain_grown, chain_inner, chain_no_rest, chain_total, grown_deeper, linked_next}
 use Rattle.poly_search.proofs.Paths.{branch_opened, linked_opened, opened_next, split_opened}
@@ -113,7 +112,7 @@ walk_arms-loop-j-preserved t c =
       nodes = omega (arith, tn, g.nodes, i.nodes, spent.0);
       inner = omega (arith, un, g.inner, i.inner, spent.1);
       tilings = tilings_next w c.pick.new.self c.loop-j.arms.items c.push.new.self.items a p o.0 o.1 under more refl _ c.loop-j.growth.leaves.tilings.items _ i.tilings (g.tilings ∙ ap (λ (l : Leaves). l.tilings.items ++ tilings c.pick.new.self.scene c.pick.new.self.atoms (plan_of a.tree)) same);
-      rests = rests_next w c.pick.new.self c.loop-j.arms.items c.push.new.self.items a p o.0 o.1 under more refl _ (lists c.loop-j.growth.leaves.rests.items) _ i.rests (g.rests ∙ ap (λ (l : Leaves). lists l.rests.items ++ rests c.pick.new.self.scene c.pick.new.self.atoms (plan_of a.tree)) same);
+      rests = rests_next w c.pick.new.self c.loop-j.arms.items c.push.new.self.items a p o.0 o.1 under more refl _ c.loop-j.growth.leaves.rests _ i.rests (g.rests ∙ ap (λ (l : Leaves). l.rests ++ rests c.pick.new.self.scene c.pick.new.self.atoms (plan_of a.tree)) same);
       counted = omega (arith, tn, some, i.counted);
       room = omega (arith, g.kept, i.room);
       grown = grown_next w c.loop-j.frame c.pick.new.self _ c.args.item.now c.loop-j.arms.items c.push.new.self.items a ps j lt r.once r.members here c.pick.ensures i.names more refl i.grown (grown_deeper _ _ _ _ _ shallow g.grown);
@@ -134,9 +133,9 @@ child-returns-then-inner-growth-clause-rests t c =
     let w = c.args.frame.now in
     let old = c.args.growth.now.leaves.rests in
     let cut = c.truncate-then-inner-growth in
-    let back = rests_cut old.items c.grow.new.growth.leaves.rests.items cut.new.self.items _ c.len-rests.result (omega (arith, c.len-rests.ensures, old.ok)) c.in_ok-tree.ensures.rests cut.ensures.items in
-    c.in_ok-cut.ensures.rests ∙ ap (λ xs. xs ++ c.grow.new.frame.atoms ∷ []) back ∙ ap (λ (x : Walk). lists old.items ++ x.atoms ∷ []) c.in_ok-tree.ensures.same
-    ∙ ap (λ p. lists old.items ++ rests w.scene w.atoms p) (sym c.in_ok-cut.ensures.tree)
+    let back = leaves_cut old c.grow.new.growth.leaves.rests cut.new.self _ c.len-rests.result c.len-rests.ensures c.in_ok-tree.ensures.rests cut.ensures in
+    c.in_ok-cut.ensures.rests ∙ ap (λ xs. xs ++ c.grow.new.frame.atoms ∷ []) back ∙ ap (λ (x : Walk). old ++ x.atoms ∷ []) c.in_ok-tree.ensures.same
+    ∙ ap (λ p. old ++ rests w.scene w.atoms p) (sym c.in_ok-cut.ensures.tree)
 
 pub branch-returns-then-len-options-clause-grown : goal.branch-returns-then-len-options-clause-grown
 branch-returns-then-len-options-clause-grown t c =

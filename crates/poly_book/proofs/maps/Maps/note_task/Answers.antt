@@ -11,24 +11,25 @@ use Rattle.poly_book.specs.declared.rows.Span.{Span}
 use Rattle.poly_book.proofs.Mapping.{on_ok_all, on_ok_then, wide_atoms, within}
 use Rattle.poly_book.proofs.maps.Maps.note_task.Goals as goal
 
-pub returns-in-Atoms-clause-prefix : goal.returns-in-Atoms-clause-prefix
-returns-in-Atoms-clause-prefix c =
+pub returns-in_ok-read-in-Listed-clause-prefix : goal.returns-in_ok-read-in-Listed-clause-prefix
+returns-in_ok-read-in-Listed-clause-prefix c =
     let f = c.args.prefix.now in
     let log = c.args.log.now in
     let m = c.note_list.new.self in
     let kept : IsPrefix m log f = λ n h. wide_atoms c.args.self.now m n (take f.count (slice_index_or log f.edition [])) c.note_list.ensures.wider (c.requires.prefix n h) in
     on_ok_all c.note_list.result (IsPrefix m log f) kept
 
-pub returns-in-Atoms-clause-ok : goal.returns-in-Atoms-clause-ok
-returns-in-Atoms-clause-ok c =
+pub returns-in_ok-read-in-Listed-clause-ok : goal.returns-in_ok-read-in-Listed-clause-ok
+returns-in_ok-read-in-Listed-clause-ok c =
     let log = c.args.log.now in
     let k = c.args.number in
     let m = c.note_list.new.self in
     let s : Span = record { from = k; to = k } in
     let f : Atom → Bool = λ a. under m a k in
-    let A = c.deref-in-Atoms.result.now in
+    let A = c.deref-in-Listed.result.now in
     let own = c.args.own.now in
-    let is : own_of log own ≡ A = ap (λ o. own_of log o) c.in-Atoms.is ∙ sym (c.deref-in-Atoms.ensures.value ∙ ap (λ v. v.items) c.deref.ensures) in
+    let read = c.in_ok-read-in-Listed.ensures.ok ∙ ap (λ ls. slice_index_or ls c.in-Listed.index []) c.deref.ensures in
+    let is : own_of log own ≡ A = ap (λ o. own_of log o) c.in-Listed.is ∙ sym (c.deref-in-Listed.ensures.value ∙ read) in
     on_ok_then c.note_list.result ((n : ℕ) → in_span s n ≡ true → list_all (λ a. under m a n) A ≡ true) (list_all f (own_of log own) ≡ true)
     (λ noted. ap (list_all f) is ∙ noted k (within s k (omega arith) (omega arith)))
     c.note_list.ensures.ok

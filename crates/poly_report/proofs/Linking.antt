@@ -1,0 +1,134 @@
+-- What more links change, and what a link says.
+use Rattle.std.proofs.Common.{[], All, List, ap, arith, get_or, length, map, refl, subst, suc, sym, take, zero, ℕ, ◌++◌, ◌+◌, ◌-◌, ◌<◌, ◌∙◌, ◌∷◌, ◌≡◌, ◌≤◌}
+use Rattle.std.proofs.lemmas.List.{append_assoc, get_or_append_left, get_or_push, length_push, map_push, take_more}
+use Rattle.std.proofs.lemmas.List.Elements.{All-push}
+use Rattle.poly_atom.specs.declared.atom.Atom.{Atom}
+use Rattle.poly_report.specs.Linked.{AreEarlier, AreLinked, Extends, GoesOnAt, at_node, ended, nodes, with_links}
+use Rattle.poly_report.specs.declared.atom_lists.Link.{Link}
+
+pub count_nodes : (X : List (List Atom)) (ls : List Link) → length (with_links X ls) ≡ length X + length ls
+count_nodes X [] = omega arith
+count_nodes X (l ∷ ls) =
+    let more = X ++ (get_or X l.before [] ++ l.atom ∷ []) ∷ [] in
+    omega (arith, count_nodes more ls, length_push X (get_or X l.before [] ++ l.atom ∷ []))
+
+-- the lists of earlier nodes stay
+pub earlier_stay : (X : List (List Atom)) (ls : List Link) (n : ℕ) → n < length X → get_or (with_links X ls) n [] ≡ get_or X n []
+earlier_stay X [] n h = refl
+earlier_stay X (l ∷ ls) n h =
+    let new = get_or X l.before [] ++ l.atom ∷ [] in
+    let wide : n < length (X ++ new ∷ []) = omega (arith, length_push X new) in
+    earlier_stay (X ++ new ∷ []) ls n wide ∙ get_or_append_left X (new ∷ []) [] n h
+
+pub with_push : (X : List (List Atom)) (ls : List Link) (l : Link) → with_links X (ls ++ l ∷ []) ≡ with_links X ls ++ (get_or (with_links X ls) l.before [] ++ l.atom ∷ []) ∷ []
+with_push X [] l = refl
+with_push X (k ∷ ks) l = with_push (X ++ (get_or X k.before [] ++ k.atom ∷ []) ∷ []) ks l
+
+pub earlier_push : (n : ℕ) (ls : List Link) (l : Link) → AreEarlier n ls → l.before ≤ n + length ls → AreEarlier n (ls ++ l ∷ [])
+earlier_push n [] l h b = (omega (arith, b), tt)
+earlier_push n (k ∷ ks) l h b = (h.0, earlier_push (suc n) ks l h.1 (omega (arith, b)))
+
+node_count : (ls : List Link) → length (nodes ls) ≡ 1 + length ls
+node_count ls = count_nodes ([] ∷ []) ls
+
+-- a new link is the node after all others, and has one atom more than the node that it leads to
+pub at_push : (ls : List Link) (l : Link) (n : ℕ) → n ≡ length ls + 1 → at_node (ls ++ l ∷ []) n ≡ at_node ls l.before ++ l.atom ∷ []
+at_push ls l n e =
+    let new = at_node ls l.before ++ l.atom ∷ [] in
+    ap (λ X. get_or X n []) (with_push ([] ∷ []) ls l) ∙ get_or_push (nodes ls) new [] n (omega (arith, node_count ls))
+
+pub extends_push : (ls : List Link) (l : Link) → AreEarlier 0 ls → l.before ≤ length ls → Extends ls (ls ++ l ∷ [])
+extends_push ls l h b = record {
+  earlier = earlier_push 0 ls l h (omega (arith, b));
+  longer = omega (arith, length_push ls l);
+  same = λ n m. ap (λ X. get_or X n []) (with_push ([] ∷ []) ls l) ∙ get_or_append_left (nodes ls) ((at_node ls l.before ++ l.atom ∷ []) ∷ []) [] n (omega (arith, node_count ls));
+}
+
+pub extends_self : (ls : List Link) → AreEarlier 0 ls → Extends ls ls
+extends_self ls h = record { earlier = h; longer = omega arith; same = λ n m. refl }
+
+pub extends_on : (old new newer : List Link) → Extends old new → Extends new newer → Extends old newer
+extends_on old new newer f g = record {
+  earlier = g.earlier;
+  longer = omega (arith, f.longer, g.longer);
+  same = λ n m. g.same n (omega (arith, m, f.longer)) ∙ f.same n m;
+}
+
+-- one more atom after a node
+pub extended : (old new : List Link) (l : Link) → Extends old new → l.before ≤ length new → Extends old (new ++ l ∷ [])
+extended old new l f b = extends_on old new (new ++ l ∷ []) f (extends_push new l f.earlier b)
+
+pub no_node : (ls : List Link) → at_node ls 0 ≡ []
+no_node ls = earlier_stay ([] ∷ []) ls 0 (omega arith)
+
+link_among : (X : List (List Atom)) (m : ℕ) (ls : List Link) (i : ℕ) (l : Link) → length X ≡ suc m → AreEarlier m ls → i < length ls → get_or ls i l ≡ l → (get_or (with_links X ls) (length X + i) [] ≡ get_or (with_links X ls) l.before [] ++ l.atom ∷ []) × (l.before ≤ m + i)
+link_among X m [] i l e h n g = absurd (omega (arith, n))
+link_among X m (k ∷ ks) zero l e h n g =
+    let new = get_or X k.before [] ++ k.atom ∷ [] in
+    let more = X ++ new ∷ [] in
+    let longer : length more ≡ length X + 1 = length_push X new in
+    let here : get_or (with_links more ks) (length X + 0) [] ≡ new = earlier_stay more ks (length X + 0) (omega (arith, longer)) ∙ get_or_push X new [] (length X + 0) (omega arith) in
+    let back : get_or (with_links more ks) k.before [] ≡ get_or X k.before [] = earlier_stay more ks k.before (omega (arith, longer, h.0, e)) ∙ get_or_append_left X (new ∷ []) [] k.before (omega (arith, h.0, e)) in
+    subst (λ j. (get_or (with_links more ks) (length X + 0) [] ≡ get_or (with_links more ks) j.before [] ++ j.atom ∷ []) × (j.before ≤ m + 0)) g
+    (here ∙ ap (λ b. b ++ k.atom ∷ []) (sym back), omega (arith, h.0))
+link_among X m (k ∷ ks) (suc i) l e h n g =
+    let new = get_or X k.before [] ++ k.atom ∷ [] in
+    let longer : length (X ++ new ∷ []) ≡ length X + 1 = length_push X new in
+    let on = link_among (X ++ new ∷ []) (suc m) ks i l (omega (arith, longer, e)) h.1 (omega (arith, n)) g in
+    let where_it_is : length (X ++ new ∷ []) + i ≡ length X + suc i = omega (arith, longer) in
+    (ap (λ j. get_or (with_links (X ++ new ∷ []) ks) j []) (sym where_it_is) ∙ on.0, omega (arith, on.1))
+
+-- the link of a node leads to an earlier node, whose list has all atoms of this one but the last
+pub link_at : (ls : List Link) (i : ℕ) (l : Link) → AreEarlier 0 ls → i < length ls → get_or ls i l ≡ l → (at_node ls (i + 1) ≡ at_node ls l.before ++ l.atom ∷ []) × (l.before ≤ i)
+link_at ls i l h n g =
+    let found = link_among ([] ∷ []) 0 ls i l (omega arith) h n g in
+    let where_it_is : length {A = List Atom} ([] ∷ []) + i ≡ i + 1 = omega arith in
+    (ap (λ j. at_node ls j) (sym where_it_is) ∙ found.0, omega (arith, found.1))
+
+-- more links change no list
+pub ended_stay : (old new : List Link) (ends : List ℕ) → Extends old new → All (λ e. e ≤ length old) ends → ended new ends ≡ ended old ends
+ended_stay old new [] f h = refl
+ended_stay old new (e ∷ ends) f h =
+    let here = f.same e (h 0 e (omega arith)) in
+    let there = ended_stay old new ends f (λ k d m. h (suc k) d (omega (arith, m))) in
+    λ i. here i ∷ there i
+
+pub linked_stay : (old new : List Link) (ends : List ℕ) → Extends old new → AreLinked old ends → AreLinked new ends
+linked_stay old new ends f h = record { earlier = f.earlier; inside = λ k d m. omega (arith, h.inside k d m, f.longer) }
+
+-- a list that ends at a node is added
+pub linked_end : (old new : List Link) (ends : List ℕ) (e : ℕ) → Extends old new → AreLinked old ends → e ≤ length new → AreLinked new (ends ++ e ∷ [])
+linked_end old new ends e f h m = record { earlier = f.earlier; inside = All-push (λ n. n ≤ length new) ends e (linked_stay old new ends f h).inside m }
+
+pub ended_end : (old new : List Link) (ends : List ℕ) (e : ℕ) (B : List Atom) → Extends old new → AreLinked old ends → at_node new e ≡ B → ended new (ends ++ e ∷ []) ≡ ended old ends ++ B ∷ []
+ended_end old new ends e B f h is = map_push (λ n. at_node new n) ends e ∙ (λ i. ended_stay old new ends f h.inside i ++ is i ∷ [])
+
+-- a link that leads to the node before and has the next atom of a list
+pub goes_on : (ls : List Link) (node before : ℕ) (list : List Atom) (index : ℕ) (l : Link) (a : Atom) → AreEarlier 0 ls → 0 < node → node ≤ length ls → index < length list → get_or ls (node - 1) l ≡ l → get_or list index a ≡ a → l.before ≡ before → l.atom ≡ a → GoesOnAt ls node before list index
+goes_on ls node before list index l a h some m n g r b e = record {
+  inside = m;
+  room = n;
+  more = λ so_far.
+      let found = link_at ls (node - 1) l h (omega (arith, some, m)) g in
+      let number : (node - 1) + 1 ≡ node = omega (arith, some) in
+      ap (λ j. at_node ls j) (sym number) ∙ found.0 ∙ ap (λ j. at_node ls j ++ l.atom ∷ []) b ∙ (λ i. so_far i ++ e i ∷ [])
+      ∙ ap (λ x. take index list ++ x ∷ []) (sym r) ∙ sym (take_more list index a n);
+}
+
+-- one link more
+pub step_grows : (old now new : List Link) (l : Link) → new ≡ now ++ l ∷ [] → Extends old now → l.before ≤ length now → Extends old new
+step_grows old now new l is f b = subst (λ ls. Extends old ls) (sym is) (extended old now l f b)
+
+pub step_reads : (now new : List Link) (l : Link) (n : ℕ) (B C : List Atom) → new ≡ now ++ l ∷ [] → n ≡ length now + 1 → at_node now l.before ≡ B ++ C → at_node new n ≡ B ++ (C ++ l.atom ∷ [])
+step_reads now new l n B C is number reads =
+    ap (λ ls. at_node ls n) is ∙ at_push now l n number ∙ ap (λ D. D ++ l.atom ∷ []) reads ∙ append_assoc B C (l.atom ∷ [])
+
+-- the lists after more links, with the same ends or with one end more
+pub lists_stay : (old new : List Link) (ends same : List ℕ) (lists : List (List Atom)) → Extends old new → AreLinked old ends → ended old ends ≡ lists → same ≡ ends → ended new same ≡ lists
+lists_stay old new ends same lists f h is e = ap (λ s. ended new s) e ∙ ended_stay old new ends f h.inside ∙ is
+
+pub lists_grow : (old new : List Link) (ends more : List ℕ) (node : ℕ) (B : List Atom) (lists : List (List Atom)) → Extends old new → AreLinked old ends → ended old ends ≡ lists → more ≡ ends ++ node ∷ [] → at_node new node ≡ B → ended new more ≡ lists ++ B ∷ []
+lists_grow old new ends more node B lists f h is e b = ap (λ s. ended new s) e ∙ ended_end old new ends node B f h b ∙ ap (λ l. l ++ B ∷ []) is
+
+pub linked_more : (old new : List Link) (ends more : List ℕ) (node : ℕ) → Extends old new → AreLinked old ends → more ≡ ends ++ node ∷ [] → node ≤ length new → AreLinked new more
+linked_more old new ends more node f h e m = subst (λ s. AreLinked new s) (sym e) (linked_end old new ends node f h m)
