@@ -4,8 +4,8 @@
 # workers too: the replies are the same bytes. In one_turn the turns run out, whatever the number of workers.
 #
 # In a transcript a line that begins with `> ` is typed, and the lines after it are the replies. A line that begins with `#`
-# is a comment, but `# status N` says that the program must end with status N, not 0, and `# arguments WORD..` gives the
-# program's arguments. The blocks of a document between ```text and ``` belong to one transcript, up to the next puzzle line.
+# is a comment, but `# status N` says that the program must end with status N, not 0, `# arguments WORD..` gives the program's
+# arguments, and `# without the last line feed` says that the input ends right after the last line. The blocks of a document between ```text and ``` belong to one transcript, up to the next puzzle line.
 . "$(dirname "${BASH_SOURCE[0]}")/setup.bash"
 
 # Plays the transcript in a file, with further arguments of the program. Failures are reported under `name`.
@@ -13,6 +13,9 @@ play_with() {
     local name=$1 transcript=$2 wanted status arguments
     shift 2
     sed -n 's/^> //p' "$transcript" >"$room/input"
+    if grep -q '^# without the last line feed$' "$transcript"; then
+        truncate -s -1 "$room/input"
+    fi
     sed '/^> /d;/^#/d;/^$/d' "$transcript" >"$room/wanted"
     wanted=$(sed -n 's/^# status //p' "$transcript")
     read -r -a arguments <<<"$(sed -n 's/^# arguments //p' "$transcript")"
@@ -45,6 +48,14 @@ for session in examples/*.txt; do
     sed 's/^/> /' "$session" | cat - "${session%.txt}.out" >"$room/transcript"
     play "$session" "$room/transcript"
 done
+# The refused commands in one input, with a line as long as a line may be, a longer one, and a last line without its line feed.
+{
+    sed '/^no 19 BadCommand$/q' tests/transcripts/refused_commands.txt
+    printf '> %s\nno 19 BadCommand\n' "$(head -c 65536 /dev/zero | tr '\0' x)"
+    printf '> %s\nno 20 LineTooLong\n' "$(head -c 65537 /dev/zero | tr '\0' x)"
+    printf '> status\nstatus edition 0 listed 0 pending 1\n# without the last line feed\n'
+} >"$room/transcript"
+play "refused commands in one input" "$room/transcript"
 for document in README.md docs/GUIDE.md; do
     sed -n '/^```text$/,/^```$/p' "$document" | grep -v '^```' >"$room/transcript"
     awk -v session="$room/session" '/^> \{/ { number++ } { print > (session number) }' "$room/transcript"

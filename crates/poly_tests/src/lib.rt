@@ -1,26 +1,17 @@
-//! Tests that need only public calls: examples with known answers, answers of one crate compared with those of another,
-//! random scripts of events, and whole days at a desk.
+//! Tests that need only public calls, and that no script of the player can be (docs/PLAYER.md): of plain functions and of parts
+//! that a book doesn't show, such as frames, tables and catalogues; enumerations; random scripts of events; threads and whole
+//! days at a desk; and runs with each allocation refused.
 //!
-//! They share some test kits: `designs` (designs from puzzle lines), `books`, `desks`, `trees` (large trees), and
-//! `shared_out`, which compares a book with the plain lister. The crate exports nothing.
+//! They share some test kits: `designs` (designs from puzzle lines), `books`, `desks`, and `shared_out`, which compares a book
+//! with the plain lister. The crate exports nothing.
 #![tactic(auto)]
 
 #[cfg(test)]
 mod answers;
 #[cfg(test)]
-mod atoms;
-#[cfg(test)]
-mod book;
-#[cfg(test)]
 mod books;
 #[cfg(test)]
-mod browse;
-#[cfg(test)]
 mod catalogue;
-#[cfg(test)]
-mod changes;
-#[cfg(test)]
-mod design;
 #[cfg(test)]
 mod designs;
 #[cfg(test)]
@@ -42,14 +33,6 @@ mod full;
 #[cfg(test)]
 mod grids;
 #[cfg(test)]
-mod history;
-#[cfg(test)]
-mod laws;
-#[cfg(test)]
-mod limits;
-#[cfg(test)]
-mod lines;
-#[cfg(test)]
 mod memory;
 #[cfg(test)]
 mod nowhere;
@@ -60,24 +43,14 @@ mod parts;
 #[cfg(test)]
 mod refusals;
 #[cfg(test)]
-mod reports;
-#[cfg(test)]
 mod scripts;
-#[cfg(test)]
-mod searches;
-#[cfg(test)]
-mod settled;
 #[cfg(test)]
 mod shapes;
 #[cfg(test)]
 mod shared_out;
 #[cfg(test)]
-mod solvers;
-#[cfg(test)]
 mod stairs;
 #[cfg(test)]
 mod tables;
-#[cfg(test)]
-mod trees;
 #[cfg(test)]
 mod views;

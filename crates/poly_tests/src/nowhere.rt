@@ -1,11 +1,8 @@
-//! A view without cells and pieces, whose one tiling has no placements; and a new catalogue, which lists nothing.
+//! A frame of a view without cells and pieces, whose one tiling has no placements.
 
 use poly_atom::Atom;
-use poly_catalogue::{Catalogue, plans_lead};
 use poly_frame::Frame;
 use poly_grid::Cell;
-use poly_report::{Leaves, Tree, cut_up, holds, leaves};
-use poly_search::{explore_with_leaves, search_all};
 use poly_tiling::{Item, View};
 use std::alloc::Global;
 use std::process::Abort;
@@ -52,39 +49,4 @@ fn steps_are_taken_back(rt: HostRuntime) {
     expect_atoms(&rt, &frame, &[Atom::Lacks(2), Atom::Has(5), Atom::Lacks(3)]);
     frame.backtrack_to(level);
     expect_atoms(&rt, &frame, &[Atom::Lacks(2), Atom::Has(5)]);
-}
-
-// Asserts how many tilings and rests there are.
-fn expect_sizes(rt: &impl Abort, leaves: &Leaves, want: (usize, usize)) {
-    assert!(rt; (leaves.tilings.len(), leaves.rests.len()) == want);
-}
-
-#[test]
-fn the_reports_that_hold(rt: HostRuntime) {
-    let view = nowhere(rt.alloc());
-    assert!(rt; holds(rt.alloc(), &view, &[], &Tree::Found).expect(&rt, "memory"));
-    let found = cut_up(rt.alloc(), &view, &[], &Tree::Found).expect(&rt, "memory");
-    expect_sizes(&rt, &found.expect(&rt, "it holds"), (1, 0));
-    let lacks = [Atom::Lacks(0)];
-    let left = leaves(rt.alloc(), &view, &lacks, &Tree::Rest).expect(&rt, "memory");
-    expect_sizes(&rt, &left, (0, 1));
-}
-
-#[test]
-fn the_search_finds_one_tiling(rt: HostRuntime) {
-    let view = nowhere(rt.alloc());
-    let explored = explore_with_leaves(rt.alloc(), &view, &[], 1).expect(&rt, "memory");
-    assert!(rt; matches!(&explored.tree, Tree::Found));
-    expect_sizes(&rt, &explored.leaves, (1, 0));
-    let found = search_all(rt.alloc(), &view, &[]).expect(&rt, "memory");
-    assert!(rt; found.len() == 1);
-}
-
-#[test]
-fn nothing_is_listed_at_first(rt: HostRuntime) {
-    let catalogue = Catalogue::new(rt.alloc());
-    assert!(rt; catalogue.is_empty());
-    assert_eq!(rt; catalogue.all().len(), 0);
-    assert!(rt; catalogue.get(0).is_none());
-    plans_lead();
 }

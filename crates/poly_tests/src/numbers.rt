@@ -2,12 +2,11 @@
 ghost use Rattle.poly_place.specs.Right.{IsRight};
 
 use crate::designs::{DOMINOES, change_of, design, placement};
-use crate::views::are;
 use poly_design::{Design, Name};
-use poly_grid::{Cell, Refusal};
+use poly_grid::Cell;
 use poly_place::{Delta, Interner, Table};
-use poly_tiling::{Item, Tiling, View, sort_tilings};
-use std::alloc::{AllocGlobal, Global};
+use poly_tiling::{Item, View};
+use std::alloc::AllocGlobal;
 use std::process::Abort;
 
 fn table_of(rt: &(impl AllocGlobal + Abort), design: &Design) -> Table
@@ -169,34 +168,4 @@ fn numbers_are_given_once(rt: HostRuntime) {
     let all = names.placements().expect(&rt, "memory");
     assert!(rt; all.as_slice() == [there, here].as_slice());
     assert!(rt; names.len() == 2);
-}
-
-// Four lists of numbers, out of order. They name dominoes on two by two cells with an optional cell next to them.
-fn out_of_order(alloc: Global) -> Result<Vec<Tiling>, Refusal> {
-    let mut tilings = Vec::new(alloc);
-    tilings.push(Tiling::new(vec![in alloc; 2, 5]?))?;
-    tilings.push(Tiling::new(vec![in alloc; 3, 4]?))?;
-    tilings.push(Tiling::new(vec![in alloc; 5, 8]?))?;
-    tilings.push(Tiling::new(vec![in alloc; 1, 9]?))?;
-    Ok(tilings)
-}
-
-// A view lists its numbers in the order of their placements, so a new number may come before an old one.
-#[test]
-fn sorted_by_placement(rt: HostRuntime) {
-    let mut design = design(&rt, DOMINOES);
-    let mut table = table_of(&rt, &design);
-    let widen = b"cell 2,0 optional";
-    let _ = led(
-        &rt,
-        &mut table,
-        &mut design,
-        widen,
-        [0, 2, 0, 0, 0, 0, 0, 0],
-    );
-    let view = table.view().expect(&rt, "memory");
-    assert!(rt; view.live() == [0, 1, 8, 2, 3, 4, 5, 9, 6, 7].as_slice());
-    let mut found = out_of_order(rt.alloc()).expect(&rt, "memory");
-    sort_tilings(rt.alloc(), &view, &mut found).expect(&rt, "memory");
-    assert!(rt; are(&found, &[&[1, 9], &[5, 8], &[2, 5], &[3, 4]]));
 }

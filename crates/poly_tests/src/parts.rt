@@ -1,7 +1,7 @@
-//! The parts of a design, its placements, and a change that is undone.
+//! Sets of sets of cells, and a change that is undone.
 ghost use Rattle.std.specs.Prelude.{◌≡◌, OnOk};
 
-use poly_design::{CellsSet, Change, Copies, Design, Edit, Mode, Name, Need};
+use poly_design::{CellsSet, Change, Design, Edit, Mode, Name, Need};
 use poly_grid::{Cell, Grid, Refusal};
 use poly_shape::{Cells, Shape};
 use std::alloc::AllocGlobal;
@@ -19,15 +19,6 @@ fn cell(rt: &impl Abort, x: u64) -> Cell {
 fn two(rt: &impl Abort, left: u64, right: u64) -> Cells {
     let cells = [cell(rt, left), cell(rt, right)];
     Cells::new(&cells).expect(rt, "a set")
-}
-
-#[test]
-fn names_and_copies(rt: HostRuntime) {
-    assert!(rt; named(&rt, b"A_1").as_bytes() == b"A_1".as_slice());
-    assert!(rt; Name::new(b"A-1").is_err());
-    let copies = Copies::new(0, 16).expect(&rt, "copies");
-    assert!(rt; (copies.least(), copies.most()) == (0, 16));
-    assert!(rt; Copies::new(2, 1).is_none());
 }
 
 #[test]
@@ -64,19 +55,6 @@ fn domino(rt: &(impl AllocGlobal + Abort)) -> Design {
     };
     make(rt, &mut design, &add);
     design
-}
-
-#[test]
-fn placements_of_a_design(rt: HostRuntime) {
-    let design = domino(&rt);
-    let name = named(&rt, b"A");
-    assert!(rt; design.grid() == Grid::Square);
-    assert!(rt; (design.cells().len(), design.pieces().len()) == (3, 1));
-    assert!(rt; design.mode(cell(&rt, 3)) == Mode::Blocked);
-    assert!(rt; design.spec(name).is_some());
-    assert!(rt; design.places().expect(&rt, "memory").len() == 2);
-    assert!(rt; design.places_of(name).expect(&rt, "memory").len() == 2);
-    assert!(rt; design.places_on(cell(&rt, 2)).expect(&rt, "memory").len() == 1);
 }
 
 // Makes the edit and undoes it. Returns a copy of the change that undoes it.

@@ -187,6 +187,8 @@ fn enumerations(rt: HostRuntime) {
     for (grid, size, wanted) in [
         (Grid::Square, 4, [19, 7, 5]),
         (Grid::Square, 5, [63, 18, 12]),
+        (Grid::Hex, 1, [1, 1, 1]),
+        (Grid::Hex, 2, [3, 1, 1]),
         (Grid::Hex, 3, [11, 3, 3]),
         (Grid::Hex, 4, [44, 10, 7]),
     ] {

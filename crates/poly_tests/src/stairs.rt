@@ -2,7 +2,7 @@
 ghost use Rattle.std.specs.Prelude.{◌≡◌};
 ghost use Rattle.poly_tiling.specs.declared.item.Item.TheVariants.{Cell as CellItem};
 
-use poly_atom::{Atom, GuardLog, Stair, staircase};
+use poly_atom::{Atom, GuardLog, Stair};
 use poly_grid::{Cell, Refusal};
 use poly_tiling::Item;
 use std::alloc::Global;
@@ -27,18 +27,6 @@ fn at_most(n: u8) -> Atom
     ensures { result ≡ Atom.AtMost (CellItem (record { x = 0; y = 0 })) n }
 {
     Atom::AtMost(Item::Cell(Cell::ORIGIN), n)
-}
-
-#[test]
-fn two_stairs(rt: HostRuntime) -> Result<(), Fail> {
-    let stairs = staircase(rt.alloc(), &[Atom::Lacks(4), Atom::Lacks(7)])?;
-    assert_eq!(rt; stairs.len(), 2);
-    assert_eq!(rt; stairs[0].as_slice(), [Atom::Has(4)].as_slice());
-    assert_eq!(rt;
-        stairs[1].as_slice(),
-        [Atom::Lacks(4), Atom::Has(7)].as_slice()
-    );
-    Ok(())
 }
 
 #[test]

@@ -1,0 +1,170 @@
+#!/usr/bin/env python3
+"""Writes the cases that are too large to be kept as text, in the form of tests/cases.
+
+usage: tests/large_cases.py FOLDER
+
+The answers are worked out here or by tests/reference.py, which shares nothing with the crates.
+"""
+import os
+import sys
+
+from reference import Session
+
+DOMINOES = (
+    '{"format":1,"grid":"square","board":["##","##"],"pieces":'
+    '[{"name":"A","cells":[[0,0],[1,0]]},{"name":"B","cells":[[0,0],[1,0]]}]}'
+)
+HEXES = (
+    '{"format":1,"grid":"hex","board":["##","##"],"pieces":'
+    '[{"name":"A","cells":[[0,0],[1,0],[0,1]]},{"name":"B","cells":[[0,0]]}]}'
+)
+# Two names and optional cells, so that a tiling may leave cells and pieces out.
+LOOSE = (
+    '{"format":2,"grid":"square","board":["#++","++"],"pieces":'
+    '[{"name":"A","cells":[[0,0],[1,0]],"least":0,"most":2},{"name":"B","cells":[[0,0]],"least":0,"most":1}]}'
+)
+NOWHERE = '{"format":1,"grid":"square","board":["."],"pieces":[]}'
+
+
+def report_too_wide():
+    """A Branch with 4,096 arms has 4,097 nodes and is too large. With 4,095 arms it fits, but it doesn't hold."""
+    for arms, answer in ((4096, "no 25 TooLarge"), (4095, "no 24 DoesNotHold")):
+        yield from begin(DOMINOES)
+        yield f"> report r 1 0 branch 0,0{' 0 rest' * arms} end"
+        yield "report on 1 edition 0"
+        yield "> hand_in r"
+        yield answer
+        yield "> cut r"
+        yield answer
+        yield "> numbers"
+        yield "edition 0 endings 0 listed 0 pending 1"
+
+
+def report_too_deep():
+    """A chain of 512 Splits, each below the one before, is 513 nodes deep, which is too large."""
+    yield from begin(DOMINOES)
+    yield f"> report r 1 0{' split 0 rest' * 512} rest"
+    yield "report on 1 edition 0"
+    yield "> hand_in r"
+    yield "no 25 TooLarge"
+    yield "> numbers"
+    yield "edition 0 endings 0 listed 0 pending 1"
+
+
+def report_as_deep_as_allowed():
+    """A chain of 511 Splits on one placement is 512 nodes deep. Below the first Split its placement is dead, so only the
+    first Split's first tree and the last one's second tree become tasks."""
+    yield from begin(DOMINOES)
+    yield f"> report r 1 0{' split 0 rest' * 511} rest"
+    yield "report on 1 edition 0"
+    yield "> hand_in r"
+    yield "applied 1 listed 0 opened 2 first 2"
+    yield from settle(0, 4)
+
+
+def long_lists_of_atoms():
+    """More atoms than a design can have items: first all of them are the same, then each has another placement."""
+    yield from begin(DOMINOES)
+    yield f"> hopeless{' has 0' * 400}"
+    yield "hopeless no"
+    yield "> hopeless " + " ".join(f"has {number}" for number in range(400))
+    yield "hopeless yes"
+
+
+def browse_with_words_repeated():
+    """A question says each of its words 5,000 times."""
+    words = "+A=0,0/1,0 -A=0,1/1,1 @0,0"
+    yield from begin(DOMINOES)
+    yield from settle(0, 4)
+    yield f"> browse {' '.join([words] * 5000)}"
+    yield from answers(Session(DOMINOES.encode()), f"browse {words}")
+
+
+def browse_each_placement_with_each_item():
+    """Tilings that have a placement, or don't have it, and cover an item: for each placement and each item."""
+    for puzzle, edits in (
+        (DOMINOES, []),
+        (DOMINOES, ["pin A 0,0 0,1", "cell 0,0 optional"]),
+        (LOOSE, []),
+        (HEXES, []),
+    ):
+        session = Session(puzzle.encode())
+        yield from begin(puzzle)
+        for edit in edits:
+            session.reply(edit.encode().split())
+            yield f"> {edit}"
+            yield "done *"
+        yield from settle(len(edits), len(session.design.tilings()))
+        items = [f"{x},{y}" for x, y in session.design.cells] + list(session.design.pieces)
+        for name, cells in sorted(session.design.placements()):
+            placement = f"{name}=" + "/".join(f"{x},{y}" for x, y in cells)
+            for item in items:
+                for sign in "+-":
+                    line = f"browse {sign}{placement} @{item}"
+                    yield f"> {line}"
+                    yield from answers(session, line)
+
+
+def the_last_256_can_be_undone():
+    """Of 257 changes the last 256 can be undone, and these can be redone."""
+    yield from begin(DOMINOES)
+    for edition in range(1, 258):
+        yield "> cell 0,0 " + ("optional" if edition % 2 else "required")
+        yield f"done {edition} edit pending *"
+    for edition in range(258, 514):
+        yield "> undo"
+        yield f"done {edition} undo pending *"
+    yield "> undo"
+    yield "no 16 NothingToUndo"
+    yield "> bounds 0,0"
+    yield "bounds 0 1"
+    for edition in range(514, 770):
+        yield "> redo"
+        yield f"done {edition} redo pending *"
+    yield "> redo"
+    yield "no 17 NothingToRedo"
+
+
+def editions_run_out():
+    """A book makes 100,000 changes and then no more."""
+    yield from begin(NOWHERE)
+    for edition in range(1, 100001):
+        yield "> cell 0,0 " + ("optional" if edition % 2 else "blocked")
+        yield f"done {edition} edit pending 1 shelved"
+    yield "> cell 0,0 optional"
+    yield "no 26 Spent"
+    yield "> undo"
+    yield "no 26 Spent"
+    yield "> numbers"
+    yield "edition 100000 endings 0 listed 0 pending 1"
+
+
+def begin(puzzle):
+    return [f"> {puzzle}", "ok 0"]
+
+
+def settle(edition, tilings):
+    return ["> settle 1000 256", "settled by *", "> quiet q", f"quiet edition {edition} tilings {tilings}"]
+
+
+def answers(session, line):
+    return session.reply(line.encode().split())
+
+
+def main():
+    for make in (
+        report_too_wide,
+        report_too_deep,
+        report_as_deep_as_allowed,
+        long_lists_of_atoms,
+        browse_with_words_repeated,
+        browse_each_placement_with_each_item,
+        the_last_256_can_be_undone,
+        editions_run_out,
+    ):
+        with open(os.path.join(sys.argv[1], f"{make.__name__}.txt"), "w", encoding="utf-8") as file:
+            file.writelines(line + "\n" for line in make())
+
+
+if __name__ == "__main__":
+    main()
