@@ -23,6 +23,15 @@ LOOSE = (
     '{"format":2,"grid":"square","board":["#++","++"],"pieces":'
     '[{"name":"A","cells":[[0,0],[1,0]],"least":0,"most":2},{"name":"B","cells":[[0,0]],"least":0,"most":1}]}'
 )
+EIGHT = '{"format":1,"grid":"square","board":["++++++++"],"pieces":[%s]}' % ",".join(
+    '{"name":"%s","cells":[[0,0]],"need":"optional"}' % name for name in "ABCDEFGH"
+)
+OPTIONAL = '{"format":1,"grid":"%s","board":["++","++"],"pieces":[{"name":"A","cells":[[0,0],[1,0]],"need":"optional"}]}'
+STRIP = '{"format":2,"grid":"square","board":["++++"],"pieces":[{"name":"A","cells":[[0,0],[1,0]],"least":0,"most":2}]}'
+EIGHT_DOMINOES = (
+    '{"format":2,"grid":"square","board":["####","####","####","####"],"pieces":'
+    '[{"name":"A","cells":[[0,0],[1,0]],"least":8,"most":8}]}'
+)
 NOWHERE = '{"format":1,"grid":"square","board":["."],"pieces":[]}'
 
 
@@ -139,6 +148,74 @@ def editions_run_out():
     yield "edition 100000 endings 0 listed 0 pending 1"
 
 
+def shelf_over_the_limit():
+    """A report cuts the opening task into nine, and seven of these are worked on until all their tilings are listed: 916,454.
+    A blocked cell then takes all of them away, and its undo would list them again besides the 394,353 of that design: too many.
+
+    How many tasks that takes is not fixed, so 2,000 numbers are tried. Once no task is left, the last report is handed in
+    again and again, and its task is gone."""
+    yield from begin(EIGHT)
+    yield "> report cut 1 0" + "".join(f" split {name}=0,0 rest" for name in "ABCDEFGH") + " rest"
+    yield "report on 1 edition 0"
+    yield "> hand_in cut"
+    yield "applied 1 listed 0 opened 9 first 2"
+    for task in [*range(2, 9), *range(11, 2011)]:
+        yield f"> take j {task}"
+        yield "task *"
+        yield "> explore j r 4096"
+        yield "report on *"
+        yield "> hand_in r"
+        yield "*"
+    yield "> numbers"
+    yield "edition 0 endings * listed 916454 pending 2"
+    yield "> cell 0,0 blocked"
+    yield "done 1 edit pending 2 shelved"
+    yield "> numbers"
+    yield "edition 1 endings * listed 0 pending 1"
+    yield "> settle 100000 256"
+    yield "settled by *"
+    yield "> numbers"
+    yield "edition 1 endings * listed 394353 pending 0"
+    yield "> undo"
+    yield "no 18 CatalogueFull"
+    yield "> numbers"
+    yield "edition 1 endings * listed 394353 pending 0"
+
+
+def lists_of_a_search():
+    """The search and the plain lister find the same tilings, and a settled book lists them."""
+    for puzzle, edits in (
+        (DOMINOES, []),
+        (DOMINOES, ["pin A 0,0 0,1"]),
+        (DOMINOES, ["forbid A 0,0 1,0"]),
+        (DOMINOES, ["pin A 0,0 0,1", "cell 0,0 blocked"]),
+        (DOMINOES, ["drop B"]),
+        (HEXES, []),
+        (LOOSE, []),
+        (NOWHERE, []),
+        (OPTIONAL % "square", []),
+        (OPTIONAL % "hex", []),
+        (STRIP, []),
+        (STRIP, ["copies A 1 1"]),
+        (STRIP, ["copies A 0 0"]),
+        (EIGHT_DOMINOES, []),
+    ):
+        session = Session(puzzle.encode())
+        yield from begin(puzzle)
+        for edit in edits:
+            session.reply(edit.encode().split())
+            yield f"> {edit}"
+            yield "done *"
+        *tilings, _ = answers(session, "list")
+        for verb in ("search_list", "lister_list"):
+            yield f"> {verb}"
+            yield from tilings
+            yield f"found {len(tilings)}"
+        yield from settle(len(edits), len(tilings))
+        yield "> list q"
+        yield from tilings
+
+
 def begin(puzzle):
     return [f"> {puzzle}", "ok 0"]
 
@@ -161,6 +238,8 @@ def main():
         browse_each_placement_with_each_item,
         the_last_256_can_be_undone,
         editions_run_out,
+        shelf_over_the_limit,
+        lists_of_a_search,
     ):
         with open(os.path.join(sys.argv[1], f"{make.__name__}.txt"), "w", encoding="utf-8") as file:
             file.writelines(line + "\n" for line in make())

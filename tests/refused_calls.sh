@@ -9,8 +9,6 @@
 
 # A crate, and the full name of one of its tests.
 tests='
-poly_tests memory::changes_without_memory
-poly_tests memory::reports_without_memory
 poly_tests memory::runs_without_memory
 poly_tests desk_memory::a_day_without_memory
 poly_tests exchange::a_tiling_lost_and_back

@@ -5,7 +5,8 @@
 #
 # In a transcript a line that begins with `> ` is typed, and the lines after it are the replies. A line that begins with `#`
 # is a comment, but `# status N` says that the program must end with status N, not 0, `# arguments WORD..` gives the program's
-# arguments, and `# without the last line feed` says that the input ends right after the last line. The blocks of a document between ```text and ``` belong to one transcript, up to the next puzzle line.
+# arguments, and `# without the last line feed` says that the input ends right after the last line. The blocks of a document
+# between ```text and ``` belong to one transcript, up to the next puzzle line.
 . "$(dirname "${BASH_SOURCE[0]}")/setup.bash"
 
 # Plays the transcript in a file, with further arguments of the program. Failures are reported under `name`.
@@ -48,11 +49,13 @@ for session in examples/*.txt; do
     sed 's/^/> /' "$session" | cat - "${session%.txt}.out" >"$room/transcript"
     play "$session" "$room/transcript"
 done
-# The refused commands in one input, with a line as long as a line may be, a longer one, and a last line without its line feed.
+# The refused commands in one input, with a line as long as a line may be, a longer one, a byte that no text has, and a last line
+# without its line feed.
 {
     sed '/^no 19 BadCommand$/q' tests/transcripts/refused_commands.txt
     printf '> %s\nno 19 BadCommand\n' "$(head -c 65536 /dev/zero | tr '\0' x)"
     printf '> %s\nno 20 LineTooLong\n' "$(head -c 65537 /dev/zero | tr '\0' x)"
+    printf '> drop \xff\nno 6 BadName\n'
     printf '> status\nstatus edition 0 listed 0 pending 1\n# without the last line feed\n'
 } >"$room/transcript"
 play "refused commands in one input" "$room/transcript"
