@@ -56,17 +56,10 @@ fn measure_frame_over(rt: &HostRuntime, view: &View, matrix: &Matrix) -> io::Res
 fn measure_rests(rt: &HostRuntime, view: &View, matrix: &Matrix) -> io::Result<()>
     requires { IsWhole view.now matrix.now }
 {
-    match rests(rt.alloc(), view, matrix) {
-        Ok(tasks) => measure_frames(rt, view, matrix, tasks.as_slice()),
+    match &explore_over(rt.alloc(), view, matrix, &[], NODES) {
+        Ok(explored) => measure_frames(rt, view, matrix, &explored.leaves.rests),
         Err(refusal) => println!(rt; "a report was refused: {}", refusal.name()),
     }
-}
-
-fn rests(alloc: Global, view: &View, matrix: &Matrix) -> Result<Vec<Vec<Atom>>, Refusal>
-    requires { IsWhole view.now matrix.now }
-{
-    let explored = explore_over(alloc, view, matrix, &[], NODES)?;
-    Ok(explored.leaves.rests)
 }
 
 // Measures a frame for each of the tasks. All frames are made several times, because the first ones wait for fresh memory. A

@@ -34,7 +34,8 @@ impl Reply {
         self.bytes(text.as_bytes());
     }
 
-    /// Appends the bytes. Asks for memory a second time if it is refused, since the call whose answer this is has been made.
+    /// Appends the bytes. Asks for memory a second time if it is refused, since the call whose answer this is has been made. If
+    /// that is refused too, leaves the bytes out.
     pub fn bytes(&mut self, bytes: &[u8]) {
         let _ = self.text.reserve(bytes.len());
         let _ = self.text.extend_from_slice(bytes);
@@ -72,13 +73,8 @@ impl Reply {
     /// Appends the refusal's line, with what the refusal counts.
     pub fn refusal(&mut self, refusal: Refusal) {
         self.text(refusal_line(refusal).trim_end());
-        match refusal {
-            Refusal::Busy { pending } => self.field(" pending ", pending),
-            Refusal::Unsettled { seen, found } => {
-                self.field(" seen ", seen);
-                self.field(" found ", found);
-            }
-            _ => {}
+        if let Refusal::Busy { pending } = refusal {
+            self.field(" pending ", pending);
         }
         self.end();
     }
