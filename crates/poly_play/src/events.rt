@@ -78,24 +78,24 @@ fn event_of(alloc: Global, reports: &Slots<Report>, planned: Planned) -> Result<
 /// `run` runs the events that were gathered.
 pub fn run_events(
     alloc: Global,
-    seat: &mut Option<Book>,
+    place: &mut Option<Book>,
     kept: &mut Kept,
     reply: &mut Reply,
 ) -> Result<(), Refusal> {
     let events = gathered(alloc, kept)?;
-    run_all(alloc, seat, reply, events)?;
+    run_all(alloc, place, reply, events)?;
     kept.events.clear();
     Ok(())
 }
 
 fn run_all(
     alloc: Global,
-    seat: &mut Option<Book>,
+    place: &mut Option<Book>,
     reply: &mut Reply,
     events: Vec<Event>,
 ) -> Result<(), Refusal> {
-    match seat.take() {
-        Some(book) => seat_again(seat, reply, run(alloc, book, events)),
+    match place.take() {
+        Some(book) => put_back(place, reply, run(alloc, book, events)),
         None => Err(Refusal::BadCommand),
     }
 }
@@ -104,27 +104,27 @@ fn run_all(
 /// with `Gone`, `TooLarge` or `DoesNotHold`, and runs nothing, if the report couldn't be handed in before them.
 pub fn run_held(
     alloc: Global,
-    seat: &mut Option<Book>,
+    place: &mut Option<Book>,
     kept: &mut Kept,
     reply: &mut Reply,
     slot: &str,
 ) -> Result<(), Refusal> {
     let events = gathered(alloc, kept)?;
     let report = kept.reports.get(Name::new(slot.as_bytes())?)?;
-    run_all_held(alloc, seat, reply, report, events)?;
+    run_all_held(alloc, place, reply, report, events)?;
     kept.events.clear();
     Ok(())
 }
 
 fn run_all_held(
     alloc: Global,
-    seat: &mut Option<Book>,
+    place: &mut Option<Book>,
     reply: &mut Reply,
     report: &Report,
     events: Vec<Event>,
 ) -> Result<(), Refusal> {
-    match seat.take() {
-        Some(book) => seat_again(seat, reply, run_if_held(alloc, book, report, events)),
+    match place.take() {
+        Some(book) => put_back(place, reply, run_if_held(alloc, book, report, events)),
         None => Err(Refusal::BadCommand),
     }
 }
@@ -158,31 +158,31 @@ fn holds_now(alloc: Global, book: &Book, report: &Report) -> Result<(), Refusal>
     Ok(())
 }
 
-fn seat_again(
-    seat: &mut Option<Book>,
+fn put_back(
+    place: &mut Option<Book>,
     reply: &mut Reply,
     ran: Result<Ran, NotRun>,
 ) -> Result<(), Refusal> {
     match ran {
         Ok(ran) => {
-            seat_ran(seat, reply, ran);
+            put_ran(place, reply, ran);
             Ok(())
         }
-        Err(not_run) => Err(seat_not_run(seat, not_run)),
+        Err(not_run) => Err(put_not_run(place, not_run)),
     }
 }
 
-fn seat_ran(seat: &mut Option<Book>, reply: &mut Reply, ran: Ran) {
+fn put_ran(place: &mut Option<Book>, reply: &mut Reply, ran: Ran) {
     let Ran { book, replies } = ran;
-    *seat = Some(book);
+    *place = Some(book);
     for answer in &replies {
         say_answer(reply, answer);
     }
 }
 
-fn seat_not_run(seat: &mut Option<Book>, not_run: NotRun) -> Refusal {
+fn put_not_run(place: &mut Option<Book>, not_run: NotRun) -> Refusal {
     let NotRun { book, why } = not_run;
-    *seat = Some(book);
+    *place = Some(book);
     why
 }
 

@@ -82,11 +82,11 @@ impl Play {
 
     fn begin(&mut self, line: &str) -> Result<(), Refusal> {
         let book = begun(self.alloc, line)?;
-        self.seat(book);
+        self.keep(book);
         Ok(())
     }
 
-    fn seat(&mut self, book: Book) {
+    fn keep(&mut self, book: Book) {
         self.book = Some(book);
         self.reply.text("ok 0\n");
     }
@@ -166,6 +166,7 @@ fn play_read(
     match verb {
         "" => {}
         "numbers" => changes::numbers(book, reply),
+        "listed" => quiets::listed(book, reply),
         "next" => changes::next(book, reply, words)?,
         "pending" => tasks::pending(book, reply)?,
         "places" => views::places(book.design(), reply, words)?,

@@ -1,4 +1,4 @@
-//! All tilings of a book where nothing is pending.
+//! The tilings that a book lists, which are all tilings of its design if nothing is pending.
 
 use crate::names::put_tilings;
 use crate::reply::Reply;
@@ -9,6 +9,11 @@ use poly_browse::classes;
 use poly_design::Name;
 use poly_grid::Refusal;
 use std::alloc::Global;
+
+/// `listed`
+pub fn listed(book: &Book, reply: &mut Reply) {
+    put_tilings(reply, book.view(), book.catalogue().all());
+}
 
 /// `quiet QUIET`
 pub fn quiet(
