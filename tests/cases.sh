@@ -10,9 +10,6 @@ if ! cc -O1 -shared -fPIC -o "$room/refuse.so" tests/refuse_allocation.c -ldl; t
     exit 1
 fi
 if [ ! -x "$player" ]; then
-    scripts/kept.py 2>/dev/null
-fi
-if [ ! -x "$player" ]; then
     (cd crates/poly_play && rt run </dev/null) >"$room/building" 2>&1
 fi
 if [ ! -x "$player" ]; then

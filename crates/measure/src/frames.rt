@@ -1,10 +1,10 @@
 //! What a view's matrix costs, and frames for tasks.
 ghost use Rattle.poly_frame.specs.Matrices.{IsWhole};
 
-use poly_atom::Atom;
 use poly_design::Design;
 use poly_frame::{Frame, Matrix};
 use poly_grid::Refusal;
+use poly_report::AtomLists;
 use poly_search::explore_over;
 use poly_tiling::View;
 use std::alloc::Global;
@@ -68,7 +68,7 @@ fn measure_frames(
     rt: &HostRuntime,
     view: &View,
     matrix: &Matrix,
-    tasks: &[Vec<Atom>],
+    tasks: &AtomLists,
 ) -> io::Result<()>
     requires { IsWhole view.now matrix.now }
 {
@@ -89,12 +89,14 @@ fn make_frames(
     alloc: Global,
     view: &View,
     matrix: &Matrix,
-    tasks: &[Vec<Atom>],
+    tasks: &AtomLists,
 ) -> Result<(), Refusal>
     requires { IsWhole view.now matrix.now }
 {
-    for atoms in tasks {
-        Frame::over(alloc, view, matrix, atoms)?;
+    let mut atoms = Vec::new(alloc);
+    for index in 0..tasks.len() {
+        tasks.read(index, &mut atoms)?;
+        Frame::over(alloc, view, matrix, &atoms)?;
     }
     Ok(())
 }

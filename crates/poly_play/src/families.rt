@@ -105,8 +105,7 @@ pub fn say_leaves(
     let report = reports.get(name(words)?)?;
     let atoms = read_atoms(alloc, view, words)?;
     let leaves = leaves_of(alloc, view, atoms.as_slice(), &report.tree)?;
-    put_leaves(view, reply, &leaves);
-    Ok(())
+    put_leaves(alloc, view, reply, &leaves)
 }
 
 fn leaves_of(alloc: Global, view: &View, atoms: &[Atom], tree: &Tree) -> Result<Leaves, Refusal> {
@@ -134,27 +133,38 @@ pub fn cut(
         return Err(Refusal::TooLarge);
     }
     say_cut(
+        alloc,
         view,
         reply,
         &cut_up(alloc, view, atoms.as_slice(), &report.tree)?,
     )
 }
 
-fn say_cut(view: &View, reply: &mut Reply, cut: &Option<Leaves>) -> Result<(), Refusal> {
+fn say_cut(
+    alloc: Global,
+    view: &View,
+    reply: &mut Reply,
+    cut: &Option<Leaves>,
+) -> Result<(), Refusal> {
     match cut {
-        Some(leaves) => {
-            put_leaves(view, reply, leaves);
-            Ok(())
-        }
+        Some(leaves) => put_leaves(alloc, view, reply, leaves),
         None => Err(Refusal::DoesNotHold),
     }
 }
 
-fn put_leaves(view: &View, reply: &mut Reply, leaves: &Leaves) {
+fn put_leaves(
+    alloc: Global,
+    view: &View,
+    reply: &mut Reply,
+    leaves: &Leaves,
+) -> Result<(), Refusal> {
     put_tilings(reply, view, leaves.tilings.as_slice());
-    for atoms in &leaves.rests {
+    let mut atoms = Vec::new(alloc);
+    for index in 0..leaves.rests.len() {
+        leaves.rests.read(index, &mut atoms)?;
         reply.text("rest");
         reply.atoms(view, atoms.as_slice());
         reply.end();
     }
+    Ok(())
 }
