@@ -5,7 +5,7 @@ usage: scripts/sources.py
 
 The first line is a comment with the version of the toolchain. Each further line is `SHA-256  PATH`, as `sha256sum -c` reads it
 at the top of the repository: crates.txt, and each file under src/ of `polybench` and of the crates below it. Contracts are part
-of these files; definitions, proofs and tests are not compiled.
+of these files; definitions and proofs are not compiled.
 """
 import hashlib
 import os
