@@ -4,9 +4,11 @@
 usage: tests/reference.py <input
 
 It reads a puzzle line and commands and writes the replies of docs/FORMATS.md. It shares nothing with the crates, so
-tests/sessions.py compares the program with it. It knows no limit on time, memory, placements, tilings or guards: puzzles
-have to be small. A `status` line tells the edition and the number of tilings; `tests/sessions.py` says how to compare it.
+tests/sessions.py compares the program with it, and tests/judge.py the player. It knows no limit on time, memory or guards, and
+after the puzzle line none on cells, pieces, placements or tilings: puzzles have to be small. A `status` line tells the edition
+and the number of tilings; `tests/sessions.py` says how to compare it. The exit status is 1 if the puzzle line is refused.
 """
+import functools
 import json
 import re
 import sys
@@ -45,9 +47,13 @@ STEPS = {
     "hex": [(1, 0), (0, 1), (-1, 1), (-1, 0), (0, -1), (1, -1)],
 }
 
+MAX_LINE = 65536
+
 REFUSALS = {
-    2: "BadField", 6: "BadName", 7: "BadShape", 8: "NameTaken", 9: "NoSuchPiece", 10: "BadCell", 14: "NotAPlacement",
-    15: "NoChange", 16: "NothingToUndo", 17: "NothingToRedo", 19: "BadCommand",
+    1: "BadJson", 2: "BadField", 3: "BadFormat", 4: "BadGrid", 5: "BadBoard", 6: "BadName", 7: "BadShape", 8: "NameTaken",
+    9: "NoSuchPiece", 10: "BadCell", 11: "TooManyCells", 12: "TooManyPieces", 13: "TooManyPlacements",
+    14: "NotAPlacement", 15: "NoChange", 16: "NothingToUndo", 17: "NothingToRedo", 19: "BadCommand", 20: "LineTooLong",
+    23: "Gone", 24: "DoesNotHold", 25: "TooLarge",
 }
 
 
@@ -100,22 +106,23 @@ class Design:
             pieces[name] = piece
         return Design(self.grid, self.cells, pieces)
 
+    @functools.lru_cache(maxsize=1000)
     def placements(self):
         """Returns each (name, cells) that the design allows, in placement order."""
         found = set()
         for name, (shape, _, _, mirror, _, forbidden) in self.pieces.items():
             turns = TURNS[self.grid]
-            for turn in turns if mirror else turns[: len(turns) // 2]:
-                turned = normal([turn(x, y) for x, y in shape])
+            turns = turns if mirror else turns[: len(turns) // 2]
+            for turned in {normal([turn(x, y) for x, y in shape]) for turn in turns}:
                 left, top = turned[0]
                 for to_x, to_y in self.cells:
-                    cells = by_row((x - left + to_x, y - top + to_y) for x, y in turned)
+                    cells = tuple((x - left + to_x, y - top + to_y) for x, y in turned)
                     if all(c in self.cells for c in cells) and cells not in forbidden:
                         found.add((name, cells))
         return sorted(found, key=placement_order)
 
-    def tilings(self):
-        """Returns all tilings in order; each is a tuple of placements in placement order."""
+    def tilings(self, enough=float("inf")):
+        """Returns all tilings in order; each is a tuple of placements in placement order. Stops once `enough` are found."""
         cells = by_row(self.cells)
         first = {c: [] for c in cells}
         for placement in self.placements():
@@ -124,9 +131,11 @@ class Design:
         found = []
 
         def extend(at, taken, chosen, used):
+            if len(found) >= enough:
+                return
             if at == len(cells):
-                enough = all(used.get(n, 0) >= p[1] for n, p in self.pieces.items())
-                if enough and pins <= set(chosen):
+                complete = all(used.get(n, 0) >= p[1] for n, p in self.pieces.items())
+                if complete and pins <= set(chosen):
                     found.append(tuple(sorted(chosen, key=placement_order)))
                 return
             cell = cells[at]
@@ -206,21 +215,74 @@ def shape_of(grid, cells):
     return normal(cells)
 
 
+def whole(text):
+    """Reads a whole number of JSON. What isn't one by docs/FORMATS.md becomes another kind of number."""
+    number = int(text)
+    return number if text != "-0" and -(2**63) <= number < 2**64 else float(number)
+
+
+def constant(text):
+    raise ValueError(text)
+
+
+def is_whole(value):
+    return type(value) is int
+
+
+def check(holds, number):
+    """Refuses with the number unless the condition holds."""
+    if not holds:
+        raise Refused(number)
+
+
+def design_of(line):
+    """Returns the design of a puzzle line."""
+    check(len(line) <= MAX_LINE, 20)
+    try:
+        puzzle = json.loads(line.decode(), parse_int=whole, parse_constant=constant)
+    except ValueError:
+        raise Refused(1) from None
+    check(isinstance(puzzle, dict) and set(puzzle) == {"format", "grid", "board", "pieces"}, 2)
+    form, grid, board, pieces = puzzle["format"], puzzle["grid"], puzzle["board"], puzzle["pieces"]
+    check(is_whole(form) and isinstance(grid, str) and isinstance(board, list) and isinstance(pieces, list), 2)
+    check(all(isinstance(row, str) for row in board) and all(isinstance(piece, dict) for piece in pieces), 2)
+    check(form in (1, 2), 3)
+    check(grid in TURNS, 4)
+    check(len(board) <= 64 and all(len(row) <= 64 and set(row) <= set("#+.") for row in board), 5)
+    marks = {(x, y): mark for y, row in enumerate(board) for x, mark in enumerate(row) if mark != "."}
+    check(len(marks) <= 256, 11)
+    check(len(pieces) <= 64, 12)
+    design = Design(grid, {cell: "required" if mark == "#" else "optional" for cell, mark in marks.items()}, {})
+    for piece in pieces:
+        name, parts = piece_of(form, grid, piece)
+        check(name not in design.pieces, 8)
+        design = design.with_piece(name, parts)
+    check(len(design.placements()) <= 20000, 13)
+    return design
+
+
+def piece_of(form, grid, piece):
+    """Returns the name of a piece of a puzzle line, and the piece."""
+    piece = {"mirror": True, **({"need": "required"} if form == 1 else {}), **piece}
+    check(set(piece) == {"name", "cells", "mirror"} | ({"need"} if form == 1 else {"least", "most"}), 2)
+    name, cells = piece["name"], piece["cells"]
+    check(isinstance(name, str) and isinstance(piece["mirror"], bool) and isinstance(cells, list), 2)
+    check(all(isinstance(cell, list) and len(cell) == 2 and all(map(is_whole, cell)) for cell in cells), 2)
+    if form == 1:
+        check(piece["need"] in ("required", "optional"), 2)
+        least, most = int(piece["need"] == "required"), 1
+    else:
+        least, most = piece["least"], piece["most"]
+        check(is_whole(least) and is_whole(most) and 0 <= least <= most <= 16, 2)
+    name_of(name.encode())
+    check(all(0 <= number <= 63 for cell in cells for number in cell), 10)
+    shape = shape_of(grid, [tuple(cell) for cell in cells])
+    return name, (shape, least, most, piece["mirror"], None, frozenset())
+
+
 class Session:
     def __init__(self, line):
-        puzzle = json.loads(line)
-        grid, cells, pieces = puzzle["grid"], {}, {}
-        for y, row in enumerate(puzzle["board"]):
-            for x, mark in enumerate(row):
-                if mark != ".":
-                    cells[x, y] = {"#": "required", "+": "optional"}[mark]
-        for piece in puzzle["pieces"]:
-            least, most = piece.get("least"), piece.get("most")
-            if least is None:
-                least, most = (0, 1) if piece.get("need") == "optional" else (1, 1)
-            shape = shape_of(grid, [tuple(c) for c in piece["cells"]])
-            pieces[piece["name"]] = (shape, least, most, piece.get("mirror", True), None, frozenset())
-        self.design, self.edition, self.undos, self.redos = Design(grid, cells, pieces), 0, [], []
+        self.design, self.edition, self.undos, self.redos = design_of(line), 0, [], []
 
     def move(self, design):
         self.design = design
@@ -407,19 +469,42 @@ def text_of(placements):
     return "".join(f" {n}=" + "/".join(f"{x},{y}" for x, y in cells) for n, cells in placements)
 
 
+def lines_of(data):
+    """Returns the lines of the input, without the carriage return right before a line feed; None for one that is too long."""
+    *lines, last = data.split(b"\n")
+    lines = [line[:-1] if line.endswith(b"\r") and len(line) <= MAX_LINE else line for line in lines]
+    return [line if len(line) <= MAX_LINE else None for line in (lines + [last] if last else lines)]
+
+
+def refusal(refused):
+    number = refused.args[0]
+    return f"no {number} {REFUSALS[number]}"
+
+
+def replies_to(data):
+    """Returns the lines that a session over the input writes, and its exit status."""
+    first, *lines = lines_of(data) or [b""]
+    try:
+        check(first is not None, 20)
+        session = Session(first)
+    except Refused as refused:
+        return [refusal(refused)], 1
+    replies = ["ok 0"]
+    for line in lines:
+        try:
+            check(line is not None, 20)
+            words = [word for word in line.split(b" ") if word]
+            replies += session.reply(words) if words else []
+        except Refused as refused:
+            replies.append(refusal(refused))
+    return replies, 0
+
+
 def main():
-    lines = sys.stdin.buffer.read().split(b"\n")
-    session = Session(lines[0])
-    print("ok 0")
-    for line in lines[1:]:
-        words = [w for w in line.split(b" ") if w]
-        if words:
-            try:
-                print("\n".join(session.reply(words)))
-            except Refused as refused:
-                code = refused.args[0]
-                print(f"no {code} {REFUSALS[code]}")
+    replies, status = replies_to(sys.stdin.buffer.read())
+    print("\n".join(replies))
+    return status
 
 
 if __name__ == "__main__":
-    main()
+    sys.exit(main())
