@@ -32,6 +32,10 @@ EIGHT_DOMINOES = (
     '{"format":2,"grid":"square","board":["####","####","####","####"],"pieces":'
     '[{"name":"A","cells":[[0,0],[1,0]],"least":8,"most":8}]}'
 )
+ROOMY = (
+    '{"format":1,"grid":"square","board":["+++++","+++++","+++++","+++++"],"pieces":'
+    '[{"name":"A","cells":[[0,0],[1,0]],"need":"optional"},{"name":"B","cells":[[0,0]],"need":"optional"}]}'
+)
 NOWHERE = '{"format":1,"grid":"square","board":["."],"pieces":[]}'
 
 
@@ -69,6 +73,29 @@ def report_as_deep_as_allowed():
     yield "> hand_in r"
     yield "applied 1 listed 0 opened 2 first 2"
     yield from settle(0, 4)
+
+
+def undo_without_a_shelf():
+    """A report makes a task of each of the 610 tilings: with or without one of 31 dominoes, and with or without a single cell,
+    of which there are then 18 or 20. Dropping the single cell ends the tasks that have it. Since 610 tasks times its 20
+    placements are over 4,096, no shelf is kept: the undo opens a task for each of these placements."""
+    places = [(n, "/".join(f"{x},{y}" for x, y in cells)) for n, cells in Session(ROOMY.encode()).design.placements()]
+    singles = "".join(f"split B={cells} rest " for name, cells in places if name == "B") + "rest"
+    dominoes = "".join(f"split A={cells} {singles} " for name, cells in places if name == "A")
+    yield from begin(ROOMY)
+    yield f"> report r 1 0 {dominoes}{singles}"
+    yield "report on 1 edition 0"
+    yield "> hand_in r"
+    yield "applied 1 listed 0 opened 610 first 2"
+    yield "> drop B"
+    yield "done 1 edit pending 610 shelved"
+    yield "> numbers"
+    yield f"edition 1 endings {1 + 31 * 18 + 20} listed 0 pending {31 + 1}"
+    yield "> undo"
+    yield f"done 2 undo pending {31 + 1}"
+    yield "> numbers"
+    yield f"edition 2 endings {1 + 31 * 18 + 20} listed 0 pending {31 + 1 + 20}"
+    yield from settle(2, 610)
 
 
 def long_lists_of_atoms():
@@ -233,6 +260,7 @@ def main():
         report_too_wide,
         report_too_deep,
         report_as_deep_as_allowed,
+        undo_without_a_shelf,
         long_lists_of_atoms,
         browse_with_words_repeated,
         browse_each_placement_with_each_item,
