@@ -4,9 +4,10 @@
 usage: tests/reference.py <input
 
 It reads a puzzle line and commands and writes the replies of docs/FORMATS.md. It shares nothing with the crates, so
-tests/sessions.py compares the program with it, and tests/judge.py the player. It knows no limit on time, memory or guards, and
-after the puzzle line none on cells, pieces, placements or tilings: puzzles have to be small. A `status` line tells the edition
-and the number of tilings; `tests/sessions.py` says how to compare it. The exit status is 1 if the puzzle line is refused.
+tests/sessions.py compares the program with it, and tests/judge.py the player. It knows no limit on time, memory or guards,
+and after the puzzle line none on cells, pieces, placements or tilings: puzzles have to be small. A `status` line tells the
+edition and the number of tilings; `tests/sessions.py` says how to compare it. The exit status is 1 if the puzzle line is
+refused.
 """
 import functools
 import json
@@ -476,8 +477,7 @@ def lines_of(data):
     return [line if len(line) <= MAX_LINE else None for line in (lines + [last] if last else lines)]
 
 
-def refusal(refused):
-    number = refused.args[0]
+def refusal(number):
     return f"no {number} {REFUSALS[number]}"
 
 
@@ -488,7 +488,7 @@ def replies_to(data):
         check(first is not None, 20)
         session = Session(first)
     except Refused as refused:
-        return [refusal(refused)], 1
+        return [refusal(refused.args[0])], 1
     replies = ["ok 0"]
     for line in lines:
         try:
@@ -496,7 +496,7 @@ def replies_to(data):
             words = [word for word in line.split(b" ") if word]
             replies += session.reply(words) if words else []
         except Refused as refused:
-            replies.append(refusal(refused))
+            replies.append(refusal(refused.args[0]))
     return replies, 0
 
 
