@@ -17,6 +17,8 @@ import tempfile
 import time
 
 HERE = os.path.dirname(os.path.abspath(__file__))
+sys.path.append(os.path.join(HERE, "..", "tests"))
+import large_sessions  # noqa: E402
 PROGRAM = os.path.join(HERE, "..", "polybench")
 ROUNDS = 25
 
@@ -62,6 +64,10 @@ def sessions():
     yield "982,938 tilings, `count`", [million, "count"], None
     yield "982,938 tilings, `list`", [million, "list"], None
     yield "982,938 tilings, `count`, `browse`, `classes`", [million, "count", "browse", "classes"], None
+    yield "25 edits of a wide board, without a question", large_sessions.wide_edits(16)[0], None
+    yield "`count` of a wide board, which is refused", large_sessions.too_many(16)[0], None
+    yield "99,000 edits of four pentominoes on 4 by 5, `count`", large_sessions.many_edits(99_000)[0], None
+    yield "a new cell beside 6 by 10, undone and redone 400 times", large_sessions.undos_and_redos(400)[0][:-1], None
     yield "the puzzle line of 6 by 10 alone", [six], None
     yield "999,999 times `status`", itertools.chain([six], itertools.repeat("status", 999_999)), None
 
