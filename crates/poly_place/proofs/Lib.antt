@@ -15,3 +15,4 @@ pub mod Found
 pub mod Merging
 pub mod Between
 pub mod Arrives
+mod Begun

@@ -7,6 +7,7 @@ ghost use Rattle.poly_place.specs.Touched.{number_cmp};
 use indexmap::IndexSet;
 use poly_design::Placement;
 use poly_grid::Refusal;
+use poly_tiling::{PlacementBlocks, PlacementList};
 use std::alloc::Global;
 use std::cmp::Ordering;
 use std::marker::Model;
@@ -18,18 +19,21 @@ pub struct Interner {
     alloc: Global,
     /// All placements that have numbers. A placement's number is its index.
     all: IndexSet<Placement>,
+    /// The first of these placements, in blocks that views share.
+    blocks: PlacementBlocks,
 }
 
 impl Model for Interner {
     ghost use Rattle.std.specs.Prelude.{List};
     ghost use Rattle.poly_design.specs.declared.placement.Placement.{Placement};
+    ghost use Rattle.poly_tiling.specs.Blocks.{Begins};
     ghost use Rattle.poly_place.specs.Interned.{AreNumbered};
 
     ghost Value = { List Placement };
 
     ghost view = { λ i. i.all.keys };
 
-    ghost invariant = { λ i. AreNumbered i.all.keys };
+    ghost invariant = { λ i. AreNumbered i.all.keys × Begins i.blocks i.all.keys };
 }
 
 impl Interner {
@@ -42,6 +46,7 @@ impl Interner {
         Interner {
             alloc,
             all: IndexSet::new(alloc),
+            blocks: PlacementBlocks::new(alloc),
         }
     }
 
@@ -92,6 +97,15 @@ impl Interner {
         ensures why { IfErr result (λ e. e ≡ Refusal.Memory) }
     {
         Ok(Vec::from_slice(self.alloc, self.all.as_slice())?)
+    }
+
+    /// All placements, in the order of their numbers, as a list that shares blocks with the lists of other calls. The only
+    /// refusal is `Memory`.
+    pub(crate) fn shared(&self) -> Result<PlacementList, Refusal>
+        ensures ok { IfOk result (λ list. list ≡ self.now) }
+        ensures why { IfErr result (λ e. e ≡ Refusal.Memory) }
+    {
+        PlacementList::sharing(self.alloc, &self.blocks, self.all.as_slice())
     }
 
     /// The number of the placement. If it has none yet, it gets the next one.
@@ -167,12 +181,13 @@ impl Interner {
         Ok(numbers)
     }
 
-    // Makes room for this many more numbers.
+    // Makes room for this many more numbers, and puts the placements that have numbers into blocks.
     fn reserve(&mut self, more: usize) -> Result<(), Refusal>
         ensures same { self.new ≡ self.old }
         ensures why { IfErr result (λ e. e ≡ Refusal.Memory) }
     {
         self.all.reserve(more)?;
+        self.blocks.complete(self.all.as_slice())?;
         Ok(())
     }
 
@@ -180,6 +195,7 @@ impl Interner {
     pub(crate) fn forget_from(&mut self, number: usize)
         ensures { self.new ≡ take number self.old }
     {
+        self.blocks.truncate(number);
         self.all.truncate(number);
     }
 }

@@ -87,9 +87,9 @@ pub(crate) fn view_of(alloc: Global, names: &Interner, numbered: &Numbered) -> R
     ensures ok { IfOk result (λ v. v ≡ numbered_view names.now numbered.now) }
     ensures why { IfErr result (λ e. e ≡ Refusal.Memory) }
 {
-    let placements = names.placements()?;
+    let placements = names.shared()?;
     let live = Vec::from_slice(alloc, &numbered.live)?;
     let bounds = Vec::from_slice(alloc, &numbered.bounds)?;
     let pins = Vec::from_slice(alloc, &numbered.pins)?;
-    Ok(View::with(placements, live, bounds, pins))
+    Ok(View::sharing(placements, live, bounds, pins))
 }

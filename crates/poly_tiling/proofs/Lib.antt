@@ -22,3 +22,4 @@ pub mod Positions
 pub mod Parts
 pub mod Digits
 pub mod Listings
+pub mod Blocked

@@ -8,3 +8,4 @@ pub mod Laws
 pub mod TilingOrder
 pub mod Leading
 pub mod Listings
+pub mod Blocks

@@ -1,6 +1,8 @@
 //! What a tiling is: an exact cover with primary and secondary items and with multiplicities.
 //!
 //! - [`View`]: an immutable snapshot of a design, in which a placement is a number.
+//! - [`PlacementList`]: the placement of each number, in a view. [`PlacementBlocks`]: blocks of [`BLOCK_SIZE`] placements that
+//!   the lists of many views share.
 //! - [`Item`], [`Bound`]: a cell or a piece, and how often a tiling covers it, at least and at most. [`item_list`]: the items
 //!   of a design with their bounds. [`find_bound`]: one item in such a list.
 //! - [`conflict`]: whether two placements are different and share a cell.
@@ -20,6 +22,8 @@ mod lister;
 mod numbering;
 mod numbers;
 mod order;
+mod placement_blocks;
+mod placement_list;
 mod rows;
 mod tiling;
 mod view;
@@ -35,5 +39,7 @@ pub use lister::{MAX_TILINGS, list_tilings};
 pub use numbering::item_list;
 pub use numbers::{ascends, has_all, has_number};
 pub use order::{sort_tilings, tilings_in_order};
+pub use placement_blocks::{BLOCK_SIZE, PlacementBlocks};
+pub use placement_list::PlacementList;
 pub use tiling::Tiling;
 pub use view::{View, find_bound};

@@ -10,6 +10,7 @@ use crate::bound::Bound;
 use crate::conflicts::meets;
 use crate::item::Item;
 use crate::numbers::{ascends, has_all};
+use crate::placement_list::PlacementList;
 use poly_design::{Name, Placement};
 use poly_grid::Cell;
 use std::marker::Model;
@@ -18,8 +19,8 @@ use std::marker::Model;
 /// design now, its items with their bounds, and the pinned numbers.
 #[derive(Drop)]
 pub struct View {
-    /// The placement that each number names, by number.
-    placements: Vec<Placement>,
+    /// The placement that each number names, by number. The views of one table share its blocks.
+    placements: PlacementList,
     /// The numbers that are placements of the design now, in placement order.
     live: Vec<u32>,
     /// The items with their bounds, in item order.
@@ -34,9 +35,9 @@ impl Model for View {
 
     ghost Value = { View };
 
-    ghost view = { λ v. record { placements = v.placements.items; live = v.live.items; bounds = v.bounds.items; pins = v.pins.items } };
+    ghost view = { λ v. record { placements = v.placements; live = v.live.items; bounds = v.bounds.items; pins = v.pins.items } };
 
-    ghost invariant = { λ v. WellNamed (record { placements = v.placements.items; live = v.live.items; bounds = v.bounds.items; pins = v.pins.items }) };
+    ghost invariant = { λ v. WellNamed (record { placements = v.placements; live = v.live.items; bounds = v.bounds.items; pins = v.pins.items }) };
 }
 
 impl View {
@@ -50,6 +51,19 @@ impl View {
     ) -> View
         requires { WellNamed (record { placements = placements.items; live = live.items; bounds = bounds.items; pins = pins.items }) }
         ensures { result ≡ record { placements = placements.items; live = live.items; bounds = bounds.items; pins = pins.items } }
+    {
+        View::sharing(PlacementList::of(placements), live, bounds, pins)
+    }
+
+    /// Does what `with` does, for a list of placements that may share blocks with the lists of other views.
+    pub fn sharing(
+        placements: PlacementList,
+        live: Vec<u32>,
+        bounds: Vec<Bound>,
+        pins: Vec<u32>,
+    ) -> View
+        requires { WellNamed (record { placements = placements; live = live.items; bounds = bounds.items; pins = pins.items }) }
+        ensures { result ≡ record { placements = placements; live = live.items; bounds = bounds.items; pins = pins.items } }
     {
         View {
             placements,
@@ -87,7 +101,7 @@ impl View {
     pub fn placement(&self, number: u32) -> Option<Placement>
         ensures { result ≡ slice_get self.now.placements number }
     {
-        self.placements.get(number as usize).copied()
+        self.placements.get(number).copied()
     }
 
     /// How many numbers were given out. Each number below this count names a placement, and no other number does.
@@ -101,7 +115,7 @@ impl View {
     pub fn covers(&self, number: u32, item: Item) -> bool
         ensures { result ≡ has_item self.now number item }
     {
-        match self.placements.get(number as usize) {
+        match self.placements.get(number) {
             None => false,
             Some(placement) => has(placement, &item),
         }
@@ -114,9 +128,9 @@ impl View {
         if p == q {
             return false;
         }
-        match self.placements.get(p as usize) {
+        match self.placements.get(p) {
             None => false,
-            Some(a) => match self.placements.get(q as usize) {
+            Some(a) => match self.placements.get(q) {
                 None => false,
                 Some(b) => meets(a, b),
             },
@@ -141,7 +155,7 @@ impl View {
     pub(crate) fn is_full(&self, p: u32, numbers: &[u32]) -> bool
         ensures { result ≡ list_any (λ i. is_piece i && nat_le (most self.now i) (count self.now numbers.now i)) (items self.now p) }
     {
-        match self.placements.get(p as usize) {
+        match self.placements.get(p) {
             None => false,
             Some(placement) => self.piece_full(placement.name, placement.cells.as_slice(), numbers),
         }
@@ -192,7 +206,7 @@ impl View {
     fn fits_in(&self, p: u32, numbers: &[u32]) -> bool
         ensures { result ≡ list_all (λ i. nat_le (count self.now numbers.now i) (most self.now i)) (items self.now p) }
     {
-        match self.placements.get(p as usize) {
+        match self.placements.get(p) {
             None => true,
             Some(placement) => self.all_fit(placement.name, placement.cells.as_slice(), numbers),
         }

@@ -1,4 +1,4 @@
-use Rattle.std.proofs.Common.{ap, length, subst, sym, take, ◌∙◌, ◌≡◌}
+use Rattle.std.proofs.Common.{ap, subst, sym, take, ◌∙◌, ◌≡◌}
 use Rattle.poly_tiling.specs.Names.{Grown}
 use Rattle.poly_tiling.specs.Puzzle.{View}
 use Rattle.poly_place.specs.Index.{IsIndexed}
