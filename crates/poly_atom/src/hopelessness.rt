@@ -25,6 +25,10 @@ const MOST_ITEMS: usize = MAX_CELLS + MAX_PIECES;
 // Lists up to this length are compared as they are: gathering first would cost more.
 const FEW_ATOMS: usize = 8;
 
+// A tiling of most boards has fewer placements than this, so most lists ask for fewer. Room for them is cleared much faster
+// than room for one placement of each item.
+const FEW_ASKED: usize = 32;
+
 /// Whether the atoms and the view show, without a search, that no tiling meets all of the atoms. An atom shows this if it
 /// rules out a pin; if it is `AtLeast` above the most of an item of the view, or `AtMost` below the least of one; or if it
 /// asks for a placement that isn't in the design, that another atom rules out, that is in conflict with a pin or with another
@@ -40,9 +44,20 @@ pub fn hopeless(view: &View, atoms: &[Atom]) -> bool
     is_long_hopeless(view, atoms)
 }
 
+// A list that asks for few different placements is compared with these alone.
+fn is_long_hopeless(view: &View, atoms: &[Atom]) -> bool
+    ensures { result ≡ hopeless view.now atoms.now }
+{
+    let mut list = [Atom::Has(0); FEW_ASKED];
+    match gather(&mut list, atoms) {
+        Some(count) => any_bad(view, atoms, &list[..count]),
+        None => is_wide_hopeless(view, atoms),
+    }
+}
+
 // If the list asks for more different placements than can be gathered, and the view has no more items than a design can
 // have, then the list is hopeless.
-fn is_long_hopeless(view: &View, atoms: &[Atom]) -> bool
+fn is_wide_hopeless(view: &View, atoms: &[Atom]) -> bool
     ensures { result ≡ hopeless view.now atoms.now }
 {
     let mut list = [Atom::Has(0); MOST_ITEMS];

@@ -1,6 +1,6 @@
 //! Stairs. The stair of a guard is the list of the guards before it, followed by the guard's negation. So a set that breaks
 //! a guard meets exactly one stair.
-ghost use Rattle.std.specs.Prelude.{IfErr, IfOk, [], length, map, slice_index_or, ◌<◌, ◌≡◌};
+ghost use Rattle.std.specs.Prelude.{IfErr, IfOk, OnOk, [], length, map, slice_index_or, ◌++◌, ◌<◌, ◌≡◌};
 ghost use Rattle.poly_atom.specs.Atoms.{AllSmall};
 ghost use Rattle.poly_atom.specs.Logs.{IsStairOf, stair_of};
 ghost use Rattle.poly_atom.specs.Stairs.{stairs};
@@ -30,6 +30,16 @@ impl Stair {
         let atoms = stair_at(alloc, log.guards_of(self.edition), self.index)?;
         Ok(atoms)
     }
+
+    /// Appends the atoms of the stair to the list. Requires what `atoms` requires. Fails only when out of memory.
+    pub fn append_to(&self, log: &GuardLog, list: &mut Vec<Atom>) -> Result<(), Refusal>
+        requires { IsStairOf log.now self.now }
+        ensures ok { OnOk result (list.new.items ≡ list.old.items ++ stair_of log.now self.now) }
+        ensures why { IfErr result (λ e. e ≡ Refusal.Memory) }
+    {
+        append_stair(log.guards_of(self.edition), self.index, list)?;
+        Ok(())
+    }
 }
 
 /// For each atom, in order, a list: the atoms before it, then its negation. Requires that each atom can be negated. Fails
@@ -53,7 +63,16 @@ fn stair_at(alloc: Global, atoms: &[Atom], index: usize) -> Result<Vec<Atom>, Al
     ensures { IfOk result (λ stair. stair.items ≡ slice_index_or (stairs atoms.now) index []) }
 {
     let mut stair = Vec::with_capacity(alloc, index + 1)?;
-    stair.extend_from_slice(&atoms[..index])?;
-    stair.push(atoms[index].negated())?;
+    append_stair(atoms, index, &mut stair)?;
     Ok(stair)
+}
+
+fn append_stair(atoms: &[Atom], index: usize, list: &mut Vec<Atom>) -> Result<(), AllocError>
+    requires inside { index < length atoms.now }
+    requires small { AllSmall atoms.now }
+    ensures { OnOk result (list.new.items ≡ list.old.items ++ slice_index_or (stairs atoms.now) index []) }
+{
+    list.extend_from_slice(&atoms[..index])?;
+    list.push(atoms[index].negated())?;
+    Ok(())
 }

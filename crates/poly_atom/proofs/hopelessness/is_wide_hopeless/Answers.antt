@@ -1,7 +1,7 @@
 use Rattle.std.proofs.Common.{ap, arith, length, sym, ◌∙◌}
 use Rattle.std.proofs.lemmas.Bool.{le-leb}
 use Rattle.poly_atom.proofs.Crowds.{crowded}
-use Rattle.poly_atom.proofs.hopelessness.is_long_hopeless.Goals as goal
+use Rattle.poly_atom.proofs.hopelessness.is_wide_hopeless.Goals as goal
 
 pub returns-then-items-le-MOST_ITEMS : goal.returns-then-items-le-MOST_ITEMS
 returns-then-items-le-MOST_ITEMS c =
