@@ -1,6 +1,6 @@
 -- What the rows say about the arms of a Branch, about dead placements and about a base with a due item.
-use Rattle.std.proofs.Common.{◌≡◌, ℕ, zero, suc, ◌+◌, ◌-◌, ◌*◌, ◌<◌, ◌≤◌, Bool, true, false, max, not, ◌&&◌, ◌||◌, ltb, leb, List, [], ◌∷◌, ◌++◌, sym, ap, ◌∙◌, arith, length, get_or, take}
-use Rattle.std.specs.List.{list_any}
+use Rattle.std.proofs.Common.{◌≡◌, ℕ, zero, suc, ◌+◌, ◌-◌, ◌*◌, ◌<◌, ◌≤◌, Bool, true, false, max, not, refl, ◌&&◌, ◌||◌, ltb, leb, List, [], ◌∷◌, ◌++◌, sym, ap, ◌∙◌, arith, length, get_or, take}
+use Rattle.std.specs.List.{list_all, list_any}
 use Rattle.std.proofs.lemmas.Bool.{and_from, and_parts, false_from_ne_true, ltb-true, not-true, or_parts}
 use Rattle.std.proofs.lemmas.List.{take_more}
 use Rattle.poly_tiling.specs.declared.item.Item.{Item}
@@ -17,8 +17,10 @@ use Rattle.poly_atom.proofs.Bases.{base_up}
 use Rattle.poly_frame.specs.Open.{least_at, dead, least_with_base, open_in, others, ruled_out, most_at}
 use Rattle.poly_frame.specs.Bits.{in_both}
 use Rattle.poly_frame.specs.FrameItems.{item_of}
+use Rattle.poly_frame.specs.FrameConsistent.{is_consistent}
 use Rattle.poly_frame.specs.FrameSteps.{Kept}
 use Rattle.poly_frame.specs.declared.frame.matrix.Matrix.{Matrix}
+use Rattle.poly_frame.specs.declared.frame.steps.Mark.{Mark}
 use Rattle.poly_frame.specs.declared.frame.table.Table.{Table}
 use Rattle.poly_frame.proofs.Ruled.{least_is}
 use Rattle.poly_frame.proofs.FrameSteps.{top_have, top_level}
@@ -80,7 +82,7 @@ apart f g [] = omega arith
 apart f g (x ∷ xs) = omega (arith, parted (f x) (g x), apart f g xs)
 
 -- the placements that have the item and are not ruled out are counted in two parts: those that are open, and those in the base
-pub loose_parts : (v : View) (A : List Atom) (first : ℕ) (matrix : Matrix) (t : Table) (live have raised marks : List ℕ) → Kept v A first matrix t live have raised marks → (i : Item) →
+pub loose_parts : (v : View) (A : List Atom) (first : ℕ) (matrix : Matrix) (t : Table) (live have raised : List ℕ) (marks : List Mark) → Kept v A first matrix t live have raised marks → (i : Item) →
     tally (λ p. open_in v A p && has_item v p i) matrix.numbers.items + tally (λ p. has_item v p i && (mem v.live p && not (ruled_out v A p))) (base v A)
     ≡ tally (λ p. has_item v p i && not (ruled_out v A p)) v.live
 loose_parts v A first matrix t live have raised marks K i =
@@ -140,16 +142,43 @@ loose_parts v A first matrix t live have raised marks K i =
         (mem_in T x three.1, and_from _ _ one'.0 (and_from _ _ (in_mem v.live x k) one'.1))
 
 -- the row of what is open and the item's row have in common exactly the open placements that have the item
-pub loose_says : (v : View) (A : List Atom) (first : ℕ) (matrix : Matrix) (t : Table) (live have raised marks : List ℕ) → Kept v A first matrix t live have raised marks → (i : Item) (at b : ℕ) → at ≡ length live - matrix.width → b < length v.bounds → same_item (item_of v b) i ≡ true →
+pub loose_says : (v : View) (A : List Atom) (first : ℕ) (matrix : Matrix) (t : Table) (live have raised : List ℕ) (marks : List Mark) → Kept v A first matrix t live have raised marks → (i : Item) (at b : ℕ) → at ≡ length live - matrix.width → b < length v.bounds → same_item (item_of v b) i ≡ true →
     (j : ℕ) → j < length matrix.numbers.items → (open_in v A (get_or matrix.numbers.items j 0) && has_item v (get_or matrix.numbers.items j 0) i) ≡ in_both live at matrix.rows.items (matrix.width * b) j
 loose_says v A first matrix t live have raised marks K i at b e l s j h =
     ap (λ k. open_in v A (get_or matrix.numbers.items j 0) && has_item v (get_or matrix.numbers.items j 0) k) (sym (same_item_is (item_of v b) i s))
     ∙ row_says v A first matrix t live have raised marks K at b e l j h
 
 -- `least_with_base` is the greater of the item's entries in `leasts` and `have`
-pub with_base_says : (v : View) (A : List Atom) (first : ℕ) (matrix : Matrix) (t : Table) (live have raised marks : List ℕ) → Kept v A first matrix t live have raised marks → (i : Item) (b : ℕ) → b < length v.bounds → same_item (item_of v b) i ≡ true →
+pub with_base_says : (v : View) (A : List Atom) (first : ℕ) (matrix : Matrix) (t : Table) (live have raised : List ℕ) (marks : List Mark) → Kept v A first matrix t live have raised marks → (i : Item) (b : ℕ) → b < length v.bounds → same_item (item_of v b) i ≡ true →
     max (get_or t.leasts.items b 0) (get_or have b 0) ≡ least_with_base v A i
 with_base_says v A first matrix t live have raised marks K i b h s =
     let held = top_have v A first matrix t live have raised marks K b h in
     let least_there = K.table.leasts b h ∙ sym ((top_level v A first matrix t live have raised marks K).leasts (item_of v b)) in
     ap (λ n. max n (get_or have b 0)) least_there ∙ ap (λ n. max (least_at v A (item_of v b)) n) held ∙ ap (λ k. least_with_base v A k) (same_item_is (item_of v b) i s)
+
+-- how many pass two tests, if all pass the second one
+tally_both : (f g : ℕ → Bool) (xs : List ℕ) → list_all g xs ≡ true → tally (λ p. f p && g p) xs ≡ tally f xs
+tally_both f g [] h = refl
+tally_both f g (x ∷ xs) h =
+    let hs = and_parts (g x) (list_all g xs) h in
+    omega (arith, ap one (ap (λ b. f x && b) hs.0 ∙ yes (f x)), tally_both f g xs hs.1)
+  where
+    yes : (b : Bool) → (b && true) ≡ b
+    yes true = refl
+    yes false = refl
+
+pub tally_le : (f : ℕ → Bool) (xs : List ℕ) → tally f xs ≤ length xs
+tally_le f [] = omega arith
+tally_le f (x ∷ xs) = omega (arith, one_le (f x), tally_le f xs)
+  where
+    one_le : (b : Bool) → one b ≤ 1
+    one_le true = omega arith
+    one_le false = omega arith
+
+-- if the base is consistent, all members that have the item are placements of the design that are not ruled out
+pub held_says : (v : View) (A : List Atom) (first : ℕ) (matrix : Matrix) (t : Table) (live have raised : List ℕ) (marks : List Mark) → Kept v A first matrix t live have raised marks → (i : Item) (b : ℕ) → b < length v.bounds → same_item (item_of v b) i ≡ true →
+    is_consistent v A ≡ true → get_or have b 0 ≡ tally (λ p. has_item v p i && (mem v.live p && not (ruled_out v A p))) (base v A)
+held_says v A first matrix t live have raised marks K i b h s right =
+    top_have v A first matrix t live have raised marks K b h
+    ∙ ap (λ k. count v (base v A) k) (same_item_is (item_of v b) i s)
+    ∙ sym (tally_both (λ p. has_item v p i) (λ p. mem v.live p && not (ruled_out v A p)) (base v A) right)

@@ -1,10 +1,12 @@
 -- How the rows and the `stands` of a matrix are made, and how a row is cut off.
-use Rattle.std.proofs.Common.{◌≡◌, ℕ, zero, suc, ◌+◌, ◌*◌, ◌<◌, ◌≤◌, Bool, true, false, max, not, ◌&&◌, ◌||◌, eqb, ltb, List, [], ◌∷◌, inl, inr, refl, sym, ap, subst, ◌∙◌, arith, length, get_or, take, replicate}
+use Rattle.std.proofs.Common.{◌≡◌, ℕ, zero, suc, ◌+◌, ◌++◌, ◌-◌, ◌*◌, ◌/◌, ◌%◌, ◌<◌, ◌≤◌, Bool, true, false, max, not, ◌&&◌, ◌||◌, eqb, ltb, List, [], ◌∷◌, inl, inr, refl, sym, ap, subst, ◌∙◌, arith, length, get_or, take, replicate}
 use Rattle.std.specs.List.{list_any, list_all}
 use Rattle.std.proofs.Math.ListN.{set}
 use Rattle.std.proofs.Math.Nat.{mul-le-mul_left}
-use Rattle.std.proofs.lemmas.Bool.{and_from, and_parts, cases_eq, cases_lt, eq-eqb, eqb-true, false_from_ne_true, lt-ltb, ltb-true, ne_eqb, true≢false}
-use Rattle.std.proofs.lemmas.List.{get_or-set_other, get_or-set_same, take_more}
+use Rattle.std.proofs.lemmas.Bool.{and_from, and_parts, cases_eq, cases_lt, eq-eqb, eqb-true, false_from_ne_true, lt-ltb, ltb-true, ne_eqb, or_left, or_right, true≢false}
+use Rattle.std.proofs.lemmas.List.{get_or-append_right, get_or-replicate, get_or-set_other, get_or-set_same, get_or_append_left, length-replicate, take_all, take_more}
+use Rattle.std.proofs.lemmas.Nat.Bits.{bit_at-zero}
+use Rattle.std.specs.Int.{bit_at}
 use Rattle.poly_tiling.specs.Lists.{distinct, one}
 use Rattle.poly_tiling.specs.Puzzle.{View, has_item, items}
 use Rattle.poly_tiling.proofs.Lists.{all_append, any_from, any_in, same_truth}
@@ -93,3 +95,37 @@ cut_past old new j i taken before h = elim (cases_eq j i) [
   | inl e ↦ taken i ∙ own_gone (has_bit old i) (eqb (64 * 0 + j) i) (eq-eqb (64 * 0 + j) i (omega (arith, e)))
   | inr d ↦ taken i ∙ none_and (has_bit old i) (not (eqb (64 * 0 + j) i)) (before (omega (arith, d, h)))
 ]
+
+-- a row that begins with `a` words that have all bits, followed by words that have none
+pub begun_row : (a w x k : ℕ) (row1 row2 : List ℕ) → row1 ≡ replicate a x → k ≡ a → a ≤ w → row2 ≡ take w row1 ++ replicate (w - k) 0 → row2 ≡ replicate a x ++ replicate (w - a) 0
+begun_row a w x k row1 row2 e z h f =
+    f ∙ ap (λ zs. take w zs ++ replicate (w - k) 0) e ∙ ap (λ zs. zs ++ replicate (w - k) 0) (take_all w (replicate a x) (omega (arith, length-replicate a x, h))) ∙ ap (λ n. replicate a x ++ replicate (w - n) 0) z
+
+pub begun_low : (a w x j : ℕ) (row : List ℕ) → row ≡ replicate a x ++ replicate (w - a) 0 → ((t : ℕ) → t < 64 → bit_at x t ≡ 1) → j < 64 * a → has_bit row j ≡ true
+unfolding has_bit
+begun_low a w x j row e ones h =
+    ap (λ ws. eqb (bit_at (get_or ws (j / 64) 0) (j % 64)) 1) e
+    ∙ ap (λ n. eqb (bit_at n (j % 64)) 1) (get_or_append_left (replicate a x) (replicate (w - a) 0) 0 (j / 64) (omega (arith, length-replicate a x, h)))
+    ∙ ap (λ n. eqb (bit_at n (j % 64)) 1) (get_or-replicate a (j / 64) x 0 (omega (arith, h))) ∙ ap (λ b. eqb b 1) (ones (j % 64) (omega arith))
+
+pub begun_high : (a w x j : ℕ) (row : List ℕ) → row ≡ replicate a x ++ replicate (w - a) 0 → 64 * a ≤ j → has_bit row j ≡ false
+unfolding has_bit
+begun_high a w x j row e h =
+    ap (λ ws. eqb (bit_at (get_or ws (j / 64) 0) (j % 64)) 1) e
+    ∙ ap (λ n. eqb (bit_at n (j % 64)) 1) (get_or-append_right (replicate a x) (replicate (w - a) 0) a (j / 64) 0 (length-replicate a x) (omega (arith, h)))
+    ∙ ap (λ n. eqb (bit_at n (j % 64)) 1) (zero_at (w - a) (j / 64 - a)) ∙ ap (λ b. eqb b 1) (bit_at-zero (j % 64))
+  where
+    zero_at : (n k : ℕ) → ◌≡◌ {A = ℕ} (get_or (replicate n 0) k 0) 0
+    zero_at zero k = refl
+    zero_at (suc n) zero = refl
+    zero_at (suc n) (suc k) = zero_at n k
+
+-- putting in number j, after those before it
+pub put_inside : (old new : List ℕ) (j i : ℕ) → ((x : ℕ) → has_bit new x ≡ (has_bit old x || eqb (64 * 0 + j) x)) → (i < j → has_bit old i ≡ true) → i < j + 1 → has_bit new i ≡ true
+put_inside old new j i put before h = elim (cases_eq j i) [
+  | inl e ↦ put i ∙ or_right (has_bit old i) (eqb (64 * 0 + j) i) (eq-eqb (64 * 0 + j) i (omega (arith, e)))
+  | inr d ↦ put i ∙ or_left (has_bit old i) (eqb (64 * 0 + j) i) (before (omega (arith, d, h)))
+]
+
+pub put_past : (old new : List ℕ) (j i : ℕ) → ((x : ℕ) → has_bit new x ≡ (has_bit old x || eqb (64 * 0 + j) x)) → (j ≤ i → has_bit old i ≡ false) → j + 1 ≤ i → has_bit new i ≡ false
+put_past old new j i put before h = put i ∙ ap (λ b. b || eqb (64 * 0 + j) i) (before (omega arith)) ∙ ne_eqb (64 * 0 + j) i (λ e. absurd (omega (arith, e, h)))

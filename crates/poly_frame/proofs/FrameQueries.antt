@@ -21,13 +21,14 @@ use Rattle.poly_frame.specs.Bits.{NoneIn, has_bit, in_both}
 use Rattle.poly_frame.specs.FrameItems.{item_of, no_bound}
 use Rattle.poly_frame.specs.FrameSteps.{Kept}
 use Rattle.poly_frame.specs.declared.frame.matrix.Matrix.{Matrix}
+use Rattle.poly_frame.specs.declared.frame.steps.Mark.{Mark}
 use Rattle.poly_frame.specs.declared.frame.table.Table.{Table}
 use Rattle.poly_frame.proofs.Due.{none_due}
 use Rattle.poly_frame.proofs.Opens.{open_before}
 use Rattle.poly_frame.proofs.Walks.{distinct_filter, mem_filter}
 use Rattle.poly_frame.proofs.Words.{drop_bits}
 use Rattle.poly_frame.proofs.FramePicks.{column_of}
-use Rattle.poly_frame.proofs.FrameSteps.{index_in, listed_at, top_have, top_level}
+use Rattle.poly_frame.proofs.FrameSteps.{index_in, listed_at, top_have, top_level, top_opened}
 
 all_bounds : (bs : List Bound) (f : Bound → Bool) → ((b : ℕ) → b < length bs → f (get_or bs b no_bound) ≡ true) → list_all f bs ≡ true
 all_bounds [] f h = refl
@@ -108,13 +109,13 @@ in_row ws at j = twice (has_bit ws (64 * at + j))
     twice true = refl
     twice false = refl
 
-module _ (v : View) (A : List Atom) (first : ℕ) (matrix : Matrix) (t : Table) (live have raised marks : List ℕ) (K : Kept v A first matrix t live have raised marks) where
+module _ (v : View) (A : List Atom) (first : ℕ) (matrix : Matrix) (t : Table) (live have raised : List ℕ) (marks : List Mark) (K : Kept v A first matrix t live have raised marks) where
   -- the last row has the open numbers
   pub top_row : (at j : ℕ) → at ≡ length live - matrix.width → j < length matrix.numbers.items → has_bit live (64 * at + j) ≡ open_in v A (get_or matrix.numbers.items j 0)
-  top_row at j e h = ap (λ x. has_bit live x) (omega (arith, K.live_len)) ∙ (top_level v A first matrix t live have raised marks K).row.opened j h
+  top_row at j e h = ap (λ n. has_bit live (64 * n + j)) e ∙ top_opened v A first matrix t live have raised marks K j h
 
   pub top_room : matrix.width ≤ length live
-  top_room = let m = mul-le-mul_left {m = 1} {n = length marks + 1} matrix.width (omega arith) in omega (arith, K.live_len)
+  top_room = K.wide
 
   -- the last row, cut out of the list, has `width` words
   pub top_slice : (ws : List ℕ) (at : ℕ) → ws ≡ live → at ≡ length live - matrix.width → length (take (length ws - at) (drop at ws)) ≡ matrix.width

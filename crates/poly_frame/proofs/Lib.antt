@@ -17,3 +17,4 @@ pub mod FrameMembers
 pub mod FrameArms
 pub mod FrameConsistent
 pub mod Starved
+pub mod Layers

@@ -19,6 +19,7 @@ use Rattle.poly_frame.specs.FrameTable.{limit_at}
 use Rattle.poly_frame.specs.FrameSteps.{Kept}
 use Rattle.poly_frame.specs.Matrices.{list_at}
 use Rattle.poly_frame.specs.declared.frame.matrix.Matrix.{Matrix}
+use Rattle.poly_frame.specs.declared.frame.steps.Mark.{Mark}
 use Rattle.poly_frame.specs.declared.frame.table.Table.{Table}
 use Rattle.poly_frame.proofs.FrameQueries.{open_first, top_row}
 use Rattle.poly_frame.proofs.FramePicks.{has_in, limit_cases, low_in, one_true, open_base, pick_open, shuts, times_some}
@@ -47,7 +48,7 @@ none_counted f [] q e i h = i
 none_counted f (x ∷ xs) q e (inl s) h = absurd (omega (arith, e, ap one (ap f s ∙ h)))
 none_counted f (x ∷ xs) q e (inr i) h = none_counted f xs q (omega (arith, e)) i h
 
-module _ (v : View) (A : List Atom) (first : ℕ) (matrix : Matrix) (t : Table) (live have raised marks : List ℕ) (K : Kept v A first matrix t live have raised marks) where
+module _ (v : View) (A : List Atom) (first : ℕ) (matrix : Matrix) (t : Table) (live have raised : List ℕ) (marks : List Mark) (K : Kept v A first matrix t live have raised marks) where
   -- if one more member fills an item of p, taking p shuts what has that item
   shut_by : (p q c : ℕ) (indices : List ℕ) → Noted v.bounds (items v p) indices → In c indices → leb (get_or t.limits.items c 0 - 1) (get_or have c 0) ≡ true → has_item v q (item_of v c) ≡ true → list_any (λ i. has_item v q i && shuts v A i) (items v p) ≡ true
   shut_by p q c indices noted k less has =

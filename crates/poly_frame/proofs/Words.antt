@@ -1,5 +1,5 @@
 -- Rows of bits: putting a number in, taking out one number or those of another row, and searching two rows.
-use Rattle.std.proofs.Common.{◌≡◌, ℕ, zero, suc, ◌+◌, ◌-◌, ◌*◌, ◌/◌, ◌%◌, ◌^◌, ◌<◌, ◌≤◌, min, Bool, true, false, not, ◌&&◌, ◌||◌, eqb, List, inl, inr, refl, sym, ap, ◌∙◌, arith, length, take, drop, replicate, get_or, get_or-set_other, get_or-set_same, w64, bit_and, bit_or}
+use Rattle.std.proofs.Common.{◌≡◌, ℕ, zero, suc, ◌+◌, ◌-◌, ◌*◌, ◌/◌, ◌%◌, ◌^◌, ◌<◌, ◌≤◌, min, Bool, true, false, not, ◌&&◌, ◌||◌, eqb, List, [], ◌++◌, inl, inr, refl, sym, ap, ◌∙◌, arith, length, take, drop, replicate, get_or, get_or-set_other, get_or-set_same, w64, bit_and, bit_or}
 use Rattle.std.proofs.Math.ListN.{set}
 use Rattle.std.proofs.lemmas.Bool.{cases_eq, cases_lt, eq-eqb, ne_eqb, or_right}
 use Rattle.std.proofs.lemmas.Nat.Bits.{bit_at_and, bit_at_not, bit_at-lt, bit_at_set_same, bit_at_set_other, bit_at_clear_same, bit_at_clear_other, bit_at-trailing_zeros, bit_at-zero, bit_at_above, shr_and_one}
@@ -233,3 +233,13 @@ full_at (suc n) x (suc k) h = full_at n x k (omega arith)
 pub full_bits : (n x j : ℕ) → ((t : ℕ) → t < 64 → bit_at x t ≡ 1) → j < 64 * n → has_bit (replicate n x) j ≡ true
 unfolding has_bit
 full_bits n x j ones h = ap (λ w. eqb (bit_at w (j % 64)) 1) (full_at n x (j / 64) (omega arith)) ∙ ap (λ b. eqb b 1) (ones (j % 64) (omega arith))
+
+-- a list that was emptied and then made longer with copies of one value
+pub filled : (n k x : ℕ) (xs ys : List ℕ) → xs ≡ [] → k ≡ 0 → ys ≡ take n xs ++ replicate (n - k) x → ys ≡ replicate n x
+filled n k x xs ys e z f =
+    let all : n - k ≡ n = omega (arith, z) in
+    f ∙ ap (λ zs. take n zs ++ replicate (n - k) x) e ∙ ap (λ zs. zs ++ replicate (n - k) x) (none n) ∙ ap (λ m. replicate m x) all
+  where
+    none : (n : ℕ) → ◌≡◌ {A = List ℕ} (take n []) []
+    none zero = refl
+    none (suc n) = refl

@@ -1,5 +1,5 @@
 -- What a frame keeps.
-use Rattle.std.specs.Prelude.{ℕ, Vec, ◌+◌, ◌≡◌, ◌≤◌, length, vec_len}
+use Rattle.std.specs.Prelude.{List, reverse, ℕ, Vec, ◌+◌, ◌≡◌, ◌≤◌, length, vec_len}
 use Rattle.std.specs.Global.{Global}
 use Rattle.std.specs.Vec.{vec_capacity}
 use Rattle.poly_tiling.specs.Puzzle.{View}
@@ -8,7 +8,9 @@ use Rattle.poly_atom.specs.Hopeless.{base}
 use Rattle.poly_frame.specs.FrameMembers.{SizesShow}
 use Rattle.poly_frame.specs.FrameConsistent.{ConsistentShows}
 use Rattle.poly_frame.specs.FrameSteps.{HasRoom, StepsKeep}
+use Rattle.poly_frame.specs.Layers.{PileShows}
 use Rattle.poly_frame.specs.declared.frame.TheConstants.{STEPS}
+use Rattle.poly_frame.specs.declared.frame.layers.Layer.{Layer}
 use Rattle.poly_frame.specs.declared.frame.matrix.Matrix.{Matrix}
 use Rattle.poly_frame.specs.declared.frame.table.Table.{Table}
 use Rattle.poly_frame.specs.declared.frame.steps.Steps.{Steps}
@@ -23,11 +25,12 @@ pub record IsKept (v : View) (trail : Vec Atom Global) (given : ℕ) (members op
   pub room : length v.pins + (given + STEPS) ≤ vec_capacity members
   pub answers : length v.live ≤ vec_capacity options
 
--- the lists, the sizes, the consistent levels and the steps are right for the trail, with room for 4,096 steps
-pub record IsFrame (v : View) (trail : Vec Atom Global) (given : ℕ) (members sizes : Vec ℕ Global) (consistent : ℕ) (options : Vec ℕ Global) (matrix : Matrix) (t : Table) (s : Steps) : Type 0 where
+-- the lists, the sizes, the consistent levels and the layers are right for the trail, with room for 4,096 steps
+pub record IsFrame (v : View) (trail : Vec Atom Global) (given : ℕ) (members sizes : Vec ℕ Global) (consistent : ℕ) (options : Vec ℕ Global) (matrix : Matrix) (t : Table) (s : Steps) (base : ℕ) (under : List Layer) : Type 0 where
   pub lists : IsKept v trail given members options
   pub grown : SizesShow v trail.items given sizes.items
   pub right : ConsistentShows v trail.items given consistent
   pub changes : STEPS ≤ vec_capacity sizes
-  pub levels : StepsKeep v trail.items given matrix t s
+  pub levels : StepsKeep v trail.items base matrix t s
   pub room : HasRoom matrix s
+  pub pile : PileShows v trail.items given base (reverse under)

@@ -11,3 +11,4 @@ pub mod FrameTable
 pub mod FrameMembers
 pub mod FrameConsistent
 pub mod FrameSteps
+pub mod Layers

@@ -9,7 +9,6 @@ ghost use Rattle.poly_tiling.specs.Puzzle.{has_item};
 ghost use Rattle.poly_atom.specs.Atoms.{in_family};
 ghost use Rattle.poly_atom.specs.Hopeless.{base};
 ghost use Rattle.poly_frame.specs.Open.{arms_fit, dead, least_with_base, ruled_out};
-ghost use Rattle.poly_frame.specs.FrameConsistent.{is_consistent};
 ghost use Rattle.poly_frame.specs.FrameTable.{HasOpen};
 ghost use Rattle.poly_frame.specs.Matrices.{IsMatrix, IsWhole, matrix_of};
 ghost use Rattle.poly_frame.specs.Walk.{backtrack_to, is_due, is_open, is_option, step_back, with_step};
@@ -17,6 +16,7 @@ ghost use Rattle.poly_frame.specs.Walk.{backtrack_to, is_due, is_open, is_option
 mod allowed;
 mod consistent;
 mod items;
+mod layers;
 mod levels;
 mod lists;
 mod matrix;
@@ -31,6 +31,7 @@ mod steps;
 mod table;
 mod wanted;
 
+use crate::frame::layers::{Layer, narrow_layer, widen};
 use crate::frame::levels::{Levels, levels_of};
 use crate::frame::lists::{Lists, lists_of};
 use crate::frame::matrix::Columns;
@@ -45,6 +46,7 @@ use poly_grid::Refusal;
 use poly_tiling::{Item, View};
 use std::alloc::Global;
 use std::marker::Model;
+use std::mem;
 
 /// The most steps that a frame can have at one time.
 pub const STEPS: usize = 4096;
@@ -69,10 +71,16 @@ pub struct Frame<'a> {
     options: Vec<u32>,
     /// The matrix that the frame reads.
     columns: Columns<'a>,
-    /// What stays the same while the frame moves.
+    /// What stays the same while the frame moves on this matrix.
     table: Table,
     /// What each step changes.
     steps: Steps,
+    /// How many atoms were on the trail when the frame began to read this matrix.
+    base: usize,
+    /// The wider matrices that it read before, the widest first, with what it kept of them.
+    under: Vec<Layer<'a>>,
+    /// Layers that were dropped. A new layer takes the memory of one of these.
+    spare: Vec<Layer<'a>>,
 }
 
 impl<'a> Model for Frame<'a> {
@@ -84,7 +92,7 @@ impl<'a> Model for Frame<'a> {
 
     ghost view = { λ f. record { scene = f.view.now; atoms = f.trail.items; given = f.given } };
 
-    ghost invariant = { λ f. IsFrame f.view.now f.trail f.given f.members f.sizes f.consistent f.options (matrix_of f.columns) f.table f.steps };
+    ghost invariant = { λ f. IsFrame f.view.now f.trail f.given f.members f.sizes f.consistent f.options (matrix_of f.columns) f.table f.steps f.base f.under.items };
 }
 
 impl<'a> Frame<'a> {
@@ -99,7 +107,7 @@ impl<'a> Frame<'a> {
         ensures once { distinct view.now.live ≡ true }
     {
         let whole = Matrix::new(alloc, view)?;
-        let frame = Frame::begin(alloc, view, Columns::Own(whole), atoms, false)?;
+        let frame = Frame::begin(alloc, view, Columns::Own(whole), atoms)?;
         Ok(frame)
     }
 
@@ -118,53 +126,67 @@ impl<'a> Frame<'a> {
         ensures well { WellNamed view.now }
         ensures once { distinct view.now.live ≡ true }
     {
-        let frame = Frame::begin(alloc, view, Columns::Lent(whole), atoms, false)?;
+        let frame = Frame::begin(alloc, view, Columns::Lent(whole), atoms)?;
         Ok(frame)
     }
 
-    /// A new frame that begins at this node, if it would be much smaller than this one and there is still much to search: this
-    /// frame's matrix has at least 768 placements, at least 32 of them are open, and the open ones are fewer than a third of
-    /// all (rounded down). Otherwise `None`. Fails only when out of memory.
-    pub fn narrower(&self, alloc: Global) -> Result<Option<Frame<'a>>, Refusal>
-        ensures made { IfOk result (λ o. IfSome o (λ f. f ≡ record { scene = self.now.scene; atoms = self.now.atoms; given = length self.now.atoms })) }
+    /// Reads a smaller matrix from here on, until this node is left, if the search is about to take each of `arms` placements
+    /// here and that seems to pay. This changes nothing but the time that the frame takes. Fails only when out of memory.
+    #[tactic(auto, using(crate::proofs::Layers::pile_focus))]
+    pub fn focus(&mut self, alloc: Global, arms: usize) -> Result<(), Refusal>
+        ensures same { self.new ≡ self.old }
         ensures why { IfErr result (λ e. e ≡ Refusal.Memory) }
     {
-        if !queries::is_sparse(self.columns.matrix(), &self.steps) {
-            return Ok(None);
+        if self.base >= self.trail.len()
+            || !queries::pays(self.columns.matrix(), &self.steps, arms)
+        {
+            return Ok(());
         }
-        let sure = self.consistent > self.trail.len() - self.given;
+        let spare = self.spare.pop().unwrap_or(Layer::none(alloc));
         let node = Node {
             view: self.view,
             trail: &self.trail,
             given: self.given,
+            base: self.base,
             matrix: self.columns.matrix(),
             table: &self.table,
         };
-        let narrow = queries::narrowed_now(alloc, &node, &self.steps)?;
-        let frame = Frame::begin(alloc, self.view, Columns::Own(narrow), &self.trail, sure)?;
-        Ok(Some(frame))
+        let narrow = narrow_layer(alloc, &node, &self.steps, &self.members, spare)?;
+        self.under.reserve(1)?;
+        self.spare.reserve(self.under.len() + 1)?;
+        let Layer {
+            columns,
+            table,
+            steps,
+            base,
+        } = narrow;
+        let wide = Layer {
+            columns: mem::replace(&mut self.columns, columns),
+            table: mem::replace(&mut self.table, table),
+            steps: mem::replace(&mut self.steps, steps),
+            base: mem::replace(&mut self.base, base),
+        };
+        self.under.push_reserved(wide);
+        Ok(())
     }
 
-    // A frame at the atoms, from a matrix with a column for each placement that is open there. If `sure`, the base is known
-    // to be consistent.
+    // A frame at the atoms, from a matrix with a column for each placement that is open there.
     #[tactic(auto, using(poly_tiling::proofs::Orders::live_once))]
     fn begin(
         alloc: Global,
         view: &'a View,
         part: Columns<'a>,
         atoms: &[Atom],
-        sure: bool,
     ) -> Result<Frame<'a>, Refusal>
         requires part { IsMatrix view.now (matrix_of part) }
         requires all { HasOpen view.now atoms.now (matrix_of part) }
-        requires sure { sure ≡ true → is_consistent view.now atoms.now ≡ true }
         ensures made { IfOk result (λ f. f ≡ record { scene = view.now; atoms = atoms.now; given = length atoms.now }) }
         ensures why { IfErr result (λ e. e ≡ Refusal.Memory) }
         ensures well { WellNamed view.now }
         ensures once { distinct view.now.live ≡ true }
     {
         let lists = lists_of(alloc, view, atoms)?;
-        let levels = levels_of(alloc, view, part, atoms, &lists.members, sure)?;
+        let levels = levels_of(alloc, view, part, atoms, &lists.members)?;
         let Lists {
             trail,
             members,
@@ -188,6 +210,9 @@ impl<'a> Frame<'a> {
             columns,
             table,
             steps,
+            base: atoms.len(),
+            under: Vec::new(alloc),
+            spare: Vec::new(alloc),
         })
     }
 
@@ -206,6 +231,7 @@ impl<'a> Frame<'a> {
     }
 
     /// Takes the placement: adds the atom `Has(placement)`. Requires that the frame has fewer than [`STEPS`] steps.
+    #[tactic(auto, using(crate::proofs::Layers::pile_more, crate::proofs::Layers::pile_low))]
     pub fn pick(&mut self, placement: u32)
         requires { length self.old.atoms < self.old.given + STEPS }
         ensures { self.new ≡ with_step self.old (Atom.Has placement) }
@@ -215,6 +241,7 @@ impl<'a> Frame<'a> {
             view: self.view,
             trail: &self.trail,
             given: self.given,
+            base: self.base,
             matrix: self.columns.matrix(),
             table: &self.table,
         };
@@ -225,6 +252,7 @@ impl<'a> Frame<'a> {
     }
 
     /// Leaves the placement out: adds the atom `Lacks(placement)`. Requires that the frame has fewer than [`STEPS`] steps.
+    #[tactic(auto, using(crate::proofs::Layers::pile_more, crate::proofs::Layers::pile_low))]
     pub fn leave(&mut self, placement: u32)
         requires { length self.old.atoms < self.old.given + STEPS }
         ensures { self.new ≡ with_step self.old (Atom.Lacks placement) }
@@ -234,6 +262,7 @@ impl<'a> Frame<'a> {
             view: self.view,
             trail: &self.trail,
             given: self.given,
+            base: self.base,
             matrix: self.columns.matrix(),
             table: &self.table,
         };
@@ -244,15 +273,28 @@ impl<'a> Frame<'a> {
     }
 
     /// Undoes the last step. Requires that there is one.
+    #[tactic(auto, using(crate::proofs::Layers::pile_less))]
     pub fn back(&mut self)
         requires { self.old.given < length self.old.atoms }
         ensures { self.new ≡ step_back self.old }
     {
         let level = self.trail.len() - 1;
+        widen(
+            self.view,
+            &self.trail,
+            self.given,
+            &mut self.columns,
+            &mut self.table,
+            &mut self.steps,
+            &mut self.base,
+            &mut self.under,
+            &mut self.spare,
+        );
         let node = Node {
             view: self.view,
             trail: &self.trail,
             given: self.given,
+            base: self.base,
             matrix: self.columns.matrix(),
             table: &self.table,
         };
@@ -284,6 +326,7 @@ impl<'a> Frame<'a> {
             view: self.view,
             trail: &self.trail,
             given: self.given,
+            base: self.base,
             matrix: self.columns.matrix(),
             table: &self.table,
         };
@@ -299,6 +342,7 @@ impl<'a> Frame<'a> {
             view: self.view,
             trail: &self.trail,
             given: self.given,
+            base: self.base,
             matrix: self.columns.matrix(),
             table: &self.table,
         };
@@ -325,6 +369,7 @@ impl<'a> Frame<'a> {
             view: self.view,
             trail: &self.trail,
             given: self.given,
+            base: self.base,
             matrix: self.columns.matrix(),
             table: &self.table,
         };
@@ -369,10 +414,12 @@ impl<'a> Frame<'a> {
             view: self.view,
             trail: &self.trail,
             given: self.given,
+            base: self.base,
             matrix: self.columns.matrix(),
             table: &self.table,
         };
-        allowed::count(&node, &self.steps, &self.members, &item)
+        let sure = self.consistent > self.trail.len() - self.given;
+        allowed::count(&node, &self.steps, &self.members, &item, sure)
     }
 
     /// Each tiling that meets the atoms has at least this many members with the item: as many as the design and the atoms ask
@@ -384,6 +431,7 @@ impl<'a> Frame<'a> {
             view: self.view,
             trail: &self.trail,
             given: self.given,
+            base: self.base,
             matrix: self.columns.matrix(),
             table: &self.table,
         };
@@ -401,6 +449,7 @@ impl<'a> Frame<'a> {
             view: self.view,
             trail: &self.trail,
             given: self.given,
+            base: self.base,
             matrix: self.columns.matrix(),
             table: &self.table,
         };
@@ -422,6 +471,7 @@ impl<'a> Frame<'a> {
             view: self.view,
             trail: &self.trail,
             given: self.given,
+            base: self.base,
             matrix: self.columns.matrix(),
             table: &self.table,
         };
@@ -450,6 +500,7 @@ impl<'a> Frame<'a> {
             view: self.view,
             trail: &self.trail,
             given: self.given,
+            base: self.base,
             matrix: self.columns.matrix(),
             table: &self.table,
         };

@@ -10,12 +10,13 @@ ghost use Rattle.poly_tiling.specs.Lists.{distinct, mem};
 ghost use Rattle.poly_report.specs.Trees.{Finds};
 ghost use Rattle.poly_report.specs.Leaves.{tilings};
 ghost use Rattle.poly_report.specs.Gather.{lists};
+ghost use Rattle.poly_frame.specs.declared.frame.TheConstants.{STEPS};
 ghost use Rattle.poly_frame.specs.Walk.{is_due, is_open, is_option};
 ghost use Rattle.poly_search.specs.Sweeps.{IsLighter, Partly, Swept};
 
 use poly_atom::Atom;
 use poly_grid::Refusal;
-use poly_report::{Frame, STEPS};
+use poly_report::Frame;
 use poly_tiling::{Item, MAX_TILINGS, Tiling};
 use std::alloc::Global;
 
@@ -87,7 +88,7 @@ pub fn sweep(
 }
 
 // Sweeps the options of an item that is due, one after another. Each tiling of the family has at least one of them, so
-// nothing remains to be swept after the last option.
+// nothing remains to be swept after the last option. The frame narrows itself first, if that pays for so many options.
 #[cycle(sweep)]
 fn sweep_item(
     alloc: Global,
@@ -112,6 +113,7 @@ fn sweep_item(
 {
     let from = list.options.len();
     list.options.extend_from_slice(frame.options(*item))?;
+    frame.focus(alloc, list.options.len() - from)?;
     let whole = sweep_options(alloc, frame, list, end, depth, item, from)?;
     list.options.truncate(from);
     Ok(whole)
@@ -233,8 +235,7 @@ fn sweep_arm(
     Ok(whole)
 }
 
-// Sweeps the family of the frame's atoms, or adds it as a rest if a limit is reached. If `narrower` makes a smaller frame, the
-// smaller frame takes over from here.
+// Sweeps the family of the frame's atoms, or adds it as a rest if a limit is reached.
 #[cycle(sweep)]
 fn sweep_below(
     alloc: Global,
@@ -258,12 +259,5 @@ fn sweep_below(
         push_rest(alloc, frame, list)?;
         return Ok(false);
     }
-    match frame.narrower(alloc)? {
-        None => sweep(alloc, frame, list, end, depth - 1),
-        Some(inner) => {
-            let mut inner = inner;
-            let end = inner.level() + STEPS;
-            sweep(alloc, &mut inner, list, end, depth - 1)
-        }
-    }
+    sweep(alloc, frame, list, end, depth - 1)
 }

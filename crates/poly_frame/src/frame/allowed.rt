@@ -7,6 +7,7 @@ ghost use Rattle.poly_atom.specs.Hopeless.{base};
 ghost use Rattle.poly_frame.specs.Bits.{in_both};
 ghost use Rattle.poly_frame.specs.Open.{least_with_base, ruled_out};
 ghost use Rattle.poly_frame.specs.FrameItems.{item_of};
+ghost use Rattle.poly_frame.specs.FrameConsistent.{is_consistent};
 ghost use Rattle.poly_frame.specs.FrameSteps.{IsAt};
 
 use crate::frame::consistent::is_right;
@@ -54,23 +55,62 @@ fn count_held(view: &View, trail: &[Atom], members: &[u32], item: &Item) -> usiz
     n
 }
 
-// How many placements of the design have the item of a row and are not ruled out.
-fn count_row(node: &Node<'_>, steps: &Steps, members: &[u32], b: usize, item: &Item) -> usize
+// `count_held` for the item of a row. If `sure`, each member is right, so the count of the members that have the item tells
+// it: no atom is read. A report that names many placements of one item can't make this slow.
+fn count_held_at(
+    node: &Node<'_>,
+    steps: &Steps,
+    members: &[u32],
+    b: usize,
+    item: &Item,
+    sure: bool,
+) -> usize
     requires kept { IsAt node.now steps.now }
     requires row { b < length node.now.view.now.bounds }
     requires same { same_item (item_of node.now.view.now b) item.now ≡ true }
     requires members { members.now ≡ base node.now.view.now node.now.trail.now }
+    requires sure { sure ≡ true → is_consistent node.now.view.now node.now.trail.now ≡ true }
+    ensures value { result ≡ tally (λ p. has_item node.now.view.now p item.now && (mem node.now.view.now.live p && not (ruled_out node.now.view.now node.now.trail.now p))) members.now }
+    ensures few { result ≤ length members.now }
+{
+    if sure {
+        return steps.have[b] as usize;
+    }
+    count_held(node.view, node.trail, members, item)
+}
+
+// How many placements of the design have the item of a row and are not ruled out.
+fn count_row(
+    node: &Node<'_>,
+    steps: &Steps,
+    members: &[u32],
+    b: usize,
+    item: &Item,
+    sure: bool,
+) -> usize
+    requires kept { IsAt node.now steps.now }
+    requires row { b < length node.now.view.now.bounds }
+    requires same { same_item (item_of node.now.view.now b) item.now ≡ true }
+    requires members { members.now ≡ base node.now.view.now node.now.trail.now }
+    requires sure { sure ≡ true → is_consistent node.now.view.now node.now.trail.now ≡ true }
     ensures { result ≡ tally (λ p. has_item node.now.view.now p item.now && not (ruled_out node.now.view.now node.now.trail.now p)) node.now.view.now.live }
 {
     let at = steps.live.len() - node.matrix.width;
-    let held = count_held(node.view, node.trail, members, item);
+    let held = count_held_at(node, steps, members, b, item, sure);
     held + count_both(node.matrix, &steps.live, at, node.matrix.width * b)
 }
 
-/// How many placements of the design have the item and are not ruled out.
-pub(crate) fn count(node: &Node<'_>, steps: &Steps, members: &[u32], item: &Item) -> usize
+/// How many placements of the design have the item and are not ruled out. If `sure`, the base is known to be consistent.
+pub(crate) fn count(
+    node: &Node<'_>,
+    steps: &Steps,
+    members: &[u32],
+    item: &Item,
+    sure: bool,
+) -> usize
     requires kept { IsAt node.now steps.now }
     requires members { members.now ≡ base node.now.view.now node.now.trail.now }
+    requires sure { sure ≡ true → is_consistent node.now.view.now node.now.trail.now ≡ true }
     ensures { result ≡ tally (λ p. has_item node.now.view.now p item.now && not (ruled_out node.now.view.now node.now.trail.now p)) node.now.view.now.live }
 {
     match index_of(
@@ -78,7 +118,7 @@ pub(crate) fn count(node: &Node<'_>, steps: &Steps, members: &[u32], item: &Item
         guess_item(&node.matrix.cells, item),
         *item,
     ) {
-        Some(b) => count_row(node, steps, members, b, item),
+        Some(b) => count_row(node, steps, members, b, item, sure),
         None => plain::count_allowed(node.view, node.trail, members, item),
     }
 }

@@ -6,7 +6,7 @@ ghost use Rattle.poly_tiling.specs.Lists.{mem};
 ghost use Rattle.poly_atom.specs.Hopeless.{base, lacks};
 ghost use Rattle.poly_tiling.specs.Puzzle.{is_piece};
 ghost use Rattle.poly_frame.specs.Open.{open_in, ruled_out};
-ghost use Rattle.poly_frame.specs.FrameConsistent.{AllFit, ConsistentShows, fits_at, is_consistent};
+ghost use Rattle.poly_frame.specs.FrameConsistent.{AllFit, ConsistentShows, fits_at};
 ghost use Rattle.poly_frame.specs.FrameTable.{HaveShows, MostsShow};
 ghost use Rattle.poly_frame.specs.Matrices.{IsMatrix, StandsShow};
 
@@ -76,8 +76,7 @@ fn are_kept(whole: &Matrix, atoms: &[Atom], members: &[u32]) -> bool
     true
 }
 
-/// The count at the given atoms alone: 1 if their base is known to be consistent, else 0. If `sure`, this is known already.
-/// `mosts` is how many members may have each item at most, and `have` how many have it.
+/// The count at the given atoms alone: 1 if their base is known to be consistent, else 0. `mosts` is how many members may have each item at most, and `have` how many have it.
 pub(crate) fn begin(
     view: &View,
     part: &Matrix,
@@ -85,9 +84,7 @@ pub(crate) fn begin(
     members: &[u32],
     mosts: &[u8],
     have: &[u64],
-    sure: bool,
 ) -> usize
-    requires sure { sure ≡ true → is_consistent view.now atoms.now ≡ true }
     requires part { IsMatrix view.now part.now }
     requires base { members.now ≡ base view.now atoms.now }
     requires mosts_len { length mosts.now ≡ length view.now.bounds }
@@ -96,9 +93,6 @@ pub(crate) fn begin(
     requires have { HaveShows view.now members.now have.now }
     ensures { ConsistentShows view.now atoms.now (length atoms.now) result }
 {
-    if sure {
-        return 1;
-    }
     if all_fit(view.items(), mosts, have) && are_kept(part, atoms, members) {
         1
     } else {

@@ -1,10 +1,10 @@
 //! What a frame keeps besides its lists: how many of its first levels are consistent, the matrix that it reads, the table,
 //! and the bits and counts that its steps change.
-ghost use Rattle.std.specs.Prelude.{IfErr, IfOk, length, true, vec_capacity, ◌*◌, ◌<◌, ◌^◌, ◌≡◌, ◌≤◌};
+ghost use Rattle.std.specs.Prelude.{IfErr, IfOk, length, vec_capacity, ◌*◌, ◌<◌, ◌^◌, ◌≡◌, ◌≤◌};
 ghost use Rattle.poly_atom.specs.Hopeless.{base};
 ghost use Rattle.poly_frame.specs.declared.frame.TheConstants.{STEPS};
 ghost use Rattle.poly_frame.specs.declared.frame.items.TheConstants.{PLACEMENT_ITEMS};
-ghost use Rattle.poly_frame.specs.FrameConsistent.{ConsistentShows, is_consistent};
+ghost use Rattle.poly_frame.specs.FrameConsistent.{ConsistentShows};
 ghost use Rattle.poly_frame.specs.FrameSteps.{HasRoom, StepsKeep};
 ghost use Rattle.poly_frame.specs.FrameTable.{HasOpen, HaveShows, LeastsShow, MostsShow, TableShows};
 ghost use Rattle.poly_frame.specs.Matrices.{IsMatrix, RowOf, matrix_of};
@@ -13,6 +13,7 @@ ghost use Rattle.poly_frame.specs.Open.{open_in};
 use crate::frame::items::PLACEMENT_ITEMS;
 use crate::frame::matrix::{Columns, Matrix, columns_of};
 use crate::frame::node::Node;
+use crate::frame::notes::notes_of;
 use crate::frame::opened::open_row;
 use crate::frame::steps::{Steps, start};
 use crate::frame::table::{Table, counts_of, table_of};
@@ -50,26 +51,23 @@ struct Counted {
 }
 
 /// The levels of a frame at the atoms; `members` is their base. `part` has a column for each placement that is open there.
-/// If `sure`, the base is known to be consistent.
 pub(crate) fn levels_of<'a>(
     alloc: Global,
     view: &View,
     part: Columns<'a>,
     atoms: &[Atom],
     members: &[u32],
-    sure: bool,
 ) -> Result<Levels<'a>, Refusal>
     requires part { IsMatrix view.now (matrix_of part) }
     requires all { HasOpen view.now atoms.now (matrix_of part) }
     requires base { members.now ≡ base view.now atoms.now }
     requires few { length members.now < 2 ^ 63 }
-    requires sure { sure ≡ true → is_consistent view.now atoms.now ≡ true }
     ensures consistent { IfOk result (λ l. ConsistentShows view.now atoms.now (length atoms.now) l.consistent) }
     ensures steps { IfOk result (λ l. StepsKeep view.now atoms.now (length atoms.now) (matrix_of l.columns) l.table l.steps) }
     ensures room { IfOk result (λ l. HasRoom (matrix_of l.columns) l.steps) }
     ensures why { IfErr result (λ e. e ≡ Refusal.Memory) }
 {
-    let (row, counted) = counted_row(alloc, view, part.matrix(), atoms, members, sure)?;
+    let (row, counted) = counted_row(alloc, view, part.matrix(), atoms, members)?;
     let (columns, row) = columns_of(alloc, view, part, row)?;
     let Counted {
         consistent,
@@ -82,10 +80,12 @@ pub(crate) fn levels_of<'a>(
         view,
         trail: atoms,
         given: atoms.len(),
+        base: atoms.len(),
         matrix: columns.matrix(),
         table: &table,
     };
-    let steps = start(alloc, &node, row, have, raised)?;
+    let due = notes_of(alloc, &table.leasts, &have)?;
+    let steps = start(&node, row, have, due, raised, Vec::new(alloc))?;
     Ok(Levels {
         consistent,
         columns,
@@ -101,12 +101,10 @@ fn counted_row(
     whole: &Matrix,
     atoms: &[Atom],
     members: &[u32],
-    sure: bool,
 ) -> Result<(Vec<u64>, Counted), Refusal>
     requires part { IsMatrix view.now whole.now }
     requires base { members.now ≡ base view.now atoms.now }
     requires few { length members.now < 2 ^ 63 }
-    requires sure { sure ≡ true → is_consistent view.now atoms.now ≡ true }
     ensures len { IfOk result (λ r. length r.0.items ≡ whole.now.width) }
     ensures row { IfOk result (λ r. RowOf (λ p. open_in view.now atoms.now p) whole.now r.0.items) }
     ensures consistent { IfOk result (λ r. ConsistentShows view.now atoms.now (length atoms.now) r.1.consistent) }
@@ -123,7 +121,7 @@ fn counted_row(
     let have = counts_of(alloc, view, members, &whole.cells, &mut raised)?;
     let wanted = wanted_of(alloc, view, atoms, &whole.cells)?;
     let row = open_row(alloc, view, whole, atoms, members, &wanted.mosts, &have)?;
-    let consistent = consistent::begin(view, whole, atoms, members, &wanted.mosts, &have, sure);
+    let consistent = consistent::begin(view, whole, atoms, members, &wanted.mosts, &have);
     Ok((
         row,
         Counted {

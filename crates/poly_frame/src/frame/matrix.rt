@@ -15,6 +15,7 @@ use crate::frame::opened::first_row;
 use poly_grid::Refusal;
 use poly_tiling::View;
 use std::alloc::Global;
+use std::mem;
 
 /// Lists of indices, kept one after another in one list.
 #[derive(Drop)]
@@ -66,6 +67,14 @@ impl<'a> Columns<'a> {
             Columns::Lent(matrix) => matrix,
         }
     }
+
+    /// The frame's own matrix, or none if the matrix is the caller's.
+    pub(crate) fn own(self, alloc: Global) -> Matrix {
+        match self {
+            Columns::Own(matrix) => matrix,
+            Columns::Lent(_) => Matrix::none(alloc),
+        }
+    }
 }
 
 impl Lists {
@@ -80,7 +89,30 @@ impl Lists {
     }
 }
 
+impl Lists {
+    /// No lists. Takes no memory.
+    pub(crate) fn none(alloc: Global) -> Lists {
+        Lists {
+            starts: Vec::new(alloc),
+            indices: Vec::new(alloc),
+        }
+    }
+}
+
 impl Matrix {
+    /// The matrix without rows and columns, which takes no memory.
+    pub(crate) fn none(alloc: Global) -> Matrix {
+        Matrix {
+            numbers: Vec::new(alloc),
+            stands: Vec::new(alloc),
+            lists: Lists::none(alloc),
+            cells: Vec::new(alloc),
+            width: 0,
+            rows: Vec::new(alloc),
+            occupied: Vec::new(alloc),
+        }
+    }
+
     /// The matrix of the view: each placement of the design has a column. Fails only when out of memory.
     #[tactic(auto, using(poly_tiling::proofs::Orders::live_once))]
     pub fn new(alloc: Global, view: &View) -> Result<Matrix, Refusal>
@@ -94,7 +126,7 @@ impl Matrix {
         numbers.extend_from_slice(live)?;
         let cells = guess_cells(alloc, view.items())?;
         let lists = list_items(alloc, view, &cells, &numbers)?;
-        with_columns(alloc, view, numbers, lists, cells)
+        with_columns(alloc, view, numbers, lists, cells, Matrix::none(alloc))
     }
 
     /// The column of the number; `None` if the number has no column.
@@ -111,6 +143,14 @@ impl Matrix {
         }
         None
     }
+}
+
+/// How many words a row with a bit for each of `count` columns has.
+fn width_for(count: usize) -> usize
+    ensures wide { count ≤ 64 * result }
+    ensures small { 64 * result ≤ count + 64 }
+{
+    count / 64 + 1
 }
 
 // Whether most of the columns are open, so that a smaller matrix would save less than it costs to make.
@@ -137,17 +177,19 @@ pub(crate) fn columns_of<'a>(
     if is_dense(part.matrix(), &row) {
         return Ok((part, row));
     }
-    let narrow = narrowed(alloc, view, part.matrix(), &row)?;
-    let first = first_row(alloc, narrow.numbers.len(), narrow.width)?;
+    let narrow = narrowed(alloc, view, part.matrix(), &row, Matrix::none(alloc))?;
+    let first = first_row(narrow.numbers.len(), narrow.width, Vec::new(alloc))?;
     Ok((Columns::Own(narrow), first))
 }
 
-/// A smaller matrix: the columns of `whole` whose bit is set in the row.
+/// A smaller matrix: the columns of `whole` whose bit is set in the row. `spare` is a matrix of the same view, or none; it is
+/// overwritten, so that its memory is used again.
 pub(crate) fn narrowed(
     alloc: Global,
     view: &View,
     whole: &Matrix,
     row: &[u64],
+    spare: Matrix,
 ) -> Result<Matrix, Refusal>
     requires whole { IsMatrix view.now whole.now }
     requires row { length row.now ≡ whole.now.width }
@@ -155,20 +197,31 @@ pub(crate) fn narrowed(
     ensures numbers { IfOk result (λ m. (f : ℕ → Bool) → ((j : ℕ) → j < length whole.now.numbers.items → f (slice_index whole.now.numbers.items j) ≡ has_bit row.now j) → m.numbers.items ≡ filter f whole.now.numbers.items) }
     ensures why { IfErr result (λ e. e ≡ Refusal.Memory) }
 {
-    let mut numbers = Vec::with_capacity(alloc, whole.numbers.len())?;
+    let mut spare = spare;
+    let mut numbers = mem::replace(&mut spare.numbers, Vec::new(alloc));
+    numbers.clear();
+    numbers.reserve(whole.numbers.len())?;
     list_set(&whole.numbers, row, whole.width, &mut numbers);
-    let cells = copied(alloc, &whole.cells)?;
-    let lists = copy_lists(alloc, whole, &numbers)?;
-    with_columns(alloc, view, numbers, lists, cells)
+    let cells = guesses(
+        &whole.cells,
+        mem::replace(&mut spare.cells, Vec::new(alloc)),
+    )?;
+    let lists = copy_lists(
+        whole,
+        &numbers,
+        mem::replace(&mut spare.lists, Lists::none(alloc)),
+    )?;
+    with_columns(alloc, view, numbers, lists, cells, spare)
 }
 
-// The matrix with a column for each of the numbers, from the lists of their items.
+// The matrix with a column for each of the numbers, from the lists of their items. Uses the memory of `spare` again.
 fn with_columns(
     alloc: Global,
     view: &View,
     numbers: Vec<u32>,
     lists: Lists,
     cells: Vec<usize>,
+    spare: Matrix,
 ) -> Result<Matrix, Refusal>
     requires well { WellNamed view.now }
     requires once { distinct numbers.items ≡ true }
@@ -178,9 +231,9 @@ fn with_columns(
     ensures made { IfOk result (λ m. IsMatrix view.now m × (m.numbers.items ≡ numbers.items)) }
     ensures why { IfErr result (λ e. e ≡ Refusal.Memory) }
 {
-    let width = numbers.len() / 64 + 1;
-    let rows = rows_of(alloc, view, &numbers, &lists, width)?;
-    let stands = stands_of(alloc, &numbers)?;
+    let width = width_for(numbers.len());
+    let rows = rows_of(view, &numbers, &lists, width, spare.rows)?;
+    let stands = stands_of(&numbers, spare.stands)?;
     let occupied = occupied_rows(alloc, &rows, width, view.items().len())?;
     Ok(Matrix {
         numbers,
@@ -193,11 +246,14 @@ fn with_columns(
     })
 }
 
-fn copied(alloc: Global, from: &[usize]) -> Result<Vec<usize>, Refusal>
+// The guesses for the cells' indices: those in `spare`, which are of the same view, or else a copy.
+fn guesses(from: &[usize], spare: Vec<usize>) -> Result<Vec<usize>, Refusal>
     ensures { IfErr result (λ e. e ≡ Refusal.Memory) }
 {
-    let mut all = Vec::with_capacity(alloc, from.len())?;
-    all.extend_from_slice(from)?;
+    let mut all = spare;
+    if all.is_empty() {
+        all.extend_from_slice(from)?;
+    }
     Ok(all)
 }
 
@@ -245,15 +301,19 @@ fn list_items(
     Ok(Lists { starts, indices })
 }
 
-// The indices of the items of each number, copied from a matrix that has columns for all of these numbers.
-fn copy_lists(alloc: Global, whole: &Matrix, numbers: &[u32]) -> Result<Lists, Refusal>
+// The indices of the items of each number, copied from a matrix that has columns for all of these numbers. Overwrites `spare`.
+fn copy_lists(whole: &Matrix, numbers: &[u32], spare: Lists) -> Result<Lists, Refusal>
     requires whole { (v : Scene) × IsMatrix v whole.now }
     requires among { (p : ℕ) → mem numbers.now p ≡ true → mem whole.now.numbers.items p ≡ true }
     ensures value { IfOk result (λ l. (v : Scene) → IsMatrix v whole.now → ListsShow v numbers.now l) }
     ensures why { IfErr result (λ e. e ≡ Refusal.Memory) }
 {
-    let mut starts = Vec::with_capacity(alloc, numbers.len().saturating_add(1))?;
-    let mut indices = Vec::with_capacity(alloc, whole.lists.indices.len())?;
+    let Lists {
+        mut starts,
+        mut indices,
+    } = spare;
+    starts.clear();
+    indices.clear();
     starts.push(0usize)?;
     for p in numbers {
         let j = whole.stands[*p as usize];
@@ -275,13 +335,26 @@ fn size_for(numbers: &[u32]) -> usize
     size
 }
 
-fn stands_of(alloc: Global, numbers: &[u32]) -> Result<Vec<usize>, Refusal>
+// The list, made as long as `size` if it is shorter.
+fn lengthened(list: Vec<usize>, size: usize) -> Result<Vec<usize>, Refusal>
+    ensures len { IfOk result (λ l. size ≤ length l.items) }
+    ensures why { IfErr result (λ e. e ≡ Refusal.Memory) }
+{
+    let mut list = list;
+    if list.len() < size {
+        list.resize(size, 0)?;
+    }
+    Ok(list)
+}
+
+// The column of each number. Overwrites `spare`, whose other entries stay, since they mean nothing.
+fn stands_of(numbers: &[u32], spare: Vec<usize>) -> Result<Vec<usize>, Refusal>
     requires { distinct numbers.now ≡ true }
     ensures value { IfOk result (λ s. StandsShow numbers.now s.items) }
     ensures why { IfErr result (λ e. e ≡ Refusal.Memory) }
 {
     let size = size_for(numbers);
-    let mut stands = vec![in alloc; 0usize; size]?;
+    let mut stands = lengthened(spare, size)?;
     for j in 0..numbers.len() {
         let p = numbers[j] as usize;
         stands[p] = j;
@@ -302,25 +375,27 @@ fn put_each(rows: &mut Vec<u64>, width: usize, indices: &[usize], j: usize, item
     }
 }
 
-// Rows of `width` words that have no bit set.
-fn empty_rows(alloc: Global, width: usize, count: usize) -> Result<Vec<u64>, Refusal>
+// Rows of `width` words that have no bit set. Overwrites `spare`.
+fn empty_rows(width: usize, count: usize, spare: Vec<u64>) -> Result<Vec<u64>, Refusal>
     ensures value { IfOk result (λ r. r.items ≡ replicate (width * count) 0) }
     ensures why { IfErr result (λ e. e ≡ Refusal.Memory) }
 {
-    let row = vec![in alloc; 0u64; width]?;
-    let mut rows = Vec::with_capacity(alloc, width.saturating_mul(count))?;
-    for _item in 0..count {
-        rows.extend_from_slice(&row)?;
-    }
+    let Some(size) = width.checked_mul(count) else {
+        return Err(Refusal::Memory);
+    };
+    let mut rows = spare;
+    rows.clear();
+    rows.resize(size, 0)?;
     Ok(rows)
 }
 
+// The row of each item, from the lists of the numbers' items. Overwrites `spare`.
 fn rows_of(
-    alloc: Global,
     view: &View,
     numbers: &[u32],
     lists: &Lists,
     width: usize,
+    spare: Vec<u64>,
 ) -> Result<Vec<u64>, Refusal>
     requires wide { length numbers.now ≤ 64 * width }
     requires lists { ListsShow view.now numbers.now lists.now }
@@ -329,7 +404,7 @@ fn rows_of(
     ensures why { IfErr result (λ e. e ≡ Refusal.Memory) }
 {
     let items = view.items().len();
-    let mut rows = empty_rows(alloc, width, items)?;
+    let mut rows = empty_rows(width, items, spare)?;
     for j in 0..numbers.len() {
         put_each(&mut rows, width, lists.of(j), j, items);
     }

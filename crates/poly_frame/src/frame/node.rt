@@ -14,8 +14,10 @@ pub(crate) struct Node<'a> {
     pub(crate) trail: &'a [Atom],
     /// How many atoms were given.
     pub(crate) given: usize,
-    /// The matrix that the frame reads.
+    /// How many atoms were on the trail when the layer that the frame reads was made.
+    pub(crate) base: usize,
+    /// The matrix of that layer.
     pub(crate) matrix: &'a Matrix,
-    /// What the design and the given atoms say about the items.
+    /// What the design and the first `base` atoms say about the items.
     pub(crate) table: &'a Table,
 }

@@ -1,5 +1,5 @@
 //! Which words of a row have bits set, so that counts can skip the others. This only saves time: the counts are the same.
-ghost use Rattle.std.specs.Prelude.{IfErr, ◌<◌, ◌≡◌};
+ghost use Rattle.std.specs.Prelude.{IfErr, length, ◌<◌, ◌≡◌, ◌≤◌};
 
 use poly_grid::Refusal;
 use std::alloc::Global;
@@ -70,11 +70,32 @@ pub(crate) fn count_bits(row: &[u64]) -> usize {
     all
 }
 
-/// How many numbers both rows have.
-pub(crate) fn count_common(some: &[u64], others: &[u64]) -> usize {
+// How many bits both words have.
+#[inline(always)]
+fn count_word(word: u64, other: u64) -> usize {
+    (word & other).count_ones() as usize
+}
+
+/// How many numbers both rows have; if that is at least `most`, the result may be any count from `most` on. Counts four words
+/// at a time, and stops after four words that reach `most`.
+pub(crate) fn count_common(some: &[u64], others: &[u64], most: usize) -> usize
+    requires { length some.now ≤ length others.now }
+{
     let mut all = 0usize;
-    for (word, other) in some.iter().zip(others) {
-        all = all.wrapping_add((word & other).count_ones() as usize);
+    let fours = some.len() / 4;
+    for c in 0..fours {
+        let k = 4 * c;
+        all = all
+            .wrapping_add(count_word(some[k], others[k]))
+            .wrapping_add(count_word(some[k + 1], others[k + 1]))
+            .wrapping_add(count_word(some[k + 2], others[k + 2]))
+            .wrapping_add(count_word(some[k + 3], others[k + 3]));
+        if most <= all {
+            return all;
+        }
+    }
+    for k in 4 * fours..some.len() {
+        all = all.wrapping_add(count_word(some[k], others[k]));
     }
     all
 }

@@ -62,8 +62,8 @@ fn cut_off(n: usize, width: usize, row: &mut Vec<u64>)
     }
 }
 
-/// A row with a bit for each number below `n`.
-pub(crate) fn first_row(alloc: Global, n: usize, width: usize) -> Result<Vec<u64>, Refusal>
+/// A row with a bit for each number below `n`. Overwrites `spare`.
+pub(crate) fn first_row(n: usize, width: usize, spare: Vec<u64>) -> Result<Vec<u64>, Refusal>
     requires narrow { width < 2 ^ 58 }
     requires wide { n ≤ 64 * width }
     ensures len { IfOk result (λ r. length r.items ≡ width) }
@@ -71,8 +71,13 @@ pub(crate) fn first_row(alloc: Global, n: usize, width: usize) -> Result<Vec<u64
     ensures past { IfOk result (λ r. (j : ℕ) → n ≤ j → j < 64 * width → has_bit r.items j ≡ false) }
     ensures why { IfErr result (λ e. e ≡ Refusal.Memory) }
 {
-    let mut row = full_row(alloc, width)?;
-    cut_off(n, width, &mut row);
+    let mut row = spare;
+    row.clear();
+    row.resize(n / 64, ones())?;
+    row.resize(width, 0)?;
+    for j in n / 64 * 64..n {
+        bits::put_in(&mut row, 0, j);
+    }
     Ok(row)
 }
 

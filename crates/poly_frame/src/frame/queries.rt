@@ -1,5 +1,5 @@
 //! What the rows of a frame answer: which placements are open, which item is due, whether the base is a tiling that meets the
-//! atoms, and whether a smaller frame is worth making.
+//! atoms, and whether a layer is worth making.
 ghost use Rattle.std.specs.Prelude.{Bool, IfErr, IfOk, IfSome, MatchOption, false, length, nat_lt, not, slice_index, true, vec_capacity, vec_len, ℕ, ◌&&◌, ◌*◌, ◌+◌, ◌-◌, ◌<◌, ◌^◌, ◌≡◌, ◌≤◌};
 ghost use Rattle.std.specs.List.{filter, list_all};
 ghost use Rattle.poly_tiling.specs.declared.item.Item.{Item};
@@ -94,28 +94,38 @@ pub(crate) fn first_open(node: &Node<'_>, steps: &Steps) -> Option<u32>
     }
 }
 
-// The fewest open placements for which a smaller frame saves more than it costs to make.
+// A matrix that isn't wider than this is read as fast as a smaller one can be made.
+const NARROW: usize = 12;
+
+// The fewest open placements for which a layer saves more than it costs to make.
 const WORTH: usize = 32;
 
-/// Whether a frame that begins here is worth making: it would be much smaller, and there is still much to search.
-pub(crate) fn is_sparse(matrix: &Matrix, steps: &Steps) -> bool {
+/// Whether a layer with the open columns alone seems to save more than it costs to make: it would be much smaller, there is
+/// still much to search, and the search is about to take some of `arms` placements here.
+pub(crate) fn pays(matrix: &Matrix, steps: &Steps, arms: usize) -> bool {
     let width = matrix.width;
-    if width <= 12 || steps.live.len() < width {
+    if arms == 0 || width <= NARROW || steps.live.len() < width {
         return false;
     }
     let open = count_bits(&steps.live[steps.live.len() - width..]);
     WORTH <= open && open < matrix.numbers.len() / 3
 }
 
-/// A matrix with a column for each open placement and no other columns.
-pub(crate) fn narrowed_now(alloc: Global, node: &Node<'_>, steps: &Steps) -> Result<Matrix, Refusal>
+/// A matrix with a column for each open placement and no other columns. Overwrites `spare`, as `narrowed` does.
+pub(crate) fn narrowed_now(
+    alloc: Global,
+    node: &Node<'_>,
+    steps: &Steps,
+    spare: Matrix,
+) -> Result<Matrix, Refusal>
     requires kept { IsAt node.now steps.now }
     ensures part { IfOk result (λ m. IsMatrix node.now.view.now m) }
     ensures all { IfOk result (λ m. HasOpen node.now.view.now node.now.trail.now m) }
+    ensures numbers { IfOk result (λ m. m.numbers.items ≡ filter (λ p. open_in node.now.view.now node.now.trail.now p) node.now.matrix.now.numbers.items) }
     ensures why { IfErr result (λ e. e ≡ Refusal.Memory) }
 {
     let at = steps.live.len() - node.matrix.width;
-    let narrow = narrowed(alloc, node.view, node.matrix, &steps.live[at..])?;
+    let narrow = narrowed(alloc, node.view, node.matrix, &steps.live[at..], spare)?;
     Ok(narrow)
 }
 
@@ -158,6 +168,7 @@ pub(crate) fn is_short(node: &Node<'_>, steps: &Steps) -> bool
 pub(crate) fn judge(node: &Node<'_>, steps: &Steps, consistent: usize) -> Option<bool>
     requires kept { IsAt node.now steps.now }
     requires consistent { ConsistentShows node.now.view.now node.now.trail.now node.now.given consistent }
+    requires low { node.now.given ≤ length node.now.trail.now }
     ensures { IfSome result (λ b. in_family node.now.view.now node.now.trail.now (base node.now.view.now node.now.trail.now) ≡ b) }
 {
     if is_short(node, steps) {
@@ -196,10 +207,10 @@ fn spare(
     let from = node.matrix.width * b;
     let live = &steps.live[at..at + node.matrix.width];
     let row = &node.matrix.rows[from..from + node.matrix.width];
+    let most = fewest.saturating_add(remaining);
     let n = if is_narrow(live) {
-        count_common(live, row)
+        count_common(live, row, most)
     } else {
-        let most = fewest.saturating_add(remaining);
         common(live, occupied, row, &filled_words(node.matrix, b), most)
     };
     Some(n.saturating_sub(remaining))

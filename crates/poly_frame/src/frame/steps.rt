@@ -1,7 +1,7 @@
-//! What changes while a frame moves: a row of what is open at the given atoms, one more row for each step, and how many
-//! members of the base have each item. A step copies the last row and removes from the copy what the step closes, so undoing
-//! the step drops that row.
-ghost use Rattle.std.specs.Prelude.{IfErr, IfOk, IfSome, List, false, length, nat_le, nat_lt, not, slice_index, true, vec_capacity, vec_len, ℕ, [], ◌&&◌, ◌*◌, ◌++◌, ◌+◌, ◌-◌, ◌<◌, ◌∷◌, ◌≡◌, ◌≤◌, take};
+//! What changes while a frame moves: a row of what is open at the given atoms, one more row for each placement that is taken,
+//! and how many members of the base have each item. Taking a placement copies the last row and removes from the copy what the
+//! step closes; leaving a placement out clears one bit of the last row. Undoing a step drops the row or sets the bit again.
+ghost use Rattle.std.specs.Prelude.{IfErr, IfOk, IfSome, List, MatchOption, false, length, nat_le, nat_lt, not, slice_index, true, vec_capacity, vec_len, ℕ, [], ◌&&◌, ◌*◌, ◌++◌, ◌+◌, ◌-◌, ◌<◌, ◌∷◌, ◌≡◌, ◌≤◌, take};
 ghost use Rattle.std.specs.List.{list_all, list_any};
 ghost use Rattle.poly_atom.specs.Hopeless.{base};
 ghost use Rattle.poly_frame.specs.Bits.{has_bit};
@@ -11,32 +11,56 @@ ghost use Rattle.poly_tiling.specs.Puzzle.{items};
 
 use crate::bits;
 use crate::frame::STEPS;
-use crate::frame::items::note_items;
+use crate::frame::items::{PLACEMENT_ITEMS, note_items};
 use crate::frame::matrix::Matrix;
 use crate::frame::node::Node;
-use crate::frame::notes::{lower_and_note, notes_of, raise_and_note};
+use crate::frame::notes::{lower_and_note, raise_and_note};
 use crate::frame::table::Table;
 use poly_atom::Atom;
 use poly_grid::Refusal;
 use poly_tiling::{View, has_number};
 use std::alloc::Global;
 
+/// What is needed to undo a step.
+#[derive(Clone, Copy)]
+pub(crate) struct Mark {
+    /// How long `raised` was before the step.
+    pub(crate) raised: usize,
+    /// The word of `live` at which the last row began before the step.
+    pub(crate) row: usize,
+    /// The column whose bit the step cleared in that row.
+    pub(crate) cleared: Option<usize>,
+}
+
 /// The bits and counts that steps change.
 #[derive(Drop)]
 pub(crate) struct Steps {
-    /// A row of the open columns for the given atoms, then one for each step.
+    /// A row of the open columns for the given atoms, then one for each placement that was taken.
     pub(crate) live: Vec<u64>,
     /// How many members of the base have each item.
     pub(crate) have: Vec<u64>,
     /// The indices of the items whose counts the steps raised, in the order of the steps.
     pub(crate) raised: Vec<usize>,
-    /// How long `raised` was before each step.
-    pub(crate) marks: Vec<usize>,
+    /// What is needed to undo each step.
+    pub(crate) marks: Vec<Mark>,
     /// A bit for each item, set if too few members of the base have it; a wrong bit only costs time.
     pub(crate) due: Vec<u64>,
 }
 
-ghost use Rattle.poly_frame.specs.Matrices.{IsMatrix, RowOf, bit_index};
+impl Steps {
+    /// No steps, and no row. Takes no memory.
+    pub(crate) fn none(alloc: Global) -> Steps {
+        Steps {
+            live: Vec::new(alloc),
+            have: Vec::new(alloc),
+            raised: Vec::new(alloc),
+            marks: Vec::new(alloc),
+            due: Vec::new(alloc),
+        }
+    }
+}
+
+ghost use Rattle.poly_frame.specs.Matrices.{IsMatrix, RowOf, StandsShow, bit_index};
 ghost use Rattle.poly_frame.specs.FrameTable.{HaveShows, TableShows};
 ghost use Rattle.poly_frame.specs.FrameSteps.{HasRoom, IsAt, StepsKeep};
 ghost use Rattle.poly_frame.specs.declared.frame.items.TheConstants.{PLACEMENT_ITEMS};
@@ -101,15 +125,19 @@ fn close(
 pub(crate) fn pick(node: &Node<'_>, members: &[u32], steps: &mut Steps, number: u32)
     requires kept { IsAt node.now steps.old }
     requires room { HasRoom node.now.matrix.now steps.old }
-    requires few { length node.now.trail.now < node.now.given + STEPS }
+    requires few { length node.now.trail.now < node.now.base + STEPS }
     requires members { members.now ≡ base node.now.view.now node.now.trail.now }
-    ensures kept { StepsKeep node.now.view.now (node.now.trail.now ++ Atom.Has number ∷ []) node.now.given node.now.matrix.now node.now.table.now steps.new }
+    ensures kept { StepsKeep node.now.view.now (node.now.trail.now ++ Atom.Has number ∷ []) node.now.base node.now.matrix.now node.now.table.now steps.new }
     ensures room { HasRoom node.now.matrix.now steps.new }
 {
     let at = steps.live.len();
     let mark = steps.raised.len();
     bits::copy_last(&mut steps.live, node.matrix.width);
-    steps.marks.push_reserved(mark);
+    steps.marks.push_reserved(Mark {
+        raised: mark,
+        row: at - node.matrix.width,
+        cleared: None,
+    });
     if has_number(members, number) {
         return;
     }
@@ -134,19 +162,41 @@ pub(crate) fn pick(node: &Node<'_>, members: &[u32], steps: &mut Steps, number: 
     }
 }
 
+// The column of the number, if its bit is set in the row at word `at`.
+fn open_column(matrix: &Matrix, live: &[u64], at: usize, number: u32) -> Option<usize>
+    requires stands { StandsShow matrix.now.numbers.items matrix.now.stands.items }
+    requires wide { length matrix.now.numbers.items ≤ 64 * matrix.now.width }
+    requires live { at + matrix.now.width ≤ length live.now }
+    ensures { MatchOption result ((j : ℕ) → j < length matrix.now.numbers.items → slice_index matrix.now.numbers.items j ≡ number → has_bit live.now (64 * at + j) ≡ false) (λ j. (j < length matrix.now.numbers.items) × (slice_index matrix.now.numbers.items j ≡ number) × (has_bit live.now (64 * at + j) ≡ true)) }
+{
+    match matrix.column_of(number) {
+        Some(j) => {
+            if bits::has(live, at, j) {
+                Some(j)
+            } else {
+                None
+            }
+        }
+        None => None,
+    }
+}
+
 /// Leaves a placement out.
 pub(crate) fn leave(node: &Node<'_>, steps: &mut Steps, number: u32)
     requires kept { IsAt node.now steps.old }
     requires room { HasRoom node.now.matrix.now steps.old }
-    requires few { length node.now.trail.now < node.now.given + STEPS }
-    ensures kept { StepsKeep node.now.view.now (node.now.trail.now ++ Atom.Lacks number ∷ []) node.now.given node.now.matrix.now node.now.table.now steps.new }
+    requires few { length node.now.trail.now < node.now.base + STEPS }
+    ensures kept { StepsKeep node.now.view.now (node.now.trail.now ++ Atom.Lacks number ∷ []) node.now.base node.now.matrix.now node.now.table.now steps.new }
     ensures room { HasRoom node.now.matrix.now steps.new }
 {
-    let at = steps.live.len();
-    let mark = steps.raised.len();
-    bits::copy_last(&mut steps.live, node.matrix.width);
-    steps.marks.push_reserved(mark);
-    if let Some(j) = node.matrix.column_of(number) {
+    let at = steps.live.len() - node.matrix.width;
+    let column = open_column(node.matrix, &steps.live, at, number);
+    steps.marks.push_reserved(Mark {
+        raised: steps.raised.len(),
+        row: at,
+        cleared: column,
+    });
+    if let Some(j) = column {
         bits::take_out(&mut steps.live, at, j);
     }
 }
@@ -155,21 +205,24 @@ pub(crate) fn leave(node: &Node<'_>, steps: &mut Steps, number: u32)
 pub(crate) fn back(node: &Node<'_>, steps: &mut Steps)
     requires kept { IsAt node.now steps.old }
     requires room { HasRoom node.now.matrix.now steps.old }
-    requires some { node.now.given < length node.now.trail.now }
-    ensures kept { StepsKeep node.now.view.now (take (length node.now.trail.now - 1) node.now.trail.now) node.now.given node.now.matrix.now node.now.table.now steps.new }
+    requires some { node.now.base < length node.now.trail.now }
+    ensures kept { StepsKeep node.now.view.now (take (length node.now.trail.now - 1) node.now.trail.now) node.now.base node.now.matrix.now node.now.table.now steps.new }
     ensures room { HasRoom node.now.matrix.now steps.new }
 {
-    let n = node.trail.len() - 1 - node.given;
+    let n = node.trail.len() - 1 - node.base;
     let mark = steps.marks[n];
+    steps.marks.truncate(n);
     lower_and_note(
         &mut steps.have,
         &mut steps.due,
         &node.table.leasts,
-        &steps.raised[mark..],
+        &steps.raised[mark.raised..],
     );
-    steps.raised.truncate(mark);
-    steps.marks.truncate(n);
-    steps.live.truncate(node.matrix.width * (n + 1));
+    steps.raised.truncate(mark.raised);
+    steps.live.truncate(mark.row + node.matrix.width);
+    if let Some(j) = mark.cleared {
+        bits::put_in(&mut steps.live, mark.row, j);
+    }
 }
 
 // The row, with room for one more row at each step.
@@ -183,30 +236,33 @@ fn with_room(row: Vec<u64>, width: usize) -> Result<Vec<u64>, Refusal>
     Ok(rows)
 }
 
-/// The bits and counts of a frame that has no step yet. `row` is the row of what is open at the node's atoms, and `have`
-/// counts the members of their base with each item. `raised` is emptied: only its room is used.
+/// The bits and counts of a layer that has no step yet. `row` is the row of what is open at the node's atoms, and `have`
+/// counts the members of their base with each item. `due` notes which items are due. `raised` and `marks` are emptied: only
+/// their room is used.
 pub(crate) fn start(
-    alloc: Global,
     node: &Node<'_>,
     row: Vec<u64>,
     have: Vec<u64>,
+    due: Vec<u64>,
     raised: Vec<usize>,
+    marks: Vec<Mark>,
 ) -> Result<Steps, Refusal>
     requires table { TableShows node.now.view.now node.now.trail.now node.now.matrix.now node.now.table.now }
     requires row_len { length row.items ≡ node.now.matrix.now.width }
     requires row { RowOf (λ p. open_in node.now.view.now node.now.trail.now p) node.now.matrix.now row.items }
     requires have { HaveShows node.now.view.now (base node.now.view.now node.now.trail.now) have.items }
     requires len { length have.items ≡ length node.now.view.now.bounds }
-    requires room { STEPS * PLACEMENT_ITEMS ≤ vec_capacity raised }
     ensures kept { IfOk result (λ s. StepsKeep node.now.view.now node.now.trail.now (length node.now.trail.now) node.now.matrix.now node.now.table.now s) }
     ensures room { IfOk result (λ s. HasRoom node.now.matrix.now s) }
     ensures why { IfErr result (λ e. e ≡ Refusal.Memory) }
 {
     let live = with_room(row, node.matrix.width)?;
-    let marks = Vec::with_capacity(alloc, STEPS)?;
     let mut raised = raised;
     raised.clear();
-    let due = notes_of(alloc, &node.table.leasts, &have)?;
+    raised.reserve(STEPS * PLACEMENT_ITEMS)?;
+    let mut marks = marks;
+    marks.clear();
+    marks.reserve(STEPS)?;
     Ok(Steps {
         live,
         have,

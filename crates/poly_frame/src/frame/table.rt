@@ -1,5 +1,5 @@
 //! What stays the same while a frame moves, and the first count of the members that have each item.
-ghost use Rattle.std.specs.Prelude.{IfErr, IfOk, length, slice_index, vec_capacity, ℕ, ◌<◌, ◌^◌, ◌≡◌, ◌≤◌};
+ghost use Rattle.std.specs.Prelude.{IfErr, IfOk, length, slice_index, vec_capacity, ℕ, ◌&&◌, ◌<◌, ◌^◌, ◌≡◌, ◌≤◌};
 ghost use Rattle.std.specs.List.{list_all, list_any};
 ghost use Rattle.poly_tiling.specs.Puzzle.{same_item};
 ghost use Rattle.poly_atom.specs.Hopeless.{base};
@@ -26,6 +26,18 @@ pub(crate) struct Table {
     pub(crate) listed: bool,
     /// From this index on, `leasts` is 0.
     pub(crate) leasts_end: usize,
+}
+
+impl Table {
+    /// A table without items. Takes no memory.
+    pub(crate) fn none(alloc: Global) -> Table {
+        Table {
+            limits: Vec::new(alloc),
+            leasts: Vec::new(alloc),
+            listed: false,
+            leasts_end: 0,
+        }
+    }
 }
 
 ghost use Rattle.poly_frame.specs.Matrices.{IsMatrix};
@@ -143,5 +155,42 @@ pub(crate) fn table_of(
         leasts,
         listed,
         leasts_end,
+    })
+}
+
+// A copy of the list, in the memory of `spare`.
+fn copied(from: &[u8], spare: Vec<u8>) -> Result<Vec<u8>, Refusal>
+    ensures value { IfOk result (λ c. c.items ≡ from.now) }
+    ensures why { IfErr result (λ e. e ≡ Refusal.Memory) }
+{
+    let mut copy = spare;
+    copy.clear();
+    copy.extend_from_slice(from)?;
+    Ok(copy)
+}
+
+/// What `table` says, in the memory of `spare`, for its atoms and the `later` ones, which only take placements or leave them
+/// out. If one of them asks for an item that isn't listed, the result is not known to be listed.
+pub(crate) fn table_again(
+    bounds: &[Bound],
+    table: &Table,
+    later: &[Atom],
+    spare: Table,
+) -> Result<Table, Refusal>
+    ensures limits { IfOk result (λ t. t.limits.items ≡ table.now.limits.items) }
+    ensures leasts { IfOk result (λ t. t.leasts.items ≡ table.now.leasts.items) }
+    ensures listed { IfOk result (λ t. t.listed ≡ (table.now.listed && list_all (of_asked (λ i. list_any (λ b. same_item b.item i) bounds.now)) later.now)) }
+    ensures end { IfOk result (λ t. t.leasts_end ≡ table.now.leasts_end) }
+    ensures why { IfErr result (λ e. e ≡ Refusal.Memory) }
+{
+    let Table { limits, leasts, .. } = spare;
+    let limits = copied(&table.limits, limits)?;
+    let leasts = copied(&table.leasts, leasts)?;
+    let listed = table.listed && all_listed(bounds, later);
+    Ok(Table {
+        limits,
+        leasts,
+        listed,
+        leasts_end: table.leasts_end,
     })
 }

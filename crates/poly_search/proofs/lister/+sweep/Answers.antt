@@ -1,5 +1,4 @@
 use Rattle.std.proofs.Common.{◌≡◌, ℕ, ◌+◌, ◌<◌, ◌≤◌, ◌-◌, length, ◌++◌, [], ◌∷◌, List, true, arith, rules, sym, ap, subst, length-append, take, drop, ◌∙◌}
-use Rattle.std.proofs.lemmas.Result.{IfOk-weaker}
 use Rattle.poly_tiling.specs.Lists.{distinct}
 use Rattle.poly_report.specs.Gather.{lists}
 use Rattle.poly_frame.specs.Walk.{Walk, with_step}
@@ -37,11 +36,6 @@ sweep_arm-returns-else-not-whole-clause-more t c =
 
 pub sweep_below-returns-then-depth-eq0-clause-swept : goal.sweep_below-returns-then-depth-eq0-clause-swept
 sweep_below-returns-then-depth-eq0-clause-swept t c = swept_rest c.args.frame.now.scene c.args.frame.now.atoms _ _ _ _ c.in_ok-push_rest.ensures.found c.in_ok-push_rest.ensures.rests
-
-pub sweep_below-returns-in-Some-clause-room : goal.sweep_below-returns-in-Some-clause-room
-sweep_below-returns-in-Some-clause-room t c =
-    let room : length c.args.frame.now.atoms < c.args.end = omega (arith, c.level.ensures, c.if-level-end.false) in
-    IfOk-weaker c.sweep-in-Some.result _ _ (λ whole rests yes. room) c.sweep-in-Some.ensures.whole
 
 pub sweep_open-returns-clause-swept : goal.sweep_open-returns-clause-swept
 sweep_open-returns-clause-swept t c =

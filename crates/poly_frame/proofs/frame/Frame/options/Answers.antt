@@ -26,7 +26,7 @@ returns c =
       (refl, λ _. tt, c.self.view_is),
       record {
         same = tt;
-        once = ap distinct listed ∙ options_once v A c.self.inside.given matrix t s.live.items s.have.items s.raised.items s.marks.items K f;
-        members = λ p. subst (λ (w : Walk). mem c.deref-2.result.now p ≡ (mem w.scene.live p && is_option w c.args.item p)) c.self.view_is (ap (λ xs. mem xs p) listed ∙ options_members v A c.self.inside.given matrix t s.live.items s.have.items s.raised.items s.marks.items K c.args.item p);
+        once = ap distinct listed ∙ options_once v A c.self.inside.base matrix t s.live.items s.have.items s.raised.items s.marks.items K f;
+        members = λ p. subst (λ (w : Walk). mem c.deref-2.result.now p ≡ (mem w.scene.live p && is_option w c.args.item p)) c.self.view_is (ap (λ xs. mem xs p) listed ∙ options_members v A c.self.inside.base matrix t s.live.items s.have.items s.raised.items s.marks.items K c.args.item p);
       },
     )

@@ -20,7 +20,7 @@ returns c =
     let h = λ (p : ℕ). has_item v p i && (mem v.live p && not (ruled_out v A p)) in
     let at = ap (λ n. n - matrix.width) (c.len.ensures ∙ s.live.ok.0) in
     let loose = c.count_both.ensures.value g (λ j l.
-    loose_says v A c.args.node.now.given matrix t s.live.items s.have.items s.raised.items s.marks.items K i (c.len.result - matrix.width) b at c.requires.row c.requires.same j l
+    loose_says v A c.args.node.now.base matrix t s.live.items s.have.items s.raised.items s.marks.items K i (c.len.result - matrix.width) b at c.requires.row c.requires.same j l
     ∙ ap (λ ws. in_both ws (c.len.result - matrix.width) matrix.rows.items (matrix.width * b) j) (sym c.deref.ensures.value)) in
-    let held = c.count_held-held.ensures.value ∙ ap (λ xs. tally h xs) c.requires.members in
-    omega (arith, loose, held, loose_parts v A c.args.node.now.given matrix t s.live.items s.have.items s.raised.items s.marks.items K i)
+    let held = c.count_held_at-held.ensures.value ∙ ap (λ xs. tally h xs) c.requires.members in
+    omega (arith, loose, held, loose_parts v A c.args.node.now.base matrix t s.live.items s.have.items s.raised.items s.marks.items K i)

@@ -13,4 +13,4 @@ returns c =
     let least_there = get_or_read t.leasts.items b c.index.result.now (omega (arith, c.requires.row, K.table.leasts_len)) c.index.ensures 0 in
     let had = get_or_read s.have.items b c.index-2.result.now (omega (arith, c.requires.row, K.have_len)) c.index-2.ensures 0 in
     c.max.ensures ∙ ap (λ n. max n c.index-2.result.now) least_there ∙ ap (λ n. max (get_or t.leasts.items b 0) n) had
-    ∙ with_base_says c.args.node.now.view.now c.args.node.now.trail.now c.args.node.now.given matrix t s.live.items s.have.items s.raised.items s.marks.items K c.args.item.now b c.requires.row c.requires.same
+    ∙ with_base_says c.args.node.now.view.now c.args.node.now.trail.now c.args.node.now.base matrix t s.live.items s.have.items s.raised.items s.marks.items K c.args.item.now b c.requires.row c.requires.same

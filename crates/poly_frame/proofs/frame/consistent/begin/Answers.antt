@@ -17,6 +17,3 @@ returns-then-are_kept c =
     let have = subst (λ (xs : List ℕ). HaveShows v xs c.args.have.now) c.requires.base c.requires.have in
     let all : list_all (kept v.live) (base v A) ≡ true = ap (λ xs. list_all (kept v.live) xs) (sym c.requires.base) ∙ all_kept c.args.part.now.numbers.items v.live (λ p. not (list_any (λ a. lacks a p) A)) c.requires.part.live c.args.members.now (sym c.are_kept.ensures ∙ c.if-are_kept.true) in
     consistent_one v A (consistent_fits v A c.args.mosts.now c.args.have.now c.items.ensures.well c.requires.mosts have fit all)
-
-pub returns-then-sure : goal.returns-then-sure
-returns-then-sure c = consistent_one c.args.view.now c.args.atoms.now (c.requires.sure c.if-sure.true)

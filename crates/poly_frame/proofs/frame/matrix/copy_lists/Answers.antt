@@ -53,6 +53,6 @@ loop-p-preserved c = λ v M.
     let starts = c.loop-p.starts.items in
     let indices = c.loop-p.indices.items in
     let e2 : c.extend_from_slice.new.self.items ≡ indices ++ new = c.in_ok-extend_from_slice.ensures.items ∙ ap (λ xs. indices ++ xs) c.of.ensures in
-    let n : c.len-in-loop-p.result ≡ length (indices ++ new) = omega (arith, c.len-in-loop-p.ensures, c.extend_from_slice.new.self.ok.0, ap length e2) in
+    let n : c.len.result ≡ length (indices ++ new) = omega (arith, c.len.ensures, c.extend_from_slice.new.self.ok.0, ap length e2) in
     let e1 = c.in_ok-push-2.ensures.items ∙ ap (λ k. starts ++ k ∷ []) n in
     lists_as v ns _ _ _ _ (k + 1) (sym e1) (sym e2) (lists_more v ns starts indices new k (c.loop-p.invariant v M) noted E.short)

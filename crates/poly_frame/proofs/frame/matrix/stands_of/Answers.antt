@@ -1,4 +1,4 @@
-use Rattle.std.proofs.Common.{arith, get_or, length, ◌<◌, ◌∙◌}
+use Rattle.std.proofs.Common.{arith, get_or, length, ◌<◌}
 use Rattle.std.proofs.lemmas.List.{length-set}
 use Rattle.poly_frame.proofs.FrameOpen.{above_at, stands_step}
 use Rattle.poly_frame.proofs.frame.matrix.stands_of.Goals as goal
@@ -9,6 +9,6 @@ loop-j-preserved c =
     let inv = c.loop-j.invariant in
     let low : get_or ns c.loop-j.j 0 < length c.loop-j.stands.items = omega (arith, inv.len, above_at ns c.size_for-size.result c.loop-j.j c.size_for-size.ensures.above c.loop-j-test.true) in
     record {
-      len = length-set c.loop-j.stands.items (get_or ns c.loop-j.j 0) c.loop-j.j ∙ inv.len;
+      len = omega (arith, length-set c.loop-j.stands.items (get_or ns c.loop-j.j 0) c.loop-j.j, inv.len);
       done = stands_step ns c.loop-j.stands.items c.loop-j.j c.requires c.loop-j-test.true low inv.done;
     }

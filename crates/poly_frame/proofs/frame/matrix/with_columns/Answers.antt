@@ -1,4 +1,4 @@
-use Rattle.std.proofs.Common.{List, ap, arith, refl, subst, ℕ, ◌+◌, ◌/◌, ◌∙◌}
+use Rattle.std.proofs.Common.{List, ap, arith, length, refl, subst, ℕ, ◌∙◌}
 use Rattle.poly_tiling.specs.Lists.{distinct}
 use Rattle.poly_frame.specs.Matrices.{RowsShow, StandsShow}
 use Rattle.poly_frame.proofs.frame.matrix.with_columns.Goals as goal
@@ -6,11 +6,15 @@ use Rattle.poly_frame.proofs.frame.matrix.with_columns.Goals as goal
 pub stands_of-requires : goal.stands_of-requires
 stands_of-requires c = ap distinct c.deref-2.ensures.value ∙ c.requires.once
 
+pub rows_of-requires-clause-wide : goal.rows_of-requires-clause-wide
+rows_of-requires-clause-wide c = omega (arith, ap length c.deref.ensures.value, c.width_for-width.ensures.wide, c.len.ensures, c.args.numbers.ok.0)
+
 pub returns-clause-made : goal.returns-clause-made
 returns-clause-made c =
     let v = c.args.view.now in
     let numbers = c.args.numbers in
-    let lists = c.args.lists in (
+    let lists = c.args.lists in
+    let width = c.width_for-width in (
       record {
         well = c.requires.well;
         once = c.requires.once;
@@ -18,9 +22,9 @@ returns-clause-made c =
         live = c.requires.live;
         stands = subst (λ (ns : List ℕ). StandsShow ns c.in_ok-stands.stands.items) c.deref-2.ensures.value c.in_ok-stands.ensures.value;
         lists = c.requires.lists;
-        wide = omega (arith, c.len.ensures, numbers.ok.0);
-        narrow = omega (arith, c.len.ensures, numbers.ok.0, numbers.ok.1, numbers.small);
-        rows = subst (λ (ns : List ℕ). RowsShow v ns (c.len.result / 64 + 1) c.in_ok-rows.rows.items) c.deref.ensures.value c.in_ok-rows.ensures.value;
+        wide = omega (arith, width.ensures.wide, c.len.ensures, numbers.ok.0);
+        narrow = omega (arith, width.ensures.small, c.len.ensures, numbers.ok.0, numbers.ok.1, numbers.small);
+        rows = subst (λ (ns : List ℕ). RowsShow v ns width.result c.in_ok-rows.rows.items) c.deref.ensures.value c.in_ok-rows.ensures.value;
         rows_len = c.in_ok-rows.ensures.len;
       },
       refl,

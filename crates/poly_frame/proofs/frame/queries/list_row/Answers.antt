@@ -15,5 +15,5 @@ returns-clause-items c =
     let A = c.args.node.now.trail.now in
     let at = ap (λ n. n - matrix.width) (c.len.ensures ∙ s.live.ok.0) in
     c.list_both.ensures.items (λ p. open_in v A p && has_item v p (item_of v c.args.b)) (λ j h.
-    row_says v A c.args.node.now.given matrix t s.live.items s.have.items s.raised.items s.marks.items c.requires.kept (c.len.result - matrix.width) c.args.b at c.requires.row j h
+    row_says v A c.args.node.now.base matrix t s.live.items s.have.items s.raised.items s.marks.items c.requires.kept (c.len.result - matrix.width) c.args.b at c.requires.row j h
     ∙ ap (λ ws. has_bit ws (64 * (c.len.result - matrix.width) + j) && has_bit matrix.rows.items (64 * (matrix.width * c.args.b) + j)) (sym c.deref.ensures.value))

@@ -12,7 +12,7 @@ narrowed-requires-clause-row c =
     let s = c.args.steps.now in
     let matrix = c.args.node.now.matrix.now in
     let at = ap (λ n. n - matrix.width) (c.len.ensures ∙ s.live.ok.0) in
-    top_slice c.args.node.now.view.now c.args.node.now.trail.now c.args.node.now.given matrix c.args.node.now.table.now s.live.items s.have.items s.raised.items s.marks.items c.requires.kept c.deref.result.now _ c.deref.ensures.value at
+    top_slice c.args.node.now.view.now c.args.node.now.trail.now c.args.node.now.base matrix c.args.node.now.table.now s.live.items s.have.items s.raised.items s.marks.items c.requires.kept c.deref.result.now _ c.deref.ensures.value at
 
 pub returns-clause-all : goal.returns-clause-all
 returns-clause-all c =
@@ -22,5 +22,14 @@ returns-clause-all c =
     let matrix = c.args.node.now.matrix.now in
     let K = c.requires.kept in
     let at = ap (λ n. n - matrix.width) (c.len.ensures ∙ s.live.ok.0) in
-    λ q m o. narrow_all (λ p. open_in v A p) matrix.numbers.items c.in_ok-narrow.narrow.numbers.items (c.in_ok-narrow.ensures.numbers (λ p. open_in v A p) (λ j h. top_bits v A c.args.node.now.given matrix c.args.node.now.table.now s.live.items s.have.items s.raised.items s.marks.items K c.deref.result.now _ j c.deref.ensures.value at h)) q
-    (open_first v A c.args.node.now.given matrix c.args.node.now.table.now s.live.items s.have.items s.raised.items s.marks.items K q m o) o
+    λ q m o. narrow_all (λ p. open_in v A p) matrix.numbers.items c.in_ok-narrow.narrow.numbers.items (c.in_ok-narrow.ensures.numbers (λ p. open_in v A p) (λ j h. top_bits v A c.args.node.now.base matrix c.args.node.now.table.now s.live.items s.have.items s.raised.items s.marks.items K c.deref.result.now _ j c.deref.ensures.value at h)) q
+    (open_first v A c.args.node.now.base matrix c.args.node.now.table.now s.live.items s.have.items s.raised.items s.marks.items K q m o) o
+
+pub returns-clause-numbers : goal.returns-clause-numbers
+returns-clause-numbers c =
+    let v = c.args.node.now.view.now in
+    let A = c.args.node.now.trail.now in
+    let s = c.args.steps.now in
+    let matrix = c.args.node.now.matrix.now in
+    let at = ap (λ n. n - matrix.width) (c.len.ensures ∙ s.live.ok.0) in
+    c.in_ok-narrow.ensures.numbers (λ p. open_in v A p) (λ j h. top_bits v A c.args.node.now.base matrix c.args.node.now.table.now s.live.items s.have.items s.raised.items s.marks.items c.requires.kept c.deref.result.now _ j c.deref.ensures.value at h)

@@ -5,7 +5,7 @@ pub returns-then-node : goal.returns-then-node
 returns-then-node c =
     let s = c.args.steps.now in
     all_due c.args.node.now.view.now c.args.node.now.trail.now c.listed_due.result c.listed_due.ensures
-    (none_else c.args.node.now.view.now c.args.node.now.trail.now c.args.node.now.given c.args.node.now.matrix.now c.args.node.now.table.now s.live.items s.have.items s.raised.items s.marks.items c.requires.kept c.if-node.true)
+    (none_else c.args.node.now.view.now c.args.node.now.trail.now c.args.node.now.base c.args.node.now.matrix.now c.args.node.now.table.now s.live.items s.have.items s.raised.items s.marks.items c.requires.kept c.if-node.true)
 
 pub returns : goal.returns
 returns c =

@@ -8,4 +8,4 @@ returns-in-Some c =
     let K = c.requires.kept in
     let b = c.in-Some.b in
     let low : b < length c.args.node.now.view.now.bounds = omega (arith, c.in-Some.ensures.0, K.have_len) in
-    (low, due_says c.args.node.now.view.now c.args.node.now.trail.now c.args.node.now.given c.args.node.now.matrix.now c.args.node.now.table.now s.live.items s.have.items s.raised.items s.marks.items K b low ∙ c.in-Some.ensures.1)
+    (low, due_says c.args.node.now.view.now c.args.node.now.trail.now c.args.node.now.base c.args.node.now.matrix.now c.args.node.now.table.now s.live.items s.have.items s.raised.items s.marks.items K b low ∙ c.in-Some.ensures.1)

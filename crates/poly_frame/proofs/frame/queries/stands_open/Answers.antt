@@ -15,5 +15,5 @@ returns-in-Some c = λ y.
     let K = c.requires.kept in
     let j = c.in-Some.j in
     let at = ap (λ n. n - matrix.width) (c.len.ensures ∙ s.live.ok.0) in
-    let opened = sym (top_row v A c.args.node.now.given matrix t s.live.items s.have.items s.raised.items s.marks.items K (c.len.result - matrix.width) j at c.in-Some.ensures.0) ∙ ap (λ ws. has_bit ws (64 * (c.len.result - matrix.width) + j)) (sym c.deref.ensures.value) ∙ sym c.has.ensures ∙ y in
-    subst (λ (p : ℕ). (mem v.live p ≡ true) × (open_in v A p ≡ true)) c.in-Some.ensures.1 (open_one v A c.args.node.now.given matrix t s.live.items s.have.items s.raised.items s.marks.items K j c.in-Some.ensures.0 opened)
+    let opened = sym (top_row v A c.args.node.now.base matrix t s.live.items s.have.items s.raised.items s.marks.items K (c.len.result - matrix.width) j at c.in-Some.ensures.0) ∙ ap (λ ws. has_bit ws (64 * (c.len.result - matrix.width) + j)) (sym c.deref.ensures.value) ∙ sym c.has.ensures ∙ y in
+    subst (λ (p : ℕ). (mem v.live p ≡ true) × (open_in v A p ≡ true)) c.in-Some.ensures.1 (open_one v A c.args.node.now.base matrix t s.live.items s.have.items s.raised.items s.marks.items K j c.in-Some.ensures.0 opened)

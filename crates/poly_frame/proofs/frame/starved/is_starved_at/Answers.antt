@@ -10,7 +10,7 @@ pub returns : goal.returns
 returns c = λ y.
     let v = c.args.node.now.view.now in
     let A = c.args.node.now.trail.now in
-    let first = c.args.node.now.given in
+    let first = c.args.node.now.base in
     let K = c.requires.kept in
     let s = c.args.steps.now in
     let matrix = c.args.node.now.matrix.now in

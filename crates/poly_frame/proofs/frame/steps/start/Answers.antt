@@ -10,5 +10,5 @@ returns-clause-kept c =
     let A = c.args.node.now.trail.now in
     let matrix = c.args.node.now.matrix.now in
     let same = c.in_ok-live.ensures.items in
-    kept_start v A matrix c.args.node.now.table.now c.in_ok-live.live.items c.args.have.items c.clear.new.self.items c.in_ok-marks.marks.items c.requires.table c.requires.have c.requires.len (ap length same ∙ c.requires.row_len) c.clear.ensures.items c.in_ok-marks.ensures.items
+    kept_start v A matrix c.args.node.now.table.now c.in_ok-live.live.items c.args.have.items c.reserve.new.self.items c.reserve-2.new.self.items c.requires.table c.requires.have c.requires.len (ap length same ∙ c.requires.row_len) (c.reserve.ensures.items ∙ c.clear.ensures.items) (c.reserve-2.ensures.items ∙ c.clear-2.ensures.items)
     (subst (λ (xs : List ℕ). RowOf (λ p. open_in v A p) matrix xs) (sym same) c.requires.row)

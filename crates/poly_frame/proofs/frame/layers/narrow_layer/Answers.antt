@@ -1,0 +1,33 @@
+use Rattle.std.proofs.Common.{Bool, ap, arith, length, refl, sym, ℕ, ◌<◌, ◌^◌, ◌∙◌}
+use Rattle.std.proofs.lemmas.Bool.{and_parts}
+use Rattle.poly_tiling.specs.Lists.{mem}
+use Rattle.poly_atom.specs.Hopeless.{base}
+use Rattle.poly_frame.specs.Open.{open_in}
+use Rattle.poly_frame.proofs.FrameSteps.{top_have}
+use Rattle.poly_frame.proofs.Layers.{table_here}
+use Rattle.poly_frame.proofs.Walks.{mem_filter}
+use Rattle.poly_frame.proofs.frame.layers.narrow_layer.Goals as goal
+
+pub steps_here-requires-clause-table : goal.steps_here-requires-clause-table
+steps_here-requires-clause-table c =
+    let n = c.args.node.now in
+    let s = c.args.steps.now in
+    let t = c.in_ok-table.ensures in
+    let few : length (base n.view.now n.trail.now) < 2 ^ 63 = omega (arith, ap length c.requires.members, c.requires.few) in
+    table_here n.view.now n.trail.now n.base n.matrix.now c.in_ok-matrix.matrix n.table.now c.in_ok-table.table s.live.items s.have.items s.raised.items s.marks.items c.items.result.now _ c.requires.kept c.in_ok-matrix.ensures.part c.in_ok-matrix.ensures.all few c.items.ensures.value refl t.limits t.leasts t.listed t.end
+
+pub steps_here-requires-clause-open : goal.steps_here-requires-clause-open
+steps_here-requires-clause-open c = λ q m.
+    let n = c.args.node.now in
+    let ns = n.matrix.now.numbers.items in
+    let f : ℕ → Bool = λ p. open_in n.view.now n.trail.now p in
+    (and_parts (mem ns q) (f q) (sym (mem_filter f ns q) ∙ ap (λ xs. mem xs q) (sym c.in_ok-matrix.ensures.numbers) ∙ m)).1
+
+pub steps_here-requires-clause-have : goal.steps_here-requires-clause-have
+steps_here-requires-clause-have c = λ b h.
+    let n = c.args.node.now in
+    let s = c.args.steps.now in
+    top_have n.view.now n.trail.now n.base n.matrix.now n.table.now s.live.items s.have.items s.raised.items s.marks.items c.requires.kept b h
+
+pub steps_here-requires-clause-len : goal.steps_here-requires-clause-len
+steps_here-requires-clause-len c = c.requires.kept.have_len

@@ -1,0 +1,181 @@
+//! The layers of a frame. A layer is a cover matrix with what the frame keeps of it: the frame reads the last layer, which has
+//! a column for each placement that was open when the layer was made. Going back past that point drops the layer.
+ghost use Rattle.std.specs.Prelude.{IfErr, IfOk, length, reverse, true, ℕ, ◌<◌, ◌^◌, ◌≡◌, ◌≤◌};
+ghost use Rattle.poly_tiling.specs.Lists.{mem};
+ghost use Rattle.poly_atom.specs.Hopeless.{base};
+
+use crate::frame::matrix::{Columns, Matrix};
+use crate::frame::node::Node;
+use crate::frame::opened::first_row;
+use crate::frame::queries;
+use crate::frame::steps::{Steps, start};
+use crate::frame::table::{Table, table_again};
+use poly_atom::Atom;
+use poly_grid::Refusal;
+use poly_tiling::View;
+use std::alloc::Global;
+use std::mem;
+
+/// A cover matrix, and what a frame keeps of it.
+#[derive(Drop)]
+pub(crate) struct Layer<'a> {
+    /// The matrix.
+    pub(crate) columns: Columns<'a>,
+    /// What stays the same while the frame moves on this layer.
+    pub(crate) table: Table,
+    /// What each step changes.
+    pub(crate) steps: Steps,
+    /// How many atoms were on the trail when the layer was made.
+    pub(crate) base: usize,
+}
+
+impl<'a> Layer<'a> {
+    /// A layer without columns, which takes no memory.
+    pub(crate) fn none(alloc: Global) -> Layer<'a> {
+        Layer {
+            columns: Columns::Own(Matrix::none(alloc)),
+            table: Table::none(alloc),
+            steps: Steps::none(alloc),
+            base: 0,
+        }
+    }
+}
+
+ghost use Rattle.poly_frame.specs.FrameSteps.{HasRoom, IsAt, StepsKeep};
+ghost use Rattle.poly_frame.specs.Layers.{LayerShows, PileShows};
+ghost use Rattle.poly_frame.specs.FrameTable.{HaveShows, TableShows};
+ghost use Rattle.poly_frame.specs.Matrices.{matrix_of};
+ghost use Rattle.poly_frame.specs.Open.{open_in};
+
+/// Drops the last layer if the frame stands where the layer was made, so that the last step can be undone. If `spare` has room,
+/// the layer goes there, so that its memory can be used again.
+#[tactic(auto, using(crate::proofs::Layers::pile_open, crate::proofs::Layers::pile_pop))]
+pub(crate) fn widen<'a>(
+    view: &View,
+    trail: &[Atom],
+    given: usize,
+    columns: &mut Columns<'a>,
+    table: &mut Table,
+    steps: &mut Steps,
+    base: &mut usize,
+    under: &mut Vec<Layer<'a>>,
+    spare: &mut Vec<Layer<'a>>,
+)
+    requires levels { StepsKeep view.now trail.now base.old (matrix_of columns.old) table.old steps.old }
+    requires room { HasRoom (matrix_of columns.old) steps.old }
+    requires pile { PileShows view.now trail.now given base.old (reverse under.old.items) }
+    requires some { given < length trail.now }
+    ensures levels { StepsKeep view.now trail.now base.new (matrix_of columns.new) table.new steps.new }
+    ensures room { HasRoom (matrix_of columns.new) steps.new }
+    ensures pile { PileShows view.now trail.now given base.new (reverse under.new.items) }
+    ensures below { base.new < length trail.now }
+{
+    let _ = view;
+    let _ = given;
+    if *base < trail.len() {
+        return;
+    }
+    if let Some(below) = under.pop() {
+        let Layer {
+            columns: columns_below,
+            table: table_below,
+            steps: steps_below,
+            base: base_below,
+        } = below;
+        let dropped = Layer {
+            columns: mem::replace(columns, columns_below),
+            table: mem::replace(table, table_below),
+            steps: mem::replace(steps, steps_below),
+            base: mem::replace(base, base_below),
+        };
+        keep(dropped, spare);
+    }
+}
+
+// Keeps the layer, so that its memory can be used again, if the list has room.
+fn keep<'a>(layer: Layer<'a>, spare: &mut Vec<Layer<'a>>) {
+    if spare.len() < spare.capacity() {
+        spare.push_reserved(layer);
+    }
+}
+
+// A copy of the list, in the memory of `spare`.
+fn copied(from: &[u64], spare: Vec<u64>) -> Result<Vec<u64>, Refusal>
+    ensures value { IfOk result (λ c. c.items ≡ from.now) }
+    ensures why { IfErr result (λ e. e ≡ Refusal.Memory) }
+{
+    let mut copy = spare;
+    copy.clear();
+    copy.extend_from_slice(from)?;
+    Ok(copy)
+}
+
+/// The layer that has the open columns of the node's matrix. `members` is the base. Overwrites `spare`, a layer that was
+/// dropped before.
+pub(crate) fn narrow_layer<'a>(
+    alloc: Global,
+    node: &Node<'_>,
+    steps: &Steps,
+    members: &[u32],
+    spare: Layer<'a>,
+) -> Result<Layer<'a>, Refusal>
+    requires kept { IsAt node.now steps.now }
+    requires members { members.now ≡ base node.now.view.now node.now.trail.now }
+    requires few { length members.now < 2 ^ 63 }
+    ensures layer { IfOk result (λ l. LayerShows node.now.view.now node.now.trail.now l) }
+    ensures here { IfOk result (λ l. l.base ≡ length node.now.trail.now) }
+    ensures why { IfErr result (λ e. e ≡ Refusal.Memory) }
+{
+    let Layer {
+        columns,
+        table: old_table,
+        steps: old_steps,
+        base: _,
+    } = spare;
+    let matrix = queries::narrowed_now(alloc, node, steps, columns.own(alloc))?;
+    let table = table_again(
+        node.view.items(),
+        node.table,
+        &node.trail[node.base..],
+        old_table,
+    )?;
+    let here = Node {
+        view: node.view,
+        trail: node.trail,
+        given: node.given,
+        base: node.trail.len(),
+        matrix: &matrix,
+        table: &table,
+    };
+    let steps = steps_here(&here, steps, old_steps)?;
+    Ok(Layer {
+        columns: Columns::Own(matrix),
+        table,
+        steps,
+        base: node.trail.len(),
+    })
+}
+
+// The steps of a layer that is made at the node: none yet. `from` are those of the layer below.
+fn steps_here(node: &Node<'_>, from: &Steps, spare: Steps) -> Result<Steps, Refusal>
+    requires table { TableShows node.now.view.now node.now.trail.now node.now.matrix.now node.now.table.now }
+    requires open { (q : ℕ) → mem node.now.matrix.now.numbers.items q ≡ true → open_in node.now.view.now node.now.trail.now q ≡ true }
+    requires have { HaveShows node.now.view.now (base node.now.view.now node.now.trail.now) from.now.have.items }
+    requires len { length from.now.have.items ≡ length node.now.view.now.bounds }
+    ensures kept { IfOk result (λ s. StepsKeep node.now.view.now node.now.trail.now (length node.now.trail.now) node.now.matrix.now node.now.table.now s) }
+    ensures room { IfOk result (λ s. HasRoom node.now.matrix.now s) }
+    ensures why { IfErr result (λ e. e ≡ Refusal.Memory) }
+{
+    let Steps {
+        live,
+        have,
+        raised,
+        marks,
+        due,
+    } = spare;
+    let row = first_row(node.matrix.numbers.len(), node.matrix.width, live)?;
+    let have = copied(&from.have, have)?;
+    let due = copied(&from.due, due)?;
+    let steps = start(node, row, have, due, raised, marks)?;
+    Ok(steps)
+}
