@@ -8,3 +8,4 @@ pub mod Cuts
 pub mod Rests
 pub mod Exact
 mod Linking
+mod Stored

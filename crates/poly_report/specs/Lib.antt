@@ -7,3 +7,4 @@ pub mod Gather
 pub mod Opened
 pub mod Laws
 pub mod Linked
+pub mod Words

@@ -1,12 +1,13 @@
--- Lists of atoms as links: each node stands for a list, and its link leads to the list without the last atom.
-use Rattle.std.specs.Prelude.{All, List, [], length, map, slice_index_or, suc, take, ⊤, ℕ, ◌++◌, ◌+◌, ◌<◌, ◌≡◌, ◌≤◌, ◌∷◌}
+-- Lists of atoms as links: each node stands for a list, and its link leads to the list without the last atom. A link without an
+-- atom leads to the same list.
+use Rattle.std.specs.Prelude.{All, List, [], length, map, option_to_list, slice_index_or, suc, take, ⊤, ℕ, ◌++◌, ◌+◌, ◌<◌, ◌≡◌, ◌≤◌, ◌∷◌}
 use Rattle.poly_atom.specs.declared.atom.Atom.{Atom}
-use Rattle.poly_report.specs.declared.atom_lists.Link.{Link}
+use Rattle.poly_report.specs.declared.nodes.Link.{Link}
 
 -- the lists of all nodes, if `lists` are those of the nodes before the links
 abbrev pub with_links : List (List Atom) → List Link → List (List Atom)
 with_links lists [] = lists
-with_links lists (l ∷ ls) = with_links (lists ++ (slice_index_or lists l.before [] ++ l.atom ∷ []) ∷ []) ls
+with_links lists (l ∷ ls) = with_links (lists ++ (slice_index_or lists l.before [] ++ option_to_list l.atom) ∷ []) ls
 
 -- the lists of all nodes: node 0 is the empty list
 abbrev pub nodes : List Link → List (List Atom)

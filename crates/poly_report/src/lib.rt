@@ -17,6 +17,7 @@ mod atom_lists;
 mod cut;
 mod laws;
 mod leaf;
+mod nodes;
 mod size;
 mod tree;
 

@@ -1,0 +1,22 @@
+use Rattle.std.proofs.Common.{ap, arith, reverse, sym, ◌++◌, ◌∙◌, ◌≡◌}
+use Rattle.std.specs.List.{filter}
+use Rattle.poly_report.specs.Linked.{at_node}
+use Rattle.poly_report.specs.Words.{is_other}
+use Rattle.poly_report.proofs.Linking.{no_node, read_other_on}
+use Rattle.poly_report.proofs.atom_lists.read_others.Goals as goal
+
+pub loop-left-smaller : goal.loop-left-smaller
+loop-left-smaller c =
+    let step = read_other_on c.args.nodes.now c.loop-left.left c.in_ok-left.left c.loop-left.others.items c.read_other.new.buffer.items c.requires.linked c.loop-left-test.true c.loop-left.invariant.0 c.in_ok-left.ensures.ok in
+    step.0
+
+pub loop-left-preserved : goal.loop-left-preserved
+loop-left-preserved c =
+    let step = read_other_on c.args.nodes.now c.loop-left.left c.in_ok-left.left c.loop-left.others.items c.read_other.new.buffer.items c.requires.linked c.loop-left-test.true c.loop-left.invariant.0 c.in_ok-left.ensures.ok in
+    (omega (arith, step.0, c.loop-left.invariant.0), step.1 ∙ c.loop-left.invariant.1)
+
+pub returns-clause-ok : goal.returns-clause-ok
+returns-clause-ok c =
+    let none : c.loop-left.left ≡ 0 = omega (arith, c.loop-left-test.false) in
+    c.reverse.ensures.items ∙ ap (λ B. filter is_other B ++ reverse c.loop-left.others.items) (sym (no_node c.args.nodes.now)) ∙ ap (λ n. filter is_other (at_node c.args.nodes.now n) ++ reverse c.loop-left.others.items) (sym none)
+    ∙ c.loop-left.invariant.1
