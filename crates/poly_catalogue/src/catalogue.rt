@@ -134,6 +134,16 @@ impl Catalogue {
         leaving(self.alloc, &self.listing, self.flags.len(), view, delta)
     }
 
+    /// Whether `exchange` wouldn't be refused for the limit if it had this many tilings to add: at most 1,000,000 would be listed
+    /// at the end. Requires what `keep_only` requires. Never allocates.
+    pub fn has_room(&mut self, view: &View, delta: &Delta, more: usize) -> bool
+        requires { AreOfEither view.now delta.now self.old }
+        ensures stays { self.new ≡ self.old }
+        ensures room { result ≡ nat_le (length (filter (is_tiling view.now) self.old) + more) MAX_TILINGS }
+    {
+        has_room(&self.listing, &mut self.flags, view, delta, more)
+    }
+
     /// Does what `keep_only` and then `list_all` do, or changes nothing. Requires what both require.
     ///
     /// Fails with `CatalogueFull` exactly if more than 1,000,000 would be listed at the end, and otherwise only with `Memory`.
