@@ -38,12 +38,12 @@ since_push (suc n) (x ∷ log) g h = since_push n log g (omega (arith, h))
 pub own_push : (log : List (List Atom)) (g : List Atom) (o : Own) → IsOwn log o → own_of (log ++ g ∷ []) o ≡ own_of log o
 own_push log g (Listed v i) h = refl
 own_push log g (OfStair s) h = stair_stays log g s h.edition_in
-own_push log g (Crossed v s) h = ap (λ bs. (arc_value v).items ++ bs) (stair_stays log g s h.edition_in)
+own_push log g (Crossed v i s) h = ap (λ bs. get_or (arc_value v) i [] ++ bs) (stair_stays log g s h.1.edition_in)
 
 pub is_own_push : (log : List (List Atom)) (g : List Atom) (o : Own) → IsOwn log o → IsOwn (log ++ g ∷ []) o
 is_own_push log g (Listed v i) h = h
 is_own_push log g (OfStair s) h = is_stair_stays log g s h
-is_own_push log g (Crossed v s) h = is_stair_stays log g s h
+is_own_push log g (Crossed v i s) h = (h.0, is_stair_stays log g s h.1)
 
 task_push : (log : List (List Atom)) (g : List Atom) (p : Pending) → IsTask log p → task_of (log ++ g ∷ []) p ≡ lay g (task_of log p)
 task_push log g p h =

@@ -84,10 +84,15 @@ frozen_at log [] i d h l = absurd (omega (arith, l))
 frozen_at log (f ∷ fs) zero d h l = h.0
 frozen_at log (f ∷ fs) (suc i) d h l = frozen_at log fs i d h.1 (omega (arith, l))
 
--- of the lists that are still to be crossed, those of the next frozen task come first
-pub crossed_head : (log : List (List Atom)) (fs : List Frozen) (S : List (List Atom)) (i : ℕ) (x : Frozen) → i < length fs → x ≡ get_or fs i x →
-    crossed (map (λ f. frozen_of log f) (drop i fs)) S ≡ map (λ B. frozen_of log x ++ B) S ++ crossed (map (λ f. frozen_of log f) (drop (i + 1) fs)) S
-crossed_head log fs S i x l e = ap (λ L. crossed (map (λ f. frozen_of log f) L) S) (drop_more fs i x l ∙ ap (λ y. y ∷ drop (i + 1) fs) (sym e))
+-- of the lists that are still to be crossed, those of the next base come first
+pub crossed_head : (L S : List (List Atom)) (i : ℕ) → i < length L → crossed (drop i L) S ≡ map (λ B. get_or L i [] ++ B) S ++ crossed (drop (i + 1) L) S
+crossed_head L S i l = ap (λ M. crossed M S) (drop_more L i [] l)
+
+-- the frozen lists so far and the next one
+pub frozen_lists_more : (log : List (List Atom)) (fs : List Frozen) (i : ℕ) (d : Frozen) (L : List (List Atom)) (A : List Atom) → i < length fs → d ≡ get_or fs i d → L ≡ map (λ f. frozen_of log f) (take i fs) → A ≡ frozen_of log d → L ++ A ∷ [] ≡ map (λ f. frozen_of log f) (take (i + 1) fs)
+frozen_lists_more log fs i d L A l e so one =
+    (λ k. so k ++ one k ∷ []) ∙ sym (map_append (λ f. frozen_of log f) (take i fs) (d ∷ []))
+    ∙ sym (ap (λ p. map (λ f. frozen_of log f) p) (take_more fs i d l ∙ ap (λ p. take i fs ++ p ∷ []) (sym e)))
 
 map_reverse : {X Y : Type 0} (f : X → Y) (xs : List X) → reverse (map f xs) ≡ map f (reverse xs)
 map_reverse f [] = refl

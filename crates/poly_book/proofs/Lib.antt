@@ -8,6 +8,7 @@ pub mod Taken
 pub mod Along
 pub mod QuietShelves
 pub mod Coming
+pub mod Comparing
 pub mod Turning
 pub mod Stillness
 pub mod Regained

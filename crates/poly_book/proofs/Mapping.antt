@@ -11,16 +11,34 @@ use Rattle.std.specs.Prelude.{OnOk, nat_le, ◌&&◌, ◌⊎◌}
 use Rattle.poly_tiling.proofs.Contained.{at_in}
 use Rattle.poly_tiling.proofs.Lists.{In, all_append, any_from, any_in, any_none}
 use Rattle.poly_atom.specs.declared.atom.Atom.{Atom}
+use Rattle.poly_atom.specs.declared.atom.Atom.TheVariants.{AtLeast, AtMost, Has, Lacks}
 use Rattle.poly_atom.specs.declared.stair.Stair.{Stair}
 use Rattle.poly_atom.specs.Atoms.{negated}
 use Rattle.poly_atom.specs.Logs.{IsStairOf, stair_of}
 use Rattle.poly_atom.proofs.Walks.{stairs_at}
+use Rattle.poly_report.specs.Words.{is_other}
 use Rattle.poly_book.specs.declared.maps.Maps.{Maps}
 use Rattle.poly_book.specs.declared.maps.Prefix.{Prefix}
 use Rattle.poly_book.specs.declared.rows.Span.{Span}
+use Rattle.poly_book.specs.declared.task.Own.{Own}
+use Rattle.poly_book.specs.declared.task.Own.TheVariants.{Crossed, Listed, Stair as OfStair}
 use Rattle.poly_book.specs.declared.task.Pending.{Pending}
-use Rattle.poly_book.specs.Mapped.{AreNoted, IsPrefix, IsWider, has_pending, in_span, is_pending, under}
-use Rattle.poly_book.specs.Meaning.{own_of}
+use Rattle.poly_book.specs.Mapped.{AreNoted, HasBase, IsPrefix, IsWider, has_pending, in_span, is_pending, under}
+use Rattle.poly_book.specs.Meaning.{IsOwn, own_of}
+
+-- if the own atoms can be read, the base can
+pub has_base_of : (log : List (List Atom)) (o : Own) → IsOwn log o → HasBase o
+has_base_of log (Listed v i) h = tt
+has_base_of log (OfStair s) h = tt
+has_base_of log (Crossed v i s) h = h.0
+
+-- what holds of each `Lacks` and of the other atoms of a list holds of all
+pub all_others : (f : Atom → Bool) (A : List Atom) → ((p : ℕ) → f (Lacks p) ≡ true) → list_all f (filter is_other A) ≡ true → list_all f A ≡ true
+all_others f [] l h = refl
+all_others f (Has p ∷ A) l h = let hs = and_parts (f (Has p)) (list_all f (filter is_other A)) h in and_from (f (Has p)) (list_all f A) hs.0 (all_others f A l hs.1)
+all_others f (Lacks p ∷ A) l h = and_from (f (Lacks p)) (list_all f A) (l p) (all_others f A l h)
+all_others f (AtLeast i n ∷ A) l h = let hs = and_parts (f (AtLeast i n)) (list_all f (filter is_other A)) h in and_from (f (AtLeast i n)) (list_all f A) hs.0 (all_others f A l hs.1)
+all_others f (AtMost i n ∷ A) l h = let hs = and_parts (f (AtMost i n)) (list_all f (filter is_other A)) h in and_from (f (AtMost i n)) (list_all f A) hs.0 (all_others f A l hs.1)
 
 pub all_imply : {X : Type 0} (f g : X → Bool) (xs : List X) → ((x : X) → f x ≡ true → g x ≡ true) → list_all f xs ≡ true → list_all g xs ≡ true
 all_imply f g [] i h = refl

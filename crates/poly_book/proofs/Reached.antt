@@ -1,7 +1,7 @@
 -- How far touched spans reach, and that they reach each task that the change ends.
 use Rattle.std.proofs.Common.{Bool, List, [], ap, arith, false, get_or, inl, inr, length, nat_lt, refl, subst, suc, sym, take, true, zero, ℕ, ◌+◌, ◌<◌, ◌||◌, ◌∙◌, ◌∷◌, ◌≡◌, ◌≤◌, ◌⊎◌}
 use Rattle.std.proofs.lemmas.Bool.{and_parts, cases_lt, ltb-true, true≢false}
-use Rattle.std.proofs.lemmas.List.{take_more}
+use Rattle.std.proofs.lemmas.List.{get_or_default, take_more}
 use Rattle.std.specs.List.{list_all, list_any}
 use Rattle.std.specs.List.Sorted.{IsPartitionPoint}
 use Rattle.poly_tiling.specs.Lists.{mem}
@@ -101,10 +101,22 @@ far_more reach i far far2 h w k j l = elim (cases_lt j i) [
   | inr past ↦ let same : j ≡ i = omega (arith, past, l) in subst (λ x. get_or reach x 0 ≤ far2) (sym same) k
 ]
 
+-- the entries of the first k tasks reach these tasks, and so does the entry of the next task
+pub all_more : (r r2 : List ℕ) (ps : List Pending) (k : ℕ) (x : Pending) → k < length ps → x ≡ get_or ps k x → IsFarther r r2 → ((i : ℕ) (d : Pending) → i < k → (get_or ps i d).number ≤ get_or r i 0) → x.number ≤ get_or r2 k 0 →
+    (i : ℕ) (d : Pending) → i < k + 1 → (get_or ps i d).number ≤ get_or r2 i 0
+all_more r r2 ps k x l is w h one i d low =
+    elim (cases_lt i k) [
+      | inl before ↦ w.far i (get_or ps i d).number (h i d before)
+      | inr past ↦
+          let here : i ≡ k = omega (arith, past, low) in
+          let same : get_or ps k d ≡ x = sym (is ∙ get_or_default ps k x d l) in
+          subst (λ j. (get_or ps j d).number ≤ get_or r2 j 0) (sym here) (subst (λ y. y.number ≤ get_or r2 k 0) (sym same) one)
+    ]
+
 -- if the tasks under the touched atoms of each kind are reached, one kind after the other, those under all touched atoms are
 pub all_kinds : (t : Touch) (m : Maps) (ps : List Pending) (r1 r2 r3 r4 r5 : List ℕ) → IsFarther r1 r2 → IsFarther r2 r3 → IsFarther r3 r4 → IsFarther r4 r5 →
     ((p : ℕ) → touches t (Has p) ≡ true → IsReached r1 ps (λ n. spanned m.has.entries p n)) →
-    ((p : ℕ) → mem t.delta.now.pinned.items p ≡ true → IsReached r2 ps (λ n. spanned m.lacks.entries p n)) →
+    ((p : ℕ) → mem t.delta.now.pinned.items p ≡ true → IsReached r2 ps (λ n. true)) →
     ((i : Item) → list_any (λ x. same_item (Piece x) i) t.delta.now.narrowed.items ≡ true → IsReached r3 ps (λ n. spanned m.at_least.entries (key_of i) n)) →
     IsReached r4 ps (λ n. spanned m.at_least.entries (key_of t.item) n) →
     ((i : Item) → list_any (λ x. same_item x i) t.delta.now.needed.items ≡ true → IsReached r5 ps (λ n. spanned m.at_most.entries (key_of i) n)) →

@@ -5,7 +5,7 @@ use Rattle.std.specs.List.{list_all, list_any}
 use Rattle.std.specs.Map.{lookup}
 use Rattle.std.specs.Option.{unwrap_or}
 use Rattle.std.specs.Ordering.{nat_cmp}
-use Rattle.std.specs.Prelude.{Bool, List, [], length, nat_le, slice_index_or, take, true, ℕ, ◌&&◌, ◌*◌, ◌+◌, ◌-◌, ◌==◌, ◌||◌, ◌≡◌}
+use Rattle.std.specs.Prelude.{Bool, List, [], length, nat_le, slice_index_or, take, true, ℕ, ◌&&◌, ◌*◌, ◌+◌, ◌-◌, ◌<◌, ◌==◌, ◌||◌, ◌≡◌}
 use Rattle.poly_tiling.specs.declared.item.Item.{Item}
 use Rattle.poly_tiling.specs.declared.item.Item.TheVariants.{Cell, Piece}
 use Rattle.poly_atom.specs.declared.atom.Atom.{Atom}
@@ -46,10 +46,10 @@ spanned rows k n = list_any (λ s. in_span s n) (row_at rows k)
 abbrev pub AreWider : Rows → Rows → Type 0
 AreWider old new = (k n : ℕ) → spanned old k n ≡ true → spanned new k n ≡ true
 
--- the task with the number is noted under the atom
+-- the task with the number is noted under the atom; each task counts as noted under each `Lacks`
 abbrev pub under : Maps → Atom → ℕ → Bool
 under m (Has p) n = spanned m.has.entries p n
-under m (Lacks p) n = spanned m.lacks.entries p n
+under m (Lacks p) n = true
 under m (AtLeast i k) n = spanned m.at_least.entries (key_of i) n
 under m (AtMost i k) n = spanned m.at_most.entries (key_of i) n
 
@@ -61,7 +61,13 @@ IsWider old new = (a : Atom) (n : ℕ) → under old a n ≡ true → under new 
 abbrev pub base_of : Own → List Atom
 base_of (Listed v i) = []
 base_of (OfStair s) = []
-base_of (Crossed v s) = (arc_value v).items
+base_of (Crossed v i s) = slice_index_or (arc_value v) i []
+
+-- there is such a list
+abbrev pub HasBase : Own → Type 0
+HasBase (Listed v i) = Unit {0}
+HasBase (OfStair s) = Unit {0}
+HasBase (Crossed v i s) = i < length (arc_value v)
 
 -- each task is noted under each of its own atoms
 abbrev pub AreNoted : Maps → List (List Atom) → List Pending → Type 0

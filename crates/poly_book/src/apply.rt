@@ -166,7 +166,8 @@ fn step_of(parts: &Parts, kind: Kind, change: &Change) -> Result<Step, Refusal>
 }
 
 // Adds the guards to the log and exchanges the listed tilings. If it is refused, both stay as they were. A change without
-// tilings to list again is never refused for the catalogue's limit.
+// tilings to list again is never refused for the catalogue's limit. Whether the limit allows the change is asked first, before
+// the log grows.
 fn enter(
     log: &mut GuardLog,
     listed: &mut Catalogue,
@@ -185,6 +186,9 @@ fn enter(
     ensures why { IfErr result (λ e. ((e ≡ Refusal.CatalogueFull) × (0 < length entry.returned.items) × (MAX_TILINGS < length (filter (λ T. is_tiling view.now T) listed.old) + length entry.returned.items)) ⊎ (e ≡ Refusal.Memory)) }
 {
     let Entry { guards, returned } = entry;
+    if !returned.is_empty() && !listed.has_room(view, delta, returned.len()) {
+        return Err(Refusal::CatalogueFull);
+    }
     log.push(guards)?;
     if returned.is_empty() {
         listed.keep_only(view, delta);

@@ -1,6 +1,7 @@
 //! A report that a search made. Its tree fits, and holds for the atoms and the view that were searched, and its leaves were
-//! gathered during the search. So the tree needs no check if the task has these atoms and the book has this view.
-ghost use Rattle.std.specs.Prelude.{◌≡◌, ◌≤◌, ◌↔◌, ◌==◌, false, IfErr, IfOk, IsTrue, OnErr, Some};
+//! gathered during the search. So the tree needs no check if the task has these atoms and the book has this view. And since the
+//! tree names only open placements, none of its rests is hopeless unless the task is.
+ghost use Rattle.std.specs.Prelude.{◌≡◌, ◌≤◌, ◌==◌, false, IfErr, IfOk, IsTrue, OnErr, Some};
 ghost use Rattle.std.specs.Arc.{arc_value};
 ghost use Rattle.std.specs.List.{position_from};
 ghost use Rattle.poly_tiling.specs.Listings.{HasOverTilings};
@@ -19,8 +20,8 @@ use crate::hand_in::{apply_leaves, apply_report, index_of};
 use crate::parts::Parts;
 use crate::step::Applied;
 use crate::take::Job;
-use crate::task::all_atoms;
-use poly_atom::Atom;
+use crate::task::is_made_of;
+use poly_atom::{Atom, hopeless};
 use poly_grid::Refusal;
 use poly_report::{Leaves, Matrix, Report};
 use poly_search::{Explored, explore_over};
@@ -116,25 +117,18 @@ fn apply_found(parts: &mut Parts, found: Found) -> Result<Applied, Refusal>
     let Some(at) = index_of(&parts.tasks, report.task) else {
         return Err(Refusal::Gone);
     };
-    if has_atoms(parts, at, report.task, &atoms)? {
-        return apply_leaves(parts, at, report.edition, leaves, false);
+    if has_atoms(parts, at, report.task, &atoms) {
+        let sure = !hopeless(parts.scene.view(), &atoms);
+        return apply_leaves(parts, at, report.edition, leaves, sure);
     }
     apply_report(parts, &report)
 }
 
-// Whether the task with this number has exactly these atoms. `at` is its index among the pending tasks.
-fn has_atoms(parts: &Parts, at: usize, number: u32, atoms: &[Atom]) -> Result<bool, Refusal>
+// If this is true, the task with this number has exactly these atoms. `at` is its index among the pending tasks.
+fn has_atoms(parts: &Parts, at: usize, number: u32, atoms: &[Atom]) -> bool
     requires keeps { Keeps parts.now }
     requires index { position_from (λ q. q.number == number) 0 parts.now.tasks.items ≡ Some at }
-    ensures same { IfOk result (λ yes. IsTrue yes ↔ HasAtoms (state_of parts.now).pending number atoms.now) }
-    ensures why { IfErr result (λ e. e ≡ Refusal.Memory) }
+    ensures same { IsTrue result → HasAtoms (state_of parts.now).pending number atoms.now }
 {
-    let own = all_atoms(parts.alloc, &parts.log, &parts.tasks[at])?;
-    Ok(is_same_list(&own, atoms))
-}
-
-pub(crate) fn is_same_list(one: &[Atom], other: &[Atom]) -> bool
-    ensures { IsTrue result ↔ (one.now ≡ other.now) }
-{
-    one == other
+    is_made_of(&parts.log, &parts.tasks[at], atoms)
 }

@@ -14,7 +14,7 @@ ghost use Rattle.poly_book.specs.Tasks.{AreHopeful, hopeful};
 ghost use Rattle.poly_book.specs.declared.prepare.TheConstants.{MAX_CHANGES};
 
 use crate::shelf::{Frozen, Shelf};
-use crate::task::{Own, Pending, frozen_atoms};
+use crate::task::{Own, Pending, read_frozen};
 use poly_atom::{Atom, GuardLog, Stair, hopeless};
 use poly_grid::Refusal;
 use poly_report::AtomLists;
@@ -45,7 +45,7 @@ pub(crate) fn opened(
     let mut number = next;
     let mut buffer = Vec::new(alloc);
     let count = all.len();
-    let shared = Arc::new(alloc, all)?;
+    let shared = shared_lists(alloc, all)?;
     for index in 0..count {
         if is_opened(view, &shared, index, &mut buffer, sure)? {
             if number > LAST {
@@ -60,6 +60,16 @@ pub(crate) fn opened(
         }
     }
     Ok(tasks)
+}
+
+// The lists, to be shared by tasks. No list will be added to them.
+fn shared_lists(alloc: Global, lists: AtomLists) -> Result<Arc<AtomLists>, Refusal>
+    ensures same { IfOk result (λ shared. arc_value shared ≡ lists) }
+    ensures why { IfErr result (λ e. e ≡ Refusal.Memory) }
+{
+    let mut lists = lists;
+    lists.shrink();
+    Ok(Arc::new(alloc, lists)?)
 }
 
 // Whether the list at the index isn't hopeless. If `sure`, this is known to be true, and nothing is read.
@@ -179,55 +189,79 @@ fn opened_crossed(
     ensures few { IfOk result (λ ps. next + length ps.items ≤ 4294967296) }
     ensures why { IfErr result (λ e. ((e ≡ Refusal.Spent) × (4294967296 < next + length (hopeful view.now (crossed (map (λ f. frozen_of log.now f) frozen.now) (stairs guards.now))))) ⊎ (e ≡ Refusal.Memory)) }
 {
+    let bases = frozen_lists(alloc, log, frozen)?;
+    let count = bases.len();
+    let shared = shared_lists(alloc, bases)?;
     let mut tasks = Vec::new(alloc);
+    let mut atoms = Vec::new(alloc);
     let mut number = next;
-    for before in frozen {
-        let base = frozen_atoms(alloc, log, before)?;
-        number = add_crossed(alloc, view, base, guards, number, edition, &mut tasks)?;
+    for index in 0..count {
+        shared.read(index, &mut atoms)?;
+        number = add_crossed(
+            view, &shared, index, &mut atoms, guards, number, edition, &mut tasks,
+        )?;
     }
     Ok(tasks)
 }
 
-// The base, which is shared, followed by the stair.
-fn stair_after(base: &Arc<Vec<Atom>>, stair: Stair) -> Result<Own, Refusal>
-    ensures reads { IfOk result (λ o. (log : List (List AtomOf)) → own_of log o ≡ (arc_value base.now).items ++ stair_of log stair) }
+// The atoms of each frozen task. What lists have in common at their beginning is stored once.
+fn frozen_lists(alloc: Global, log: &GuardLog, frozen: &[Frozen]) -> Result<AtomLists, Refusal>
+    requires { AreFrozen log.now frozen.now }
+    ensures ok { IfOk result (λ lists. lists ≡ map (λ f. frozen_of log.now f) frozen.now) }
+    ensures why { IfErr result (λ e. e ≡ Refusal.Memory) }
+{
+    let mut lists = AtomLists::new(alloc);
+    let mut atoms = Vec::new(alloc);
+    for task in frozen {
+        read_frozen(log, task, &mut atoms)?;
+        lists.push(&atoms)?;
+    }
+    Ok(lists)
+}
+
+// The list at the index, which is shared, followed by the stair.
+fn stair_after(bases: &Arc<AtomLists>, index: usize, stair: Stair) -> Result<Own, Refusal>
+    requires { index < length (arc_value bases.now) }
+    ensures reads { IfOk result (λ o. (log : List (List AtomOf)) → own_of log o ≡ slice_index_or (arc_value bases.now) index [] ++ stair_of log stair) }
     ensures stands { IfOk result (λ o. (log : List (List AtomOf)) → IsStairOf log stair → IsOwn log o) }
     ensures why { IfErr result (λ e. e ≡ Refusal.Memory) }
 {
-    let shared = Arc::try_clone(base)?;
-    Ok(Own::Crossed(shared, stair))
+    let shared = Arc::try_clone(bases)?;
+    Ok(Own::Crossed(shared, index, stair))
 }
 
-// Appends the base followed by each stair of the guards, as tasks with the numbers from `start` on, which share the base. A
-// hopeless list gets no task. Returns the number after that of the last task.
+// Appends a base followed by each stair of the guards, as tasks with the numbers from `start` on. The base is the list at the
+// index and stands in the buffer, which then gets the guards too. A hopeless list gets no task. Returns the number after that
+// of the last task.
 fn add_crossed(
-    alloc: Global,
     view: &View,
-    base: Vec<Atom>,
+    bases: &Arc<AtomLists>,
+    at: usize,
+    atoms: &mut Vec<Atom>,
     guards: &[Atom],
     start: u64,
     edition: u64,
     tasks: &mut Vec<Pending>,
 ) -> Result<u64, Refusal>
+    requires at { at < length (arc_value bases.now) }
+    requires base { atoms.old.items ≡ slice_index_or (arc_value bases.now) at [] }
     requires start { start ≤ 4294967296 }
     requires edition { edition ≤ MAX_CHANGES }
     requires small { AllSmall guards.now }
-    ensures ok { IfOk result (λ n. (log : List (List AtomOf)) (next : ℕ) (all rest : List (List AtomOf)) → length log ≡ edition → Opening (log ++ guards.now ∷ []) next start view.now all (map (λ B. base.items ++ B) (stairs guards.now) ++ rest) tasks.old.items → Opening (log ++ guards.now ∷ []) next n view.now all rest tasks.new.items) }
+    ensures ok { IfOk result (λ n. (log : List (List AtomOf)) (next : ℕ) (all rest : List (List AtomOf)) → length log ≡ edition → Opening (log ++ guards.now ∷ []) next start view.now all (map (λ B. atoms.old.items ++ B) (stairs guards.now) ++ rest) tasks.old.items → Opening (log ++ guards.now ∷ []) next n view.now all rest tasks.new.items) }
     ensures count { IfOk result (λ n. start + length tasks.new.items ≡ n + length tasks.old.items) }
     ensures few { IfOk result (λ n. n ≤ 4294967296) }
-    ensures why { IfErr result (λ e. ((e ≡ Refusal.Spent) × ((log : List (List AtomOf)) (next : ℕ) (all rest : List (List AtomOf)) → length log ≡ edition → next + length tasks.old.items ≡ start → Opening (log ++ guards.now ∷ []) next start view.now all (map (λ B. base.items ++ B) (stairs guards.now) ++ rest) tasks.old.items → 4294967296 < next + length (hopeful view.now all))) ⊎ (e ≡ Refusal.Memory)) }
+    ensures why { IfErr result (λ e. ((e ≡ Refusal.Spent) × ((log : List (List AtomOf)) (next : ℕ) (all rest : List (List AtomOf)) → length log ≡ edition → next + length tasks.old.items ≡ start → Opening (log ++ guards.now ∷ []) next start view.now all (map (λ B. atoms.old.items ++ B) (stairs guards.now) ++ rest) tasks.old.items → 4294967296 < next + length (hopeful view.now all))) ⊎ (e ≡ Refusal.Memory)) }
 {
-    let mut atoms = Vec::from_slice(alloc, &base)?;
-    let shared = Arc::new(alloc, base)?;
     let mut number = start;
     for index in 0..guards.len() {
-        if next_stair(view, &mut atoms, &guards[index])? {
+        if next_stair(view, atoms, &guards[index])? {
             continue;
         }
         if number > LAST {
             return Err(Refusal::Spent);
         }
-        let own = stair_after(&shared, Stair { edition, index })?;
+        let own = stair_after(bases, at, Stair { edition, index })?;
         tasks.push(Pending {
             number: number as u32,
             own,

@@ -1,16 +1,18 @@
 //! Maps from placements and items to the pending tasks that have an own atom about them. Through these maps a change finds
 //! the tasks that it may make hopeless, and needs to check no others.
 //!
+//! `Lacks` atoms aren't noted. Only a pin can make one hopeless, and a change that pins a placement checks all tasks. On a wide
+//! board nearly all atoms of a task are of this kind, thousands for each of thousands of tasks.
+//!
 //! Tasks that have ended may still be noted, and a task may be noted under an atom that it doesn't have. Both cost time and
 //! change nothing: each task that is found is checked.
 ghost use Rattle.std.specs.Prelude.{◌≡◌, ◌≤◌, ◌⊎◌, IfErr, IfOk, OnOk, length, true, ℕ};
 ghost use Rattle.std.specs.List.{list_all};
 ghost use Rattle.std.specs.List.Sorted.{IsNonDecreasingBy};
 ghost use Rattle.poly_atom.specs.Logs.{IsStairOf, stair_of};
-ghost use Rattle.poly_book.specs.Mapped.{AreNoted, IsPrefix, IsWider, KeepsPending, base_of, in_span, key_of, key_of_name, under};
+ghost use Rattle.poly_book.specs.Mapped.{AreNoted, HasBase, IsPrefix, IsWider, KeepsPending, base_of, in_span, key_of, key_of_name, under};
 ghost use Rattle.poly_book.specs.Meaning.{AreTasks, IsOwn, own_of};
 
-use crate::found::is_same_list;
 use crate::rows::{Row, Span, note_span, tidy_rows};
 use crate::task::{Own, Pending};
 use poly_atom::{Atom, GuardLog, Stair};
@@ -19,16 +21,14 @@ use poly_tiling::Item;
 use std::alloc::Global;
 use std::collections::BTreeMap;
 
-/// For each kind of atom, the spans of the tasks that are noted under an atom of that kind, by its placement or by the key of
-/// its item.
+/// For each kind of atom but `Lacks`, the spans of the tasks that are noted under an atom of that kind, by its placement or by
+/// the key of its item.
 #[derive(Drop)]
 pub(crate) struct Maps {
     /// The allocator.
     pub alloc: Global,
     /// The tasks noted under a `Has` atom, by its placement.
     pub has: BTreeMap<u32, Row>,
-    /// The tasks noted under a `Lacks` atom, by its placement.
-    pub lacks: BTreeMap<u32, Row>,
     /// The tasks noted under an `AtLeast` atom, by the key of its item.
     pub at_least: BTreeMap<u32, Row>,
     /// The tasks noted under an `AtMost` atom, by the key of its item.
@@ -52,7 +52,6 @@ impl Maps {
         Maps {
             alloc,
             has: BTreeMap::new(alloc),
-            lacks: BTreeMap::new(alloc),
             at_least: BTreeMap::new(alloc),
             at_most: BTreeMap::new(alloc),
         }
@@ -83,6 +82,7 @@ impl Maps {
                 shared,
                 task.number,
                 &tasks[i..],
+                &mut buffer,
             )?;
             self.note_task(log, &task.own, task.number, last, &mut prefix, &mut buffer)?;
             before = i;
@@ -97,7 +97,6 @@ impl Maps {
         ensures { KeepsPending pending.now self.old self.new }
     {
         tidy_rows(&mut self.has, pending);
-        tidy_rows(&mut self.lacks, pending);
         tidy_rows(&mut self.at_least, pending);
         tidy_rows(&mut self.at_most, pending);
     }
@@ -122,7 +121,7 @@ impl Maps {
     {
         match own {
             Own::Listed(lists, index) => {
-                lists.read(*index, buffer)?;
+                lists.read_others(*index, buffer)?;
                 self.note_list(
                     buffer,
                     Span {
@@ -132,13 +131,13 @@ impl Maps {
                 )
             }
             Own::Stair(stair) => self.note_stair(log, stair, number, last, prefix),
-            Own::Crossed(_, stair) => self.note_stair(log, stair, number, last, prefix),
+            Own::Crossed(_, _, stair) => self.note_stair(log, stair, number, last, prefix),
         }
     }
 
     // Notes the base of a crossed task for this task and the next ones that have the same, and nothing for another task.
     // `rest` are the tasks from this one on. Skips the base if it is noted for the tasks of `shared`, this one among them, since
-    // the task `known` has the same. Returns the tasks for which the base is noted.
+    // the task `known` has the same. Returns the tasks for which the base is noted. The base is read into the buffer.
     fn note_base(
         &mut self,
         known: &Own,
@@ -146,7 +145,9 @@ impl Maps {
         shared: Span,
         number: u32,
         rest: &[Pending],
+        buffer: &mut Vec<Atom>,
     ) -> Result<Span, Refusal>
+        requires own { HasBase own.now }
         requires known { (n : ℕ) → in_span shared n ≡ true → list_all (λ a. under self.old a n) (base_of known.now) ≡ true }
         ensures noted { IfOk result (λ s. (n : ℕ) → in_span s n ≡ true → list_all (λ a. under self.new a n) (base_of own.now) ≡ true) }
         ensures here { IfOk result (λ s. in_span s number ≡ true) }
@@ -160,15 +161,16 @@ impl Maps {
         match own {
             Own::Listed(_, _) => Ok(alone),
             Own::Stair(_) => Ok(alone),
-            Own::Crossed(base, _) => {
-                if is_shared(known, base, &shared, number) {
+            Own::Crossed(lists, index, _) => {
+                lists.read(*index, buffer)?;
+                if is_shared(known, *index, buffer, &shared, number) {
                     return Ok(shared);
                 }
                 let span = Span {
                     from: number,
-                    to: last_with(rest, base).max(number),
+                    to: last_with(rest, *index, buffer).max(number),
                 };
-                self.note_list(base, span)?;
+                self.note_list(buffer, span)?;
                 Ok(span)
             }
         }
@@ -225,7 +227,7 @@ impl Maps {
         Ok(())
     }
 
-    // Notes the span under the atom.
+    // Notes the span under the atom, unless it is a `Lacks`.
     fn note(&mut self, atom: &Atom, span: Span) -> Result<(), Refusal>
         ensures wider { IsWider self.old self.new }
         ensures ok { OnOk result ((n : ℕ) → in_span span n ≡ true → under self.new atom.now n ≡ true) }
@@ -233,7 +235,7 @@ impl Maps {
     {
         match atom {
             Atom::Has(p) => note_span(self.alloc, &mut self.has, *p, span),
-            Atom::Lacks(p) => note_span(self.alloc, &mut self.lacks, *p, span),
+            Atom::Lacks(_) => Ok(()),
             Atom::AtLeast(item, _) => note_span(self.alloc, &mut self.at_least, key_of(item), span),
             Atom::AtMost(item, _) => note_span(self.alloc, &mut self.at_most, key_of(item), span),
         }
@@ -241,20 +243,20 @@ impl Maps {
 }
 
 // Whether the task `known` has this base, and the task with the number is in the span.
-fn is_shared(known: &Own, base: &[Atom], span: &Span, number: u32) -> bool
+fn is_shared(known: &Own, index: usize, base: &[Atom], span: &Span, number: u32) -> bool
     ensures { result ≡ true → (base_of known.now ≡ base.now) × (in_span span.now number ≡ true) }
 {
     if number < span.from || span.to < number {
         return false;
     }
-    has_base(known, base)
+    has_base(known, index, base)
 }
 
-// The number of the last of the first tasks that have this base; 0 if there is none.
-fn last_with(tasks: &[Pending], base: &[Atom]) -> u32 {
+// The number of the last of the first tasks that have this base, each as the list at the index; 0 if there is none.
+fn last_with(tasks: &[Pending], index: usize, base: &[Atom]) -> u32 {
     let mut last = 0;
     for task in tasks {
-        if !has_base(&task.own, base) {
+        if !has_base(&task.own, index, base) {
             return last;
         }
         last = task.number;
@@ -262,13 +264,16 @@ fn last_with(tasks: &[Pending], base: &[Atom]) -> u32 {
     last
 }
 
-fn has_base(own: &Own, base: &[Atom]) -> bool
+// Whether the task has this base, as the list at the index.
+fn has_base(own: &Own, index: usize, base: &[Atom]) -> bool
     ensures { result ≡ true → base_of own.now ≡ base.now }
 {
     match own {
         Own::Listed(_, _) => false,
         Own::Stair(_) => false,
-        Own::Crossed(other, _) => is_same_list(other, base),
+        Own::Crossed(lists, other, _) => {
+            *other == index && index < lists.len() && lists.matches(index, base)
+        }
     }
 }
 

@@ -113,7 +113,7 @@ fn surviving(
     let mut far = 0;
     for (i, task) in tasks.iter().enumerate() {
         far = reach[i].max(far);
-        let ends = ends_by(alloc, view, log, task, far, &mut buffer)?;
+        let ends = ends_by(view, log, task, far, &mut buffer)?;
         flags.push(!ends)?;
     }
     Ok(flags)
@@ -121,7 +121,6 @@ fn surviving(
 
 // Whether the task's own atoms are hopeless after the change. They aren't if the task's number is over `far`.
 fn ends_by(
-    alloc: Global,
     view: &View,
     log: &GuardLog,
     task: &Pending,
@@ -136,7 +135,7 @@ fn ends_by(
     if task.number > far {
         return Ok(false);
     }
-    is_hopeless(alloc, view, log, &task.own, buffer)
+    is_hopeless(view, log, &task.own, buffer)
 }
 
 // The endings of the tasks that don't go on.

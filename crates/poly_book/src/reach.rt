@@ -39,7 +39,7 @@ pub(crate) fn reached(
 {
     let mut reach = vec![in alloc; 0u32; tasks.len()]?;
     reach_has(&mut reach, tasks, touch, &maps.has);
-    reach_lacks(&mut reach, tasks, &touch.delta.pinned, &maps.lacks);
+    reach_lacks(&mut reach, tasks, &touch.delta.pinned);
     reach_names(&mut reach, tasks, &touch.delta.narrowed, &maps.at_least);
     reach_key(&mut reach, tasks, &maps.at_least, key_of(&touch.item));
     reach_items(&mut reach, tasks, &touch.delta.needed, &maps.at_most);
@@ -60,15 +60,24 @@ fn reach_has(reach: &mut Vec<u32>, tasks: &[Pending], touch: &Touch, rows: &BTre
     }
 }
 
-// Reaches the tasks that are noted under one of the numbers.
-fn reach_lacks(reach: &mut Vec<u32>, tasks: &[Pending], numbers: &[u32], rows: &BTreeMap<u32, Row>)
-    requires rise { IsNonDecreasingBy (λ p. p.number) tasks.now }
+// Reaches all tasks if a placement is pinned: no task is noted under `Lacks` atoms, and any may rule the placement out.
+fn reach_lacks(reach: &mut Vec<u32>, tasks: &[Pending], pinned: &[u32])
     requires len { length reach.old.items ≡ length tasks.now }
     ensures farther { IsFarther reach.old.items reach.new.items }
-    ensures reached { (p : ℕ) → mem numbers.now p ≡ true → IsReached reach.new.items tasks.now (λ n. spanned rows.now.entries p n) }
+    ensures reached { (p : ℕ) → mem pinned.now p ≡ true → IsReached reach.new.items tasks.now (λ n. true) }
 {
-    for number in numbers {
-        reach_key(reach, tasks, rows, *number);
+    if !pinned.is_empty() {
+        reach_all(reach, tasks);
+    }
+}
+
+fn reach_all(reach: &mut Vec<u32>, tasks: &[Pending])
+    requires len { length reach.old.items ≡ length tasks.now }
+    ensures farther { IsFarther reach.old.items reach.new.items }
+    ensures reached { IsReached reach.new.items tasks.now (λ n. true) }
+{
+    for (i, task) in tasks.iter().enumerate() {
+        raise(reach, i, task.number);
     }
 }
 

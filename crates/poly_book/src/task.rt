@@ -1,5 +1,5 @@
 //! Pending tasks.
-ghost use Rattle.std.specs.Prelude.{IfErr, IfOk, List, OnOk, ◌≡◌, ◌++◌};
+ghost use Rattle.std.specs.Prelude.{IfErr, IfOk, IsTrue, List, OnOk, ◌≡◌, ◌↔◌};
 ghost use Rattle.poly_atom.specs.declared.atom.Atom.{Atom as AtomOf};
 ghost use Rattle.poly_atom.specs.Hopeless.{hopeless};
 ghost use Rattle.poly_atom.specs.Logs.{IsStairOf, stair_of};
@@ -21,9 +21,9 @@ pub enum Own {
     Listed(Arc<AtomLists>, usize),
     /// A stair of a change. Its atoms are read from the guard log.
     Stair(Stair),
-    /// The list of a frozen task, which the tasks that are opened for it share, followed by a stair of the change that opened
-    /// them.
-    Crossed(Arc<Vec<Atom>>, Stair),
+    /// The list at this index, followed by a stair of the change that opened the task. The tasks that were opened for the frozen
+    /// tasks of one shelf share the lists of these.
+    Crossed(Arc<AtomLists>, usize, Stair),
 }
 
 /// A pending task.
@@ -40,7 +40,6 @@ pub struct Pending {
 /// Whether a task's own atoms are hopeless. They are read into the buffer, in place of what it had. Fails only when out of
 /// memory.
 pub(crate) fn is_hopeless(
-    alloc: Global,
     view: &View,
     log: &GuardLog,
     own: &Own,
@@ -50,17 +49,12 @@ pub(crate) fn is_hopeless(
     ensures ok { IfOk result (λ yes. yes ≡ hopeless view.now (own_of log.now own.now)) }
     ensures why { IfErr result (λ e. e ≡ Refusal.Memory) }
 {
-    read_own(alloc, log, own, buffer)?;
+    read_own(log, own, buffer)?;
     Ok(hopeless(view, buffer))
 }
 
 /// Writes a task's own atoms to the buffer, in place of what it had.
-pub(crate) fn read_own(
-    alloc: Global,
-    log: &GuardLog,
-    own: &Own,
-    buffer: &mut Vec<Atom>,
-) -> Result<(), Refusal>
+pub(crate) fn read_own(log: &GuardLog, own: &Own, buffer: &mut Vec<Atom>) -> Result<(), Refusal>
     requires { IsOwn log.now own.now }
     ensures ok { OnOk result (buffer.new.items ≡ own_of log.now own.now) }
     ensures why { IfErr result (λ e. e ≡ Refusal.Memory) }
@@ -71,31 +65,16 @@ pub(crate) fn read_own(
             Ok(())
         }
         Own::Stair(stair) => {
-            *buffer = stair.atoms(alloc, log)?;
+            buffer.clear();
+            stair.append_to(log, buffer)?;
             Ok(())
         }
-        Own::Crossed(base, stair) => {
-            *buffer = crossed_atoms(alloc, log, base, stair)?;
+        Own::Crossed(lists, index, stair) => {
+            lists.read(*index, buffer)?;
+            stair.append_to(log, buffer)?;
             Ok(())
         }
     }
-}
-
-// The base, followed by the atoms of the stair.
-fn crossed_atoms(
-    alloc: Global,
-    log: &GuardLog,
-    base: &[Atom],
-    stair: &Stair,
-) -> Result<Vec<Atom>, Refusal>
-    requires { IsStairOf log.now stair.now }
-    ensures ok { IfOk result (λ atoms. atoms.items ≡ base.now ++ stair_of log.now stair.now) }
-    ensures why { IfErr result (λ e. e ≡ Refusal.Memory) }
-{
-    let after = stair.atoms(alloc, log)?;
-    let mut atoms = Vec::from_slice(alloc, base)?;
-    atoms.extend_from_slice(&after)?;
-    Ok(atoms)
 }
 
 /// A copy of the own atoms, as a list.
@@ -105,7 +84,7 @@ pub(crate) fn own_atoms(alloc: Global, log: &GuardLog, own: &Own) -> Result<Vec<
     ensures why { IfErr result (λ e. e ≡ Refusal.Memory) }
 {
     let mut atoms = Vec::new(alloc);
-    read_own(alloc, log, own, &mut atoms)?;
+    read_own(log, own, &mut atoms)?;
     Ok(atoms)
 }
 
@@ -121,9 +100,9 @@ fn share(own: &Own) -> Result<Own, Refusal>
             Ok(Own::Listed(shared, *index))
         }
         Own::Stair(stair) => Ok(Own::Stair(*stair)),
-        Own::Crossed(base, stair) => {
-            let shared = Arc::try_clone(base)?;
-            Ok(Own::Crossed(shared, *stair))
+        Own::Crossed(lists, index, stair) => {
+            let shared = Arc::try_clone(lists)?;
+            Ok(Own::Crossed(shared, *index, *stair))
         }
     }
 }
@@ -144,20 +123,70 @@ pub(crate) fn freeze(log: &GuardLog, task: &Pending) -> Result<Frozen, Refusal>
     })
 }
 
-/// A frozen task's atoms, as a list.
-pub(crate) fn frozen_atoms(
-    alloc: Global,
+/// Writes a frozen task's atoms to the buffer, in place of what it had.
+pub(crate) fn read_frozen(
     log: &GuardLog,
     frozen: &Frozen,
-) -> Result<Vec<Atom>, Refusal>
+    buffer: &mut Vec<Atom>,
+) -> Result<(), Refusal>
     requires { IsFrozen log.now frozen.now }
-    ensures ok { IfOk result (λ atoms. atoms.items ≡ frozen_of log.now frozen.now) }
+    ensures ok { OnOk result (buffer.new.items ≡ frozen_of log.now frozen.now) }
     ensures why { IfErr result (λ e. e ≡ Refusal.Memory) }
 {
-    let mut atoms = own_atoms(alloc, log, &frozen.own)?;
+    read_own(log, &frozen.own, buffer)?;
     let since = log.since(frozen.made);
-    atoms.extend_from_slice(&since[..frozen.count])?;
-    Ok(atoms)
+    buffer.extend_from_slice(&since[..frozen.count])?;
+    Ok(())
+}
+
+/// If this is true, the task's own atoms and the guards of every change since it was made are exactly these. Never allocates.
+pub(crate) fn is_made_of(log: &GuardLog, task: &Pending, atoms: &[Atom]) -> bool
+    requires { IsTask log.now task.now }
+    ensures { IsTrue result → (atoms.now ≡ atoms_of (task_of log.now task.now)) }
+{
+    let since = log.since(task.made);
+    if atoms.len() < since.len() {
+        return false;
+    }
+    let count = atoms.len() - since.len();
+    is_same_list(&atoms[count..], since) && is_own(log, &task.own, &atoms[..count])
+}
+
+// If this is true, the own atoms are exactly these.
+fn is_own(log: &GuardLog, own: &Own, atoms: &[Atom]) -> bool
+    requires { IsOwn log.now own.now }
+    ensures { IsTrue result → (atoms.now ≡ own_of log.now own.now) }
+{
+    match own {
+        Own::Listed(lists, index) => lists.matches(*index, atoms),
+        Own::Stair(stair) => is_stair(log, stair, atoms),
+        Own::Crossed(lists, index, stair) => {
+            if atoms.len() <= stair.index {
+                return false;
+            }
+            let count = atoms.len() - stair.index - 1;
+            lists.matches(*index, &atoms[..count]) && is_stair(log, stair, &atoms[count..])
+        }
+    }
+}
+
+// If this is true, the atoms of the stair are exactly these.
+fn is_stair(log: &GuardLog, stair: &Stair, atoms: &[Atom]) -> bool
+    requires { IsStairOf log.now stair.now }
+    ensures { IsTrue result → (atoms.now ≡ stair_of log.now stair.now) }
+{
+    let guards = log.guards_of(stair.edition);
+    let index = stair.index;
+    if atoms.len() != index + 1 || !is_same_list(&atoms[..index], &guards[..index]) {
+        return false;
+    }
+    atoms[index] == guards[index].negated()
+}
+
+fn is_same_list(one: &[Atom], other: &[Atom]) -> bool
+    ensures { IsTrue result ↔ (one.now ≡ other.now) }
+{
+    one == other
 }
 
 /// The task's own atoms, and the guards of every change since it was made.

@@ -1,25 +1,25 @@
-use Rattle.std.proofs.Common.{arith, get_or, rules, subst, sym, ◌∙◌, ◌≡◌}
-use Rattle.poly_book.specs.Meaning.{IsTask, task_of}
-use Rattle.poly_book.specs.Tasks.{atoms_of}
+use Rattle.std.proofs.Common.{arith, get_or, rules, subst, sym, ◌≡◌}
+use Rattle.poly_book.specs.Meaning.{IsTask}
 use Rattle.poly_book.proofs.Held.{task_at}
 use Rattle.poly_book.proofs.Indices.{at_below, first_at}
-use Rattle.poly_book.proofs.Searched.{has_atoms_by}
+use Rattle.poly_book.proofs.Searched.{has_atoms_if}
 use Rattle.poly_book.proofs.found.has_atoms.Goals as goal
 
 pub index-requires : goal.index-requires
 index-requires c = omega (arith, at_below c.args.number c.args.parts.now.tasks.items c.args.at (first_at c.args.number c.args.parts.now.tasks.items c.args.at c.requires.index))
 
-pub all_atoms-requires : goal.all_atoms-requires
-all_atoms-requires c =
+pub is_made_of-requires : goal.is_made_of-requires
+is_made_of-requires c =
     let ps = c.args.parts.now.tasks.items in
     let x = c.index.result.now in
     let is : x ≡ get_or ps c.args.at x = search rules in
     subst (λ p. IsTask c.args.parts.now.log p) (sym is) (task_at c.args.parts.now.log ps c.args.at x c.requires.keeps.tasks (at_below c.args.number ps c.args.at (first_at c.args.number ps c.args.at c.requires.index)))
 
-pub returns-clause-same : goal.returns-clause-same
-returns-clause-same c =
-    let a = c.args.parts.now in
-    let x = c.index.result.now in
-    let is : x ≡ get_or a.tasks.items c.args.at x = search rules in
-    let atoms : c.deref.result.now ≡ atoms_of (task_of a.log x) = c.deref.ensures.value ∙ c.in_ok-own.ensures.ok in
-    has_atoms_by a c.args.number c.args.at x c.deref.result.now c.args.atoms.now c.is_same_list.result c.requires.index is atoms c.is_same_list.ensures
+pub returns : goal.returns
+returns c = record {
+  same = λ yes.
+      let a = c.args.parts.now in
+      let x = c.index.result.now in
+      let is : x ≡ get_or a.tasks.items c.args.at x = search rules in
+      has_atoms_if a c.args.number c.args.at x c.args.atoms.now c.requires.index is (c.is_made_of.ensures yes);
+}

@@ -16,13 +16,13 @@ next_stair-requires c = subst IsSmall (sym c.index-guards-index.is) (small_at c.
 pub returns-clause-ok : goal.returns-clause-ok
 returns-clause-ok c = λ log next all rest le o.
     let g = c.args.guards.now in
-    subst (λ r. Opening (log ++ g ∷ []) next c.loop-index.number c.args.view.now all r c.loop-index.tasks.items) (crossed_end c.args.base.items g c.loop-index.index rest c.loop-index-test.false)
+    subst (λ r. Opening (log ++ g ∷ []) next c.loop-index.number c.args.view.now all r c.loop-index.tasks.items) (crossed_end c.args.atoms.now.items g c.loop-index.index rest c.loop-index-test.false)
     (c.loop-index.invariant.same log next all rest le o)
 
 pub loop-index-preserved-then-branch : goal.loop-index-preserved-then-branch
 loop-index-preserved-then-branch c =
     let g = c.args.guards.now in
-    let base = c.args.base.items in
+    let base = c.args.atoms.now.items in
     let j = c.loop-index.index in
     let d = c.index-guards-index.result in
     let low : j < length g = c.loop-index-test.true in
@@ -39,17 +39,16 @@ loop-index-preserved-then-branch c =
 pub loop-index-preserved : goal.loop-index-preserved
 loop-index-preserved c =
     let g = c.args.guards.now in
-    let base = c.args.base.items in
+    let base = c.args.atoms.now.items in
     let j = c.loop-index.index in
     let d = c.index-guards-index.result in
     let low : j < length g = c.loop-index-test.true in
     let A = c.loop-index.atoms.items ++ negated d ∷ [] in
     let is : A ≡ (base ++ take j g) ++ negated (get_or g j d) ∷ [] = ap (λ s. s ++ negated d ∷ []) c.loop-index.invariant.atoms ∙ ap (λ a. (base ++ take j g) ++ negated a ∷ []) c.index-guards-index.is in
     let h : hopeless c.args.view.now A ≡ false = sym c.in_ok-next_stair.ensures.ok ∙ c.if-branch.false in
-    let shared : (arc_value c.in_ok-shared.shared).items ≡ base = ap (λ v. v.items) c.in_ok-shared.ensures.ok in
     record {
       same = λ log next all rest le o. rw c.in_ok-push.ensures.items (crossed_more log g next c.loop-index.number c.args.view.now base all rest j c.args.edition d A c.in_ok-own.own c.loop-index.tasks.items le low is h
-          (λ L. c.in_ok-own.ensures.reads L ∙ ap (λ bs. bs ++ stair_of L (let s : Stair = record { edition = c.args.edition; index = j } in s)) shared) (λ L s. c.in_ok-own.ensures.stands L s) (c.loop-index.invariant.same log next all rest le o));
+          (λ L. c.in_ok-own.ensures.reads L ∙ ap (λ bs. bs ++ stair_of L (let s : Stair = record { edition = c.args.edition; index = j } in s)) (sym c.requires.base)) (λ L s. c.in_ok-own.ensures.stands L s) (c.loop-index.invariant.same log next all rest le o));
       atoms = c.in_ok-next_stair.ensures.more ∙ ap (λ s. s ++ d ∷ []) c.loop-index.invariant.atoms ∙ ap (λ a. (base ++ take j g) ++ a ∷ []) c.index-guards-index.is ∙ append_assoc base (take j g) (get_or g j d ∷ []) ∙ ap (λ s. base ++ s) (sym (take_more g j d low));
       count = grind (arith, c.loop-index.invariant.count);
       few = grind (arith, c.loop-index.invariant.few);
@@ -58,7 +57,7 @@ loop-index-preserved c =
 pub returns-then-number-gt-LAST-clause-why : goal.returns-then-number-gt-LAST-clause-why
 returns-then-number-gt-LAST-clause-why c =
     let g = c.args.guards.now in
-    let base = c.args.base.items in
+    let base = c.args.atoms.now.items in
     let w = c.args.view.now in
     let j = c.loop-index.index in
     let d = c.index-guards-index.result in

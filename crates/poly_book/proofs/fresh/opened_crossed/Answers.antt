@@ -1,33 +1,32 @@
-use Rattle.std.proofs.Common.{[], ap, arith, drop, inl, inr, length, map, subst, sym, ◌++◌, ◌+◌, ◌<◌, ◌∙◌, ◌∷◌, ◌≡◌}
+use Rattle.std.proofs.Common.{[], ap, arith, drop, inl, inr, length, map, slice_index_or, subst, sym, ◌++◌, ◌+◌, ◌<◌, ◌∙◌, ◌∷◌, ◌≡◌, rules}
 use Rattle.std.proofs.lemmas.Result.{err_from_is_err_and}
+use Rattle.std.specs.Arc.{arc_value}
 use Rattle.poly_atom.specs.Stairs.{stairs}
-use Rattle.poly_book.specs.Meaning.{IsFrozen, frozen_of}
+use Rattle.poly_book.specs.Meaning.{frozen_of}
 use Rattle.poly_book.specs.Opens.{Opening}
 use Rattle.poly_book.specs.Shelves.{crossed}
-use Rattle.poly_book.proofs.Holding.{crossed_head, frozen_at}
+use Rattle.poly_book.specs.Tasks.{hopeful}
+use Rattle.poly_book.proofs.Holding.{crossed_head}
 use Rattle.poly_book.proofs.fresh.opened_crossed.Goals as goal
 
-pub frozen_atoms-requires : goal.frozen_atoms-requires
-frozen_atoms-requires c = subst (λ f. IsFrozen c.args.log.now f) (sym c.before-item.is) (frozen_at c.args.log.now c.args.frozen.now c.loop-before.before-index c.before-item.result c.requires.frozen c.loop-before-test.true)
-
-pub loop-before-preserved : goal.loop-before-preserved
-loop-before-preserved c =
+pub loop-index-preserved : goal.loop-index-preserved
+loop-index-preserved c =
     let log = c.args.log.now in
     let g = c.args.guards.now in
     let w = c.args.view.now in
-    let F = c.args.frozen.now in
+    let L = arc_value c.in_ok-shared.shared in
     let S = stairs g in
-    let i = c.loop-before.before-index in
-    let x = c.before-item.result in
-    let low : i < length F = c.loop-before-test.true in
-    let all = crossed (map (λ f. frozen_of log f) F) S in
-    let rest = crossed (map (λ f. frozen_of log f) (drop (i + 1) F)) S in
-    let head : crossed (map (λ f. frozen_of log f) (drop i F)) S ≡ map (λ B. c.in_ok-base.base.items ++ B) S ++ rest =
-    crossed_head log F S i x low c.before-item.is ∙ ap (λ A. map (λ B. A ++ B) S ++ rest) (sym c.in_ok-base.ensures.ok) in
+    let i = c.loop-index.index in
+    let low : i < length L = search rules in
+    let all = crossed L S in
+    let rest = crossed (drop (i + 1) L) S in
+    let base = c.read.new.buffer.items in
+    let is : base ≡ slice_index_or L i [] = search rules in
+    let head : crossed (drop i L) S ≡ map (λ B. base ++ B) S ++ rest = crossed_head L S i low ∙ ap (λ A. map (λ B. A ++ B) S ++ rest) (sym is) in
     record {
       same = c.in_ok-number.ensures.ok log c.args.next all rest c.requires.log
-          (subst (λ r. Opening (log ++ g ∷ []) c.args.next c.loop-before.number w all r c.loop-before.tasks.items) head c.loop-before.invariant.same);
-      number = let a = c.loop-before.invariant.number in let b = c.in_ok-number.ensures.count in omega (arith, a, b);
+          (subst (λ r. Opening (log ++ g ∷ []) c.args.next c.loop-index.number w all r c.loop-index.tasks.items) head c.loop-index.invariant.same);
+      number = let a = c.loop-index.invariant.number in let b = c.in_ok-number.ensures.count in omega (arith, a, b);
       few = c.in_ok-number.ensures.few;
     }
 
@@ -37,20 +36,21 @@ returns-in_err-number-clause-why c =
     let log = c.args.log.now in
     let g = c.args.guards.now in
     let w = c.args.view.now in
-    let F = c.args.frozen.now in
+    let L = arc_value c.in_ok-shared.shared in
     let S = stairs g in
-    let i = c.loop-before.before-index in
-    let x = c.before-item.result in
-    let low : i < length F = c.loop-before-test.true in
-    let all = crossed (map (λ f. frozen_of log f) F) S in
-    let rest = crossed (map (λ f. frozen_of log f) (drop (i + 1) F)) S in
-    let head : crossed (map (λ f. frozen_of log f) (drop i F)) S ≡ map (λ B. c.in_ok-base.base.items ++ B) S ++ rest =
-    crossed_head log F S i x low c.before-item.is ∙ ap (λ A. map (λ B. A ++ B) S ++ rest) (sym c.in_ok-base.ensures.ok) in
+    let i = c.loop-index.index in
+    let low : i < length L = search rules in
+    let all = crossed L S in
+    let rest = crossed (drop (i + 1) L) S in
+    let base = c.read.new.buffer.items in
+    let is : base ≡ slice_index_or L i [] = search rules in
+    let head : crossed (drop i L) S ≡ map (λ B. base ++ B) S ++ rest = crossed_head L S i low ∙ ap (λ A. map (λ B. A ++ B) S ++ rest) (sym is) in
+    let frozen : L ≡ map (λ f. frozen_of log f) c.args.frozen.now = c.in_ok-shared.ensures.same ∙ c.in_ok-bases.ensures.ok in
     rw (p.1, p.2) (elim c.in_err-number.ensures.why [
       | inl m ↦ inl (
         m.0,
-        m.1 log c.args.next all rest c.requires.log c.loop-before.invariant.number
-            (subst (λ r. Opening (log ++ g ∷ []) c.args.next c.loop-before.number w all r c.loop-before.tasks.items) head c.loop-before.invariant.same),
+        subst (λ K. 4294967296 < c.args.next + length (hopeful w (crossed K S))) frozen
+            (m.1 log c.args.next all rest c.requires.log c.loop-index.invariant.number (subst (λ r. Opening (log ++ g ∷ []) c.args.next c.loop-index.number w all r c.loop-index.tasks.items) head c.loop-index.invariant.same)),
       )
       | inr m ↦ inr m
     ])

@@ -4,11 +4,14 @@ use Rattle.std.specs.List.{list_all}
 use Rattle.poly_book.specs.Mapped.{base_of, under}
 use Rattle.poly_book.specs.Meaning.{IsTask, own_of}
 use Rattle.poly_book.proofs.Held.{task_at}
-use Rattle.poly_book.proofs.Mapping.{all_more, wide_atoms, wide_tasks}
+use Rattle.poly_book.proofs.Mapping.{all_more, has_base_of, wide_atoms, wide_tasks}
 use Rattle.poly_book.proofs.maps.Maps.note_all.Goals as goal
 
 pub note_base-requires : goal.note_base-requires
-note_base-requires c = record { known = λ n h. c.loop-i.invariant.base c.index-tasks-before.result n h }
+note_base-requires c = record {
+  known = λ n h. c.loop-i.invariant.base c.index-tasks-before.result n h;
+  own = has_base_of c.args.log.now c.index-tasks-i.result.own (subst (λ p. IsTask c.args.log.now p) (sym c.index-tasks-i.is) (task_at c.args.log.now c.args.tasks.now c.loop-i.i c.index-tasks-i.result c.requires c.loop-i-test.true)).own;
+}
 
 pub note_task-requires-clause-own : goal.note_task-requires-clause-own
 note_task-requires-clause-own c = (subst (λ p. IsTask c.args.log.now p) (sym c.index-tasks-i.is) (task_at c.args.log.now c.args.tasks.now c.loop-i.i c.index-tasks-i.result c.requires c.loop-i-test.true)).own

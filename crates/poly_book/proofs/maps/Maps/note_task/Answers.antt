@@ -1,26 +1,27 @@
-use Rattle.std.proofs.Common.{Bool, [], ap, arith, slice_index_or, subst, sym, take, true, ℕ, ◌++◌, ◌∙◌, ◌≡◌}
+use Rattle.std.proofs.Common.{Bool, [], ap, arith, refl, slice_index_or, subst, sym, take, true, ℕ, ◌++◌, ◌∙◌, ◌≡◌}
 use Rattle.std.proofs.lemmas.Bool.{and_from}
 use Rattle.std.specs.Arc.{arc_value}
-use Rattle.std.specs.List.{list_all}
+use Rattle.std.specs.List.{filter, list_all}
 use Rattle.poly_tiling.proofs.Lists.{all_append}
 use Rattle.poly_atom.specs.declared.atom.Atom.{Atom}
 use Rattle.poly_atom.specs.Logs.{stair_of}
+use Rattle.poly_report.specs.Words.{is_other}
 use Rattle.poly_book.specs.Mapped.{IsPrefix, base_of, in_span, under}
 use Rattle.poly_book.specs.Meaning.{own_of}
 use Rattle.poly_book.specs.declared.rows.Span.{Span}
-use Rattle.poly_book.proofs.Mapping.{on_ok_all, on_ok_then, wide_atoms, within}
+use Rattle.poly_book.proofs.Mapping.{all_others, on_ok_all, on_ok_then, wide_atoms, within}
 use Rattle.poly_book.proofs.maps.Maps.note_task.Goals as goal
 
-pub returns-in_ok-read-in-Listed-clause-prefix : goal.returns-in_ok-read-in-Listed-clause-prefix
-returns-in_ok-read-in-Listed-clause-prefix c =
+pub returns-in_ok-read_others-in-Listed-clause-prefix : goal.returns-in_ok-read_others-in-Listed-clause-prefix
+returns-in_ok-read_others-in-Listed-clause-prefix c =
     let f = c.args.prefix.now in
     let log = c.args.log.now in
     let m = c.note_list.new.self in
     let kept : IsPrefix m log f = λ n h. wide_atoms c.args.self.now m n (take f.count (slice_index_or log f.edition [])) c.note_list.ensures.wider (c.requires.prefix n h) in
     on_ok_all c.note_list.result (IsPrefix m log f) kept
 
-pub returns-in_ok-read-in-Listed-clause-ok : goal.returns-in_ok-read-in-Listed-clause-ok
-returns-in_ok-read-in-Listed-clause-ok c =
+pub returns-in_ok-read_others-in-Listed-clause-ok : goal.returns-in_ok-read_others-in-Listed-clause-ok
+returns-in_ok-read_others-in-Listed-clause-ok c =
     let log = c.args.log.now in
     let k = c.args.number in
     let m = c.note_list.new.self in
@@ -28,10 +29,10 @@ returns-in_ok-read-in-Listed-clause-ok c =
     let f : Atom → Bool = λ a. under m a k in
     let A = c.deref-in-Listed.result.now in
     let own = c.args.own.now in
-    let read = c.in_ok-read-in-Listed.ensures.ok ∙ ap (λ ls. slice_index_or ls c.in-Listed.index []) c.deref.ensures in
-    let is : own_of log own ≡ A = ap (λ o. own_of log o) c.in-Listed.is ∙ sym (c.deref-in-Listed.ensures.value ∙ read) in
+    let read = c.in_ok-read_others-in-Listed.ensures.ok ∙ ap (λ ls. filter is_other (slice_index_or ls c.in-Listed.index [])) c.deref.ensures in
+    let is : filter is_other (own_of log own) ≡ A = ap (λ o. filter is_other (own_of log o)) c.in-Listed.is ∙ sym (c.deref-in-Listed.ensures.value ∙ read) in
     on_ok_then c.note_list.result ((n : ℕ) → in_span s n ≡ true → list_all (λ a. under m a n) A ≡ true) (list_all f (own_of log own) ≡ true)
-    (λ noted. ap (list_all f) is ∙ noted k (within s k (omega arith) (omega arith)))
+    (λ noted. all_others f (own_of log own) (λ p. refl) (ap (list_all f) is ∙ noted k (within s k (omega arith) (omega arith))))
     c.note_list.ensures.ok
 
 pub returns-in-Crossed-clause-ok : goal.returns-in-Crossed-clause-ok
@@ -39,7 +40,7 @@ returns-in-Crossed-clause-ok c =
     let k = c.args.number in
     let log = c.args.log.now in
     let own = c.args.own.now in
-    let base = (arc_value c.in-Crossed.field-0).items in
+    let base = slice_index_or (arc_value c.in-Crossed.field-0) c.in-Crossed.field-1 [] in
     let stair = stair_of log c.in-Crossed.stair in
     let m = c.note_stair-in-Crossed.new.self in
     let f : Atom → Bool = λ a. under m a k in
