@@ -5,7 +5,7 @@ ghost use Rattle.std.specs.Prelude.{◌≡◌, ◌≤◌, length};
 mod desk;
 
 use crate::scene::{Scene, explore_job};
-use crate::{Gate, MOST_WORKERS, OpenGate, crew};
+use crate::{Gate, MOST_TURNS, MOST_WORKERS, OpenGate, crew};
 use poly_book::{Applied, Book, Found, Job, Which};
 use poly_design::{Design, Edit, Mode, Name, Need};
 use poly_desk::{Bench, Receipt};
@@ -242,7 +242,10 @@ fn find_all<R: Threads + Wait + Sync + Abort>(rt: &R, alloc: Global, workers: us
 fn crews_of_every_size(rt: HostRuntime) {
     find_all(&rt, rt.alloc(), 1);
     find_all(&rt, rt.alloc(), 2);
+    find_all(&rt, rt.alloc(), 3);
     find_all(&rt, rt.alloc(), 4);
+    find_all(&rt, rt.alloc(), 5);
+    find_all(&rt, rt.alloc(), 8);
     find_all(&rt, rt.alloc(), MOST_WORKERS);
 }
 
@@ -253,6 +256,36 @@ fn workers_that_use_up_their_turns_are_unfinished(rt: HostRuntime) {
     let after = crew(&rt, rt.alloc(), &shared, passes, 1, 1, &OpenGate);
     assert_eq!(rt; after.end, Err(Refusal::Unfinished));
     assert!(rt; after.applied == 1 || after.applied == 2);
+}
+
+// Lets a crew of one worker take up to so many turns.
+fn work_alone<R: Threads + Wait + Sync + Abort>(
+    rt: &R,
+    alloc: Global,
+    shared: &Shared,
+    turns: u64,
+) -> (u64, Result<(), Refusal>)
+    requires { turns ≤ MOST_TURNS }
+{
+    let passes = cards(rt, alloc, 1);
+    let after = crew(rt, alloc, shared, passes, turns, 1, &OpenGate);
+    (after.applied, after.end)
+}
+
+// However often a worker begins, it needs the same reports in all. So if one is missing the first time, it has turns enough the
+// second time.
+#[test]
+fn a_worker_goes_on_where_its_turns_were_used_up(rt: HostRuntime) {
+    let whole = make_shared(&rt, rt.alloc(), None);
+    let (needed, end) = work_alone(&rt, rt.alloc(), &whole, 1000);
+    assert!(rt; needed > 2 && end == Ok(()));
+    let few = needed.saturating_sub(1).min(MOST_TURNS);
+    let shared = make_shared(&rt, rt.alloc(), None);
+    let first = work_alone(&rt, rt.alloc(), &shared, few);
+    assert_eq!(rt; first, (few, Err(Refusal::Unfinished)));
+    let second = work_alone(&rt, rt.alloc(), &shared, few);
+    assert_eq!(rt; second, (1, Ok(())));
+    expect_tilings(&rt, shared.book.into_inner(), 4);
 }
 
 #[test]
