@@ -15,3 +15,4 @@ pub mod Shared
 pub mod Grids
 pub mod LineReplies
 pub mod Crewed
+pub mod Resumed

@@ -45,6 +45,8 @@ const TURNS: &str = "turns";
 
 const WORKERS: &str = "workers";
 
+const VERBOSE: &str = "verbose";
+
 /// The most turns that settling may take each time, if the arguments don't say.
 pub const DEFAULT_TURNS: u64 = 1_000_000;
 
@@ -55,10 +57,12 @@ pub struct Options {
     pub turns: u64,
     /// How many workers search at the same time, from 1 to `MOST_WORKERS`; `None` if one thread searches, without a crew.
     pub workers: Option<u8>,
+    /// Whether standard error explains refusals and reports how far a search is.
+    pub verbose: bool,
 }
 
 /// Reads the words of the command line, the program's own name first: `--turns N`, with N from 1 to
-/// `MOST_TURNS`, `--workers N`, with N from 1 to `MOST_WORKERS`, `--help` and `--version`.
+/// `MOST_TURNS`, `--workers N`, with N from 1 to `MOST_WORKERS`, `--verbose`, `--help` and `--version`.
 ///
 /// The error holds the text of the help, of the version or of a mistake, or says that memory ran out. `Error::print` writes
 /// help and version to standard output and the rest to standard error; `Error::exit_code` is 0 for help and version and 2
@@ -76,6 +80,7 @@ pub fn read_arguments(alloc: Global, words: &[&str]) -> Result<Options, Error>
             Some(workers) => Some(workers.clamp(1, MOST_WORKERS as u8)),
             None => None,
         },
+        verbose: matches.get_flag(VERBOSE),
     })
 }
 
@@ -91,12 +96,18 @@ fn command<'a>(alloc: Global) -> Result<Command<'a>, Error> {
         .help("How many workers search at the same time: 1 to 16; by default one thread searches")
         .action(ArgAction::Set)
         .value_parser(value_parser!(u8).range(1..=MOST_WORKERS as i64));
+    let verbose = Arg::new(alloc, VERBOSE)
+        .short('v')
+        .long(VERBOSE)
+        .help("Explains each refused line, and reports how far a long search is, on standard error")
+        .action(ArgAction::SetTrue);
     let command = Command::new(alloc, "polybench")
         .version(VERSION)
         .about(ABOUT)
         .after_help(EXAMPLE)
         .arg(turns)?
-        .arg(workers)?;
+        .arg(workers)?
+        .arg(verbose)?;
     Ok(command)
 }
 

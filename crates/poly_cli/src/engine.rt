@@ -2,10 +2,11 @@
 //!
 //! A session doesn't know how an engine searches or what the engine keeps between two questions. It knows only the engine's
 //! state, in terms of the definitions.
-ghost use Rattle.std.specs.Prelude.{◌≡◌, ◌⊎◌, ◌+◌, List, None, length, IfOk, IfErr, OnOk, OnErr};
+ghost use Rattle.std.specs.Prelude.{◌≡◌, ◌⊎◌, ◌+◌, ◌≤◌, List, None, length, IfOk, IfErr, OnOk, OnErr};
 ghost use Rattle.poly_grid.specs.declared.refusal.Refusal.{Refusal as Cause};
 ghost use Rattle.poly_design.specs.declared.placement.Placement.{Placement as Placed};
 ghost use Rattle.poly_tiling.specs.Listings.{IsListOfTilings};
+ghost use Rattle.poly_crew.specs.declared.crewing.TheConstants.{MOST_TURNS};
 ghost use Rattle.poly_cli.specs.States.{State, AreNumbers, EditRefused, Edits, IsNotAnswered, IsRefusedFor, RedoRefused, Redoes, UndoRefused, Undoes, answered, opened};
 
 use poly_book::{Numbers, Quiet};
@@ -103,4 +104,14 @@ pub trait Engine {
     fn numbers(&self) -> Numbers
         requires ready { ready self.now }
         ensures { AreNumbers (state self.now) result };
+}
+
+/// An engine whose limit on turns can be changed, so that a search can be done in parts.
+pub trait Limited: Engine {
+    /// Sets the most turns that each later question may take, at most 1,000,000,000; with workers, the most for each of them.
+    fn set_turns(&mut self, turns: u64)
+        requires ready { Self.ready self.old }
+        requires few { turns ≤ MOST_TURNS }
+        ensures ready { Self.ready self.new }
+        ensures same { Self.state self.new ≡ Self.state self.old };
 }

@@ -2,11 +2,14 @@
 //! edited, and finds all tilings of the design.
 #![tactic(auto)]
 
+mod advising;
 mod answering;
 mod arguments;
 mod engine;
+mod explaining;
 mod kept;
 mod lines;
+mod pacing;
 mod printing;
 mod questions;
 mod serving;
@@ -16,6 +19,7 @@ mod team;
 mod teamwork;
 #[cfg(test)]
 mod tests;
+mod watching;
 mod writing;
 
 // A whole session over a reader, a writer and an engine.
@@ -23,9 +27,14 @@ pub use sessions::{End, session};
 pub use writing::Fault;
 
 // What a session runs on.
-pub use engine::Engine;
+pub use engine::{Engine, Limited};
 pub use solo::Solo;
 pub use team::Team;
+
+// What a verbose session adds: it explains refusals and reports how far a search is.
+pub use advising::advice;
+pub use explaining::{Explained, explain};
+pub use watching::Watched;
 
 // The limits on a line and on an input.
 pub use lines::{INPUT_LIMIT, LINE_LIMIT};

@@ -3,7 +3,7 @@ ghost use Rattle.std.specs.Prelude.{◌≡◌, ◌≢◌, ◌⊎◌, [], IfErr, 
 ghost use Rattle.poly_cli.specs.Books.{session_of};
 ghost use Rattle.poly_cli.specs.States.{IsUnfinished, opened};
 
-use crate::engine::Engine;
+use crate::engine::{Engine, Limited};
 use poly_book::{Book, Numbers, Quiet};
 use poly_design::{Design, Edit};
 use poly_grid::{Grid, Refusal};
@@ -138,6 +138,12 @@ impl Engine for Solo {
 
     fn numbers(&self) -> Numbers {
         self.book.numbers()
+    }
+}
+
+impl Limited for Solo {
+    fn set_turns(&mut self, turns: u64) {
+        self.turns = turns;
     }
 }
 

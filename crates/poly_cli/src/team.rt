@@ -10,7 +10,7 @@ ghost use Rattle.poly_desk.specs.Seen.{is_unsettled};
 ghost use Rattle.poly_cli.specs.States.{IsNotAnswered, IsUnanswered, State, opened};
 ghost use Rattle.poly_cli.specs.Teams.{state_of, stops};
 
-use crate::engine::Engine;
+use crate::engine::{Engine, Limited};
 use crate::kept::{Kept, LostBook};
 use crate::solo::Solo;
 use crate::teamwork::{Crewing, work_on};
@@ -112,6 +112,15 @@ impl<'a, R: Threads + Wait + Sync> Engine for Team<'a, R> {
         match &self.kept {
             Kept::Whole(solo) => solo.numbers(),
             Kept::Lost(lost) => lost.numbers,
+        }
+    }
+}
+
+impl<'a, R: Threads + Wait + Sync> Limited for Team<'a, R> {
+    fn set_turns(&mut self, turns: u64) {
+        self.crewing.turns = turns;
+        if let Kept::Whole(solo) = &mut self.kept {
+            solo.set_turns(turns);
         }
     }
 }

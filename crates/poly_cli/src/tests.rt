@@ -3,14 +3,16 @@
 
 ghost use Rattle.std.specs.Prelude.{◌≤◌};
 
-use crate::{End, Engine, Fault, Solo, Team, session};
+use crate::{End, Engine, Explained, Fault, Solo, Team, Watched, session};
 use poly_grid::Refusal;
 use std::alloc::{AllocGlobal, Global};
+use std::cell::Cell;
 use std::io;
 use std::io::{ErrorKind, Read, Write};
 use std::process::Abort;
 use std::sync::Wait;
 use std::thread::Threads;
+use std::time::{Clock, Duration};
 
 // Gives its bytes, at most `most` at a time, and then fails or ends.
 #[derive(Drop)]
@@ -59,6 +61,22 @@ impl Write for Small {
     }
 }
 
+// Its time is 0.6 seconds later at each look.
+#[derive(Drop)]
+struct Steps(Cell<u64>);
+
+impl Clock for Steps {
+    fn monotonic(&self) -> io::Result<Duration> {
+        let millis = self.0.get().wrapping_add(600);
+        self.0.set(millis);
+        Ok(Duration::from_millis(millis))
+    }
+
+    fn since_1970(&self) -> io::Result<Duration> {
+        self.monotonic()
+    }
+}
+
 // A session's input, how many bytes are read at a time, the fault of the reader after the input (`None` if the input just
 // ends), and how many bytes the writer takes.
 #[derive(Clone, Copy)]
@@ -85,21 +103,29 @@ fn run(alloc: Global, devices: Devices<'_>) -> Result<Outcome, Refusal> {
 fn run_on<E: Engine>(alloc: Global, devices: Devices<'_>, engine: &mut E) -> Outcome
     requires { E.ready engine.old }
 {
-    let mut reader = Pieces {
-        left: devices.input,
-        most: devices.piece,
-        fault: devices.fault,
-    };
-    let mut writer = Small {
-        taken: Vec::new(alloc),
-        room: devices.room,
-        flushes: 0,
-    };
+    let mut reader = reader_of(devices);
+    let mut writer = writer_of(alloc, devices);
     let end = session(alloc, &mut reader, &mut writer, engine);
     Outcome {
         end,
         taken: writer.taken,
         flushes: writer.flushes,
+    }
+}
+
+fn reader_of<'a>(devices: Devices<'a>) -> Pieces<'a> {
+    Pieces {
+        left: devices.input,
+        most: devices.piece,
+        fault: devices.fault,
+    }
+}
+
+fn writer_of(alloc: Global, devices: Devices<'_>) -> Small {
+    Small {
+        taken: Vec::new(alloc),
+        room: devices.room,
+        flushes: 0,
     }
 }
 
@@ -166,3 +192,22 @@ fn teams_of_every_size(rt: HostRuntime) {
     expect_team(&rt, 4);
     expect_team(&rt, 16);
 }
+
+#[test]
+fn verbose_sessions_write_the_same(rt: HostRuntime) {
+    let alloc = rt.alloc();
+    let clock = Steps(Cell::new(0));
+    let solo = Solo::new(alloc, 1000).expect(&rt, "memory");
+    let mut engine = Watched::new(solo, 1000, &clock, writer_of(alloc, WHOLE));
+    let mut writer = Explained::new(writer_of(alloc, WHOLE), writer_of(alloc, WHOLE));
+    let end = session(alloc, &mut reader_of(WHOLE), &mut writer, &mut engine);
+    assert!(rt; end == Ok(End::Done));
+    assert_eq!(rt; writer.replies.taken.as_slice(), ANSWERS);
+    assert_eq!(rt; writer.errors.taken.as_slice(), NOTHING_TO_UNDO);
+    assert_eq!(rt; engine.errors.taken.as_slice(), TWO_SEARCHES);
+}
+
+const TWO_SEARCHES: &[u8] = b"polybench: took 1.2 s\npolybench: took 1.2 s\n";
+
+const NOTHING_TO_UNDO: &[u8] =
+    b"polybench: No change is left to undo. The last 256 changes can be undone.\n";

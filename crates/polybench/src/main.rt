@@ -3,11 +3,15 @@
 
 ghost use Rattle.std.specs.Prelude.{◌≤◌, IfOk, IfSome};
 
-use poly_cli::{End, Engine, Fault, Options, Solo, Team, read_arguments, session};
+use poly_cli::{
+    End, Engine, Explained, Fault, Limited, Options, Solo, Team, Watched, explain, read_arguments,
+    session,
+};
 use poly_grid::Refusal;
 use poly_text::refusal_line;
 use std::alloc::AllocError;
 use std::io;
+use std::io::Write;
 use std::process::ExitCode;
 
 /// The puzzle line was refused.
@@ -26,13 +30,13 @@ fn main(rt: HostRuntime) -> ExitCode {
     };
     let status = match options.workers {
         None => match Solo::new(rt.alloc(), options.turns) {
-            Ok(mut solo) => status_with(&rt, &mut solo),
-            Err(_) => refused_for_memory(&rt),
+            Ok(solo) => status_of(&rt, &options, solo),
+            Err(_) => refused_for_memory(&rt, &options),
         },
         // A team keeps a reference to `rt`, since it starts its threads with it.
         Some(workers) => match Team::new(&rt, rt.alloc(), usize::from(workers), options.turns) {
-            Ok(mut team) => status_with(&rt, &mut team),
-            Err(_) => refused_for_memory(&rt),
+            Ok(team) => status_of(&rt, &options, team),
+            Err(_) => refused_for_memory(&rt, &options),
         },
     };
     ExitCode::from(status)
@@ -54,7 +58,11 @@ fn options(rt: &HostRuntime) -> Result<Options, u8>
     match read_arguments(rt.alloc(), texts.as_slice()) {
         Ok(options) => Ok(options),
         Err(error) => {
-            let _ = error.print(rt);
+            let printed = error.print(rt);
+            if printed.is_err() && error.exit_code() == 0 {
+                // Help or the version could not be written.
+                return Err(write_fault(rt));
+            }
             Err(error.exit_code() as u8)
         }
     }
@@ -73,11 +81,24 @@ fn texts_of<'a>(rt: &HostRuntime, words: &'a [String]) -> Result<Vec<&'a str>, A
     Ok(texts)
 }
 
-// Runs the session on the engine.
-fn status_with<E: Engine>(rt: &HostRuntime, engine: &mut E) -> u8
+// Runs a session on the engine, and returns the exit status.
+fn status_of<E: Limited + Drop>(rt: &HostRuntime, options: &Options, engine: E) -> u8
+    requires ready { E.ready engine }
+    requires few { options.now.turns ≤ 1000000000 }
+{
+    let mut engine = engine;
+    if !options.verbose {
+        return status_with(rt, &mut io::writer(rt), &mut engine);
+    }
+    let mut writer = Explained::new(io::writer(rt), rt.stderr());
+    let mut watched = Watched::new(engine, options.turns, rt, rt.stderr());
+    status_with(rt, &mut writer, &mut watched)
+}
+
+fn status_with<W: Write, E: Engine>(rt: &HostRuntime, writer: &mut W, engine: &mut E) -> u8
     requires { E.ready engine.old }
 {
-    match session(rt.alloc(), &mut rt.reader(), &mut io::writer(rt), engine) {
+    match session(rt.alloc(), &mut rt.reader(), writer, engine) {
         Ok(End::Done) => 0,
         Ok(End::Refused) => REFUSED,
         Err(Fault::Read) => {
@@ -89,11 +110,14 @@ fn status_with<E: Engine>(rt: &HostRuntime, engine: &mut E) -> u8
 }
 
 // If there is no memory for an engine, the puzzle line is refused before it is read.
-fn refused_for_memory(rt: &HostRuntime) -> u8 {
-    match print!(rt; "{}", refusal_line(Refusal::Memory)) {
-        Ok(()) => REFUSED,
-        Err(_) => write_fault(rt),
+fn refused_for_memory(rt: &HostRuntime, options: &Options) -> u8 {
+    if print!(rt; "{}", refusal_line(Refusal::Memory)).is_err() {
+        return write_fault(rt);
     }
+    if options.verbose {
+        explain(&mut rt.stderr(), Refusal::Memory);
+    }
+    REFUSED
 }
 
 fn write_fault(rt: &HostRuntime) -> u8 {
