@@ -1,3 +1,2 @@
 pub mod Fresh
 pub mod Found
-pub mod Halves

@@ -1,23 +1,19 @@
-//! The test kit: designs, their views and their changes, from the lines that a session reads.
+//! The test kit: designs and their changes, from the lines that a session reads.
 //!
 //! A test gives a design by its puzzle line and a change by its command line, for example:
 //!
 //! - `design(&rt, DOMINOES)` is the design of a puzzle line;
 //! - `edited(&rt, DOMINOES, &[b"pin A 0,0 0,1"])` is that design after edits;
-//! - `view(&rt, &design)` is its view, in which a placement's number is its index in `Design::places`;
 //! - `change_of(alloc, &design, b"drop A")` is the change that a command asks for.
 //!
-//! `design`, `edited` and `view` end the test if a line is refused or memory runs out, so their callers handle no errors.
+//! `design` and `edited` end the test if a line is refused or memory runs out, so their callers handle no errors.
 ghost use Rattle.std.specs.Prelude.{IfOk};
 ghost use Rattle.poly_design.specs.Changes.{HasBefore, changed};
 ghost use Rattle.poly_design.specs.Limits.{IsDesign};
-ghost use Rattle.poly_tiling.specs.Shows.{IsPlain, Shows};
 
-use poly_design::{Change, Design, Name, Placement};
-use poly_grid::{Cell, Refusal};
-use poly_shape::Cells;
+use poly_design::{Change, Design};
+use poly_grid::Refusal;
 use poly_text::{Command, asked, puzzle_of};
-use poly_tiling::View;
 use std::alloc::{AllocGlobal, Global};
 use std::process::Abort;
 
@@ -33,15 +29,6 @@ pub(crate) fn design(rt: &(impl AllocGlobal + Abort), line: &[u8]) -> Design {
 /// The design of the puzzle line after the edits that the command lines ask for.
 pub(crate) fn edited(rt: &(impl AllocGlobal + Abort), line: &[u8], edits: &[&[u8]]) -> Design {
     design_of(rt.alloc(), line, edits).expect(rt, "a puzzle line and edits")
-}
-
-/// The plain view of the design. Its numbers are the indices of the placements in `Design::places`; a pin that isn't a
-/// placement comes after them.
-pub(crate) fn view(rt: &(impl AllocGlobal + Abort), design: &Design) -> View
-    ensures shows { Shows result design.now }
-    ensures plain { IsPlain result design.now }
-{
-    View::plain(rt.alloc(), design).expect(rt, "memory")
 }
 
 /// The change that the command line asks for on the design, or the refusal. A line that asks for no edit is a `BadCommand`.
@@ -68,22 +55,4 @@ pub(crate) fn design_of(alloc: Global, puzzle: &[u8], lines: &[&[u8]]) -> Result
         design.make(&change)?;
     }
     Ok(design)
-}
-
-/// The placement of the piece on the two cells, each given as its column and its row. Ends the test if a coordinate is over
-/// 63, if the name isn't valid, or if both cells are the same.
-pub(crate) fn placement(
-    rt: &impl Abort,
-    name: &[u8],
-    first: (u64, u64),
-    second: (u64, u64),
-) -> Placement {
-    let cells = [
-        Cell::new(first.0, first.1).expect(rt, "a coordinate below 64"),
-        Cell::new(second.0, second.1).expect(rt, "a coordinate below 64"),
-    ];
-    Placement {
-        name: Name::new(name).expect(rt, "a name"),
-        cells: Cells::new(&cells).expect(rt, "two cells"),
-    }
 }

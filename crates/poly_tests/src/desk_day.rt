@@ -9,7 +9,9 @@ use poly_board::Posted;
 use poly_book::{Book, Quiet, Which};
 use poly_design::Edit;
 use poly_desk::{Desk, NotSettled, Opening, PARTS, Pass, Receipt};
-use poly_grid::Refusal;
+use poly_grid::{Cell, Refusal};
+use poly_report::{Arm, Report, Tree};
+use poly_tiling::Item;
 use std::alloc::Global;
 use std::marker::Brand;
 use std::process::Abort;
@@ -29,6 +31,22 @@ fn change<C: Ledger, K: Ledger, O: Opening, R: Wait + Abort>(
     let redo = desk.redo(rt, pass).expect(rt, "a step to redo");
     assert!(rt; (place_of(&edit), place_of(&undo), place_of(&redo)) == (1, 2, 3));
     vec![in alloc; edit, undo, redo].expect(rt, "memory")
+}
+
+// The report on task 1 that branches on the first cell: its four arms are A and B on the upper row and on the left column, each
+// with a Rest.
+fn full_report(rt: &impl Abort, alloc: Global) -> Report {
+    let mut arms = Vec::new(alloc);
+    for placement in [0, 1, 4, 5] {
+        let tree = Tree::Rest;
+        arms.push(Arm { placement, tree }).expect(rt, "memory");
+    }
+    let item = Item::Cell(Cell::ORIGIN);
+    Report {
+        task: 1,
+        edition: 0,
+        tree: Tree::Branch { item, arms },
+    }
 }
 
 // Works until no task is pending, with at most 1,000 reports. Adds their receipts to the list, and returns all tilings.
@@ -120,8 +138,8 @@ fn day<C: Ledger, K: Ledger, O: Opening, R: Wait + Abort>(
     let begun = Desk::<C, K, O>::begin(alloc, changes, cuts, book);
     let (desk, mut p) = begun.ok().expect(rt, "a desk");
     let mut q = desk.pass(rt, alloc, &mut p).expect(rt, "a second pass");
-    let worked = work(rt, alloc, &desk, &mut p, Which::Task(1));
-    let (applied, cut) = worked.expect(rt, "a report that holds");
+    let handed_in = desk.hand_in(rt, &mut p, full_report(rt, alloc));
+    let (applied, cut) = handed_in.expect(rt, "a report that holds");
     assert!(rt; (applied.place, applied.listed, applied.late) == (1, 0, false));
     assert!(rt; (applied.opened, applied.first) == (4, 2));
     assert!(rt; desk.next(rt, &mut p, 1) == Ok(Some(2)));

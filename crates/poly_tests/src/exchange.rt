@@ -3,19 +3,23 @@
 //! With ample memory this is a worked example of a catalogue. tests/refused_calls.sh runs the test again with each allocation
 //! refused in turn: then a `list_all` of all tilings or an `exchange` that runs out of memory must leave the list as it was,
 //! and succeed when it is made again.
-ghost use Rattle.std.specs.Prelude.{◌≡◌, [], OnOk, true};
-ghost use Rattle.std.specs.List.{list_all};
+ghost use Rattle.std.specs.Prelude.{◌≡◌, ◌++◌, [], IfOk, OnOk, filter, nat_eq, not, true};
+ghost use Rattle.std.specs.Cmp.Lexicographic.{pointwise};
+ghost use Rattle.std.specs.List.{list_all, list_any};
+ghost use Rattle.poly_design.specs.Changes.{changed};
+ghost use Rattle.poly_design.specs.Limits.{IsDesign};
 ghost use Rattle.poly_tiling.specs.Puzzle.{is_tiling};
 ghost use Rattle.poly_place.specs.Right.{IsRight};
+ghost use Rattle.poly_catalogue.specs.Listed.{AreOnce};
 
-use crate::catalogue::{copies, found, fresh, lead};
 use crate::designs::{DOMINOES, change_of, design_of};
 use poly_catalogue::Catalogue;
-use poly_design::Design;
+use poly_design::{Change, Design};
 use poly_grid::Refusal;
 use poly_place::Table;
+use poly_search::search_all;
 use poly_tiling::{Tiling, View};
-use std::alloc::Global;
+use std::alloc::{AllocError, Global};
 use std::test::Fail;
 
 // How many tilings went away, how many stayed, how many there are at the end, and whether each refused call left the list
@@ -26,6 +30,81 @@ struct Outcome {
     stayed: usize,
     at_last: usize,
     kept: bool,
+}
+
+// All tilings of the view, each once, in no particular order.
+fn found(alloc: Global, view: &View) -> Result<Vec<Tiling>, Refusal>
+    ensures tilings { IfOk result (λ list. list_all (is_tiling view.now) list.items ≡ true) }
+    ensures once { IfOk result (λ list. AreOnce list.items) }
+{
+    let list = search_all(alloc, view, &[])?;
+    Ok(list)
+}
+
+// Makes the change. Keeps the listed tilings that are still tilings, and returns the others.
+fn lead(
+    design: &mut Design,
+    table: &mut Table,
+    catalogue: &mut Catalogue,
+    change: &Change,
+) -> Result<Vec<Tiling>, Refusal>
+    requires right { IsRight table.old design.old }
+    requires limits { IsDesign (changed design.old change.now) }
+    requires listed { list_all (is_tiling table.old) catalogue.old ≡ true }
+    ensures right { OnOk result (IsRight table.new design.new) }
+    ensures listed { OnOk result (list_all (is_tiling table.new) catalogue.new ≡ true) }
+    ensures once { IfOk result (λ gone. AreOnce (catalogue.new ++ gone.items)) }
+{
+    let plan = match table.plan(design, change) {
+        Ok(plan) => plan,
+        Err(refusal) => return Err(refusal),
+    };
+    design.make(change)?;
+    let _listed = catalogue.all();
+    let gone = catalogue.leaving(&plan.view, &plan.delta)?;
+    catalogue.keep_only(&plan.view, &plan.delta);
+    table.make(plan);
+    Ok(gone)
+}
+
+// Whether the list has a tiling of these numbers.
+fn is_listed(listed: &[Tiling], numbers: &[u32]) -> bool
+    ensures { result ≡ list_any (λ U. pointwise nat_eq U numbers.now) listed.now }
+{
+    listed.iter().any(|tiling| tiling.numbers() == numbers)
+}
+
+// The tilings of the view that are not listed yet.
+fn fresh(alloc: Global, view: &View, listed: &[Tiling]) -> Result<Vec<Tiling>, Refusal>
+    requires { AreOnce listed.now }
+    ensures tilings { IfOk result (λ list. list_all (is_tiling view.now) list.items ≡ true) }
+    ensures once { IfOk result (λ list. AreOnce (listed.now ++ list.items)) }
+{
+    let tilings = found(alloc, view)?;
+    let list = not_listed(alloc, tilings, listed)?;
+    Ok(list)
+}
+
+fn not_listed(
+    alloc: Global,
+    tilings: Vec<Tiling>,
+    listed: &[Tiling],
+) -> Result<Vec<Tiling>, AllocError>
+    ensures { IfOk result (λ list. list.items ≡ filter (λ T. not (list_any (λ U. pointwise nat_eq U T) listed.now)) tilings.items) }
+{
+    tilings
+        .into_iter()
+        .filter(|tiling| !is_listed(listed, tiling.numbers()))
+        .collect(alloc)
+}
+
+// Copies of the tilings, in their order.
+fn copies(alloc: Global, tilings: &[Tiling]) -> Result<Vec<Tiling>, Refusal> {
+    let mut list = Vec::new(alloc);
+    for tiling in tilings {
+        list.push(tiling.copy()?)?;
+    }
+    Ok(list)
 }
 
 fn are_same(some: &[Tiling], others: &[Tiling]) -> bool {

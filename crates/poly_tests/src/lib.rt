@@ -1,6 +1,6 @@
 //! Tests that need only public calls, and that no script of the player can be (docs/PLAYER.md): of plain functions and of parts
-//! that a book doesn't show, such as frames, tables and catalogues; enumerations; random scripts of events; threads and whole
-//! days at a desk; and runs with each allocation refused.
+//! that a book doesn't show, such as frames and tables; enumerations; threads and whole days at a desk; and runs with each
+//! allocation refused.
 //!
 //! They share some test kits: `designs` (designs from puzzle lines), `books`, `desks`, and `shared_out`, which compares a book
 //! with the plain lister. The crate exports nothing.
@@ -10,8 +10,6 @@
 mod answers;
 #[cfg(test)]
 mod books;
-#[cfg(test)]
-mod catalogue;
 #[cfg(test)]
 mod designs;
 #[cfg(test)]
@@ -29,13 +27,9 @@ mod exchange;
 #[cfg(test)]
 mod frame;
 #[cfg(test)]
-mod full;
-#[cfg(test)]
 mod grids;
 #[cfg(test)]
 mod memory;
-#[cfg(test)]
-mod nowhere;
 #[cfg(test)]
 mod numbers;
 #[cfg(test)]
@@ -43,14 +37,6 @@ mod parts;
 #[cfg(test)]
 mod refusals;
 #[cfg(test)]
-mod scripts;
-#[cfg(test)]
 mod shapes;
 #[cfg(test)]
 mod shared_out;
-#[cfg(test)]
-mod stairs;
-#[cfg(test)]
-mod tables;
-#[cfg(test)]
-mod views;

@@ -1,11 +1,10 @@
-//! The numbers of placements, and tables that follow a design of two dominoes through edits.
+//! A table gives the numbers of placements back to them when they return.
 ghost use Rattle.poly_place.specs.Right.{IsRight};
 
-use crate::designs::{DOMINOES, change_of, design, placement};
-use poly_design::{Design, Name};
-use poly_grid::Cell;
-use poly_place::{Delta, Interner, Table};
-use poly_tiling::{Item, View};
+use crate::designs::{DOMINOES, change_of, design};
+use poly_design::Design;
+use poly_place::{Delta, Table};
+use poly_tiling::View;
 use std::alloc::AllocGlobal;
 use std::process::Abort;
 
@@ -35,31 +34,6 @@ fn expect_counts(rt: &impl Abort, view: &View, want: (usize, usize, usize)) {
     assert!(rt; (view.live().len(), view.items().len(), view.pins().len()) == want);
 }
 
-// Asserts how many numbers each cell of the square has, row by row, and how many a piece has.
-fn expect_sizes(rt: &impl Abort, table: &Table, cells: [usize; 4], name: &[u8], piece: usize) {
-    let square = [(0, 0), (1, 0), (0, 1), (1, 1)];
-    for k in 0..4usize {
-        let cell = Cell::new(square[k].0, square[k].1).expect(rt, "a coordinate below 64");
-        assert!(rt;
-            table.numbers(&Item::Cell(cell)).len() == cells[k],
-            "cell {k}"
-        );
-    }
-    let name = Name::new(name).expect(rt, "a name");
-    assert!(rt; table.numbers(&Item::Piece(name)).len() == piece);
-}
-
-#[test]
-fn numbers_of_each_item(rt: HostRuntime) {
-    let table = table_of(&rt, &design(&rt, DOMINOES));
-    expect_sizes(&rt, &table, [4, 4, 4, 4], b"A", 4);
-    expect_sizes(&rt, &table, [4, 4, 4, 4], b"B", 4);
-    expect_sizes(&rt, &table, [4, 4, 4, 4], b"C", 0);
-    let view = table.view().expect(&rt, "memory");
-    assert!(rt; view.live() == [0, 1, 2, 3, 4, 5, 6, 7].as_slice());
-    expect_counts(&rt, &view, (8, 6, 0));
-}
-
 // Makes the edit of the line on the design and its table, asserts how long the delta's lists are, and returns two of them:
 // what is gone and what is fresh.
 fn led(
@@ -80,21 +54,6 @@ fn led(
     table.make(plan);
     design.make(&change).expect(rt, "memory");
     (gone, fresh)
-}
-
-#[test]
-fn a_blocked_cell_has_no_numbers(rt: HostRuntime) {
-    let mut design = design(&rt, DOMINOES);
-    let mut table = table_of(&rt, &design);
-    let block = b"cell 0,0 blocked";
-    let _ = led(
-        &rt,
-        &mut table,
-        &mut design,
-        block,
-        [4, 0, 0, 1, 0, 0, 0, 0],
-    );
-    expect_sizes(&rt, &table, [0, 2, 2, 4], b"A", 2);
 }
 
 #[test]
@@ -130,42 +89,4 @@ fn numbers_come_back(rt: HostRuntime) {
     let view = table.view().expect(&rt, "memory");
     expect_counts(&rt, &view, (10, 7, 0));
     assert!(rt; view.placement(9).is_some() && view.placement(10).is_none());
-}
-
-#[test]
-fn copies_up_and_down(rt: HostRuntime) {
-    let mut design = design(&rt, DOMINOES);
-    let mut table = table_of(&rt, &design);
-    let up = b"copies A 1 3";
-    let _ = led(&rt, &mut table, &mut design, up, [0, 0, 0, 0, 0, 1, 0, 0]);
-    let down = b"copies A 1 2";
-    let _ = led(&rt, &mut table, &mut design, down, [0, 0, 0, 0, 1, 0, 0, 0]);
-}
-
-#[test]
-fn a_plan_of_a_pin(rt: HostRuntime) {
-    let design = design(&rt, DOMINOES);
-    let mut table = table_of(&rt, &design);
-    let change = change_of(rt.alloc(), &design, b"pin B 0,0 1,0").expect(&rt, "a change");
-    let plan = table.plan(&design, &change).expect(&rt, "a plan");
-    expect_lengths(&rt, &plan.delta, [0, 0, 0, 0, 0, 0, 1, 0]);
-    assert!(rt; plan.delta.pinned.as_slice() == [4].as_slice());
-    assert!(rt; plan.view.pins() == [4].as_slice());
-}
-
-#[test]
-fn numbers_are_given_once(rt: HostRuntime) {
-    let here = placement(&rt, b"A", (0, 0), (1, 0));
-    let there = placement(&rt, b"A", (0, 0), (0, 1));
-    let mut names = Interner::new(rt.alloc());
-    assert!(rt; names.is_empty() && names.number(&there).is_none());
-    assert!(rt; names.give(&there).expect(&rt, "a number") == 0);
-    let both = names.give_all(&[here, there]).expect(&rt, "numbers");
-    assert!(rt; both.as_slice() == [1, 0].as_slice());
-    assert!(rt; names.number(&here) == Some(1));
-    assert!(rt; names.placement(1) == Some(here));
-    assert!(rt; names.placement(2).is_none());
-    let all = names.placements().expect(&rt, "memory");
-    assert!(rt; all.as_slice() == [there, here].as_slice());
-    assert!(rt; names.len() == 2);
 }

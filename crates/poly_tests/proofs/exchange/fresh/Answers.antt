@@ -5,7 +5,7 @@ use Rattle.std.specs.Prelude.{nat_eq}
 use Rattle.poly_tiling.specs.Puzzle.{is_tiling}
 use Rattle.poly_catalogue.specs.Listed.{AreOnce}
 use Rattle.poly_tests.proofs.Fresh.{fresh_all, fresh_once}
-use Rattle.poly_tests.proofs.catalogue.fresh.Goals as goal
+use Rattle.poly_tests.proofs.exchange.fresh.Goals as goal
 
 pub returns-clause-tilings : goal.returns-clause-tilings
 returns-clause-tilings c =

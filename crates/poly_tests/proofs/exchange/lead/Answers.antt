@@ -5,7 +5,7 @@ use Rattle.poly_design.specs.Changes.{changed}
 use Rattle.poly_tiling.specs.Puzzle.{View, is_tiling}
 use Rattle.poly_catalogue.specs.Listed.{AreOfEither, AreOnce}
 use Rattle.poly_catalogue.proofs.Parted.{kept_all, of_plan, parted_once}
-use Rattle.poly_tests.proofs.catalogue.lead.Goals as goal
+use Rattle.poly_tests.proofs.exchange.lead.Goals as goal
 
 pub leaving-requires : goal.leaving-requires
 leaving-requires c =
