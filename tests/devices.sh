@@ -44,6 +44,16 @@ else
     echo "failed: the version (status $status)"
 fi
 
+# Help and the version that can't be written are write faults.
+: >"$room/wanted"
+: >"$room/output"
+for argument in --help --version; do
+    ./polybench "$argument" </dev/null >/dev/full 2>"$room/errors"
+    judge "$argument on a full device" 3 "$?" $'polybench: write fault\n'
+    ./polybench "$argument" </dev/null >&- 2>"$room/errors"
+    judge "$argument on a closed standard output" 3 "$?" $'polybench: write fault\n'
+done
+
 # The example of the help, played as it is shown.
 ./polybench --help </dev/null | sed -n '/^Example/,/^$/s/^  //p' >"$room/example"
 if [ -s "$room/example" ]; then
@@ -93,16 +103,19 @@ status=$?
 : >"$room/output"
 judge "a full device as standard output" 3 "$status" $'polybench: write fault\n'
 
-# A pipe that nobody reads any more.
-(
-    trap '' PIPE
+# A pipe that nobody reads any more, whether the signal for it is ignored or has its default disposition, in which it would end
+# the program.
+closed_pipe() {
     { printf '%s\n' "$dominoes"; sleep 0.5; printf 'count\n'; } | {
-        ./polybench 2>"$room/errors"
+        python3 -c 'import os, signal, sys; signal.signal(signal.SIGPIPE, getattr(signal, sys.argv[1])); os.execv(sys.argv[2], sys.argv[2:])' \
+            "$1" ./polybench 2>"$room/errors"
         echo $? >"$room/status"
     } | head -c 3 >"$room/output"
-)
-printf 'ok ' >"$room/wanted"
-judge "a closed pipe" 3 "$(cat "$room/status")" $'polybench: write fault\n'
+    printf 'ok ' >"$room/wanted"
+    judge "a closed pipe with $1" 3 "$(cat "$room/status")" $'polybench: write fault\n'
+}
+closed_pipe SIG_IGN
+closed_pipe SIG_DFL
 
 # The last line needs no line feed, and each reply is written before the next line is read.
 printf '%s\ncount' "$dominoes" >"$room/input"

@@ -11,6 +11,7 @@ if its task is pending and its tree fits and holds. A script that the judge can'
 
 Standard output says what was skipped and ends with a line `N passed, M failed`, which counts the scripts that were judged.
 """
+import collections
 import copy
 import os
 import re
@@ -18,8 +19,8 @@ import subprocess
 import sys
 import tempfile
 
-from definitions import Family, TooLarge, View
-from definitions import atoms_of, fits, guards, is_hopeless, items_of, leaves, size_of, stairs, tree_of
+from definitions import MAX_NODES, Family, TooLarge, View
+from definitions import atoms_of, children, fits, guards, is_hopeless, items_of, leaves, size_of, stairs, tree_of
 from reference import HISTORY, Refused, Session, refusal
 
 MAX_SHELF = 4096
@@ -61,6 +62,28 @@ def tasks_of(answer):
     return {int(head.split()[1]): atoms_of(atoms) for head, _, atoms in parts}
 
 
+def wrong_in(view, atoms, tree):
+    """Returns what is wrong in a tree that doesn't hold for the atoms, or None if it holds."""
+    if tree[0] == "rest":
+        return None
+    family = Family(view, atoms)
+    if tree[0] == "found":
+        return "Found where placements are open" if family.count_open() else None
+    if tree[0] == "branch":
+        arms = [placement for placement, _ in tree[2]]
+        if len(set(arms)) < len(arms):
+            return "an arm twice"
+        if not all(tree[1] in items_of(placement) for placement in arms):
+            return "an arm beside the item"
+        if not family.can_branch(tree[1], arms):
+            return "an arm missing"
+    for placement, more, child in children(tree):
+        wrong = None if placement is not None and family.is_dead(placement) else wrong_in(view, atoms + more, child)
+        if wrong:
+            return wrong
+    return None
+
+
 class State:
     """The listed tilings, the atoms of each pending task by its number, and the number of endings."""
 
@@ -77,17 +100,18 @@ class Wanted:
 
 
 class Report:
-    """A report's task, its edition, the words of its tree, and the book in which it was explored, if it was."""
+    """A report's task, its edition, the words of its tree, the book in which it was explored, if it was, and whether it was
+    taken up."""
 
     def __init__(self, task, edition, words=None, book=None):
-        self.task, self.edition, self.words, self.book = task, edition, words, book
+        self.task, self.edition, self.words, self.book, self.is_used = task, edition, words, book, False
 
 
 class Judge:
-    """Hears the lines of a script with their answers, and raises a Fault at a wrong one."""
+    """Hears the lines of a script with their answers, and raises a Fault at a wrong one. Counts the events of each kind."""
 
-    def __init__(self):
-        self.books = 0
+    def __init__(self, kinds):
+        self.books, self.kinds = 0, kinds
         # What the script keeps, by its names: the reports, what was taken, and the views of lists of all tilings.
         self.reports, self.jobs, self.quiets = {}, {}, {}
 
@@ -121,14 +145,15 @@ class Judge:
     # Changes
 
     def change(self, verb, line, answer):
-        old = self.view()
+        old, kind = self.view(), "edit" if verb in EDITS else verb
         try:
             self.session.reply(line.encode().split())
         except Refused as refused:
+            self.kinds[f"refused {kind}"] += 1
             return self.refuse(refused.args[0], answer)
+        self.kinds[kind] += 1
         new = self.view()
         shelf = self.exchange_shelves(verb, self.shelf_of(old, new))
-        kind = "edit" if verb in EDITS else verb
         is_kept = kind == "edit" or shelf is not None
         self.are_shelves_kept = self.are_shelves_kept and is_kept
         shelved = " shelved" if is_kept else ""
@@ -226,6 +251,7 @@ class Judge:
         if words[0] not in self.reports:
             return self.refuse(19, answer[0])
         report = self.reports[words[0]]
+        self.kinds[self.kind_of(report)] += 1
         if report.task not in self.state.tasks:
             return self.refuse(23, answer[0])
         if not fits(self.tree):
@@ -237,6 +263,20 @@ class Judge:
             return self.refuse(24, answer[0])
         self.want_report(report, *parts, answer[0])
 
+    def kind_of(self, report):
+        """Returns what kind of event it is to hand in the report."""
+        if report.task not in self.state.tasks:
+            if report.is_used:
+                return "report again"
+            return "report on an ended task" if report.task in self.own else "report on no task"
+        if not fits(self.tree):
+            return "report with too many nodes" if size_of(self.tree)[0] > MAX_NODES else "report that is too deep"
+        wrong = wrong_in(self.view(), self.state.tasks[report.task], self.tree)
+        if wrong:
+            return f"report with {wrong}"
+        late = "late " if report.edition < self.session.edition else ""
+        return f"{late}report that is {'written' if report.book is None else 'explored'}"
+
     def want_report(self, report, tilings, rests, answer):
         opened = [rest for rest in rests if not is_hopeless(self.view(), rest)]
         told = re.fullmatch(r"applied (\d+) listed (\d+) opened (\d+) first (\d+)( late)?", answer)
@@ -245,6 +285,7 @@ class Judge:
         late = " late" if report.edition < self.session.edition else None
         wanted = (self.state.endings + 1, len(tilings), len(opened), late)
         demand(wanted, (int(told[1]), int(told[2]), int(told[3]), told[5]))
+        report.is_used = True
         self.expect_next(int(told[4]))
         tasks = {n: atoms for n, atoms in self.state.tasks.items() if n != report.task}
         self.wanted = Wanted(self.state.listed + tilings, tasks, opened, self.state.endings + 1)
@@ -262,8 +303,10 @@ class Judge:
         told = re.fullmatch(r"settled by (\d+)", answer[0])
         if told is None:
             demand("no 21 Unfinished", answer[0])
+            self.kinds["settle that is unfinished"] += 1
             self.wanted = Wanted(None, None, None, self.state.endings + int(words[0]))
         else:
+            self.kinds["settle"] += 1
             self.wanted = Wanted(self.view().tilings, {}, [], self.state.endings + int(told[1]), True)
 
     def hear_quiet(self, words, answer):
@@ -469,9 +512,9 @@ def play(player, lines):
         return printed.read().decode().split("\n")[:-1]
 
 
-def fault_in(lines, printed):
-    """Returns what is wrong with the answers to the lines, or None."""
-    judge, line = Judge(), "the script"
+def fault_in(lines, printed, kinds=None):
+    """Returns what is wrong with the answers to the lines, or None. Counts the events of each kind in `kinds`."""
+    judge, line = Judge(collections.Counter() if kinds is None else kinds), "the script"
     try:
         for line, answer in answers(lines, printed):
             judge.hear(line, answer)
@@ -482,11 +525,11 @@ def fault_in(lines, printed):
     return None
 
 
-def fault_of(player, script):
-    """Returns what is wrong with the player's answers to a script, or None."""
+def fault_of(player, script, kinds=None):
+    """Returns what is wrong with the player's answers to a script, or None. Counts the events of each kind in `kinds`."""
     lines = observed(script)
     try:
-        return fault_in(lines, play(player, lines))
+        return fault_in(lines, play(player, lines), kinds)
     except Fault as fault:
         return str(fault)
 

@@ -4,9 +4,9 @@
 usage: tests/large_sessions.py
 
 The limits are far above what a session needs if tasks share their atoms, and far below what it needs if each task, shelf or
-change keeps atoms of its own. A session that reaches its limit answers `no 22 Memory`. The replies follow from the commands: an
-edit that is accepted answers with its number, and the counts are known numbers. Standard output ends with a line
-`N passed, M failed`, which counts sessions.
+change keeps atoms of its own. The last sessions are about the limit of listed tilings. A session that reaches its limit of
+memory answers `no 22 Memory`. The replies follow from the commands: an edit that is accepted answers with its number, and the
+counts are known numbers. Standard output ends with a line `N passed, M failed`, which counts sessions.
 """
 import json
 import os
@@ -64,6 +64,20 @@ def wide_undos(size, rounds):
     return [puzzle(["+" * size] * size, []), *lines], accepted(len(lines))
 
 
+def shelf_over_many_tasks(size, rounds):
+    """An edit with one guard while thousands of tasks are pending, so that its undo has a shelf over all of them."""
+    lines = wide_edits(size)[0]
+    board, opening, forbid = lines[0], lines[1:6], next(line for line in lines if line.startswith("forbid"))
+    changes = [*opening, forbid, *["undo", "redo"] * rounds]
+    return [board, *changes], accepted(len(changes))
+
+
+def new_names(size, pairs):
+    """A piece that is added and dropped under one new name after another, each with a number for every placement."""
+    lines = [line for pair in range(pairs) for line in (f"add N{pair} optional on 0,0 1,0 2,0", f"drop N{pair}")]
+    return [puzzle(["+" * size] * size, []), *lines], accepted(len(lines))
+
+
 def many_edits(edits):
     """Edits of four pentominoes on 4 by 5, with a question only at the end: this rectangle has 12 tilings by L, P, V and Y."""
     lines = ["cell 0,0 optional" if number % 2 == 0 else "cell 0,0 required" for number in range(edits)]
@@ -81,13 +95,48 @@ def too_many(size):
     return [puzzle(["+" * size] * size, [f"F{number}" for number in range(12)], "optional"), "count"], ["ok 0", "no 18 CatalogueFull"]
 
 
+def narrowed_after_too_many(size):
+    """The same question, and then an edit while the thousands of tasks that the question left are pending."""
+    lines, replies = too_many(size)
+    return [*lines, "cell 0,0 blocked", "undo"], [*replies, "ok 1", "ok 2"]
+
+
+def rows(lengths):
+    """Returns the puzzle line of a board of rows that don't touch, and up to 12 straight pieces of six cells and one name. A row
+    of L cells, from 6 to 11, has room for one of them in L - 5 places, or for none, so there are L - 4 choices."""
+    board = [row for length in lengths for row in ("+" * length, "")]
+    pieces = [{"name": "A", "cells": [[x, 0] for x in range(6)], "least": 0, "most": 12}]
+    return json.dumps({"format": 2, "grid": "square", "board": board, "pieces": pieces})
+
+
+def exactly_a_million():
+    """Six rows with 5 choices and six with 2 have 1,000,000 tilings, which can all be listed, and listed again by an undo. With
+    a cell of the first row blocked there are 4 choices in place of 5."""
+    lines = ["count", "cell 0,0 blocked", "count", "undo", "status"]
+    replies = ["tilings 1000000", "ok 1", "tilings 800000", "ok 2", "status edition 2 listed 1000000 pending 0"]
+    return [rows([9] * 6 + [6] * 6), *lines], ["ok 0", *replies]
+
+
+def hardly_over_a_million():
+    """Two rows with 2 choices, six with 3 and three with 7 have 1,000,188 tilings. With the first row's only place blocked, half
+    of them are left."""
+    lines = ["count", "list", "cell 0,0 blocked", "count"]
+    replies = ["no 18 CatalogueFull", "no 18 CatalogueFull", "ok 1", "tilings 500094"]
+    return [rows([6] * 2 + [7] * 6 + [11] * 3), *lines], ["ok 0", *replies]
+
+
 # Each session by its name: its lines and the wanted replies, and the limit of memory.
 SESSIONS = {
     "wide edits without a question": (wide_edits(7), "100M"),
     "wide undos and redos": (wide_undos(10, 20), "100M"),
     "20,000 edits without a question": (many_edits(20_000), "60M"),
     "80 undos and redos of a new cell": (undos_and_redos(80), "40M"),
+    "a shelf over thousands of tasks": (shelf_over_many_tasks(16, 10), "60M"),
+    "300 new names": (new_names(16, 300), "80M"),
     "over 1,000,000 tilings of a wide board": (too_many(7), "400M"),
+    "an edit after such a question": (narrowed_after_too_many(10), "500M"),
+    "1,000,000 tilings": (exactly_a_million(), "600M"),
+    "1,000,188 tilings": (hardly_over_a_million(), "600M"),
 }
 
 

@@ -8,9 +8,11 @@ reports. Reports are explored, or built by hand, rightly or wrongly, and they ar
 ended tasks or for unknown ones. The scripts grow in rounds: after each round the player says what is pending, so that the
 next events can be about that.
 
-A script that fails is printed; `tests/judge.py` judges it again from a file. Standard output ends with a line
-`N passed, M failed`, which counts scripts. The environment variable `player` names another player than that of the crates.
+A script that fails is printed; `tests/judge.py` judges it again from a file. All scripts together have to have an event of
+each kind of KINDS, of which a few scripts may miss some. Standard output ends with a line `N passed, M failed`, which counts
+scripts, and the kinds as one more. The environment variable `player` names another player than that of the crates.
 """
+import collections
 import copy
 import json
 import os
@@ -29,6 +31,14 @@ ROUNDS, EVENTS = 10, 6
 MOST = 150
 # How many scripts the player plays at once while they grow.
 BATCH = 50
+
+# The kinds of events, as the judge calls them.
+KINDS = ["edit", "undo", "redo", "refused edit", "refused undo", "refused redo", "settle", "settle that is unfinished"]
+KINDS += [f"{late}report that is {origin}" for late in ("", "late ") for origin in ("explored", "written")]
+KINDS += ["report again", "report on an ended task", "report on no task"]
+KINDS += ["report with too many nodes", "report that is too deep"]
+KINDS += [f"report with an arm {fault}" for fault in ("missing", "twice", "beside the item")]
+KINDS += ["report with Found where placements are open"]
 
 BOARDS = [(2, 2), (3, 2), (2, 3), (4, 2), (3, 3), (5, 1)]
 SHAPES = [
@@ -289,18 +299,22 @@ def grown(numbers, seed):
 def main():
     count = int(sys.argv[1]) if len(sys.argv) > 1 else 300
     seed = int(sys.argv[2]) if len(sys.argv) > 2 else 1
-    failed = 0
+    failed, kinds = 0, collections.Counter()
     for start in range(0, count, BATCH):
         numbers = range(start, min(start + BATCH, count))
         for number, script in zip(numbers, grown(numbers, seed)):
             try:
-                fault = judge.fault_of(PLAYER, script)
+                fault = judge.fault_of(PLAYER, script, kinds)
             except judge.Skipped as why:
                 fault = why
             if fault:
                 failed += 1
                 print(f"failed: script {number} of seed {seed}: {fault}", *script, sep="\n")
-    print(f"{count - failed} passed, {failed} failed")
+    missing = [kind for kind in KINDS if not kinds[kind]]
+    if missing:
+        failed += 1
+        print(f"failed: no script has one of these events: {', '.join(missing)}")
+    print(f"{count + 1 - failed} passed, {failed} failed")
     return 1 if failed else 0
 
 
