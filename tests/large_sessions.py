@@ -131,7 +131,7 @@ SESSIONS = {
     "wide undos and redos": (wide_undos(10, 20), "100M"),
     "20,000 edits without a question": (many_edits(20_000), "60M"),
     "80 undos and redos of a new cell": (undos_and_redos(80), "40M"),
-    "a shelf over thousands of tasks": (shelf_over_many_tasks(16, 10), "60M"),
+    "a shelf over thousands of tasks": (shelf_over_many_tasks(16, 10), "200M"),
     "300 new names": (new_names(16, 300), "80M"),
     "over 1,000,000 tilings of a wide board": (too_many(7), "400M"),
     "an edit after such a question": (narrowed_after_too_many(10), "500M"),
