@@ -1,7 +1,7 @@
 -- The leaves of a tree, gathered node by node.
-use Rattle.std.proofs.Common.{Bool, List, Vec, Global, [], ap, append_assoc, cond, drop, eqb, false, length, map, not, refl, subst, sym, take, true, ℕ, ◌++◌, ◌<◌, ◌≤◌, ◌||◌, ◌∙◌, ◌∷◌, ◌≡◌}
+use Rattle.std.proofs.Common.{Bool, List, [], ap, append_assoc, cond, drop, eqb, false, length, map, not, refl, subst, sym, take, true, ℕ, ◌++◌, ◌<◌, ◌≤◌, ◌||◌, ◌∙◌, ◌∷◌, ◌≡◌}
 use Rattle.std.proofs.lemmas.Bool.{and_from, and_parts, le-ltb, lt-ltb, ne_eqb, not-true, true≢false}
-use Rattle.std.proofs.lemmas.List.{append-nil, length-map, map-append, take-append-drop, take-map, take_at}
+use Rattle.std.proofs.lemmas.List.{append-nil, map-append, take-append-drop, take_at}
 use Rattle.std.specs.List.{list_any}
 use Rattle.poly_tiling.specs.Lists.{distinct, mem}
 use Rattle.poly_tiling.specs.Puzzle.{View}
@@ -16,7 +16,6 @@ use Rattle.poly_report.specs.Trees.{Arms, Branches, NoArms, OneArm, Plan, Rests,
 use Rattle.poly_report.specs.Shapes.{arms_list, plan_of}
 use Rattle.poly_report.specs.Holds.{arm_atoms}
 use Rattle.poly_report.specs.Leaves.{arms_rests, arms_tilings, rests, tilings}
-use Rattle.poly_report.specs.Gather.{lists}
 use Rattle.poly_frame.specs.Open.{dead, open_in, ruled_out}
 use Rattle.poly_frame.specs.Walk.{Walk, is_open, with_step}
 use Rattle.poly_report.proofs.Cuts.{apart_from, arm_rests, arm_tilings}

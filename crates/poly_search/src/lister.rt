@@ -162,7 +162,8 @@ fn sweep_options(
 }
 
 // No item is due, so a tiling may have or lack each open placement. Sweeps the tilings that have one of the open placements,
-// leaves this placement out and goes on with another that is still open, until no placement is open.
+// leaves this placement out and goes on with another that is still open, until no placement is open. The frame narrows itself
+// first, if that pays.
 #[cycle(sweep)]
 fn sweep_open(
     alloc: Global,
@@ -183,6 +184,7 @@ fn sweep_open(
     ensures options { OnOk result (list.new.options.items ≡ list.old.options.items) }
     ensures why { IfErr result (λ e. e ≡ Refusal.Memory) }
 {
+    frame.focus(alloc, 1)?;
     let level = frame.level();
     while let Some(placement) = frame.first_open() {
         let whole = sweep_arm(alloc, frame, list, end, depth, placement)?;
