@@ -349,7 +349,8 @@ def refusals_have_number_and_name():
     with Session(DOMINOES) as session:
         refused = raised(Refused, session.edit, "pin", "A", (0, 0), (1, 1))
         same((refused.number, refused.name, refused.line), (14, "NotAPlacement", "pin A 0,0 1,1"))
-        same((str(refused), refused.reply), ("no 14 NotAPlacement: pin A 0,0 1,1", "no 14 NotAPlacement"))
+        same(str(refused), "the line `pin A 0,0 1,1` was refused: no 14 NotAPlacement")
+        same(refused.reply, "no 14 NotAPlacement")
         same(raised(Refused, session.undo).number, 16)
         same(raised(Refused, session.redo).name, "NothingToRedo")
         same(raised(Refused, session.send, "caf\u00e9 \udcff").number, 19)
@@ -409,13 +410,30 @@ def arguments_are_checked():
 @case
 def refused_lines_are_told():
     puzzle = json.dumps(DOMINOES)
+    refused = "the line `drop C` was refused: no 9 NoSuchPiece"
     for name in ("unique", "difficulty"):
-        wanted = f"{name}: no 9 NoSuchPiece: drop C\n"
-        same(run(f"{RECIPES}/{name}", text=puzzle + "\ndrop C\ndrop A\n"), (1, "", wanted))
+        same(run(f"{RECIPES}/{name}", text=puzzle + "\ndrop C\ndrop A\n"), (1, "", f"{name}: {refused}\n"))
     for name in ("draw", "unique", "difficulty"):
-        same(run(f"{RECIPES}/{name}", text="{}\n"), (1, "", f"{name}: no 2 BadField: {{}}\n"))
+        for line, reply in (("{}", "no 2 BadField"), ("", "no 1 BadJson")):
+            wanted = f"{name}: the line `{line}` was refused: {reply}\n"
+            same(run(f"{RECIPES}/{name}", text=line + "\n"), (1, "", wanted))
+    # What is typed goes on after a refused line.
     output = "ok 0\nno 9 NoSuchPiece\nok 1\ntilings 0\n"
-    same(run(f"{RECIPES}/draw", text=puzzle + "\ndrop C\n\ndrop A\nlist"), (0, output, ""))
+    same(run(f"{RECIPES}/draw", text=puzzle + "\ndrop C\n\ndrop A\nlist"), (1, output, f"draw: {refused}\n"))
+
+
+@case
+def draw_ends_at_a_refused_line_of_a_design():
+    puzzle = json.dumps(DOMINOES)
+    with tempfile.TemporaryDirectory() as room:
+        for text, output, told in (
+            ("{}\ncount\n", "", "the line `{}` was refused: no 2 BadField"),
+            (f"{puzzle}\ndrop A\ndrop C\nlist\n", "ok 0\nok 1\n", "the line `drop C` was refused: no 9 NoSuchPiece"),
+            (f"{puzzle}\nlist 1\n", "ok 0\n", "the line `list 1` was refused: no 19 BadCommand"),
+        ):
+            with open(f"{room}/design.txt", "w") as file:
+                file.write(text)
+            same(run(f"{RECIPES}/draw", f"{room}/design.txt"), (1, output, f"draw: {told}\n"))
 
 
 @case

@@ -65,7 +65,7 @@ class Refused(Exception):
 
     def __init__(self, line: str, reply: str):
         _, number, name = reply.split(" ")
-        super().__init__(f"{reply}: {shortened(line)}")
+        super().__init__(f"the line `{shortened(line)}` was refused: {reply}")
         self.line, self.number, self.name = line, int(number), name
 
     @property
