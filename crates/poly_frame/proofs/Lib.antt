@@ -18,3 +18,4 @@ pub mod FrameArms
 pub mod FrameConsistent
 pub mod Starved
 pub mod Layers
+pub mod Stepped

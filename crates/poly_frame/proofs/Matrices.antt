@@ -1,5 +1,8 @@
 -- The columns of a matrix: the items of each, and which are open.
-use Rattle.std.proofs.Common.{Bool, List, [], ap, arith, drop, false, get_or, inl, inr, length, length-append, not, refl, suc, sym, subst, take, true, zero, ℕ, ◌&&◌, ◌++◌, ◌*◌, ◌+◌, ◌-◌, ◌<◌, ◌∙◌, ◌∷◌, ◌||◌, ◌≡◌, ◌≤◌}
+use Rattle.std.specs.Arc.{arc_value}
+use Rattle.std.specs.declared.sync.Arc.{Arc}
+use Rattle.std.specs.Global.{Global}
+use Rattle.std.proofs.Common.{Bool, List, None, Option, Some, [], ap, arith, drop, false, get_or, inl, inr, length, length-append, not, refl, suc, sym, subst, take, true, zero, ℕ, ◌&&◌, ◌++◌, ◌*◌, ◌+◌, ◌-◌, ◌<◌, ◌∙◌, ◌∷◌, ◌||◌, ◌≡◌, ◌≤◌}
 use Rattle.std.specs.List.{filter, list_any}
 use Rattle.std.proofs.Math.Seq.{drop-append_seam, get_or-append_seam}
 use Rattle.std.proofs.lemmas.List.{drop-append-le, get_or_append_left, length-drop, take-append-le, take_all, take_more}
@@ -15,7 +18,8 @@ use Rattle.poly_frame.specs.Open.{open_in, most_at}
 use Rattle.poly_frame.specs.FrameItems.{Noted, item_of}
 use Rattle.poly_frame.specs.FrameTable.{HaveShows, MostsShow, shut_at}
 use Rattle.poly_frame.specs.Bits.{has_bit}
-use Rattle.poly_frame.specs.Matrices.{ListShows, ListsTo, RowOf, StandsShow, any_below, list_at}
+use Rattle.poly_frame.specs.Matrices.{HomesIn, HomesShow, ListShows, ListsTo, RowOf, StandsShow, any_below, column_items, list_at}
+use Rattle.poly_frame.specs.declared.frame.matrix.Lists.{Lists}
 use Rattle.poly_frame.specs.declared.frame.matrix.Matrix.{Matrix}
 use Rattle.poly_frame.proofs.FrameSteps.{index_in, listed_at}
 use Rattle.poly_frame.proofs.Walks.{mem_filter}
@@ -191,3 +195,58 @@ narrow_row f ns m row n e g inside past = record {
 
 pub narrow_all : (f : ℕ → Bool) (ns new : List ℕ) → new ≡ filter f ns → (q : ℕ) → mem ns q ≡ true → f q ≡ true → mem new q ≡ true
 narrow_all f ns new e q m o = ap (λ xs. mem xs q) e ∙ mem_filter f ns q ∙ and_from _ _ m o
+
+-- a list whose entries are those of a function, with one more of them
+pub each_more : (xs ys : List ℕ) (x : ℕ) (f : ℕ → ℕ) (k : ℕ) → length xs ≡ k → ys ≡ xs ++ x ∷ [] → ((i : ℕ) → i < k → get_or xs i 0 ≡ f i) → x ≡ f k → (i : ℕ) → i < k + 1 → get_or ys i 0 ≡ f i
+each_more xs ys x f k n e h g i l = elim (cases_lt i k) [
+  | inl b ↦ ap (λ zs. get_or zs i 0) e ∙ get_or_append_left xs (x ∷ []) 0 i (omega (arith, n, b)) ∙ h i b
+  | inr b ↦
+      let top : i ≡ k = omega arith in
+      let end : i ≡ length xs = omega (arith, top, n) in
+      ap (λ zs. get_or zs i 0) e ∙ ap (λ j. get_or (xs ++ x ∷ []) j 0) end ∙ get_or-append_seam xs x [] 0 ∙ g ∙ ap f (sym top)
+]
+
+-- the lists of all columns: each column has the list of its own index
+pub homes_all : (v : View) (ns homes starts indices : List ℕ) → ListsTo v ns starts indices (length ns) → length homes ≡ length ns → ((j : ℕ) → j < length ns → get_or homes j 0 ≡ j) → HomesIn v ns homes starts indices
+homes_all v ns homes starts indices L n h = record {
+  len = n;
+  inside = λ j l. omega (arith, h j l, L.len);
+  each = λ j l. subst (λ k. ListShows v (get_or ns j 0) starts indices k) (sym (h j l)) (L.each j l);
+}
+
+-- some of the columns, with the lists that they have among all of them
+module _ (v : View) (whole stands homes : List ℕ) (S : StandsShow whole stands) (ns some : List ℕ) (n : length some ≡ length ns)
+    (among : (p : ℕ) → mem ns p ≡ true → mem whole p ≡ true)
+    (each : (i : ℕ) → i < length ns → get_or some i 0 ≡ get_or homes (get_or stands (get_or ns i 0) 0) 0) where
+  stand : (i : ℕ) → i < length ns → (get_or stands (get_or ns i 0) 0 < length whole) × (get_or whole (get_or stands (get_or ns i 0) 0) 0 ≡ get_or ns i 0)
+  stand i l = let s = stand_of whole stands (get_or ns i 0) S (among (get_or ns i 0) (listed_at ns i l)) in (s.1, s.2)
+
+  homes_in : (starts indices : List ℕ) → HomesIn v whole homes starts indices → HomesIn v ns some starts indices
+  homes_in starts indices H = record {
+    len = n;
+    inside = λ i l. omega (arith, each i l, H.inside (get_or stands (get_or ns i 0) 0) (stand i l).0);
+    each = λ i l.
+        let at = get_or stands (get_or ns i 0) 0 in
+        subst (λ k. ListShows v (get_or ns i 0) starts indices k) (sym (each i l)) (subst (λ p. ListShows v p starts indices (get_or homes at 0)) (stand i l).1 (H.each at (stand i l).0));
+  }
+
+  none_among : (ps : List ℕ) → ((p : ℕ) → mem ps p ≡ true → mem whole p ≡ true) → length whole ≡ 0 → length ps ≡ 0
+  none_among [] h e = refl
+  none_among (p ∷ ps) h e = absurd (omega (arith, e, (index_in whole p (h p (listed_at (p ∷ ps) 0 (omega arith)))).1))
+
+  pub homes_some : (lists : Option (Arc Lists Global)) → HomesShow v whole homes lists → HomesShow v ns some lists
+  homes_some None H = let none = none_among ns among H.0 in (none, omega (arith, n, none))
+  homes_some (Some a) H = homes_in (arc_value a).starts.items (arc_value a).indices.items H
+
+pub homes_len : (v : View) (ns homes : List ℕ) (lists : Option (Arc Lists Global)) → HomesShow v ns homes lists → length homes ≡ length ns
+homes_len v ns homes None H = omega (arith, H.0, H.1)
+homes_len v ns homes (Some a) H = H.len
+
+-- what the indices of a column's items are
+pub record ColumnShows (v : View) (p : ℕ) (indices : List ℕ) : Type 0 where
+  pub noted : Noted v.bounds (items v p) indices
+  pub short : length indices ≤ 17
+
+pub column_shows : (v : View) (ns homes : List ℕ) (lists : Option (Arc Lists Global)) → HomesShow v ns homes lists → (j : ℕ) → j < length ns → ColumnShows v (get_or ns j 0) (column_items lists homes j)
+column_shows v ns homes None H j l = absurd (omega (arith, H.0, l))
+column_shows v ns homes (Some a) H j l = record { noted = (H.each j l).noted; short = (H.each j l).short }

@@ -17,7 +17,8 @@ use Rattle.poly_frame.specs.Bits.{has_bit}
 use Rattle.poly_frame.specs.FrameItems.{Noted, item_of}
 use Rattle.poly_frame.specs.FrameTable.{limit_at}
 use Rattle.poly_frame.specs.FrameSteps.{Kept}
-use Rattle.poly_frame.specs.Matrices.{list_at}
+use Rattle.poly_frame.specs.Matrices.{column_items}
+use Rattle.poly_frame.proofs.Matrices.{column_shows}
 use Rattle.poly_frame.specs.declared.frame.matrix.Matrix.{Matrix}
 use Rattle.poly_frame.specs.declared.frame.steps.Mark.{Mark}
 use Rattle.poly_frame.specs.declared.frame.table.Table.{Table}
@@ -63,7 +64,7 @@ module _ (v : View) (A : List Atom) (first : ℕ) (matrix : Matrix) (t : Table) 
   module _ (b j at : ℕ) (e : at ≡ length live - matrix.width) (l : b < length v.bounds) (h : j < length matrix.numbers.items)
       (opened : has_bit live (64 * at + j) ≡ true) (without : has_bit matrix.rows.items (64 * (matrix.width * b) + j) ≡ false) (none : get_or have b 0 ≡ 0)
       (shut : (k u : ℕ) → k < matrix.width → u < 64 → eqb (bit_at (get_or live (at + k) 0) u) 1 ≡ true → eqb (bit_at (get_or matrix.rows.items (matrix.width * b + k) 0) u) 1 ≡ true →
-      list_any (λ c. leb (get_or t.limits.items c 0 - 1) (get_or have c 0) && eqb (bit_at (get_or matrix.rows.items (matrix.width * c + k) 0) u) 1) (list_at matrix.lists.starts.items matrix.lists.indices.items j) ≡ true) where
+      list_any (λ c. leb (get_or t.limits.items c 0 - 1) (get_or have c 0) && eqb (bit_at (get_or matrix.rows.items (matrix.width * c + k) 0) u) 1) (column_items matrix.lists matrix.homes.items j) ≡ true) where
     abbrev p : ℕ
     p = get_or matrix.numbers.items j 0
 
@@ -83,8 +84,8 @@ module _ (v : View) (A : List Atom) (first : ℕ) (matrix : Matrix) (t : Table) 
         let row : eqb (bit_at (get_or rows (w * b + x / 64) 0) (x % 64)) 1 ≡ true = sym (in_word rows (w * b) x) ∙ K.table.matrix.rows b x l m ∙ i in
         let word : x / 64 < w = omega (arith, m, K.table.matrix.wide) in
         let low : x % 64 < 64 = omega arith in
-        let noted = (K.table.matrix.lists.each j h).noted in
-        let indices = list_at matrix.lists.starts.items matrix.lists.indices.items j in
+        let noted = (column_shows v matrix.numbers.items matrix.homes.items matrix.lists K.table.matrix.lists j h).noted in
+        let indices = column_items matrix.lists matrix.homes.items j in
         let r = any_in (λ c. leb (get_or t.limits.items c 0 - 1) (get_or have c 0) && eqb (bit_at (get_or rows (w * c + x / 64) 0) (x % 64)) 1) indices (shut (x / 64) (x % 64) word low up row) in
         let both = and_parts (leb (get_or t.limits.items r.0 0 - 1) (get_or have r.0 0)) _ r.2 in
         let c = low_in (length v.bounds) indices r.0 noted.low r.1 in

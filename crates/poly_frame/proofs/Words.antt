@@ -1,11 +1,11 @@
 -- Rows of bits: putting a number in, taking out one number or those of another row, and searching two rows.
-use Rattle.std.proofs.Common.{◌≡◌, ℕ, zero, suc, ◌+◌, ◌-◌, ◌*◌, ◌/◌, ◌%◌, ◌^◌, ◌<◌, ◌≤◌, min, Bool, true, false, not, ◌&&◌, ◌||◌, eqb, List, [], ◌++◌, inl, inr, refl, sym, ap, ◌∙◌, arith, length, take, drop, replicate, get_or, get_or-set_other, get_or-set_same, w64, bit_and, bit_or}
+use Rattle.std.proofs.Common.{◌≡◌, ℕ, zero, suc, ◌+◌, ◌-◌, ◌*◌, ◌/◌, ◌%◌, ◌^◌, ◌<◌, ◌≤◌, min, Bool, true, false, not, ◌&&◌, ◌||◌, eqb, List, [], ◌++◌, inl, inr, refl, sym, ap, ◌∙◌, arith, length, length-append, take, drop, replicate, get_or, get_or-set_other, get_or-set_same, w64, bit_and, bit_or}
 use Rattle.std.proofs.Math.ListN.{set}
 use Rattle.std.proofs.lemmas.Bool.{cases_eq, cases_lt, eq-eqb, ne_eqb, or_right}
 use Rattle.std.proofs.lemmas.Nat.Bits.{bit_at_and, bit_at_not, bit_at-lt, bit_at_set_same, bit_at_set_other, bit_at_clear_same, bit_at_clear_other, bit_at-trailing_zeros, bit_at-zero, bit_at_above, shr_and_one}
 use Rattle.std.proofs.lemmas.Nat.{shr-shr}
 use Rattle.std.proofs.Math.Nat.{div-le_self}
-use Rattle.std.proofs.lemmas.List.{get_or-drop, get_or-take}
+use Rattle.std.proofs.lemmas.List.{get_or-append-add, get_or-drop, get_or-take, get_or_append_left, length-drop, length-take-le}
 use Rattle.std.specs.Int.{bit_at, bit_not, trailing_zeros}
 use Rattle.poly_frame.specs.Bits.{FirstIn, NoneIn, has_bit, in_both}
 
@@ -243,3 +243,36 @@ filled n k x xs ys e z f =
     none : (n : ℕ) → ◌≡◌ {A = List ℕ} (take n []) []
     none zero = refl
     none (suc n) = refl
+
+-- part of a list is replaced by as many other words
+module _ (old new post tail : List ℕ) (n at w : ℕ) (size : length old ≡ n) (fits : at + w ≤ n) (same : length new ≡ w) where
+  abbrev pub replaced : List ℕ
+  replaced = take n (take at old ++ (new ++ post) ++ tail)
+
+  front : length (take at old) ≡ at
+  front = length-take-le at old (omega (arith, size, fits))
+
+  long : (k : ℕ) → k < w → at + k < length (take at old ++ (new ++ post))
+  long k h = omega (arith, h, front, same, length-append (take at old) (new ++ post), length-append new post)
+
+  pub replaced_before : (k : ℕ) → k < at → get_or replaced k 0 ≡ get_or old k 0
+  replaced_before k h =
+      get_or-take n (take at old ++ (new ++ post) ++ tail) k 0 (omega (arith, fits))
+      ∙ get_or_append_left (take at old ++ (new ++ post)) tail 0 k (omega (arith, front, length-append (take at old) (new ++ post)))
+      ∙ get_or_append_left (take at old) (new ++ post) 0 k (omega (arith, front))
+      ∙ get_or-take at old k 0 h
+
+  pub replaced_at : (k : ℕ) → k < w → get_or replaced (at + k) 0 ≡ get_or new k 0
+  replaced_at k h =
+      get_or-take n (take at old ++ (new ++ post) ++ tail) (at + k) 0 (omega (arith, fits))
+      ∙ get_or_append_left (take at old ++ (new ++ post)) tail 0 (at + k) (long k h)
+      ∙ ap (λ i. get_or (take at old ++ (new ++ post)) (i + k) 0) (sym front)
+      ∙ get_or-append-add (take at old) (new ++ post) k 0
+      ∙ get_or_append_left new post 0 k (omega (arith, same))
+
+-- the word at an index of a part of a list
+pub part_at : (xs : List ℕ) (at w n k : ℕ) → n ≡ w → k < w → get_or (take n (drop at xs)) k 0 ≡ get_or xs (at + k) 0
+part_at xs at w n k e h = get_or-take n (drop at xs) k 0 (omega (arith, e)) ∙ get_or-drop at xs k 0
+
+pub part_len : (xs : List ℕ) (at w n : ℕ) → n ≡ w → at + w ≤ length xs → length (take n (drop at xs)) ≡ w
+part_len xs at w n e h = length-take-le n (drop at xs) (omega (arith, e, h, length-drop at xs)) ∙ e

@@ -1,5 +1,8 @@
 -- What a cover matrix means.
-use Rattle.std.specs.Prelude.{Bool, List, drop, false, length, slice_index, take, true, ℕ, zero, suc, ◌*◌, ◌+◌, ◌-◌, ◌<◌, ◌^◌, ◌||◌, ◌≡◌, ◌≤◌}
+use Rattle.std.specs.Arc.{arc_value}
+use Rattle.std.specs.declared.sync.Arc.{Arc}
+use Rattle.std.specs.Global.{Global}
+use Rattle.std.specs.Prelude.{Bool, List, None, Option, Some, [], drop, false, length, slice_index, take, true, ℕ, zero, suc, ◌*◌, ◌+◌, ◌-◌, ◌<◌, ◌^◌, ◌||◌, ◌≡◌, ◌≤◌}
 use Rattle.poly_tiling.specs.Lists.{distinct, mem}
 use Rattle.poly_tiling.specs.Names.{WellNamed}
 use Rattle.poly_tiling.specs.Puzzle.{View, has_item, items}
@@ -43,6 +46,22 @@ pub record ListsTo (v : View) (ns starts indices : List ℕ) (k : ℕ) : Type 0 
 abbrev pub ListsShow : View → List ℕ → Lists → Type 0
 ListsShow v ns l = ListsTo v ns l.starts.items l.indices.items (length ns)
 
+-- the list of column j is list `homes j`, and it has the indices of the items of the column's number
+pub record HomesIn (v : View) (ns homes starts indices : List ℕ) : Type 0 where
+  pub len : length homes ≡ length ns
+  pub inside : (j : ℕ) → j < length ns → slice_index homes j + 1 < length starts
+  pub each : (j : ℕ) → j < length ns → ListShows v (slice_index ns j) starts indices (slice_index homes j)
+
+-- `HomesIn` for the lists of a matrix, which has none only if it has no columns
+abbrev pub HomesShow : View → List ℕ → List ℕ → Option (Arc Lists Global) → Type 0
+HomesShow v ns homes None = (length ns ≡ 0) × (length homes ≡ 0)
+HomesShow v ns homes (Some a) = HomesIn v ns homes (arc_value a).starts.items (arc_value a).indices.items
+
+-- the indices of the items of column j
+abbrev pub column_items : Option (Arc Lists Global) → List ℕ → ℕ → List ℕ
+column_items None homes j = []
+column_items (Some a) homes j = list_at (arc_value a).starts.items (arc_value a).indices.items (slice_index homes j)
+
 -- the matrix is the cover matrix of the view, or has some of its columns
 pub record IsMatrix (v : View) (m : Matrix) : Type 0 where
   pub well : WellNamed v
@@ -50,7 +69,7 @@ pub record IsMatrix (v : View) (m : Matrix) : Type 0 where
   pub fewer : length m.numbers.items ≤ length v.live
   pub live : (q : ℕ) → mem m.numbers.items q ≡ true → mem v.live q ≡ true
   pub stands : StandsShow m.numbers.items m.stands.items
-  pub lists : ListsShow v m.numbers.items m.lists
+  pub lists : HomesShow v m.numbers.items m.homes.items m.lists
   pub wide : length m.numbers.items ≤ 64 * m.width
   pub narrow : m.width < 2 ^ 58
   pub rows : RowsShow v m.numbers.items m.width m.rows.items

@@ -1,6 +1,6 @@
 //! Rows of bits: sets of small numbers, kept one after another in a list of words. The set that begins at word `at` has
 //! the number `j` if bit `64 * at + j` of the list is set.
-ghost use Rattle.std.specs.Prelude.{MatchOption, length, not, vec_capacity, vec_len, ℕ, ◌&&◌, ◌^◌, ◌*◌, ◌+◌, ◌-◌, ◌/◌, ◌<◌, ◌==◌, ◌||◌, ◌≡◌, ◌≤◌};
+ghost use Rattle.std.specs.Prelude.{MatchOption, length, not, slice_index, vec_capacity, vec_len, ℕ, ◌&&◌, ◌^◌, ◌*◌, ◌+◌, ◌-◌, ◌/◌, ◌<◌, ◌==◌, ◌||◌, ◌≡◌, ◌≤◌};
 ghost use Rattle.std.specs.Int.{bit_at};
 ghost use Rattle.poly_frame.specs.Bits.{FirstIn, NoneIn, has_bit, in_both};
 
@@ -55,8 +55,18 @@ pub(crate) fn take_out_row(words: &mut Vec<u64>, at: usize, rows: &[u64], from: 
     ensures row { (j : ℕ) → j < 64 * width → has_bit words.new.items (64 * at + j) ≡ (has_bit words.old.items (64 * at + j) && not (has_bit rows.now (64 * from + j))) }
     ensures before { (x : ℕ) → x < 64 * at → has_bit words.new.items x ≡ has_bit words.old.items x }
 {
-    for k in 0..width {
-        words[at + k] = less(words[at + k], rows[from + k]);
+    take_out_words(&mut words[at..at + width], &rows[from..from + width]);
+}
+
+// Removes from each word the bits that the word of the row at the same index has. A loop over slices: the compiler then takes
+// several words at once.
+fn take_out_words(words: &mut [u64], row: &[u64])
+    requires { length words.old ≡ length row.now }
+    ensures len { length words.new ≡ length words.old }
+    ensures bits { (k t : ℕ) → k < length words.old → t < 64 → (bit_at (slice_index words.new k) t == 1) ≡ ((bit_at (slice_index words.old k) t == 1) && not (bit_at (slice_index row.now k) t == 1)) }
+{
+    for k in 0..words.len() {
+        words[k] = less(words[k], row[k]);
     }
 }
 

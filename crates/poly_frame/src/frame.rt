@@ -26,6 +26,7 @@ mod notes;
 mod occupied;
 mod opened;
 mod queries;
+mod scarce;
 mod starved;
 mod steps;
 mod table;
@@ -36,10 +37,9 @@ use crate::frame::levels::{Levels, levels_of};
 use crate::frame::lists::{Lists, lists_of};
 use crate::frame::matrix::Columns;
 pub use crate::frame::matrix::Matrix;
-use crate::frame::node::Node;
+use crate::frame::node::Stand;
 use crate::frame::starved::is_starved;
 use crate::frame::steps::Steps;
-use crate::frame::table::Table;
 use crate::plain;
 use poly_atom::Atom;
 use poly_grid::Refusal;
@@ -54,12 +54,10 @@ pub const STEPS: usize = 4096;
 /// A node of a search. Taking and undoing steps never allocates.
 #[derive(Drop)]
 pub struct Frame<'a> {
-    /// The view that is searched.
-    view: &'a View,
+    /// Where the frame stands.
+    stand: Stand<'a>,
     /// The given atoms, then one atom for each step that was not undone.
     trail: Vec<Atom>,
-    /// How many atoms were given.
-    given: usize,
     /// The base of the atoms on the trail, ascending.
     members: Vec<u32>,
     /// How many members the base had before each step.
@@ -69,14 +67,8 @@ pub struct Frame<'a> {
     consistent: usize,
     /// The list that `options` answers with.
     options: Vec<u32>,
-    /// The matrix that the frame reads.
-    columns: Columns<'a>,
-    /// What stays the same while the frame moves on this matrix.
-    table: Table,
     /// What each step changes.
     steps: Steps,
-    /// How many atoms were on the trail when the frame began to read this matrix.
-    base: usize,
     /// The wider matrices that it read before, the widest first, with what it kept of them.
     under: Vec<Layer<'a>>,
     /// Layers that were dropped. A new layer takes the memory of one of these.
@@ -90,9 +82,9 @@ impl<'a> Model for Frame<'a> {
 
     ghost Value = { Walk };
 
-    ghost view = { λ f. record { scene = f.view.now; atoms = f.trail.items; given = f.given } };
+    ghost view = { λ f. record { scene = f.stand.view.now; atoms = f.trail.items; given = f.stand.given } };
 
-    ghost invariant = { λ f. IsFrame f.view.now f.trail f.given f.members f.sizes f.consistent f.options (matrix_of f.columns) f.table f.steps f.base f.under.items };
+    ghost invariant = { λ f. IsFrame f.stand.view.now f.trail f.stand.given f.members f.sizes f.consistent f.options (matrix_of f.stand.columns) f.stand.table f.steps f.stand.base f.under.items };
 }
 
 impl<'a> Frame<'a> {
@@ -130,27 +122,20 @@ impl<'a> Frame<'a> {
         Ok(frame)
     }
 
-    /// Reads a smaller matrix from here on, until this node is left, if the search is about to take each of `arms` placements
-    /// here and that seems to pay. This changes nothing but the time that the frame takes. Fails only when out of memory.
+    /// Reads a smaller matrix from here on, until this node is left, if that seems to pay. Call this only where the search is
+    /// about to take placements. It changes nothing but the time that the frame takes. Fails only when out of memory.
     #[tactic(auto, using(crate::proofs::Layers::pile_focus))]
-    pub fn focus(&mut self, alloc: Global, arms: usize) -> Result<(), Refusal>
+    pub fn focus(&mut self, alloc: Global) -> Result<(), Refusal>
         ensures same { self.new ≡ self.old }
         ensures why { IfErr result (λ e. e ≡ Refusal.Memory) }
     {
-        if self.base >= self.trail.len()
-            || !queries::pays(self.columns.matrix(), &self.steps, arms)
+        if self.stand.base >= self.trail.len()
+            || !queries::pays(self.stand.columns.matrix(), &self.steps)
         {
             return Ok(());
         }
         let spare = self.spare.pop().unwrap_or(Layer::none(alloc));
-        let node = Node {
-            view: self.view,
-            trail: &self.trail,
-            given: self.given,
-            base: self.base,
-            matrix: self.columns.matrix(),
-            table: &self.table,
-        };
+        let node = self.stand.node(&self.trail);
         let narrow = narrow_layer(alloc, &node, &self.steps, &self.members, spare)?;
         self.under.reserve(1)?;
         self.spare.reserve(self.under.len() + 1)?;
@@ -161,10 +146,10 @@ impl<'a> Frame<'a> {
             base,
         } = narrow;
         let wide = Layer {
-            columns: mem::replace(&mut self.columns, columns),
-            table: mem::replace(&mut self.table, table),
+            columns: mem::replace(&mut self.stand.columns, columns),
+            table: mem::replace(&mut self.stand.table, table),
             steps: mem::replace(&mut self.steps, steps),
-            base: mem::replace(&mut self.base, base),
+            base: mem::replace(&mut self.stand.base, base),
         };
         self.under.push_reserved(wide);
         Ok(())
@@ -199,18 +184,21 @@ impl<'a> Frame<'a> {
             table,
             steps,
         } = levels;
-        Ok(Frame {
+        let stand = Stand {
             view,
-            trail,
             given: atoms.len(),
+            base: atoms.len(),
+            columns,
+            table,
+        };
+        Ok(Frame {
+            stand,
+            trail,
             members,
             sizes,
             consistent,
             options,
-            columns,
-            table,
             steps,
-            base: atoms.len(),
             under: Vec::new(alloc),
             spare: Vec::new(alloc),
         })
@@ -237,15 +225,8 @@ impl<'a> Frame<'a> {
         ensures { self.new ≡ with_step self.old (Atom.Has placement) }
     {
         let opened = self.stands_open(placement);
-        let node = Node {
-            view: self.view,
-            trail: &self.trail,
-            given: self.given,
-            base: self.base,
-            matrix: self.columns.matrix(),
-            table: &self.table,
-        };
-        steps::pick(&node, &self.members, &mut self.steps, placement);
+        let node = self.stand.node(&self.trail);
+        steps::pick(&node, &self.members, &mut self.steps, placement, opened);
         members::pick(&node, &mut self.members, &mut self.sizes, placement);
         self.consistent = consistent::step(&node, self.consistent, placement, opened);
         self.trail.push_reserved(Atom::Has(placement));
@@ -258,14 +239,7 @@ impl<'a> Frame<'a> {
         ensures { self.new ≡ with_step self.old (Atom.Lacks placement) }
     {
         let opened = self.stands_open(placement);
-        let node = Node {
-            view: self.view,
-            trail: &self.trail,
-            given: self.given,
-            base: self.base,
-            matrix: self.columns.matrix(),
-            table: &self.table,
-        };
+        let node = self.stand.node(&self.trail);
         steps::leave(&node, &mut self.steps, placement);
         members::leave(&node, &self.members, &mut self.sizes, placement);
         self.consistent = consistent::step(&node, self.consistent, placement, opened);
@@ -280,24 +254,13 @@ impl<'a> Frame<'a> {
     {
         let level = self.trail.len() - 1;
         widen(
-            self.view,
+            &mut self.stand,
             &self.trail,
-            self.given,
-            &mut self.columns,
-            &mut self.table,
             &mut self.steps,
-            &mut self.base,
             &mut self.under,
             &mut self.spare,
         );
-        let node = Node {
-            view: self.view,
-            trail: &self.trail,
-            given: self.given,
-            base: self.base,
-            matrix: self.columns.matrix(),
-            table: &self.table,
-        };
+        let node = self.stand.node(&self.trail);
         steps::back(&node, &mut self.steps);
         members::back(&node, &mut self.members, &mut self.sizes);
         self.consistent = consistent::back(&node, self.consistent);
@@ -322,14 +285,7 @@ impl<'a> Frame<'a> {
         ensures once { distinct result.now ≡ true }
         ensures members { (p : ℕ) → mem result.now p ≡ (mem self.old.scene.live p && is_option self.old item p) }
     {
-        let node = Node {
-            view: self.view,
-            trail: &self.trail,
-            given: self.given,
-            base: self.base,
-            matrix: self.columns.matrix(),
-            table: &self.table,
-        };
+        let node = self.stand.node(&self.trail);
         queries::list_options(&node, &self.steps, item, &mut self.options);
         &self.options
     }
@@ -338,14 +294,7 @@ impl<'a> Frame<'a> {
     pub fn first_open(&self) -> Option<u32>
         ensures { MatchOption result (list_all (λ p. not (is_open self.now p)) self.now.scene.live ≡ true) (λ p. (mem self.now.scene.live p ≡ true) × (is_open self.now p ≡ true)) }
     {
-        let node = Node {
-            view: self.view,
-            trail: &self.trail,
-            given: self.given,
-            base: self.base,
-            matrix: self.columns.matrix(),
-            table: &self.table,
-        };
+        let node = self.stand.node(&self.trail);
         queries::first_open(&node, &self.steps)
     }
 
@@ -365,14 +314,7 @@ impl<'a> Frame<'a> {
     pub fn next_due(&self) -> Option<Item>
         ensures { MatchOption result ((i : Item) → is_due self.now i ≡ false) (λ i. is_due self.now i ≡ true) }
     {
-        let node = Node {
-            view: self.view,
-            trail: &self.trail,
-            given: self.given,
-            base: self.base,
-            matrix: self.columns.matrix(),
-            table: &self.table,
-        };
+        let node = self.stand.node(&self.trail);
         queries::next_due(&node, &self.steps, &self.members)
     }
 
@@ -383,14 +325,14 @@ impl<'a> Frame<'a> {
         if self.stands_open(placement) {
             return false;
         }
-        plain::is_dead(self.view, &self.trail, placement)
+        plain::is_dead(self.stand.view, &self.trail, placement)
     }
 
     /// Whether the placement has the item.
     pub fn covers(&self, placement: u32, item: Item) -> bool
         ensures { result ≡ has_item self.now.scene placement item }
     {
-        self.view.covers(placement, item)
+        self.stand.view.covers(placement, item)
     }
 
     /// Whether the placement is one of the design and is not ruled out. Such a placement is open or in the base.
@@ -401,7 +343,7 @@ impl<'a> Frame<'a> {
         if self.stands_open(placement) {
             return true;
         }
-        consistent::is_right(self.view, &self.trail, &self.members, placement)
+        consistent::is_right(self.stand.view, &self.trail, &self.members, placement)
     }
 
     /// How many placements of the design have the item and are not ruled out.
@@ -410,15 +352,8 @@ impl<'a> Frame<'a> {
         ensures once { distinct self.now.scene.live ≡ true }
         ensures value { result ≡ tally (λ p. has_item self.now.scene p item && not (ruled_out self.now.scene self.now.atoms p)) self.now.scene.live }
     {
-        let node = Node {
-            view: self.view,
-            trail: &self.trail,
-            given: self.given,
-            base: self.base,
-            matrix: self.columns.matrix(),
-            table: &self.table,
-        };
-        let sure = self.consistent > self.trail.len() - self.given;
+        let node = self.stand.node(&self.trail);
+        let sure = self.consistent > self.trail.len() - self.stand.given;
         allowed::count(&node, &self.steps, &self.members, &item, sure)
     }
 
@@ -427,14 +362,7 @@ impl<'a> Frame<'a> {
     pub fn least(&self, item: Item) -> usize
         ensures { result ≡ least_with_base self.now.scene self.now.atoms item }
     {
-        let node = Node {
-            view: self.view,
-            trail: &self.trail,
-            given: self.given,
-            base: self.base,
-            matrix: self.columns.matrix(),
-            table: &self.table,
-        };
+        let node = self.stand.node(&self.trail);
         allowed::least(&node, &self.steps, &self.members, &item)
     }
 
@@ -445,14 +373,7 @@ impl<'a> Frame<'a> {
         ensures same { self.new ≡ self.old }
         ensures value { result ≡ arms_fit self.old.scene (self.old.atoms ++ Atom.Has placement ∷ []) item [] }
     {
-        let node = Node {
-            view: self.view,
-            trail: &self.trail,
-            given: self.given,
-            base: self.base,
-            matrix: self.columns.matrix(),
-            table: &self.table,
-        };
+        let node = self.stand.node(&self.trail);
         if is_starved(&node, &self.steps, placement, &item) {
             return true;
         }
@@ -467,14 +388,7 @@ impl<'a> Frame<'a> {
     pub fn found(&self) -> Option<&[u32]>
         ensures { MatchOption result (in_family self.now.scene self.now.atoms (base self.now.scene self.now.atoms) ≡ false) (λ t. (t.now ≡ base self.now.scene self.now.atoms) × (in_family self.now.scene self.now.atoms (base self.now.scene self.now.atoms) ≡ true)) }
     {
-        let node = Node {
-            view: self.view,
-            trail: &self.trail,
-            given: self.given,
-            base: self.base,
-            matrix: self.columns.matrix(),
-            table: &self.table,
-        };
+        let node = self.stand.node(&self.trail);
         match queries::judge(&node, &self.steps, self.consistent) {
             Some(true) => Some(&self.members),
             Some(false) => None,
@@ -486,7 +400,7 @@ impl<'a> Frame<'a> {
     fn found_plainly(&self) -> Option<&[u32]>
         ensures { MatchOption result (in_family self.now.scene self.now.atoms (base self.now.scene self.now.atoms) ≡ false) (λ t. (t.now ≡ base self.now.scene self.now.atoms) × (in_family self.now.scene self.now.atoms (base self.now.scene self.now.atoms) ≡ true)) }
     {
-        if !plain::is_member(self.view, &self.trail, &self.members) {
+        if !plain::is_member(self.stand.view, &self.trail, &self.members) {
             return None;
         }
         Some(&self.members)
@@ -496,14 +410,7 @@ impl<'a> Frame<'a> {
     fn stands_open(&self, placement: u32) -> bool
         ensures { result ≡ true → (mem self.now.scene.live placement ≡ true) × (is_open self.now placement ≡ true) }
     {
-        let node = Node {
-            view: self.view,
-            trail: &self.trail,
-            given: self.given,
-            base: self.base,
-            matrix: self.columns.matrix(),
-            table: &self.table,
-        };
+        let node = self.stand.node(&self.trail);
         queries::stands_open(&node, &self.steps, placement)
     }
 }

@@ -113,7 +113,9 @@ fn sweep_item(
 {
     let from = list.options.len();
     list.options.extend_from_slice(frame.options(*item))?;
-    frame.focus(alloc, list.options.len() - from)?;
+    if list.options.len() > from {
+        frame.focus(alloc)?;
+    }
     let whole = sweep_options(alloc, frame, list, end, depth, item, from)?;
     list.options.truncate(from);
     Ok(whole)
@@ -184,7 +186,7 @@ fn sweep_open(
     ensures options { OnOk result (list.new.options.items ≡ list.old.options.items) }
     ensures why { IfErr result (λ e. e ≡ Refusal.Memory) }
 {
-    frame.focus(alloc, 1)?;
+    frame.focus(alloc)?;
     let level = frame.level();
     while let Some(placement) = frame.first_open() {
         let whole = sweep_arm(alloc, frame, list, end, depth, placement)?;

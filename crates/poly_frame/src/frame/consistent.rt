@@ -76,7 +76,8 @@ fn are_kept(whole: &Matrix, atoms: &[Atom], members: &[u32]) -> bool
     true
 }
 
-/// The count at the given atoms alone: 1 if their base is known to be consistent, else 0. `mosts` is how many members may have each item at most, and `have` how many have it.
+/// The count at the given atoms alone: 1 if their base is known to be consistent, otherwise 0. `mosts` is how many members may
+/// have each item at most, and `have` how many have it.
 pub(crate) fn begin(
     view: &View,
     part: &Matrix,

@@ -5,7 +5,7 @@ ghost use Rattle.poly_tiling.specs.Lists.{mem};
 ghost use Rattle.poly_atom.specs.Hopeless.{base};
 
 use crate::frame::matrix::{Columns, Matrix};
-use crate::frame::node::Node;
+use crate::frame::node::{Node, Stand};
 use crate::frame::opened::first_row;
 use crate::frame::queries;
 use crate::frame::steps::{Steps, start};
@@ -51,42 +51,37 @@ ghost use Rattle.poly_frame.specs.Open.{open_in};
 /// the layer goes there, so that its memory can be used again.
 #[tactic(auto, using(crate::proofs::Layers::pile_open, crate::proofs::Layers::pile_pop))]
 pub(crate) fn widen<'a>(
-    view: &View,
+    stand: &mut Stand<'a>,
     trail: &[Atom],
-    given: usize,
-    columns: &mut Columns<'a>,
-    table: &mut Table,
     steps: &mut Steps,
-    base: &mut usize,
     under: &mut Vec<Layer<'a>>,
     spare: &mut Vec<Layer<'a>>,
 )
-    requires levels { StepsKeep view.now trail.now base.old (matrix_of columns.old) table.old steps.old }
-    requires room { HasRoom (matrix_of columns.old) steps.old }
-    requires pile { PileShows view.now trail.now given base.old (reverse under.old.items) }
-    requires some { given < length trail.now }
-    ensures levels { StepsKeep view.now trail.now base.new (matrix_of columns.new) table.new steps.new }
-    ensures room { HasRoom (matrix_of columns.new) steps.new }
-    ensures pile { PileShows view.now trail.now given base.new (reverse under.new.items) }
-    ensures below { base.new < length trail.now }
+    requires levels { StepsKeep stand.old.view.now trail.now stand.old.base (matrix_of stand.old.columns) stand.old.table steps.old }
+    requires room { HasRoom (matrix_of stand.old.columns) steps.old }
+    requires pile { PileShows stand.old.view.now trail.now stand.old.given stand.old.base (reverse under.old.items) }
+    requires some { stand.old.given < length trail.now }
+    ensures stays { stand.new ≡ record stand.old { base = stand.new.base; columns = stand.new.columns; table = stand.new.table } }
+    ensures levels { StepsKeep stand.new.view.now trail.now stand.new.base (matrix_of stand.new.columns) stand.new.table steps.new }
+    ensures room { HasRoom (matrix_of stand.new.columns) steps.new }
+    ensures pile { PileShows stand.new.view.now trail.now stand.new.given stand.new.base (reverse under.new.items) }
+    ensures below { stand.new.base < length trail.now }
 {
-    let _ = view;
-    let _ = given;
-    if *base < trail.len() {
+    if stand.base < trail.len() {
         return;
     }
     if let Some(below) = under.pop() {
         let Layer {
-            columns: columns_below,
-            table: table_below,
+            columns,
+            table,
             steps: steps_below,
-            base: base_below,
+            base,
         } = below;
         let dropped = Layer {
-            columns: mem::replace(columns, columns_below),
-            table: mem::replace(table, table_below),
+            columns: mem::replace(&mut stand.columns, columns),
+            table: mem::replace(&mut stand.table, table),
             steps: mem::replace(steps, steps_below),
-            base: mem::replace(base, base_below),
+            base: mem::replace(&mut stand.base, base),
         };
         keep(dropped, spare);
     }

@@ -16,6 +16,7 @@ use poly_grid::Refusal;
 use poly_tiling::View;
 use std::alloc::Global;
 use std::mem;
+use std::sync::Arc;
 
 /// Lists of indices, kept one after another in one list.
 #[derive(Drop)]
@@ -34,8 +35,11 @@ pub struct Matrix {
     pub(crate) numbers: Vec<u32>,
     /// The column of each placement that has one, by the number of the placement. The entries of other numbers mean nothing.
     pub(crate) stands: Vec<usize>,
-    /// The indices of the items of each column.
-    pub(crate) lists: Lists,
+    /// The indices of the items of each column, and of other columns: the matrices that were made from one matrix share its
+    /// lists. `None` only if there are no columns.
+    pub(crate) lists: Option<Arc<Lists>>,
+    /// Which of the lists each column has.
+    pub(crate) homes: Vec<usize>,
     /// A guess for the index of each cell among the items; a wrong guess only costs time.
     pub(crate) cells: Vec<usize>,
     /// How many words a row has.
@@ -46,7 +50,7 @@ pub struct Matrix {
     pub(crate) occupied: Vec<Occupied>,
 }
 
-ghost use Rattle.poly_frame.specs.Matrices.{IsMatrix, IsWhole, ListsShow, RowOf, RowsShow, StandsShow, list_at, matrix_of, bit_index};
+ghost use Rattle.poly_frame.specs.Matrices.{HomesIn, HomesShow, IsMatrix, IsWhole, ListsShow, RowOf, RowsShow, StandsShow, bit_index, column_items, list_at, matrix_of};
 
 /// The matrix that a frame reads.
 #[derive(Drop)]
@@ -89,23 +93,14 @@ impl Lists {
     }
 }
 
-impl Lists {
-    /// No lists. Takes no memory.
-    pub(crate) fn none(alloc: Global) -> Lists {
-        Lists {
-            starts: Vec::new(alloc),
-            indices: Vec::new(alloc),
-        }
-    }
-}
-
 impl Matrix {
     /// The matrix without rows and columns, which takes no memory.
     pub(crate) fn none(alloc: Global) -> Matrix {
         Matrix {
             numbers: Vec::new(alloc),
             stands: Vec::new(alloc),
-            lists: Lists::none(alloc),
+            lists: None,
+            homes: Vec::new(alloc),
             cells: Vec::new(alloc),
             width: 0,
             rows: Vec::new(alloc),
@@ -126,7 +121,29 @@ impl Matrix {
         numbers.extend_from_slice(live)?;
         let cells = guess_cells(alloc, view.items())?;
         let lists = list_items(alloc, view, &cells, &numbers)?;
-        with_columns(alloc, view, numbers, lists, cells, Matrix::none(alloc))
+        let homes = all_homes(alloc, numbers.len())?;
+        let shared = Arc::new(alloc, lists)?;
+        with_columns(
+            alloc,
+            view,
+            numbers,
+            Some(shared),
+            homes,
+            cells,
+            Matrix::none(alloc),
+        )
+    }
+
+    /// The indices of the items of the column.
+    pub(crate) fn items_of(&self, j: usize) -> &[usize]
+        requires shows { (v : Scene) × HomesShow v self.now.numbers.items self.now.homes.items self.now.lists }
+        requires column { j < length self.now.numbers.items }
+        ensures { result.now ≡ column_items self.now.lists self.now.homes.items j }
+    {
+        match &self.lists {
+            None => &[],
+            Some(lists) => lists.of(self.homes[j]),
+        }
     }
 
     /// The column of the number; `None` if the number has no column.
@@ -206,12 +223,13 @@ pub(crate) fn narrowed(
         &whole.cells,
         mem::replace(&mut spare.cells, Vec::new(alloc)),
     )?;
-    let lists = copy_lists(
+    let homes = homes_of(
         whole,
         &numbers,
-        mem::replace(&mut spare.lists, Lists::none(alloc)),
+        mem::replace(&mut spare.homes, Vec::new(alloc)),
     )?;
-    with_columns(alloc, view, numbers, lists, cells, spare)
+    let lists = share(&whole.lists)?;
+    with_columns(alloc, view, numbers, lists, homes, cells, spare)
 }
 
 // The matrix with a column for each of the numbers, from the lists of their items. Uses the memory of `spare` again.
@@ -219,7 +237,8 @@ fn with_columns(
     alloc: Global,
     view: &View,
     numbers: Vec<u32>,
-    lists: Lists,
+    lists: Option<Arc<Lists>>,
+    homes: Vec<usize>,
     cells: Vec<usize>,
     spare: Matrix,
 ) -> Result<Matrix, Refusal>
@@ -227,18 +246,19 @@ fn with_columns(
     requires once { distinct numbers.items ≡ true }
     requires fewer { length numbers.items ≤ length view.now.live }
     requires live { (q : ℕ) → mem numbers.items q ≡ true → mem view.now.live q ≡ true }
-    requires lists { ListsShow view.now numbers.items lists }
+    requires lists { HomesShow view.now numbers.items homes.items lists }
     ensures made { IfOk result (λ m. IsMatrix view.now m × (m.numbers.items ≡ numbers.items)) }
     ensures why { IfErr result (λ e. e ≡ Refusal.Memory) }
 {
     let width = width_for(numbers.len());
-    let rows = rows_of(view, &numbers, &lists, width, spare.rows)?;
+    let rows = rows_of(view, &numbers, &lists, &homes, width, spare.rows)?;
     let stands = stands_of(&numbers, spare.stands)?;
     let occupied = occupied_rows(alloc, &rows, width, view.items().len())?;
     Ok(Matrix {
         numbers,
         stands,
         lists,
+        homes,
         cells,
         width,
         rows,
@@ -301,26 +321,46 @@ fn list_items(
     Ok(Lists { starts, indices })
 }
 
-// The indices of the items of each number, copied from a matrix that has columns for all of these numbers. Overwrites `spare`.
-fn copy_lists(whole: &Matrix, numbers: &[u32], spare: Lists) -> Result<Lists, Refusal>
-    requires whole { (v : Scene) × IsMatrix v whole.now }
-    requires among { (p : ℕ) → mem numbers.now p ≡ true → mem whole.now.numbers.items p ≡ true }
-    ensures value { IfOk result (λ l. (v : Scene) → IsMatrix v whole.now → ListsShow v numbers.now l) }
+// The same lists.
+fn share(lists: &Option<Arc<Lists>>) -> Result<Option<Arc<Lists>>, Refusal>
+    ensures same { IfOk result (λ l. (v : Scene) (ns homes : List ℕ) → HomesShow v ns homes lists.now → HomesShow v ns homes l) }
     ensures why { IfErr result (λ e. e ≡ Refusal.Memory) }
 {
-    let Lists {
-        mut starts,
-        mut indices,
-    } = spare;
-    starts.clear();
-    indices.clear();
-    starts.push(0usize)?;
-    for p in numbers {
-        let j = whole.stands[*p as usize];
-        indices.extend_from_slice(whole.lists.of(j))?;
-        starts.push(indices.len())?;
+    match lists {
+        None => Ok(None),
+        Some(shared) => Ok(Some(Arc::try_clone(shared)?)),
     }
-    Ok(Lists { starts, indices })
+}
+
+// The numbers from 0 on.
+fn all_homes(alloc: Global, count: usize) -> Result<Vec<usize>, Refusal>
+    ensures len { IfOk result (λ h. length h.items ≡ count) }
+    ensures each { IfOk result (λ h. (j : ℕ) → j < count → slice_index h.items j ≡ j) }
+    ensures why { IfErr result (λ e. e ≡ Refusal.Memory) }
+{
+    let mut homes = Vec::with_capacity(alloc, count)?;
+    for j in 0..count {
+        homes.push(j)?;
+    }
+    Ok(homes)
+}
+
+// Which list each number has among those of a matrix that has columns for all of these numbers. Overwrites `spare`.
+fn homes_of(whole: &Matrix, numbers: &[u32], spare: Vec<usize>) -> Result<Vec<usize>, Refusal>
+    requires stands { StandsShow whole.now.numbers.items whole.now.stands.items }
+    requires homes { length whole.now.homes.items ≡ length whole.now.numbers.items }
+    requires among { (p : ℕ) → mem numbers.now p ≡ true → mem whole.now.numbers.items p ≡ true }
+    ensures len { IfOk result (λ h. length h.items ≡ length numbers.now) }
+    ensures each { IfOk result (λ h. (i : ℕ) → i < length numbers.now → slice_index h.items i ≡ slice_index whole.now.homes.items (slice_index whole.now.stands.items (slice_index numbers.now i))) }
+    ensures why { IfErr result (λ e. e ≡ Refusal.Memory) }
+{
+    let mut homes = spare;
+    homes.clear();
+    homes.reserve(numbers.len())?;
+    for p in numbers {
+        homes.push_reserved(whole.homes[whole.stands[*p as usize]]);
+    }
+    Ok(homes)
 }
 
 // The length of a list that has an entry at each of these numbers.
@@ -393,20 +433,44 @@ fn empty_rows(width: usize, count: usize, spare: Vec<u64>) -> Result<Vec<u64>, R
 fn rows_of(
     view: &View,
     numbers: &[u32],
-    lists: &Lists,
+    lists: &Option<Arc<Lists>>,
+    homes: &[usize],
     width: usize,
     spare: Vec<u64>,
 ) -> Result<Vec<u64>, Refusal>
     requires wide { length numbers.now ≤ 64 * width }
-    requires lists { ListsShow view.now numbers.now lists.now }
+    requires lists { HomesShow view.now numbers.now homes.now lists.now }
     ensures len { IfOk result (λ r. length r.items ≡ width * length view.now.bounds) }
     ensures value { IfOk result (λ r. RowsShow view.now numbers.now width r.items) }
     ensures why { IfErr result (λ e. e ≡ Refusal.Memory) }
 {
     let items = view.items().len();
-    let mut rows = empty_rows(width, items, spare)?;
-    for j in 0..numbers.len() {
-        put_each(&mut rows, width, lists.of(j), j, items);
+    let rows = empty_rows(width, items, spare)?;
+    match lists {
+        None => Ok(rows),
+        Some(shared) => Ok(filled(view, numbers, shared, homes, width, rows)),
     }
-    Ok(rows)
+}
+
+// The row of each item, if `rows` are empty.
+fn filled(
+    view: &View,
+    numbers: &[u32],
+    lists: &Lists,
+    homes: &[usize],
+    width: usize,
+    rows: Vec<u64>,
+) -> Vec<u64>
+    requires wide { length numbers.now ≤ 64 * width }
+    requires lists { HomesIn view.now numbers.now homes.now lists.now.starts.items lists.now.indices.items }
+    requires rows { rows.items ≡ replicate (width * length view.now.bounds) 0 }
+    ensures len { length result.items ≡ width * length view.now.bounds }
+    ensures value { RowsShow view.now numbers.now width result.items }
+{
+    let items = view.items().len();
+    let mut rows = rows;
+    for j in 0..numbers.len() {
+        put_each(&mut rows, width, lists.of(homes[j]), j, items);
+    }
+    rows
 }

@@ -21,6 +21,7 @@ use crate::frame::node::Node;
 use crate::frame::occupied::{
     Occupied, common, count_bits, count_common, is_narrow, occupied_words,
 };
+use crate::frame::scarce::{Needs, Rows, scarcest};
 use crate::frame::steps::Steps;
 use crate::frame::table::Table;
 use crate::{bits, plain};
@@ -100,11 +101,11 @@ const NARROW: usize = 12;
 // The fewest open placements for which a layer saves more than it costs to make.
 const WORTH: usize = 32;
 
-/// Whether a layer with the open columns alone seems to save more than it costs to make: it would be much smaller, there is
-/// still much to search, and the search is about to take some of `arms` placements here.
-pub(crate) fn pays(matrix: &Matrix, steps: &Steps, arms: usize) -> bool {
+/// Whether a layer with the open columns alone seems to save more than it costs to make: it would be much smaller, and there is
+/// still much to search.
+pub(crate) fn pays(matrix: &Matrix, steps: &Steps) -> bool {
     let width = matrix.width;
-    if arms == 0 || width <= NARROW || steps.live.len() < width {
+    if width <= NARROW || steps.live.len() < width {
         return false;
     }
     let open = count_bits(&steps.live[steps.live.len() - width..]);
@@ -182,8 +183,6 @@ pub(crate) fn judge(node: &Node<'_>, steps: &Steps, consistent: usize) -> Option
 
 // How many options the item at an index has to spare: those beyond what it still needs, plus one; 0 if there are too few.
 // If this number is at least `fewest`, the result may be any number that is at least `fewest`. `None` if the item is not due.
-// Inlined, since it runs for each due item at each node: a call would cost as much as the count.
-#[inline(always)]
 fn spare(
     node: &Node<'_>,
     steps: &Steps,
@@ -224,94 +223,38 @@ fn filled_words(matrix: &Matrix, b: usize) -> Occupied {
     }
 }
 
-// The most words of notes that are read: a note for each of 8,192 items. A design has at most 320.
-const NOTED: usize = 128;
-
-// The index of a due item, if one was found, and how many options it has to spare, as `spare` counts them.
-#[derive(Clone, Copy)]
-struct Scarce {
-    index: Option<usize>,
-    spare: usize,
-}
-
-// The item at `b` if it is due and has fewer options to spare than `best`, otherwise `best`.
-fn scarcer(
-    node: &Node<'_>,
-    steps: &Steps,
-    at: usize,
-    occupied: &Occupied,
-    b: usize,
-    best: Scarce,
-) -> Scarce
+// Whether the item at the index is due.
+fn is_due_at(node: &Node<'_>, steps: &Steps, b: usize) -> bool
     requires kept { IsAt node.now steps.now }
-    requires at { at ≡ length steps.now.live.items - node.now.matrix.now.width }
-    requires low { b < length steps.now.have.items }
-    requires best { IfSome best.index (λ b. (b < length steps.now.have.items) × (nat_lt (slice_index steps.now.have.items b) (slice_index node.now.table.now.leasts.items b) ≡ true)) }
-    ensures { IfSome result.index (λ b. (b < length steps.now.have.items) × (nat_lt (slice_index steps.now.have.items b) (slice_index node.now.table.now.leasts.items b) ≡ true)) }
+    ensures { result ≡ true → (b < length steps.now.have.items) × (nat_lt (slice_index steps.now.have.items b) (slice_index node.now.table.now.leasts.items b) ≡ true) }
 {
-    match spare(node, steps, at, occupied, b, best.spare) {
-        Some(n) => {
-            if n < best.spare {
-                Scarce {
-                    index: Some(b),
-                    spare: n,
-                }
-            } else {
-                best
-            }
-        }
-        None => best,
-    }
+    b < steps.have.len() && is_below(node.table, steps, b)
 }
 
-// The scarcest of `best` and the due items whose bits are set in the word. Bit 0 is that of the item at `first`. Stops at an
-// item that has too few options.
-fn scarcest_in(
-    node: &Node<'_>,
-    steps: &Steps,
-    at: usize,
-    occupied: &Occupied,
-    first: usize,
-    word: u64,
-    best: Scarce,
-) -> Scarce
-    requires kept { IsAt node.now steps.now }
-    requires at { at ≡ length steps.now.live.items - node.now.matrix.now.width }
-    requires small { first < 64 * NOTED }
-    requires best { IfSome best.index (λ b. (b < length steps.now.have.items) × (nat_lt (slice_index steps.now.have.items b) (slice_index node.now.table.now.leasts.items b) ≡ true)) }
-    ensures { IfSome result.index (λ b. (b < length steps.now.have.items) × (nat_lt (slice_index steps.now.have.items b) (slice_index node.now.table.now.leasts.items b) ≡ true)) }
-{
-    let mut best = best;
-    let mut left = word;
-    for _turn in 0..64u32 {
-        if left == 0 || best.spare == 0 {
-            return best;
-        }
-        let b = first + left.trailing_zeros() as usize;
-        left &= left - 1;
-        if b < steps.have.len() {
-            best = scarcer(node, steps, at, occupied, b, best);
-        }
-    }
-    best
-}
-
-// The index of an item that is due and noted as due; `None` if there is none. An item that has too few options comes first,
-// then one with the fewest options beyond what it still needs.
+// The index of an item that is due and noted as due; `None` if there is none, or if a note is wrong. An item that has too few
+// options comes first, then one with the fewest options beyond what it still needs.
 fn next_noted(node: &Node<'_>, steps: &Steps) -> Option<usize>
     requires kept { IsAt node.now steps.now }
     ensures { IfSome result (λ b. (b < length steps.now.have.items) × (nat_lt (slice_index steps.now.have.items b) (slice_index node.now.table.now.leasts.items b) ≡ true)) }
 {
     let at = steps.live.len() - node.matrix.width;
-    let occupied = occupied_words(&steps.live[at..]);
-    let mut best = Scarce {
-        index: None,
-        spare: usize::MAX,
+    let live = &steps.live[at..];
+    let rows = Rows {
+        words: &node.matrix.rows,
+        items: steps.have.len(),
+        occupied: &node.matrix.occupied,
     };
-    for k in 0..steps.due.len().min(NOTED) {
-        best = scarcest_in(node, steps, at, &occupied, 64 * k, steps.due[k], best);
+    let needs = Needs {
+        have: &steps.have,
+        leasts: &node.table.leasts,
+        single: node.table.single,
+    };
+    let best = scarcest(live, &rows, &needs, &steps.due);
+    if best.spare < usize::MAX && is_due_at(node, steps, best.index) {
+        Some(best.index)
+    } else {
+        None
     }
-    best.index
 }
 
 // The index of an item of the view that is due; `None` if there is none. An item that is noted as due comes first.

@@ -100,7 +100,7 @@ fn is_starved_at(node: &Node<'_>, steps: &Steps, b: usize, j: usize) -> bool
         node.matrix,
         node.table,
         steps,
-        node.matrix.lists.of(j),
+        node.matrix.items_of(j),
         at,
         from,
     )

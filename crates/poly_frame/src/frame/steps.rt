@@ -7,6 +7,7 @@ ghost use Rattle.poly_atom.specs.Hopeless.{base};
 ghost use Rattle.poly_frame.specs.Bits.{has_bit};
 ghost use Rattle.poly_frame.specs.Open.{open_in};
 ghost use Rattle.poly_frame.specs.FrameItems.{Noted};
+ghost use Rattle.poly_tiling.specs.Lists.{mem};
 ghost use Rattle.poly_tiling.specs.Puzzle.{items};
 
 use crate::bits;
@@ -81,7 +82,7 @@ fn note_number(
     ensures indices { (indices : List ℕ) × (noted.new.items ≡ noted.old.items ++ indices) × Noted view.now.bounds (items view.now number) indices }
 {
     match column {
-        Some(j) => note_list(matrix.lists.of(j), noted),
+        Some(j) => note_list(matrix.items_of(j), noted),
         None => note_items(view, &matrix.cells, 0, number, noted),
     }
 }
@@ -121,12 +122,22 @@ fn close(
     }
 }
 
-/// Takes a placement.
-pub(crate) fn pick(node: &Node<'_>, members: &[u32], steps: &mut Steps, number: u32)
+// Whether the number is a member of the base. A placement that is open isn't, so nothing is searched then.
+fn is_member(node: &Node<'_>, members: &[u32], number: u32, opened: bool) -> bool
+    requires members { members.now ≡ base node.now.view.now node.now.trail.now }
+    requires opened { opened ≡ true → open_in node.now.view.now node.now.trail.now number ≡ true }
+    ensures { result ≡ mem members.now number }
+{
+    !opened && has_number(members, number)
+}
+
+/// Takes a placement. `opened` is whether the placement is known to be open.
+pub(crate) fn pick(node: &Node<'_>, members: &[u32], steps: &mut Steps, number: u32, opened: bool)
     requires kept { IsAt node.now steps.old }
     requires room { HasRoom node.now.matrix.now steps.old }
     requires few { length node.now.trail.now < node.now.base + STEPS }
     requires members { members.now ≡ base node.now.view.now node.now.trail.now }
+    requires opened { opened ≡ true → open_in node.now.view.now node.now.trail.now number ≡ true }
     ensures kept { StepsKeep node.now.view.now (node.now.trail.now ++ Atom.Has number ∷ []) node.now.base node.now.matrix.now node.now.table.now steps.new }
     ensures room { HasRoom node.now.matrix.now steps.new }
 {
@@ -138,7 +149,7 @@ pub(crate) fn pick(node: &Node<'_>, members: &[u32], steps: &mut Steps, number: 
         row: at - node.matrix.width,
         cleared: None,
     });
-    if has_number(members, number) {
+    if is_member(node, members, number, opened) {
         return;
     }
     let column = node.matrix.column_of(number);

@@ -26,6 +26,8 @@ pub(crate) struct Table {
     pub(crate) listed: bool,
     /// From this index on, `leasts` is 0.
     pub(crate) leasts_end: usize,
+    /// Whether no entry of `leasts` is over 1. If this is wrong, only the choice of a due item is worse.
+    pub(crate) single: bool,
 }
 
 impl Table {
@@ -36,6 +38,7 @@ impl Table {
             leasts: Vec::new(alloc),
             listed: false,
             leasts_end: 0,
+            single: false,
         }
     }
 }
@@ -150,11 +153,13 @@ pub(crate) fn table_of(
     let leasts = wanted.leasts;
     let listed = all_listed(bounds, atoms);
     let leasts_end = end_of(&leasts);
+    let single = leasts.iter().all(|n| *n <= 1);
     Ok(Table {
         limits,
         leasts,
         listed,
         leasts_end,
+        single,
     })
 }
 
@@ -192,5 +197,6 @@ pub(crate) fn table_again(
         leasts,
         listed,
         leasts_end: table.leasts_end,
+        single: table.single,
     })
 }

@@ -4,7 +4,7 @@ use Rattle.poly_frame.specs.Matrices.{RowsShow, StandsShow}
 use Rattle.poly_frame.proofs.frame.matrix.with_columns.Goals as goal
 
 pub stands_of-requires : goal.stands_of-requires
-stands_of-requires c = ap distinct c.deref-2.ensures.value ∙ c.requires.once
+stands_of-requires c = ap distinct c.deref-3.ensures.value ∙ c.requires.once
 
 pub rows_of-requires-clause-wide : goal.rows_of-requires-clause-wide
 rows_of-requires-clause-wide c = omega (arith, ap length c.deref.ensures.value, c.width_for-width.ensures.wide, c.len.ensures, c.args.numbers.ok.0)
@@ -20,7 +20,7 @@ returns-clause-made c =
         once = c.requires.once;
         fewer = c.requires.fewer;
         live = c.requires.live;
-        stands = subst (λ (ns : List ℕ). StandsShow ns c.in_ok-stands.stands.items) c.deref-2.ensures.value c.in_ok-stands.ensures.value;
+        stands = subst (λ (ns : List ℕ). StandsShow ns c.in_ok-stands.stands.items) c.deref-3.ensures.value c.in_ok-stands.ensures.value;
         lists = c.requires.lists;
         wide = omega (arith, width.ensures.wide, c.len.ensures, numbers.ok.0);
         narrow = omega (arith, width.ensures.small, c.len.ensures, numbers.ok.0, numbers.ok.1, numbers.small);

@@ -26,4 +26,4 @@ returns c = λ y.
     let opened : has_bit s.live.items (64 * at + j) ≡ true = ap (λ ws. has_bit ws (64 * at + j)) (sym c.deref.ensures.value) ∙ sym c.has.ensures ∙ c.if-not-has.false in
     let without : has_bit matrix.rows.items (64 * (matrix.width * b) + j) ≡ false = ap (λ ws. has_bit ws (64 * (matrix.width * b) + j)) (sym c.deref-else-not-has.ensures.value) ∙ sym c.has-else-not-has.ensures ∙ c.if-has.false in
     starved_fits v A first matrix t s.live.items s.have.items s.raised.items s.marks.items K b j at (ap (λ n. n - matrix.width) (c.len.ensures ∙ s.live.ok.0)) (omega (arith, c.requires.row, K.have_len)) c.requires.number opened without none
-    (λ k u m l up row. subst (λ (indices : List ℕ). list_any (λ b. leb (get_or t.limits.items b 0 - 1) (get_or s.have.items b 0) && eqb (bit_at (get_or matrix.rows.items (matrix.width * b + k) 0) u) 1) indices ≡ true) c.of.ensures (c.are_shut.ensures y k u m l up row)) some
+    (λ k u m l up row. subst (λ (indices : List ℕ). list_any (λ b. leb (get_or t.limits.items b 0 - 1) (get_or s.have.items b 0) && eqb (bit_at (get_or matrix.rows.items (matrix.width * b + k) 0) u) 1) indices ≡ true) c.items_of.ensures (c.are_shut.ensures y k u m l up row)) some

@@ -26,8 +26,8 @@ raise_and_note-requires-clause-small c = λ b h.
     let few : length indices.0 ≤ 17 = omega (arith, c.note_number.ensures.len, s.raised.ok.0, c.note_number.new.noted.ok.0, ap length indices.1, length-append s.raised.items indices.0) in
     omega (arith, ap length (added s.raised.items indices.0 c.deref-2.result.now c.len-mark.result all mk), few, have_small c.args.node.now.view.now c.args.node.now.trail.now c.args.node.now.base c.args.node.now.matrix.now c.args.node.now.table.now s.live.items s.have.items s.raised.items s.marks.items K b (omega (arith, K.have_len)), K.steps, c.requires.few)
 
-pub returns-then-has_number-clause-kept : goal.returns-then-has_number-clause-kept
-returns-then-has_number-clause-kept c =
+pub returns-then-is_member-clause-kept : goal.returns-then-is_member-clause-kept
+returns-then-is_member-clause-kept c =
     let s = c.args.steps.now in
     let matrix = c.args.node.now.matrix.now in
     let t = c.args.node.now.table.now in
@@ -39,7 +39,7 @@ returns-then-has_number-clause-kept c =
     let at : c.len-at.result ≡ length s.live.items = c.len-at.ensures ∙ s.live.ok.0 in
     let mk : c.len-mark.result ≡ length s.raised.items = c.len-mark.ensures ∙ s.raised.ok.0 in
     kept_as v _ c.args.node.now.base matrix t live1 s.have.items s.raised.items _ s.raised.items c.push_reserved.new.self.items refl c.push_reserved.ensures.items
-    (pick_again v A c.args.node.now.base matrix t s.live.items s.have.items s.raised.items s.marks.items live1 K C c.args.number _ (ap (λ xs. mem xs c.args.number) (sym c.requires.members) ∙ sym c.has_number.ensures ∙ c.if-has_number.true) mk (ap (λ n. n - matrix.width) at) refl)
+    (pick_again v A c.args.node.now.base matrix t s.live.items s.have.items s.raised.items s.marks.items live1 K C c.args.number _ (ap (λ xs. mem xs c.args.number) (sym c.requires.members) ∙ sym c.is_member.ensures ∙ c.if-is_member.true) mk (ap (λ n. n - matrix.width) at) refl)
 
 pub returns-in-Some-clause-kept : goal.returns-in-Some-clause-kept
 returns-in-Some-clause-kept c =
@@ -58,7 +58,7 @@ returns-in-Some-clause-kept c =
     let all5 : c.deref-4.result.now ≡ s.raised.items ++ indices.0 = c.deref-4.ensures.value ∙ indices.1 in
     let few : length indices.0 ≤ 17 = omega (arith, c.note_number.ensures.len, s.raised.ok.0, c.note_number.new.noted.ok.0, ap length indices.1, length-append s.raised.items indices.0) in
     pick_made v A c.args.node.now.base matrix t s.live.items s.have.items s.raised.items s.marks.items live1 K C c.args.number c.len-at.result _ c.args.members.now c.close.new.live.items c.take_out.new.words.items c.raise_and_note.new.have.items c.deref-3.result.now c.note_number.new.noted.items c.push_reserved.new.self.items indices.0
-    _ _ at mk (ap (λ n. n - matrix.width) at) refl c.requires.members (sym c.has_number.ensures ∙ c.if-has_number.false) indices.1 indices.2 few c.push_reserved.ensures.items (added s.raised.items indices.0 c.deref-2.result.now c.len-mark.result all3 mk) (added s.raised.items indices.0 c.deref-4.result.now c.len-mark.result all5 mk) c.deref-3.ensures.value c.raise_and_note.ensures.len c.raise_and_note.ensures.more
+    _ _ at mk (ap (λ n. n - matrix.width) at) refl c.requires.members (sym c.is_member.ensures ∙ c.if-is_member.false) indices.1 indices.2 few c.push_reserved.ensures.items (added s.raised.items indices.0 c.deref-2.result.now c.len-mark.result all3 mk) (added s.raised.items indices.0 c.deref-4.result.now c.len-mark.result all5 mk) c.deref-3.ensures.value c.raise_and_note.ensures.len c.raise_and_note.ensures.more
     c.close.ensures.len c.close.ensures.before c.close.ensures.row c.take_out.ensures.len (taken_before c.close.new.live.items c.take_out.new.words.items c.len-at.result c.in-Some.j c.take_out.ensures.bits)
     (own_taken v A c.args.node.now.base matrix t s.live.items s.have.items s.raised.items s.marks.items K c.args.number c.in-Some.j c.len-at.result c.close.new.live.items c.take_out.new.words.items c.in-Some.ensures c.take_out.ensures.bits)
     (taken_past c.close.new.live.items c.take_out.new.words.items c.len-at.result c.in-Some.j c.take_out.ensures.bits)
@@ -80,6 +80,6 @@ returns-in_default-clause-kept c =
     let all5 : c.deref-4.result.now ≡ s.raised.items ++ indices.0 = c.deref-4.ensures.value ∙ indices.1 in
     let few : length indices.0 ≤ 17 = omega (arith, c.note_number.ensures.len, s.raised.ok.0, c.note_number.new.noted.ok.0, ap length indices.1, length-append s.raised.items indices.0) in
     pick_made v A c.args.node.now.base matrix t s.live.items s.have.items s.raised.items s.marks.items live1 K C c.args.number c.len-at.result _ c.args.members.now c.close.new.live.items c.close.new.live.items c.raise_and_note.new.have.items c.deref-3.result.now c.note_number.new.noted.items c.push_reserved.new.self.items indices.0
-    _ _ at mk (ap (λ n. n - matrix.width) at) refl c.requires.members (sym c.has_number.ensures ∙ c.if-has_number.false) indices.1 indices.2 few c.push_reserved.ensures.items (added s.raised.items indices.0 c.deref-2.result.now c.len-mark.result all3 mk) (added s.raised.items indices.0 c.deref-4.result.now c.len-mark.result all5 mk) c.deref-3.ensures.value c.raise_and_note.ensures.len c.raise_and_note.ensures.more
+    _ _ at mk (ap (λ n. n - matrix.width) at) refl c.requires.members (sym c.is_member.ensures ∙ c.if-is_member.false) indices.1 indices.2 few c.push_reserved.ensures.items (added s.raised.items indices.0 c.deref-2.result.now c.len-mark.result all3 mk) (added s.raised.items indices.0 c.deref-4.result.now c.len-mark.result all5 mk) c.deref-3.ensures.value c.raise_and_note.ensures.len c.raise_and_note.ensures.more
     c.close.ensures.len c.close.ensures.before c.close.ensures.row refl (λ x h. refl)
     (own_none matrix.numbers.items c.args.number c.len-at.result c.close.new.live.items (c.in_default.ensures {u = tt})) (λ j e. e)

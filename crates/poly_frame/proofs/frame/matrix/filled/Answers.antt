@@ -1,24 +1,23 @@
 use Rattle.std.proofs.lemmas.List.{length-replicate}
-use Rattle.std.proofs.Common.{◌*◌, List, ap, arith, eqb, get_or, length, ltb, rules, subst, ℕ, ◌∙◌, ◌≡◌, ◌||◌}
+use Rattle.std.proofs.Common.{List, ap, eqb, get_or, length, ltb, rules, subst, ℕ, ◌∙◌, ◌≡◌, ◌||◌}
 use Rattle.std.specs.List.{list_all, list_any}
 use Rattle.poly_tiling.specs.Puzzle.{has_item}
 use Rattle.poly_frame.specs.Bits.{has_bit}
 use Rattle.poly_frame.specs.FrameItems.{item_of}
 use Rattle.poly_frame.specs.Matrices.{list_at, bit_index}
 use Rattle.poly_frame.proofs.FrameOpen.{rows_start, rows_step}
-use Rattle.poly_frame.proofs.frame.matrix.rows_of.Goals as goal
+use Rattle.poly_frame.proofs.frame.matrix.filled.Goals as goal
 
 pub loop-j-init : goal.loop-j-init
 loop-j-init c =
-    let zeros = c.in_ok-rows.ensures.value in
-    let items = ap length c.items-items.ensures.value in
+    let zeros = c.requires.rows in
     record {
-      len = ap length zeros ∙ length-replicate _ 0 ∙ ap (λ n. c.args.width * n) items;
-      bits = λ b i l g. rows_start c.in_ok-rows.rows.items _ (bit_index c.args.width b i) i (has_item c.args.view.now (get_or c.args.numbers.now i 0) (item_of c.args.view.now b)) zeros;
+      len = ap length zeros ∙ length-replicate _ 0;
+      bits = λ b i l g. rows_start c.args.rows.items _ (bit_index c.args.width b i) i (has_item c.args.view.now (get_or c.args.numbers.now i 0) (item_of c.args.view.now b)) zeros;
     }
 
 pub of-requires-clause-high : goal.of-requires-clause-high
-of-requires-clause-high c = omega (arith, c.requires.lists.len, c.loop-j-test.true)
+of-requires-clause-high c = c.requires.lists.inside c.loop-j.j c.loop-j-test.true
 
 pub of-requires-clause-order : goal.of-requires-clause-order
 of-requires-clause-order c = (c.requires.lists.each c.loop-j.j c.loop-j-test.true).up
@@ -29,7 +28,7 @@ of-requires-clause-end c = (c.requires.lists.each c.loop-j.j c.loop-j-test.true)
 pub put_each-requires-clause-low : goal.put_each-requires-clause-low
 put_each-requires-clause-low c =
     let items = ap length c.items-items.ensures.value in
-    ap (λ xs. list_all (λ b. ltb b (length c.items-items.result.now)) xs) c.of.ensures ∙ ap (λ n. list_all (λ b. ltb b n) (list_at c.args.lists.now.starts.items c.args.lists.now.indices.items c.loop-j.j)) items ∙ (c.requires.lists.each c.loop-j.j c.loop-j-test.true).noted.low
+    ap (λ xs. list_all (λ b. ltb b (length c.items-items.result.now)) xs) c.of.ensures ∙ ap (λ n. list_all (λ b. ltb b n) (list_at c.args.lists.now.starts.items c.args.lists.now.indices.items (get_or c.args.homes.now c.loop-j.j 0))) items ∙ (c.requires.lists.each c.loop-j.j c.loop-j-test.true).noted.low
 
 pub loop-j-preserved : goal.loop-j-preserved
 loop-j-preserved c =

@@ -3,7 +3,7 @@ use Rattle.poly_tiling.specs.Puzzle.{has_item}
 use Rattle.poly_frame.specs.Bits.{has_bit}
 use Rattle.poly_frame.specs.FrameItems.{item_of}
 use Rattle.poly_frame.specs.Matrices.{bit_index}
-use Rattle.poly_frame.proofs.frame.matrix.rows_of.Given as goal
+use Rattle.poly_frame.proofs.frame.matrix.filled.Given as goal
 
 abbrev pub invariant-loop-j : goal.invariant-loop-j
 invariant-loop-j l = record {

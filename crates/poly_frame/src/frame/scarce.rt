@@ -1,0 +1,163 @@
+//! The scarcest of the items that are noted as due. This runs at each node of a search, so it reads plain words, and only one
+//! of its two loops looks which words of a row are empty. Nothing is proved here but that no index is out of range: the caller
+//! tests whether the item that is found is due.
+ghost use Rattle.std.specs.Prelude.{length, ◌*◌, ◌<◌, ◌≡◌};
+
+use crate::frame::occupied::{Occupied, common, count_common, is_narrow, occupied_words};
+
+// The most words of notes that are read: a note for each of 8,192 items. A design has at most 320.
+const NOTED: usize = 128;
+
+/// The rows of a matrix.
+#[derive(Clone, Copy)]
+pub(crate) struct Rows<'a> {
+    /// A row for each item, one after another.
+    pub(crate) words: &'a [u64],
+    /// How many items there are.
+    pub(crate) items: usize,
+    /// Which words of each row have bits set; empty if the rows are narrow.
+    pub(crate) occupied: &'a [Occupied],
+}
+
+/// What the items still need.
+#[derive(Clone, Copy)]
+pub(crate) struct Needs<'a> {
+    /// How many members of the base have each item.
+    pub(crate) have: &'a [u64],
+    /// How many members with each item are asked for.
+    pub(crate) leasts: &'a [u8],
+    /// Whether at most one member with each item is asked for.
+    pub(crate) single: bool,
+}
+
+/// The index of an item, and how many options it has to spare: those beyond what it still needs, plus one; 0 if there are too
+/// few. If no item was found, `spare` is `usize::MAX`.
+#[derive(Clone, Copy)]
+pub(crate) struct Scarce {
+    pub(crate) index: usize,
+    pub(crate) spare: usize,
+}
+
+// How many members with the item at `b` are asked for besides the next one.
+fn further(needs: &Needs<'_>, b: usize) -> usize {
+    if b >= needs.have.len() || b >= needs.leasts.len() {
+        return 0;
+    }
+    let asked = u64::from(needs.leasts[b]).saturating_sub(needs.have[b]);
+    (asked as usize).saturating_sub(1)
+}
+
+// The row at `b`.
+fn row_at<'a>(words: &'a [u64], width: usize, items: usize, b: usize) -> &'a [u64]
+    requires words { length words.now ≡ width * items }
+    requires inside { b < items }
+    ensures { length result.now ≡ width }
+{
+    &words[width * b..width * b + width]
+}
+
+// Which words of the row at `b` may have bits set.
+fn occupied_at(rows: &Rows<'_>, b: usize) -> Occupied {
+    if b < rows.occupied.len() {
+        rows.occupied[b]
+    } else {
+        Occupied::all()
+    }
+}
+
+/// The item with the fewest options to spare among those whose bit is set in `due`. `live` is the row of the open columns. Stops
+/// at an item that has too few options.
+pub(crate) fn scarcest(live: &[u64], rows: &Rows<'_>, needs: &Needs<'_>, due: &[u64]) -> Scarce
+    requires { length rows.now.words.now ≡ length live.now * rows.now.items }
+{
+    let mut best = Scarce {
+        index: 0,
+        spare: usize::MAX,
+    };
+    let narrow = is_narrow(live);
+    let occupied = occupied_words(live);
+    for k in 0..due.len().min(NOTED) {
+        best = if !narrow {
+            scarcest_wide(live, &occupied, rows, needs, 64 * k, due[k], best)
+        } else if needs.single {
+            scarcest_narrow(live, rows, None, 64 * k, due[k], best)
+        } else {
+            scarcest_narrow(live, rows, Some(needs), 64 * k, due[k], best)
+        };
+    }
+    best
+}
+
+// The scarcest of `best` and the items whose bits are set in the word. Bit 0 is that of the item at `first`. No `needs` say that
+// at most one member with each item is asked for. Inlined, so that this frequent case has a loop of its own.
+#[inline(always)]
+fn scarcest_narrow(
+    live: &[u64],
+    rows: &Rows<'_>,
+    needs: Option<&Needs<'_>>,
+    first: usize,
+    word: u64,
+    best: Scarce,
+) -> Scarce
+    requires words { length rows.now.words.now ≡ length live.now * rows.now.items }
+    requires small { first < 64 * NOTED }
+{
+    let mut best = best;
+    let mut left = word;
+    for _turn in 0..64u32 {
+        if left == 0 || best.spare == 0 {
+            return best;
+        }
+        let b = first + left.trailing_zeros() as usize;
+        left &= left - 1;
+        if b < rows.items {
+            let further = match needs {
+                Some(needs) => further(needs, b),
+                None => 0,
+            };
+            let row = row_at(rows.words, live.len(), rows.items, b);
+            let most = best.spare.saturating_add(further);
+            let spare = count_common(live, row, most).saturating_sub(further);
+            if spare < best.spare {
+                best = Scarce { index: b, spare };
+            }
+        }
+    }
+    best
+}
+
+// Does what `scarcest_narrow` does, but passes over words that are empty in one of the two rows.
+fn scarcest_wide(
+    live: &[u64],
+    occupied: &Occupied,
+    rows: &Rows<'_>,
+    needs: &Needs<'_>,
+    first: usize,
+    word: u64,
+    best: Scarce,
+) -> Scarce
+    requires words { length rows.now.words.now ≡ length live.now * rows.now.items }
+    requires small { first < 64 * NOTED }
+{
+    let mut best = best;
+    let mut left = word;
+    for _turn in 0..64u32 {
+        if left == 0 || best.spare == 0 {
+            return best;
+        }
+        let b = first + left.trailing_zeros() as usize;
+        left &= left - 1;
+        if b < rows.items {
+            let further = further(needs, b);
+            let row = row_at(rows.words, live.len(), rows.items, b);
+            let most = best.spare.saturating_add(further);
+            let spare = common(live, occupied, row, &occupied_at(rows, b), most).saturating_sub(
+                further,
+            );
+            if spare < best.spare {
+                best = Scarce { index: b, spare };
+            }
+        }
+    }
+    best
+}
