@@ -9,3 +9,6 @@ pub mod Rests
 pub mod Exact
 mod Linking
 mod Stored
+mod Trails
+mod Tails
+mod Stems

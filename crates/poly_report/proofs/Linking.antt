@@ -1,15 +1,11 @@
 -- What more links change, and what a link says.
-use Rattle.std.proofs.Common.{Bool, None, Option, Some, [], All, List, ap, arith, get_or, length, not, option_to_list, refl, reverse, subst, suc, sym, take, true, zero, ℕ, ◌++◌, ◌+◌, ◌-◌, ◌<◌, ◌∙◌, ◌∷◌, ◌≡◌, ◌≤◌}
-use Rattle.std.proofs.lemmas.List.{append-nil, append_assoc, append_cancel_right, get_or_append_left, get_or_default, get_or_push, length_push, map_push, reverse-append, same_from_push, take_more}
-use Rattle.std.proofs.lemmas.Bool.{eq-eqb, eqb-true, true≢false}
-use Rattle.std.specs.Bool.{◌==◌}
-use Rattle.std.specs.Option.{is_some}
+use Rattle.std.proofs.Common.{Bool, None, Option, Some, [], All, List, ap, arith, cond, false, get_or, length, option_to_list, refl, reverse, subst, suc, sym, true, zero, ℕ, ◌++◌, ◌+◌, ◌-◌, ◌<◌, ◌∙◌, ◌∷◌, ◌≡◌, ◌≤◌}
+use Rattle.std.proofs.lemmas.List.{append-nil, append_assoc, append_cancel_right, get_or_append_left, get_or_default, get_or_push, length_push, map_push, reverse-append, same_from_push}
 use Rattle.std.proofs.lemmas.List.Elements.{All-push, filter-append}
 use Rattle.std.specs.List.{filter}
 use Rattle.poly_atom.specs.declared.atom.Atom.{Atom}
-use Rattle.poly_report.specs.Linked.{AreEarlier, AreLinked, Extends, GoesOnAt, at_node, ended, nodes, with_links}
-use Rattle.poly_atom.specs.declared.atom.Atom.TheVariants.{AtLeast, AtMost, Has as HasAtom, Lacks as LacksAtom}
-use Rattle.poly_report.specs.Words.{Reads, ReadsOther, is_other}
+use Rattle.poly_report.specs.Linked.{AreEarlier, AreLinked, Extends, at_node, ended, nodes, with_links}
+use Rattle.poly_report.specs.Words.{Reads, kept}
 use Rattle.poly_report.specs.declared.nodes.Link.{Link}
 
 pub count_nodes : (X : List (List Atom)) (ls : List Link) → length (with_links X ls) ≡ length X + length ls
@@ -115,28 +111,9 @@ linked_end old new ends e f h m = record { earlier = f.earlier; inside = All-pus
 pub ended_end : (old new : List Link) (ends : List ℕ) (e : ℕ) (B : List Atom) → Extends old new → AreLinked old ends → at_node new e ≡ B → ended new (ends ++ e ∷ []) ≡ ended old ends ++ B ∷ []
 ended_end old new ends e B f h is = map_push (λ n. at_node new n) ends e ∙ (λ i. ended_stay old new ends f h.inside i ++ is i ∷ [])
 
--- a link that leads to the list of the node before and has the next atom of a list
-pub goes_on : (ls : List Link) (node before : ℕ) (list : List Atom) (index : ℕ) (l : Link) (a : Atom) → AreEarlier 0 ls → 0 < node → node ≤ length ls → index < length list → get_or ls (node - 1) l ≡ l → get_or list index a ≡ a → at_node ls l.before ≡ at_node ls before → l.atom ≡ Some a → GoesOnAt ls node before list index
-goes_on ls node before list index l a h some m n g r b e = record {
-  inside = m;
-  room = n;
-  more = λ so_far.
-      let old = b ∙ so_far in
-      adds ls node l h some m g ∙ (λ i. old i ++ option_to_list (e i)) ∙ ap (λ x. take index list ++ x ∷ []) (sym r) ∙ sym (take_more list index a n);
-}
-
--- a link without an atom leads to a node with the same list
-pub leads_back : (ls : List Link) (node other : ℕ) (l : Link) → AreEarlier 0 ls → 0 < node → node ≤ length ls → get_or ls (node - 1) l ≡ l → l.atom ≡ None → l.before ≡ other → at_node ls node ≡ at_node ls other
-leads_back ls node other l h some m g none e =
-    adds ls node l h some m g ∙ (λ i. at_node ls (e i) ++ option_to_list (none i)) ∙ append-nil (at_node ls other)
-
 -- one link more
 pub step_grows : (old now new : List Link) (l : Link) → new ≡ now ++ l ∷ [] → Extends old now → l.before ≤ length now → Extends old new
 step_grows old now new l is f b = subst (λ ls. Extends old ls) (sym is) (extended old now l f b)
-
-pub step_reads : (now new : List Link) (l : Link) (n : ℕ) (B C : List Atom) → new ≡ now ++ l ∷ [] → n ≡ length now + 1 → at_node now l.before ≡ B ++ C → at_node new n ≡ B ++ (C ++ option_to_list l.atom)
-step_reads now new l n B C is number reads =
-    ap (λ ls. at_node ls n) is ∙ at_push now l n number ∙ ap (λ D. D ++ option_to_list l.atom) reads ∙ append_assoc B C (option_to_list l.atom)
 
 -- the lists after more links, with the same ends or with one end more
 pub lists_stay : (old new : List Link) (ends same : List ℕ) (lists : List (List Atom)) → Extends old new → AreLinked old ends → ended old ends ≡ lists → same ≡ ends → ended new same ≡ lists
@@ -148,72 +125,49 @@ lists_grow old new ends more node B lists f h is e b = ap (λ s. ended new s) e 
 pub linked_more : (old new : List Link) (ends more : List ℕ) (node : ℕ) → Extends old new → AreLinked old ends → more ≡ ends ++ node ∷ [] → node ≤ length new → AreLinked new more
 linked_more old new ends more node f h e m = subst (λ s. AreLinked new s) (sym e) (linked_end old new ends node f h m)
 
+-- a node more, with one atom more than the last one
+pub chained : (old new : List Link) (a : Atom) (B C : List Atom) → new ≡ old ++ (record { before = length old; atom = Some a }) ∷ [] → AreEarlier 0 old → at_node old (length old) ≡ B → C ≡ B ++ a ∷ [] → AreEarlier 0 new × (at_node new (length new) ≡ C)
+chained old new a B C is h last more =
+    let l : Link = record { before = length old; atom = Some a } in
+    let number : length new ≡ length old + 1 = omega (arith, ap length is, length_push old l) in (
+      subst (AreEarlier 0) (sym is) (extends_push old l h (omega arith)).earlier,
+      ap (λ ls. at_node ls (length new)) is ∙ at_push old l (length new) number ∙ ap (λ A. A ++ a ∷ []) last ∙ sym more,
+    )
+
 -- a node more that leads back
 pub resumed : (old new : List Link) (l : Link) → new ≡ old ++ l ∷ [] → l.atom ≡ None → at_node new (length new) ≡ at_node old l.before
 resumed old new l is none =
     let number : length new ≡ length old + 1 = omega (arith, ap length is, length_push old l) in
     ap (λ ls. at_node ls (length new)) is ∙ at_push old l (length new) number ∙ ap (λ o. at_node old l.before ++ option_to_list o) none ∙ append-nil (at_node old l.before)
 
--- a list is that of a node exactly if it is so without what the node's link adds
-pub compared : (ls : List Link) (left : ℕ) (l : Link) (rest shorter whole list : List Atom) → AreEarlier 0 ls → 0 < left → left ≤ length ls → get_or ls (left - 1) l ≡ l → shorter ++ option_to_list l.atom ≡ rest → (at_node ls left ≡ rest → whole ≡ list) × (whole ≡ list → at_node ls left ≡ rest) → (at_node ls l.before ≡ shorter → whole ≡ list) × (whole ≡ list → at_node ls l.before ≡ shorter)
-compared ls left l rest shorter whole list h some m g is before =
-    let here = adds ls left l h some m g in (
-      λ same. before.0 (here ∙ ap (λ A. A ++ option_to_list l.atom) same ∙ is),
-      λ yes. append_cancel_right (at_node ls l.before) shorter (option_to_list l.atom) (sym here ∙ before.1 yes ∙ sym is),
+-- a list ends with that of a node exactly if it does so without what the node's link adds
+pub ends_so : (ls : List Link) (left : ℕ) (l : Link) (rest shorter B : List Atom) → AreEarlier 0 ls → 0 < left → left ≤ length ls → get_or ls (left - 1) l ≡ l → shorter ++ option_to_list l.atom ≡ rest → (B ++ at_node ls left ≡ rest → B ++ at_node ls l.before ≡ shorter) × (B ++ at_node ls l.before ≡ shorter → B ++ at_node ls left ≡ rest)
+ends_so ls left l rest shorter B h some m g is =
+    let here = adds ls left l h some m g in
+    let last = option_to_list l.atom in
+    let whole : B ++ at_node ls left ≡ (B ++ at_node ls l.before) ++ last = ap (λ A. B ++ A) here ∙ sym (append_assoc B (at_node ls l.before) last) in (
+      λ yes. append_cancel_right (B ++ at_node ls l.before) shorter last (sym whole ∙ yes ∙ sym is),
+      λ same. whole ∙ ap (λ A. A ++ last) same ∙ is,
     )
-
-reverse_option : (o : Option Atom) → reverse (option_to_list o) ≡ option_to_list o
-reverse_option None = refl
-reverse_option (Some a) = refl
-
-pub none_from : (o : Option Atom) (b : Bool) → is_some o ≡ not b → b ≡ true → o ≡ None
-none_from None b h y = refl
-none_from (Some a) b h y = absurd (true≢false (h ∙ ap not y))
 
 -- a list doesn't end with another atom
 pub no_other_end : (list rest B : List Atom) (found atom : Atom) → list ≡ rest ++ found ∷ [] → B ++ atom ∷ [] ≡ list → found ≡ atom
 no_other_end list rest B found atom is e = (same_from_push rest B found atom (sym is ∙ sym e)).1
 
-nil_from : (A : List Atom) → length A ≡ 0 → A ≡ []
-nil_from [] h = refl
-nil_from (a ∷ A) h = absurd (omega (arith, h))
+turned_by : (b : Bool) (a : Atom) → reverse (cond b (a ∷ []) []) ≡ cond b (a ∷ []) []
+turned_by true a = refl
+turned_by false a = refl
 
--- at node 0, the rest of the list is to be empty
-pub compared_all : (ls : List Link) (left : ℕ) (rest whole list : List Atom) (b : Bool) → left ≡ 0 → b ≡ length rest == 0 → (at_node ls left ≡ rest → whole ≡ list) × (whole ≡ list → at_node ls left ≡ rest) → (b ≡ true → whole ≡ list) × (whole ≡ list → b ≡ true)
-compared_all ls left rest whole list b e is before =
-    let none : at_node ls left ≡ [] = ap (λ n. at_node ls n) e ∙ no_node ls in (
-      λ yes. before.0 (none ∙ sym (nil_from rest (eqb-true (length rest) 0 (sym is ∙ yes)))),
-      λ same. is ∙ eq-eqb (length rest) 0 (ap length (sym (before.1 same) ∙ none)),
-    )
+-- the atoms that are kept of at most one stay in their order
+turned : (f : Atom → Bool) (o : Option Atom) → reverse (filter f (option_to_list o)) ≡ filter f (option_to_list o)
+turned f None = refl
+turned f (Some a) = turned_by (f a) a
 
-turned_option : (o : Option Atom) → reverse (filter is_other (option_to_list o)) ≡ filter is_other (option_to_list o)
-turned_option None = refl
-turned_option (Some (HasAtom p)) = refl
-turned_option (Some (LacksAtom p)) = refl
-turned_option (Some (AtLeast i n)) = refl
-turned_option (Some (AtMost i n)) = refl
-
--- a step back from a node, whose atom is read unless it is a `Lacks`
-pub read_other_on : (ls : List Link) (left before : ℕ) (old new : List Atom) → AreEarlier 0 ls → 0 < left → left ≤ length ls → ReadsOther ls (left - 1) before old new →
-    (before < left) × (filter is_other (at_node ls before) ++ reverse new ≡ filter is_other (at_node ls left) ++ reverse old)
-read_other_on ls left before old new h some m r =
-    let d : Link = record { before = 0; atom = None } in
-    let l = get_or ls (left - 1) d in
-    let within : left - 1 < length ls = omega (arith, some, m) in
-    let g : get_or ls (left - 1) l ≡ l = get_or_default ls (left - 1) l d within in
-    let last = option_to_list l.atom in
-    let kept = filter is_other last in
-    let leads : l.before ≡ before = r.leads d in
-    let here : at_node ls left ≡ at_node ls before ++ last = adds ls left l h some m g ∙ ap (λ n. at_node ls n ++ last) leads in
-    let split : filter is_other (at_node ls left) ≡ filter is_other (at_node ls before) ++ kept = ap (filter is_other) here ∙ filter-append is_other (at_node ls before) last in
-    let turned : reverse new ≡ kept ++ reverse old = ap reverse (r.adds d) ∙ reverse-append old kept ∙ ap (λ B. B ++ reverse old) (turned_option l.atom) in (
-      omega (arith, (link_at ls (left - 1) l h within g).1, leads, some),
-      ap (λ B. filter is_other (at_node ls before) ++ B) turned ∙ sym (append_assoc (filter is_other (at_node ls before)) kept (reverse old)) ∙ ap (λ B. B ++ reverse old) (sym split),
-    )
-
--- a step back from a node, whose atom is read
-pub read_on : (ls : List Link) (left before : ℕ) (old new : List Atom) → AreEarlier 0 ls → 0 < left → left ≤ length ls → Reads ls (left - 1) before old new → (before < left) × (at_node ls before ++ reverse new ≡ at_node ls left ++ reverse old)
-read_on ls left before old new h some m r =
+-- a step back from a node, whose atom is read if it is kept
+pub read_on : (others : Bool) (ls : List Link) (left before : ℕ) (old new : List Atom) → AreEarlier 0 ls → 0 < left → left ≤ length ls → Reads others ls (left - 1) before old new →
+    (before < left) × (new ++ reverse (filter (kept others) (at_node ls before)) ≡ old ++ reverse (filter (kept others) (at_node ls left)))
+read_on others ls left before old new h some m r =
+    let f = kept others in
     let d : Link = record { before = 0; atom = None } in
     let l = get_or ls (left - 1) d in
     let within : left - 1 < length ls = omega (arith, some, m) in
@@ -221,7 +175,9 @@ read_on ls left before old new h some m r =
     let last = option_to_list l.atom in
     let leads : l.before ≡ before = r.leads d in
     let here : at_node ls left ≡ at_node ls before ++ last = adds ls left l h some m g ∙ ap (λ n. at_node ls n ++ last) leads in
-    let turned : reverse new ≡ last ++ reverse old = ap reverse (r.adds d) ∙ reverse-append old last ∙ ap (λ B. B ++ reverse old) (reverse_option l.atom) in (
+    let first = filter f (at_node ls before) in
+    let split : filter f (at_node ls left) ≡ first ++ filter f last = ap (filter f) here ∙ filter-append f (at_node ls before) last in
+    let back : reverse (filter f (at_node ls left)) ≡ filter f last ++ reverse first = ap reverse split ∙ reverse-append first (filter f last) ∙ ap (λ B. B ++ reverse first) (turned f l.atom) in (
       omega (arith, (link_at ls (left - 1) l h within g).1, leads, some),
-      ap (λ B. at_node ls before ++ B) turned ∙ sym (append_assoc (at_node ls before) last (reverse old)) ∙ ap (λ B. B ++ reverse old) (sym here),
+      ap (λ B. B ++ reverse first) (r.adds d) ∙ append_assoc old (filter f last) (reverse first) ∙ ap (λ B. old ++ B) (sym back),
     )

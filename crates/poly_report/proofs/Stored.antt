@@ -1,11 +1,13 @@
 -- What one more word changes, and what a word says.
 use Rattle.std.specs.List.{filter, slice_get}
-use Rattle.std.proofs.Common.{Option, Some, [], All, List, ap, arith, get_or, length, option_to_list, refl, subst, suc, sym, zero, ℕ, ◌++◌, ◌+◌, ◌<◌, ◌∙◌, ◌∷◌, ◌≡◌}
+use Rattle.std.proofs.Common.{Bool, Option, Some, [], All, List, ap, arith, false, get_or, length, option_to_list, refl, subst, suc, sym, true, zero, ℕ, ◌++◌, ◌+◌, ◌<◌, ◌∙◌, ◌∷◌, ◌≡◌}
 use Rattle.std.proofs.lemmas.List.{append-nil, get_or_default, length-append}
-use Rattle.std.proofs.lemmas.List.Elements.{All-head, All-push, All-tail, All-weaker}
+use Rattle.std.proofs.lemmas.List.Elements.{All-head, All-tail, All-weaker}
 use Rattle.poly_atom.specs.declared.atom.Atom.{Atom}
+use Rattle.poly_atom.specs.declared.atom.Atom.TheVariants.{Has as HasAtom, Lacks as LacksAtom}
+use Rattle.std.proofs.lemmas.Bool.{true≢false}
 use Rattle.std.proofs.lemmas.Option.{slice_get_read}
-use Rattle.poly_report.specs.Words.{IsBeginning, IsStored, Reads, ReadsOther, Stores, is_other, link_of, links_of}
+use Rattle.poly_report.specs.Words.{IsBeginning, IsStored, Reads, Stores, kept, link_of, links_of}
 use Rattle.poly_report.specs.declared.nodes.Link.{Link}
 use Rattle.poly_report.specs.declared.nodes.Word.{Word}
 use Rattle.poly_report.specs.declared.nodes.Word.TheVariants.{Back, Has, Lacks, Other}
@@ -61,14 +63,6 @@ links_more os new ws ws' w a b h s is =
     let last = s.says m in
     ap (λ v. links_of new 0 v) is ∙ links_push new 0 m ws w number ∙ (λ k. before k ++ last k ∷ [])
 
-pub all_more : (os new : List Atom) (ws ws' : List Word) (w : Word) → IsBeginning os new → All (λ v. IsStored (length os) v) ws → IsStored (length new) w → ws' ≡ ws ++ w ∷ [] → All (λ v. IsStored (length new) v) ws'
-all_more os new ws ws' w b h s is =
-    let P : Word → Type 0 = λ v. IsStored (length new) v in
-    subst (λ v. All P v) (sym is) (All-push P ws w (all_over os new ws b h) s)
-
-pub same_beginning : (os : List Atom) → IsBeginning os os
-same_beginning os = record { more = []; is = sym (append-nil os) }
-
 -- the link of the word at an index
 link_found : (os : List Atom) (n i m : ℕ) (ws : List Word) (w : Word) (l : Link) → i < length ws → get_or ws i w ≡ w → m ≡ n + i → get_or (links_of os n ws) i l ≡ link_of os m w
 link_found os n i m [] w l h g e = absurd (omega (arith, h))
@@ -86,14 +80,22 @@ other_found os ws i j a h e stored is = λ d.
     let atom = slice_get_read os (length os) j a (omega arith) within is in
     word_found os ws i (Other j) h e d ∙ (λ k. record { before = i; atom = atom k })
 
-pub reads_other : (ls : List Link) (i before : ℕ) (o : Option Atom) (old new : List Atom) → ((d : Link) → get_or ls i d ≡ record { before = before; atom = o }) → new ≡ old ++ filter is_other (option_to_list o) → ReadsOther ls i before old new
-reads_other ls i before o old new found is = record {
+pub reads_link : (others : Bool) (ls : List Link) (i before : ℕ) (o : Option Atom) (old new : List Atom) → ((d : Link) → get_or ls i d ≡ record { before = before; atom = o }) → new ≡ old ++ filter (kept others) (option_to_list o) → Reads others ls i before old new
+reads_link others ls i before o old new found is = record {
   leads = λ d. ap (λ l. l.before) (found d);
-  adds = λ d. is ∙ ap (λ l. old ++ filter is_other (option_to_list l.atom)) (sym (found d));
+  adds = λ d. is ∙ ap (λ l. old ++ filter (kept others) (option_to_list l.atom)) (sym (found d));
 }
 
-pub reads_link : (ls : List Link) (i before : ℕ) (o : Option Atom) (old new : List Atom) → ((d : Link) → get_or ls i d ≡ record { before = before; atom = o }) → new ≡ old ++ option_to_list o → Reads ls i before old new
-reads_link ls i before o old new found is = record {
-  leads = λ d. ap (λ l. l.before) (found d);
-  adds = λ d. is ∙ ap (λ l. old ++ option_to_list l.atom) (sym (found d));
-}
+-- a `Has` is kept
+pub has_kept : (others : Bool) (p : ℕ) (old : List Atom) → old ++ HasAtom p ∷ [] ≡ old ++ filter (kept others) (HasAtom p ∷ [])
+has_kept true p old = refl
+has_kept false p old = refl
+
+-- a `Lacks` is kept exactly if not only others are
+pub lacks_kept : (others : Bool) (p : ℕ) (old : List Atom) → others ≡ false → old ++ LacksAtom p ∷ [] ≡ old ++ filter (kept others) (LacksAtom p ∷ [])
+lacks_kept true p old h = absurd (true≢false h)
+lacks_kept false p old h = refl
+
+pub lacks_left_out : (others : Bool) (p : ℕ) (old : List Atom) → others ≡ true → old ≡ old ++ filter (kept others) (LacksAtom p ∷ [])
+lacks_left_out true p old h = sym (append-nil old)
+lacks_left_out false p old h = absurd (true≢false (sym h))

@@ -8,3 +8,7 @@ pub mod Opened
 pub mod Laws
 pub mod Linked
 pub mod Words
+pub mod Tries
+pub mod Stems
+pub mod Trails
+pub mod Tails

@@ -1,6 +1,6 @@
 -- Lists of atoms as links: each node stands for a list, and its link leads to the list without the last atom. A link without an
 -- atom leads to the same list.
-use Rattle.std.specs.Prelude.{All, List, [], length, map, option_to_list, slice_index_or, suc, take, ⊤, ℕ, ◌++◌, ◌+◌, ◌<◌, ◌≡◌, ◌≤◌, ◌∷◌}
+use Rattle.std.specs.Prelude.{All, List, [], length, map, option_to_list, slice_index_or, suc, ⊤, ℕ, ◌++◌, ◌≡◌, ◌≤◌, ◌∷◌}
 use Rattle.poly_atom.specs.declared.atom.Atom.{Atom}
 use Rattle.poly_report.specs.declared.nodes.Link.{Link}
 
@@ -36,9 +36,3 @@ pub record Extends (old new : List Link) : Type 0 where
   pub earlier : AreEarlier 0 new
   pub longer : length old ≤ length new
   pub same : (n : ℕ) → n ≤ length old → at_node new n ≡ at_node old n
-
--- the node goes on with the list: if the node before has the atoms up to the index, this one has the atom at the index too
-pub record GoesOnAt (links : List Link) (node before : ℕ) (list : List Atom) (index : ℕ) : Type 0 where
-  pub inside : node ≤ length links
-  pub room : index < length list
-  pub more : at_node links before ≡ take index list → at_node links node ≡ take (index + 1) list

@@ -1,6 +1,6 @@
 -- Links as words, each of which follows the one before it unless it leads back to an earlier node.
 use Rattle.std.specs.List.{filter, slice_get}
-use Rattle.std.specs.Prelude.{Bool, List, None, Some, [], false, length, option_to_list, slice_index_or, suc, true, ◌++◌, ◌<◌, ◌≡◌, ◌∷◌, ℕ}
+use Rattle.std.specs.Prelude.{Bool, List, None, Some, [], false, length, not, option_to_list, slice_index_or, suc, true, ◌++◌, ◌<◌, ◌||◌, ◌≡◌, ◌∷◌, ℕ}
 use Rattle.poly_atom.specs.declared.atom.Atom.{Atom}
 use Rattle.poly_atom.specs.declared.atom.Atom.TheVariants.{AtLeast, AtMost, Has as HasAtom, Lacks as LacksAtom}
 use Rattle.poly_report.specs.declared.nodes.Link.{Link}
@@ -40,11 +40,6 @@ pub record Stores (others : List Atom) (w : Word) (a : Atom) : Type 0 where
 abbrev pub Adds : List Link → ℕ → Atom → Type 0
 Adds links i a = (d : Link) → slice_index_or links i d ≡ record { before = i; atom = Some a }
 
--- the link at the index leads to the node before, and its atom, if there is one, is added to a list
-pub record Reads (links : List Link) (i before : ℕ) (old new : List Atom) : Type 0 where
-  pub leads : (d : Link) → (slice_index_or links i d).before ≡ before
-  pub adds : (d : Link) → new ≡ old ++ option_to_list (slice_index_or links i d).atom
-
 -- the atom is no `Lacks`
 abbrev pub is_other : Atom → Bool
 is_other (HasAtom p) = true
@@ -52,7 +47,11 @@ is_other (LacksAtom p) = false
 is_other (AtLeast i n) = true
 is_other (AtMost i n) = true
 
--- the link at the index leads to the node before, and its atom is added to a list, if there is one and it is no `Lacks`
-pub record ReadsOther (links : List Link) (i before : ℕ) (old new : List Atom) : Type 0 where
+-- the atom is kept if only others are
+abbrev pub kept : Bool → Atom → Bool
+kept others a = not others || is_other a
+
+-- the link at the index leads to the node before, and its atom, if there is one, is added to a list if it is kept
+pub record Reads (others : Bool) (links : List Link) (i before : ℕ) (old new : List Atom) : Type 0 where
   pub leads : (d : Link) → (slice_index_or links i d).before ≡ before
-  pub adds : (d : Link) → new ≡ old ++ filter is_other (option_to_list (slice_index_or links i d).atom)
+  pub adds : (d : Link) → new ≡ old ++ filter (kept others) (option_to_list (slice_index_or links i d).atom)

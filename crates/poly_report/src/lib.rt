@@ -6,6 +6,9 @@
 //!   isn't checked, since no tiling of the family has that placement.
 //! - [`leaves`], [`Leaves`]: the tilings and the rests of a tree that holds. [`cut_up`], [`cut_up_over`]: the check and the
 //!   leaves in one walk.
+//! - [`AtomLists`], [`SharedLists`]: the rests of a tree. Shared lists can begin in other shared lists, as the rests of a
+//!   report do in the lists of the task that it cuts up. `SharedLists::after` makes a list of one of them and the atoms that
+//!   follow it.
 //! - [`Frame`], [`Matrix`], [`STEPS`] come from `poly_frame`: `Leaves` reads a frame, and `cut_up_over` takes a matrix.
 //! - The laws give the limits of trees. They say that a tree that holds shares out its family, and that it keeps holding after
 //!   a change if the guards of the change are added; that the tilings of a tree belong to its family; and that if a tree takes
@@ -15,11 +18,15 @@
 mod arms;
 mod atom_lists;
 mod cut;
+mod growing;
 mod laws;
 mod leaf;
 mod nodes;
+mod shared_lists;
 mod size;
+mod tail;
 mod tree;
+mod walk;
 
 pub use atom_lists::AtomLists;
 pub use cut::{cut_up, cut_up_over, holds, leaves};
@@ -29,5 +36,6 @@ pub use laws::{
 };
 pub use leaf::Leaves;
 pub use poly_frame::{Frame, Matrix, STEPS};
+pub use shared_lists::SharedLists;
 pub use size::{DEPTH, NODES, fits};
 pub use tree::{Arm, Report, Tree};

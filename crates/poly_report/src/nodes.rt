@@ -1,12 +1,12 @@
 //! The nodes of a trie of lists of atoms, in 8 bytes each.
 //!
-//! A node stands for a list of atoms, and its link says which: the list of an earlier node, followed by one atom. In nearly every
-//! link the earlier node is the one right before it, and nearly every atom says that a placement is there or is not. So a link is
-//! stored as one word: the atom that follows the list of the node right before. If a list goes on from another node, a word
-//! between them leads back to that node.
+//! A node stands for a list of atoms, and its link says which: the list of an earlier node, followed by one atom. In nearly
+//! every link the earlier node is the one right before it, and nearly every atom says that a placement is there or is not. So
+//! a link is stored as one word: the atom that follows the list of the node right before. If a list goes on from another node,
+//! a word between them leads back to that node.
 ghost use Rattle.std.specs.Prelude.{◌≡◌, ◌++◌, ◌∷◌, ◌<◌, [], All, IfErr, IfOk, IsTrue, None, OnErr, OnOk, Some, length, slice_index_or};
 ghost use Rattle.std.specs.List.{filter};
-ghost use Rattle.poly_report.specs.Words.{Adds, IsBeginning, IsStored, Reads, ReadsOther, Stores, is_other, links_of};
+ghost use Rattle.poly_report.specs.Words.{Adds, IsBeginning, IsStored, Reads, Stores, is_other, kept, links_of};
 
 use poly_atom::Atom;
 use poly_grid::Refusal;
@@ -94,23 +94,19 @@ impl Nodes {
         adds_at(&self.words, &self.others, index, atom)
     }
 
-    /// Appends the atom of the node with the number `index + 1` to the buffer, if its link has one, and returns the node before.
-    /// Requires that there is such a node. The only refusal is `Memory`.
-    pub fn read_last(&self, index: usize, buffer: &mut Vec<Atom>) -> Result<usize, Refusal>
+    /// Appends the atom of the node with the number `index + 1` to the buffer, if its link has one, and returns the node
+    /// before. If `others`, a `Lacks` is left out. Requires that there is such a node. The only refusal is `Memory`.
+    pub fn read_last(
+        &self,
+        index: usize,
+        others: bool,
+        buffer: &mut Vec<Atom>,
+    ) -> Result<usize, Refusal>
         requires { index < length self.now }
-        ensures ok { IfOk result (λ before. Reads self.now index before buffer.old.items buffer.new.items) }
+        ensures ok { IfOk result (λ before. Reads others self.now index before buffer.old.items buffer.new.items) }
         ensures why { IfErr result (λ e. e ≡ Refusal.Memory) }
     {
-        read_at(&self.words, &self.others, index, buffer)
-    }
-
-    /// Does what `read_last` does, but passes over a `Lacks`.
-    pub fn read_other(&self, index: usize, buffer: &mut Vec<Atom>) -> Result<usize, Refusal>
-        requires { index < length self.now }
-        ensures ok { IfOk result (λ before. ReadsOther self.now index before buffer.old.items buffer.new.items) }
-        ensures why { IfErr result (λ e. e ≡ Refusal.Memory) }
-    {
-        read_other_at(&self.words, &self.others, index, buffer)
+        read_at(&self.words, &self.others, index, others, buffer)
     }
 
     /// Adds a node: the list of the last node, followed by the atom. The only refusal is `Memory`, and it leaves the nodes as
@@ -197,16 +193,18 @@ fn adds_at(words: &[Word], others: &[Atom], index: usize, atom: &Atom) -> bool
     }
 }
 
-// Appends the atom of the word at the index, if it is one for an atom, and returns the node before.
+// Appends the atom of the word at the index, if it is one for an atom, and returns the node before. If `others`, a `Lacks` is
+// left out.
 fn read_at(
     words: &[Word],
-    others: &[Atom],
+    rest: &[Atom],
     index: usize,
+    others: bool,
     buffer: &mut Vec<Atom>,
 ) -> Result<usize, Refusal>
     requires index { index < length words.now }
-    requires stored { All (λ w. IsStored (length others.now) w) words.now }
-    ensures ok { IfOk result (λ before. Reads (links_of others.now 0 words.now) index before buffer.old.items buffer.new.items) }
+    requires stored { All (λ w. IsStored (length rest.now) w) words.now }
+    ensures ok { IfOk result (λ before. Reads others (links_of rest.now 0 words.now) index before buffer.old.items buffer.new.items) }
     ensures why { IfErr result (λ e. e ≡ Refusal.Memory) }
 {
     match words[index] {
@@ -215,41 +213,30 @@ fn read_at(
             Ok(index)
         }
         Word::Lacks(placement) => {
+            if others {
+                return Ok(index);
+            }
             buffer.push(Atom::Lacks(placement))?;
             Ok(index)
         }
         Word::Other(other) => {
-            buffer.push(others[other as usize])?;
+            push_kept(buffer, rest[other as usize], others)?;
             Ok(index)
         }
         Word::Back(node) => Ok(node as usize),
     }
 }
 
-// Appends the atom of the word at the index, if it is one for an atom that is no `Lacks`, and returns the node before.
-fn read_other_at(
-    words: &[Word],
-    others: &[Atom],
-    index: usize,
-    buffer: &mut Vec<Atom>,
-) -> Result<usize, Refusal>
-    requires index { index < length words.now }
-    requires stored { All (λ w. IsStored (length others.now) w) words.now }
-    ensures ok { IfOk result (λ before. ReadsOther (links_of others.now 0 words.now) index before buffer.old.items buffer.new.items) }
+// Appends the atom. If `others`, a `Lacks` is left out.
+fn push_kept(buffer: &mut Vec<Atom>, atom: Atom, others: bool) -> Result<(), Refusal>
+    ensures ok { OnOk result (buffer.new.items ≡ buffer.old.items ++ filter (kept others) (atom ∷ [])) }
     ensures why { IfErr result (λ e. e ≡ Refusal.Memory) }
 {
-    match words[index] {
-        Word::Has(placement) => {
-            buffer.push(Atom::Has(placement))?;
-            Ok(index)
-        }
-        Word::Lacks(_) => Ok(index),
-        Word::Other(other) => {
-            push_other(buffer, others[other as usize])?;
-            Ok(index)
-        }
-        Word::Back(node) => Ok(node as usize),
+    if others {
+        return push_other(buffer, atom);
     }
+    buffer.extend_from_slice(&[atom])?;
+    Ok(())
 }
 
 // Appends the atom unless it is a `Lacks`.

@@ -1,0 +1,337 @@
+//! Lists of atoms that are finished, and shared by whoever reads them.
+//!
+//! The rests of a report begin with the atoms of the task that the report cuts up, and these are a list of an earlier report.
+//! On a wide board they are most of each rest. So lists can be kept over a list of other lists: they store only what follows
+//! it, and whoever reads them begins there.
+ghost use Rattle.std.specs.Arc.{arc_value};
+ghost use Rattle.std.specs.List.{filter};
+ghost use Rattle.std.specs.Prelude.{◌≡◌, ◌++◌, ◌∷◌, ◌<◌, ◌↔◌, [], IfErr, IfOk, IsTrue, MatchOption, OnOk, length, reverse, slice_index_or, ⊤};
+ghost use Rattle.poly_report.specs.Linked.{AreEarlier, AreLinked, at_node, ended};
+ghost use Rattle.poly_report.specs.Stems.{IsStem, stem_of};
+ghost use Rattle.poly_report.specs.Words.{is_other, kept};
+
+use crate::nodes::{Nodes, short};
+use crate::tail::{begins_with, later_ends, tail_of};
+use crate::walk::{read_back, without_list};
+use poly_atom::Atom;
+use poly_grid::Refusal;
+use std::alloc::Global;
+use std::marker::Model;
+use std::sync::Arc;
+
+// The greatest depth of a trie. Reading a list is a recursion as deep as its trie.
+const DEEPEST: u32 = 64;
+
+// How many atoms a list has at least if other lists are kept over it. Fewer of them take less memory than the trie itself.
+const SHORTEST: usize = 16;
+
+/// Lists of atoms to which none is added any more. A clone shares them.
+#[derive(Debug, Drop)]
+pub struct SharedLists {
+    trie: Arc<Trie>,
+}
+
+impl Model for SharedLists {
+    ghost use Rattle.std.specs.Arc.{arc_value};
+    ghost use Rattle.std.specs.Prelude.{List};
+    ghost use Rattle.poly_atom.specs.declared.atom.Atom.{Atom};
+
+    ghost Value = { List (List Atom) };
+
+    ghost view = { λ r. (arc_value r.trie).lists };
+}
+
+/// A trie whose lists all begin with the same list of an earlier trie.
+#[derive(Debug, Drop)]
+#[cycle(trie)]
+pub(crate) struct Trie {
+    /// What each list begins with.
+    stem: Stem,
+    /// More than the depth of the trie that has the stem.
+    depth: u32,
+    /// The nodes of the atoms after the stem.
+    nodes: Nodes,
+    /// The node of each list.
+    ends: Vec<u32>,
+}
+
+/// What each list of a trie begins with.
+#[derive(Debug, Drop)]
+#[cycle(trie)]
+pub(crate) enum Stem {
+    /// No atoms.
+    Empty,
+    /// The list at the index.
+    Listed(Arc<Trie>, usize),
+}
+
+impl Model for Trie {
+    ghost use Rattle.std.specs.Prelude.{◌++◌, map};
+    ghost use Rattle.poly_report.specs.Linked.{ended};
+    ghost use Rattle.poly_report.specs.Tries.{TrieLists, lists_of};
+
+    ghost Value = { TrieLists };
+
+    ghost use Rattle.poly_report.specs.Stems.{HasStem, stem_of};
+
+    ghost view = { λ r. lists_of r.depth (map (λ B. stem_of r.stem ++ B) (ended r.nodes r.ends.items)) };
+
+    ghost invariant = { λ r. HasStem r.stem r.depth r.nodes r.ends.items };
+
+    ghost size = { λ t. t.depth };
+
+    ghost use Rattle.std.proofs.Common.{arith};
+
+    ghost size_decreases = { λ a h. Prim.grind (arith) };
+}
+
+impl Trie {
+    // How many lists there are.
+    fn len(&self) -> usize
+        ensures { result ≡ length self.now.lists }
+    {
+        self.ends.len()
+    }
+
+    // The bound on how many tries the lists are read from.
+    fn depth(&self) -> u32
+        ensures { result ≡ self.now.depth }
+    {
+        self.depth
+    }
+
+    // Appends the atoms of the list at the index to the buffer, the last one first. If `others`, each `Lacks` is left out.
+    fn read_back(&self, index: usize, others: bool, buffer: &mut Vec<Atom>) -> Result<(), Refusal>
+        requires { index < length self.now.lists }
+        ensures ok { OnOk result (buffer.new.items ≡ buffer.old.items ++ reverse (filter (kept others) (slice_index_or self.now.lists index []))) }
+        ensures why { IfErr result (λ e. e ≡ Refusal.Memory) }
+    {
+        read_back(&self.nodes, self.ends[index] as usize, others, buffer)?;
+        match &self.stem {
+            Stem::Empty => Ok(()),
+            Stem::Listed(trie, at) => {
+                trie.read_back(*at, others, buffer)?;
+                Ok(())
+            }
+        }
+    }
+
+    // Whether the list at the index is this one.
+    fn matches(&self, index: usize, list: &[Atom]) -> bool
+        requires { index < length self.now.lists }
+        ensures { IsTrue result ↔ (slice_index_or self.now.lists index [] ≡ list.now) }
+    {
+        match without_list(&self.nodes, self.ends[index] as usize, list) {
+            None => false,
+            Some(rest) => {
+                match &self.stem {
+                    Stem::Empty => rest.is_empty(),
+                    Stem::Listed(trie, at) => trie.matches(*at, rest),
+                }
+            }
+        }
+    }
+}
+
+impl SharedLists {
+    /// The lists of these nodes. If all of them begin with the list of other lists at the index, that list is read from there,
+    /// as far as this pays. The only refusal is `Memory`.
+    pub(crate) fn of(
+        alloc: Global,
+        nodes: Nodes,
+        ends: Vec<u32>,
+        base: Option<(&SharedLists, usize)>,
+    ) -> Result<SharedLists, Refusal>
+        requires linked { AreLinked nodes ends.items }
+        requires index { MatchOption base ⊤ (λ b. b.1 < length b.0.now) }
+        ensures ok { IfOk result (λ lists. lists ≡ ended nodes ends.items) }
+        ensures why { IfErr result (λ e. e ≡ Refusal.Memory) }
+    {
+        if let Some((lists, index)) = base {
+            if let Some(trie) = trie_over(alloc, &nodes, &ends, &lists.trie, index)? {
+                return Ok(SharedLists {
+                    trie: Arc::new(alloc, trie)?,
+                });
+            }
+        }
+        let trie = trie_alone(nodes, ends);
+        Ok(SharedLists {
+            trie: Arc::new(alloc, trie)?,
+        })
+    }
+
+    /// One list: the list at the index, followed by these atoms. It is kept over the list at the index, so that only the atoms
+    /// that follow are stored, as far as this pays. Requires that there is a list at the index. The only refusal is `Memory`.
+    pub fn after(&self, alloc: Global, index: usize, more: &[Atom]) -> Result<SharedLists, Refusal>
+        requires { index < length self.now }
+        ensures ok { IfOk result (λ lists. lists ≡ (slice_index_or self.now index [] ++ more.now) ∷ []) }
+        ensures why { IfErr result (λ e. e ≡ Refusal.Memory) }
+    {
+        let trie = trie_after(alloc, &self.trie, index, more)?;
+        Ok(SharedLists {
+            trie: Arc::new(alloc, trie)?,
+        })
+    }
+
+    /// How many lists there are.
+    pub fn len(&self) -> usize
+        ensures { result ≡ length self.now }
+    {
+        self.trie.len()
+    }
+
+    /// Writes the list at the index to the buffer, in place of what the buffer had. Requires that there is such a list. The
+    /// only refusal is `Memory`.
+    pub fn read(&self, index: usize, buffer: &mut Vec<Atom>) -> Result<(), Refusal>
+        requires { index < length self.now }
+        ensures ok { OnOk result (buffer.new.items ≡ slice_index_or self.now index []) }
+        ensures why { IfErr result (λ e. e ≡ Refusal.Memory) }
+    {
+        buffer.clear();
+        self.trie.read_back(index, false, buffer)?;
+        buffer.reverse();
+        Ok(())
+    }
+
+    /// Does what `read` does, but leaves each `Lacks` out. On a wide board nearly all atoms of a list are of this kind.
+    pub fn read_others(&self, index: usize, buffer: &mut Vec<Atom>) -> Result<(), Refusal>
+        requires { index < length self.now }
+        ensures ok { OnOk result (buffer.new.items ≡ filter is_other (slice_index_or self.now index [])) }
+        ensures why { IfErr result (λ e. e ≡ Refusal.Memory) }
+    {
+        buffer.clear();
+        self.trie.read_back(index, true, buffer)?;
+        buffer.reverse();
+        Ok(())
+    }
+
+    /// Whether the list at the index is this one. Requires that there is a list at the index. Never allocates.
+    pub fn matches(&self, index: usize, list: &[Atom]) -> bool
+        requires { index < length self.now }
+        ensures { IsTrue result ↔ (slice_index_or self.now index [] ≡ list.now) }
+    {
+        self.trie.matches(index, list)
+    }
+
+    /// The same lists, shared with this value. The only refusal is `Memory`.
+    pub fn try_clone(&self) -> Result<SharedLists, Refusal>
+        ensures ok { IfOk result (λ lists. lists ≡ self.now) }
+        ensures why { IfErr result (λ e. e ≡ Refusal.Memory) }
+    {
+        let trie = Arc::try_clone(&self.trie)?;
+        Ok(SharedLists { trie })
+    }
+}
+
+// The lists of these nodes, all stored in one trie.
+fn trie_alone(nodes: Nodes, ends: Vec<u32>) -> Trie
+    requires { AreLinked nodes ends.items }
+    ensures { result.lists ≡ ended nodes ends.items }
+{
+    let mut nodes = nodes;
+    nodes.shrink();
+    let mut ends = ends;
+    ends.shrink_to_fit();
+    Trie {
+        stem: Stem::Empty,
+        depth: 0,
+        nodes,
+        ends,
+    }
+}
+
+// The lists of these nodes, over the base's list at the index. If they don't all begin with that list, or if that list is too
+// short or read from too many tries, `None`.
+fn trie_over(
+    alloc: Global,
+    nodes: &Nodes,
+    ends: &[u32],
+    base: &Arc<Trie>,
+    index: usize,
+) -> Result<Option<Trie>, Refusal>
+    requires linked { AreLinked nodes.now ends.now }
+    requires index { index < length (arc_value base.now).lists }
+    ensures ok { IfOk result (λ o. MatchOption o ⊤ (λ trie. trie.lists ≡ ended nodes.now ends.now)) }
+    ensures why { IfErr result (λ e. e ≡ Refusal.Memory) }
+{
+    let depth = base.depth();
+    if depth >= DEEPEST {
+        return Ok(None);
+    }
+    let list = list_of(alloc, base, index)?;
+    let first = list.len();
+    if first < SHORTEST || !begins_with(nodes, &list) {
+        return Ok(None);
+    }
+    let Some(tail) = tail_of(alloc, nodes, first)? else {
+        return Ok(None);
+    };
+    let Some(ends) = later_ends(alloc, ends, first)? else {
+        return Ok(None);
+    };
+    Ok(Some(Trie {
+        stem: Stem::Listed(Arc::try_clone(base)?, index),
+        depth: depth + 1,
+        nodes: tail,
+        ends,
+    }))
+}
+
+// The list at the index.
+fn list_of(alloc: Global, trie: &Trie, index: usize) -> Result<Vec<Atom>, Refusal>
+    requires { index < length trie.now.lists }
+    ensures ok { IfOk result (λ list. list.items ≡ slice_index_or trie.now.lists index []) }
+    ensures why { IfErr result (λ e. e ≡ Refusal.Memory) }
+{
+    let mut list = Vec::new(alloc);
+    trie.read_back(index, false, &mut list)?;
+    list.reverse();
+    Ok(list)
+}
+
+// The base's list at the index, followed by these atoms. If the base is read from too many tries, all atoms are stored.
+fn trie_after(alloc: Global, base: &Arc<Trie>, index: usize, more: &[Atom]) -> Result<Trie, Refusal>
+    requires { index < length (arc_value base.now).lists }
+    ensures ok { IfOk result (λ trie. trie.lists ≡ (slice_index_or (arc_value base.now).lists index [] ++ more.now) ∷ []) }
+    ensures why { IfErr result (λ e. e ≡ Refusal.Memory) }
+{
+    let depth = base.depth();
+    if depth >= DEEPEST {
+        let mut list = list_of(alloc, base, index)?;
+        list.extend_from_slice(more)?;
+        return trie_of_one(alloc, Stem::Empty, 0, &list);
+    }
+    let stem = Stem::Listed(Arc::try_clone(base)?, index);
+    trie_of_one(alloc, stem, depth + 1, more)
+}
+
+// The stem's list, followed by these atoms.
+fn trie_of_one(alloc: Global, stem: Stem, depth: u32, more: &[Atom]) -> Result<Trie, Refusal>
+    requires { IsStem stem depth }
+    ensures ok { IfOk result (λ trie. trie.lists ≡ (stem_of stem ++ more.now) ∷ []) }
+    ensures why { IfErr result (λ e. e ≡ Refusal.Memory) }
+{
+    let nodes = chain(alloc, more)?;
+    let mut ends = Vec::with_capacity(alloc, 1)?;
+    ends.push(short(nodes.len())?)?;
+    Ok(Trie {
+        stem,
+        depth,
+        nodes,
+        ends,
+    })
+}
+
+// A node for each beginning of the list, shortest first.
+fn chain(alloc: Global, list: &[Atom]) -> Result<Nodes, Refusal>
+    ensures linked { IfOk result (λ nodes. AreEarlier 0 nodes) }
+    ensures ok { IfOk result (λ nodes. at_node nodes (length nodes) ≡ list.now) }
+    ensures why { IfErr result (λ e. e ≡ Refusal.Memory) }
+{
+    let mut nodes = Nodes::new(alloc);
+    for atom in list {
+        nodes.push(atom)?;
+    }
+    nodes.shrink();
+    Ok(nodes)
+}
