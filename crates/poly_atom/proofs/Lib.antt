@@ -18,3 +18,4 @@ pub mod Hopes
 pub mod Few
 pub mod Asked
 pub mod Crowds
+pub mod Forgets

@@ -1,5 +1,5 @@
 -- What a log of guards says.
-use Rattle.std.specs.Prelude.{List, [], length, slice_index_or, take, ◌++◌, ◌-◌, ◌<◌, ◌∷◌}
+use Rattle.std.specs.Prelude.{List, [], length, slice_index_or, suc, take, zero, ℕ, ◌++◌, ◌-◌, ◌<◌, ◌∷◌}
 use Rattle.poly_atom.specs.declared.atom.Atom.{Atom}
 use Rattle.poly_atom.specs.declared.stair.Stair.{Stair}
 use Rattle.poly_atom.specs.Stairs.{stairs}
@@ -21,3 +21,10 @@ stair_of log s = slice_index_or (stairs (slice_index_or log s.edition [])) s.ind
 -- the log before its last change
 abbrev pub without_last : List (List Atom) → List (List Atom)
 without_last log = take (length log - 1) log
+
+-- the log without the guards of the changes that led from an edition before this one: these changes still count, but have no
+-- guards any more
+abbrev pub forgotten : ℕ → List (List Atom) → List (List Atom)
+forgotten zero gs = gs
+forgotten (suc n) [] = []
+forgotten (suc n) (g ∷ gs) = [] ∷ forgotten n gs

@@ -1,8 +1,8 @@
 //! The guards of all changes. Those of each change are stored once, for all tasks.
-ghost use Rattle.std.specs.Prelude.{IfErr, IsTrue, List, OnErr, OnOk, [], drop, length, slice_index_or, take, ◌++◌, ◌+◌, ◌<◌, ◌≤◌, ◌∷◌, ◌≡◌, ◌↔◌};
+ghost use Rattle.std.specs.Prelude.{IfErr, IsTrue, List, OnErr, OnOk, [], drop, length, map, slice_index_or, take, ◌++◌, ◌+◌, ◌-◌, ◌<◌, ◌≤◌, ◌∷◌, ◌≡◌, ◌↔◌};
 ghost use Rattle.poly_atom.specs.Atoms.{AllSmall};
 ghost use Rattle.poly_atom.specs.LogKept.{IsKept, rows};
-ghost use Rattle.poly_atom.specs.Logs.{flat, without_last};
+ghost use Rattle.poly_atom.specs.Logs.{flat, forgotten, without_last};
 ghost use Rattle.poly_atom.specs.Stairs.{stairs};
 
 use crate::atom::Atom;
@@ -57,6 +57,13 @@ impl GuardLog {
         self.len() == 0
     }
 
+    /// How many guards the log has in all.
+    pub fn total(&self) -> usize
+        ensures { result ≡ length (flat self.now) }
+    {
+        self.guards.len()
+    }
+
     /// The guards of all changes that led from this edition or a later one, in order.
     pub fn since(&self, edition: u64) -> &[Atom]
         ensures { result.now ≡ flat (drop edition self.now) }
@@ -102,6 +109,37 @@ impl GuardLog {
         if let Some(start) = self.starts.pop() {
             self.guards.truncate(start);
         }
+    }
+
+    /// Drops the guards of the changes that led from an edition before this one, and gives back the memory that they took.
+    /// These changes still count, but have no guards any more. Never fails.
+    pub fn forget_before(&mut self, edition: u64)
+        ensures { self.new ≡ forgotten edition self.old }
+    {
+        drop_before(&mut self.guards, &mut self.starts, edition as usize);
+    }
+}
+
+// Drops the guards of the changes that led from an edition before this one. The guards of the other changes move to the front.
+fn drop_before(guards: &mut Vec<Atom>, starts: &mut Vec<usize>, edition: usize)
+    requires { IsKept starts.old.items guards.old.items }
+    ensures value { rows starts.new.items guards.new.items ≡ forgotten edition (rows starts.old.items guards.old.items) }
+    ensures kept { IsKept starts.new.items guards.new.items }
+{
+    let start = start_of(guards, starts, edition);
+    let count = guards.len() - start;
+    guards.copy_within(start.., 0);
+    guards.truncate(count);
+    guards.shrink_to_fit();
+    lower_all(starts, start);
+}
+
+// Lowers each number by `count`, or to 0 if it is less.
+fn lower_all(starts: &mut [usize], count: usize)
+    ensures { starts.new ≡ map (λ s. s - count) starts.old }
+{
+    for start in starts.iter_mut() {
+        *start = start.saturating_sub(count);
     }
 }
 

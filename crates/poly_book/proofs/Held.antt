@@ -2,7 +2,6 @@
 use Rattle.std.proofs.Common.{Bool, List, [], ap, append_assoc, arith, cond, drop, false, get_or, length, map, not, refl, subst, suc, sym, take, true, zero, ℕ, ◌++◌, ◌+◌, ◌<◌, ◌∙◌, ◌∷◌, ◌≡◌, ◌≤◌}
 use Rattle.std.proofs.lemmas.Bool.{cond_both, not-true}
 use Rattle.std.proofs.lemmas.List.{append-nil, drop_all, drop_more, get_or_push, length-append, length_push, take_more}
-use Rattle.std.specs.Arc.{arc_value}
 use Rattle.std.specs.List.{filter, items_where_true}
 use Rattle.poly_tiling.specs.Puzzle.{View}
 use Rattle.poly_atom.specs.declared.atom.Atom.{Atom}
@@ -38,7 +37,7 @@ since_push (suc n) (x ∷ log) g h = since_push n log g (omega (arith, h))
 pub own_push : (log : List (List Atom)) (g : List Atom) (o : Own) → IsOwn log o → own_of (log ++ g ∷ []) o ≡ own_of log o
 own_push log g (Listed v i) h = refl
 own_push log g (OfStair s) h = stair_stays log g s h.edition_in
-own_push log g (Crossed v i s) h = ap (λ bs. get_or (arc_value v) i [] ++ bs) (stair_stays log g s h.1.edition_in)
+own_push log g (Crossed v i s) h = ap (λ bs. get_or v i [] ++ bs) (stair_stays log g s h.1.edition_in)
 
 pub is_own_push : (log : List (List Atom)) (g : List Atom) (o : Own) → IsOwn log o → IsOwn (log ++ g ∷ []) o
 is_own_push log g (Listed v i) h = h

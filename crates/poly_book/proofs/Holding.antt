@@ -1,6 +1,6 @@
 -- What a history keeps is read from the guard log. As the log grows, it reads the same.
 use Rattle.std.proofs.Common.{List, None, Option, Some, [], ap, arith, drop, get_or, length, map, refl, reverse, subst, suc, sym, take, zero, ℕ, ◌++◌, ◌+◌, ◌-◌, ◌<◌, ◌∙◌, ◌∷◌, ◌≡◌}
-use Rattle.std.proofs.lemmas.List.{drop_more, length-append, length_push, reverse-append, take-append-le, take_more}
+use Rattle.std.proofs.lemmas.List.{drop_more, length-append, length-map, length_push, reverse-append, take-append-le, take_more}
 use Rattle.poly_design.specs.declared.change.Change.{Change}
 use Rattle.poly_atom.specs.declared.atom.Atom.{Atom}
 use Rattle.poly_atom.specs.Logs.{flat}
@@ -88,13 +88,20 @@ frozen_at log (f ∷ fs) (suc i) d h l = frozen_at log fs i d h.1 (omega (arith,
 pub crossed_head : (L S : List (List Atom)) (i : ℕ) → i < length L → crossed (drop i L) S ≡ map (λ B. get_or L i [] ++ B) S ++ crossed (drop (i + 1) L) S
 crossed_head L S i l = ap (λ M. crossed M S) (drop_more L i [] l)
 
--- the frozen lists so far and the next one
-pub frozen_lists_more : (log : List (List Atom)) (fs : List Frozen) (i : ℕ) (d : Frozen) (L : List (List Atom)) (A : List Atom) → i < length fs → d ≡ get_or fs i d → L ≡ map (λ f. frozen_of log f) (take i fs) → A ≡ frozen_of log d → L ++ A ∷ [] ≡ map (λ f. frozen_of log f) (take (i + 1) fs)
-frozen_lists_more log fs i d L A l e so one =
-    (λ k. so k ++ one k ∷ []) ∙ sym (map_append (λ f. frozen_of log f) (take i fs) (d ∷ []))
-    ∙ sym (ap (λ p. map (λ f. frozen_of log f) p) (take_more fs i d l ∙ ap (λ p. take i fs ++ p ∷ []) (sym e)))
+listed_at : (log : List (List Atom)) (fs : List Frozen) (i : ℕ) (d : Frozen) → i < length fs → get_or (map (λ f. frozen_of log f) fs) i [] ≡ frozen_of log (get_or fs i d)
+listed_at log [] i d l = absurd (omega (arith, l))
+listed_at log (f ∷ fs) zero d l = refl
+listed_at log (f ∷ fs) (suc i) d l = listed_at log fs i d (omega (arith, l))
 
-map_reverse : {X Y : Type 0} (f : X → Y) (xs : List X) → reverse (map f xs) ≡ map f (reverse xs)
+-- the same for the lists of frozen tasks
+pub frozen_head : (log S : List (List Atom)) (fs : List Frozen) (i : ℕ) (d : Frozen) (A : List Atom) → i < length fs → d ≡ get_or fs i d → A ≡ frozen_of log d →
+    crossed (drop i (map (λ f. frozen_of log f) fs)) S ≡ map (λ B. A ++ B) S ++ crossed (drop (i + 1) (map (λ f. frozen_of log f) fs)) S
+frozen_head log S fs i d A l e h =
+    let L = map (λ f. frozen_of log f) fs in
+    let is : get_or L i [] ≡ A = listed_at log fs i d l ∙ ap (λ f. frozen_of log f) (sym e) ∙ sym h in
+    crossed_head L S i (omega (arith, l, length-map fs (λ f. frozen_of log f))) ∙ ap (λ K. map (λ B. K ++ B) S ++ crossed (drop (i + 1) L) S) is
+
+pub map_reverse : {X Y : Type 0} (f : X → Y) (xs : List X) → reverse (map f xs) ≡ map f (reverse xs)
 map_reverse f [] = refl
 map_reverse {X} {Y} f (x ∷ xs) =
     reverse-append (f x ∷ []) (map f xs) ∙ ap {B = List Y} (λ ys. ys ++ f x ∷ []) (map_reverse f xs)

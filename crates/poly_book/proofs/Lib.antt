@@ -38,3 +38,4 @@ pub mod Enough
 pub mod Refusing
 pub mod Hoping
 pub mod Searched
+pub mod Forgetting

@@ -15,7 +15,7 @@ use Rattle.poly_book.specs.Findings.{HasAtoms, IsFound}
 use Rattle.poly_book.specs.Keeps.{state_of}
 use Rattle.poly_book.specs.Meaning.{task_of}
 use Rattle.poly_book.specs.Reports.{AreLeaves}
-use Rattle.poly_book.specs.Tasks.{AreHopeful, atoms_of, find_task}
+use Rattle.poly_book.specs.Tasks.{AreHopeful, atoms_of}
 use Rattle.poly_book.proofs.Hoping.{rests_hopeful}
 use Rattle.poly_book.proofs.Indices.{at_find, first_at}
 

@@ -30,3 +30,4 @@ pub mod Settled
 pub mod AllTilings
 pub mod Nexts
 pub mod Vouched
+pub mod Needed

@@ -1,5 +1,4 @@
 -- Which tasks the maps have noted under which atoms.
-use Rattle.std.specs.Arc.{arc_value}
 use Rattle.std.specs.BTreeMap.{is_at}
 use Rattle.std.specs.List.{list_all, list_any}
 use Rattle.std.specs.Map.{lookup}
@@ -61,13 +60,13 @@ IsWider old new = (a : Atom) (n : ℕ) → under old a n ≡ true → under new 
 abbrev pub base_of : Own → List Atom
 base_of (Listed v i) = []
 base_of (OfStair s) = []
-base_of (Crossed v i s) = slice_index_or (arc_value v) i []
+base_of (Crossed v i s) = slice_index_or v i []
 
 -- there is such a list
 abbrev pub HasBase : Own → Type 0
 HasBase (Listed v i) = Unit {0}
 HasBase (OfStair s) = Unit {0}
-HasBase (Crossed v i s) = i < length (arc_value v)
+HasBase (Crossed v i s) = i < length v
 
 -- each task is noted under each of its own atoms
 abbrev pub AreNoted : Maps → List (List Atom) → List Pending → Type 0

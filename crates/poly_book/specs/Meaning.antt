@@ -1,5 +1,4 @@
 -- What a book's fields mean.
-use Rattle.std.specs.Arc.{arc_value}
 use Rattle.std.specs.Prelude.{List, None, Option, Some, [], drop, length, map, reverse, slice_index_or, take, ℕ, ◌++◌, ◌<◌, ◌∷◌, ◌≡◌, ◌≤◌}
 use Rattle.poly_design.specs.Layout.{Layout}
 use Rattle.poly_design.specs.declared.change.Change.{Change}
@@ -20,15 +19,15 @@ use Rattle.poly_book.specs.Tasks.{Task}
 use Rattle.poly_book.specs.States.{State, Stored, Way}
 
 abbrev pub own_of : List (List Atom) → Own → List Atom
-own_of log (Listed v i) = slice_index_or (arc_value v) i []
+own_of log (Listed v i) = slice_index_or v i []
 own_of log (OfStair s) = stair_of log s
-own_of log (Crossed v i s) = slice_index_or (arc_value v) i [] ++ stair_of log s
+own_of log (Crossed v i s) = slice_index_or v i [] ++ stair_of log s
 
 -- the own atoms can be read: there is such a list, and the log has the stair that they are or end with
 abbrev pub IsOwn : List (List Atom) → Own → Type 0
-IsOwn log (Listed v i) = i < length (arc_value v)
+IsOwn log (Listed v i) = i < length v
 IsOwn log (OfStair s) = IsStairOf log s
-IsOwn log (Crossed v i s) = (i < length (arc_value v)) × IsStairOf log s
+IsOwn log (Crossed v i s) = (i < length v) × IsStairOf log s
 
 -- the task, with the guards of every change since it was made
 abbrev pub task_of : List (List Atom) → Pending → Task

@@ -9,13 +9,14 @@ ghost use Rattle.poly_tiling.specs.Puzzle.{is_tiling};
 ghost use Rattle.poly_atom.specs.Atoms.{AllSmall};
 ghost use Rattle.poly_catalogue.specs.Listed.{AreOfEither, AreOnce, AreSame};
 ghost use Rattle.poly_book.specs.Amounts.{IsNarrow};
-ghost use Rattle.poly_book.specs.Changing.{CanNote, IsPrepared, IsTop, Noted, shelved_by};
+ghost use Rattle.poly_book.specs.Changing.{CanNote, IsTop, Noted, shelved_by};
 ghost use Rattle.poly_book.specs.Keeps.{Keeps, state_of};
 ghost use Rattle.poly_book.specs.Mapped.{AreNoted};
 ghost use Rattle.poly_book.specs.Refused.{IsNotMade};
 ghost use Rattle.poly_book.specs.Steps.{IsDone};
 ghost use Rattle.poly_tiling.specs.declared.lister.TheConstants.{MAX_TILINGS};
 
+use crate::forget::forget;
 use crate::next_tasks::NextTasks;
 use crate::parts::Parts;
 use crate::prepare::{Entry, Prepared, is_shelved, prepare};
@@ -32,7 +33,8 @@ use poly_tiling::View;
 use poly_undo::History;
 use std::mem;
 
-/// Applies the change. First notes the pending tasks that aren't noted yet.
+/// Applies the change. First notes the pending tasks that aren't noted yet. Afterwards drops guards that nothing reads any
+/// more.
 pub(crate) fn apply_change(parts: &mut Parts, kind: Kind, change: Change) -> Result<Done, Refusal>
     requires keeps { Keeps parts.old }
     requires before { HasBefore parts.old.design change }
@@ -45,7 +47,20 @@ pub(crate) fn apply_change(parts: &mut Parts, kind: Kind, change: Change) -> Res
     ensures why { IfErr result (λ e. IsNotMade kind change (state_of parts.old) e) }
 {
     catch_up(parts)?;
-    make_change(parts, kind, change)
+    let step = step_of(parts, kind, &change)?;
+    let told = step_of(parts, kind, &change)?;
+    let (entry, ready) = prepare(parts, kind, &change)?;
+    enter(
+        &mut parts.log,
+        &mut parts.listed,
+        &ready.view,
+        &ready.plan.delta,
+        entry,
+    )?;
+    finish_change(parts, kind, change, step, ready);
+    let place = parts.steps.len() as u64;
+    forget(parts);
+    Ok(Done { place, step: told })
 }
 
 // Notes the pending tasks that aren't noted yet.
@@ -61,61 +76,9 @@ fn catch_up(parts: &mut Parts) -> Result<(), Refusal>
         .catch_up(&parts.log, &parts.tasks, parts.next)
 }
 
-// Makes the change. All pending tasks must be noted.
-fn make_change(parts: &mut Parts, kind: Kind, change: Change) -> Result<Done, Refusal>
-    requires keeps { Keeps parts.old }
-    requires noted { AreNoted parts.old.register.maps parts.old.log parts.old.tasks.items }
-    requires before { HasBefore parts.old.design change }
-    requires design { IsDesign (changed parts.old.design change) }
-    requires top { IsTop kind parts.old.history change }
-    ensures keeps { Keeps parts.new }
-    ensures ok { IfOk result (λ done. IsDone kind change (state_of parts.old) (state_of parts.new) done) }
-    ensures narrow { OnOk result (kind ≡ Kind.Edit → IsNarrow parts.old.design parts.new.design) }
-    ensures err { OnErr result (state_of parts.new ≡ state_of parts.old) }
-    ensures why { IfErr result (λ e. IsNotMade kind change (state_of parts.old) e) }
-{
-    let step = step_of(parts, kind, &change)?;
-    let told = step_of(parts, kind, &change)?;
-    let (entry, ready) = prepare(parts, kind, &change)?;
-    complete(parts, kind, change, step, entry, ready)?;
-    Ok(Done {
-        place: parts.steps.len() as u64,
-        step: told,
-    })
-}
-
-// Makes the prepared change.
-fn complete(
-    parts: &mut Parts,
-    kind: Kind,
-    change: Change,
-    step: Step,
-    entry: Entry,
-    ready: Prepared,
-) -> Result<(), Refusal>
-    requires keeps { Keeps parts.old }
-    requires top { IsTop kind parts.old.history change }
-    requires prepared { IsPrepared kind change parts.old entry ready }
-    requires step { step ≡ record { kind = kind; change = change; pending = length parts.old.tasks.items; shelved = shelved_by parts.old.log kind parts.old.history } }
-    ensures keeps { Keeps parts.new }
-    ensures ok { OnOk result (IsDone kind change (state_of parts.old) (state_of parts.new) (record { place = length parts.new.steps.items; step = step })) }
-    ensures design { OnOk result (parts.new.design ≡ changed parts.old.design change) }
-    ensures err { OnErr result (state_of parts.new ≡ state_of parts.old) }
-    ensures why { IfErr result (λ e. IsNotMade kind change (state_of parts.old) e) }
-{
-    enter(
-        &mut parts.log,
-        &mut parts.listed,
-        &ready.view,
-        &ready.plan.delta,
-        entry,
-    )?;
-    finish(parts, kind, change, step, ready);
-    Ok(())
-}
-
-// Makes the prepared change. Its guards are already in the log, and the listed tilings are already exchanged.
-fn finish(parts: &mut Parts, kind: Kind, change: Change, step: Step, ready: Prepared)
+// Does what is left of a prepared change, which can no longer fail. Its guards are already in the log, and the listed tilings
+// are already exchanged.
+fn finish_change(parts: &mut Parts, kind: Kind, change: Change, step: Step, ready: Prepared)
     requires history { CanNote kind parts.old.history }
     requires table { (arc_value ready.plan.view).placements ≡ parts.old.table.placements }
     requires tasks { length ready.tasks.flags.items ≡ length parts.old.tasks.items }

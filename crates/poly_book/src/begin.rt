@@ -44,6 +44,7 @@ impl Book {
                 scene: Scene::new(view),
                 listed: Catalogue::new(alloc),
                 log: GuardLog::new(alloc),
+                settled: 0,
                 tasks,
                 register: Register::new(alloc),
                 next: 2,
@@ -62,7 +63,7 @@ fn first_task(alloc: Global) -> Result<Vec<Pending>, Refusal>
 {
     let mut lists = AtomLists::new(alloc);
     lists.push(&[])?;
-    let shared = Arc::new(alloc, lists)?;
+    let shared = lists.share(alloc, None)?;
     let mut tasks = Vec::new(alloc);
     tasks.push(Pending {
         number: 1,

@@ -1,40 +1,40 @@
 //! New tasks: the stairs of a change or, if a shelf was kept for this undo or redo, each frozen list of the shelf followed by
 //! each stair; and the rests of a report. A hopeless list gets no task.
-ghost use Rattle.std.specs.Arc.{arc_value};
-ghost use Rattle.std.specs.Prelude.{◌≡◌, ◌≤◌, ◌<◌, ◌++◌, ◌+◌, ◌∷◌, ◌⊎◌, ℕ, [], IfErr, IfOk, List, false, length, map, not, option_copied, slice_index_or, true};
+ghost use Rattle.std.specs.Prelude.{◌≡◌, ◌≤◌, ◌<◌, ◌++◌, ◌+◌, ◌∷◌, ◌⊎◌, ℕ, [], IfErr, IfOk, List, false, length, map, not, option_copied, slice_index_or, true, MatchOption, ⊤};
 ghost use Rattle.poly_atom.specs.declared.atom.Atom.{Atom as AtomOf};
 ghost use Rattle.poly_atom.specs.Atoms.{AllSmall, IsSmall, negated};
 ghost use Rattle.poly_atom.specs.Hopeless.{hopeless};
 ghost use Rattle.poly_atom.specs.Logs.{IsStairOf, stair_of};
 ghost use Rattle.poly_atom.specs.Stairs.{stairs};
 ghost use Rattle.poly_book.specs.Opens.{Opening, Opens};
-ghost use Rattle.poly_book.specs.Meaning.{AreFrozen, IsHeld, IsOwn, frozen_of, own_of, stored_of};
+ghost use Rattle.poly_book.specs.Meaning.{AreFrozen, IsFrozen, IsHeld, IsOwn, frozen_of, own_of, stored_of};
 ghost use Rattle.poly_book.specs.Shelves.{crossed, openings};
 ghost use Rattle.poly_book.specs.Tasks.{AreHopeful, hopeful};
 ghost use Rattle.poly_book.specs.declared.prepare.TheConstants.{MAX_CHANGES};
 
 use crate::shelf::{Frozen, Shelf};
-use crate::task::{Own, Pending, read_frozen};
+use crate::task::{Own, Pending};
 use poly_atom::{Atom, GuardLog, Stair, hopeless};
 use poly_grid::Refusal;
-use poly_report::AtomLists;
+use poly_report::{AtomLists, SharedLists};
 use poly_tiling::View;
 use std::alloc::Global;
-use std::sync::Arc;
 
 /// The greatest task number.
 const LAST: u64 = 4_294_967_295;
 
-/// The lists that aren't hopeless, as tasks with the numbers from `next` on, which share the lists. If `sure`, none of the lists
-/// is hopeless, and none is read.
+/// The lists that aren't hopeless, as tasks with the numbers from `next` on, which share the lists. If the lists begin with the
+/// list of `base`, they are kept over it. If `sure`, none of the lists is hopeless, and none is read.
 pub(crate) fn opened(
     alloc: Global,
     view: &View,
     all: AtomLists,
+    base: Option<(&SharedLists, usize)>,
     next: u64,
     made: u64,
     sure: bool,
 ) -> Result<Vec<Pending>, Refusal>
+    requires base { MatchOption base ⊤ (λ b. b.1 < length b.0.now) }
     requires next { next ≤ 4294967296 }
     requires sure { sure ≡ true → AreHopeful view.now all }
     ensures ok { IfOk result (λ ps. (log : List (List AtomOf)) → length log ≡ made → Opens log next view.now all ps.items) }
@@ -45,7 +45,7 @@ pub(crate) fn opened(
     let mut number = next;
     let mut buffer = Vec::new(alloc);
     let count = all.len();
-    let shared = shared_lists(alloc, all)?;
+    let shared = all.share(alloc, base)?;
     for index in 0..count {
         if is_opened(view, &shared, index, &mut buffer, sure)? {
             if number > LAST {
@@ -53,7 +53,7 @@ pub(crate) fn opened(
             }
             tasks.push(Pending {
                 number: number as u32,
-                own: Own::Listed(Arc::try_clone(&shared)?, index),
+                own: Own::Listed(shared.try_clone()?, index),
                 made,
             })?;
             number += 1;
@@ -62,20 +62,10 @@ pub(crate) fn opened(
     Ok(tasks)
 }
 
-// The lists, to be shared by tasks. No list will be added to them.
-fn shared_lists(alloc: Global, lists: AtomLists) -> Result<Arc<AtomLists>, Refusal>
-    ensures same { IfOk result (λ shared. arc_value shared ≡ lists) }
-    ensures why { IfErr result (λ e. e ≡ Refusal.Memory) }
-{
-    let mut lists = lists;
-    lists.shrink();
-    Ok(Arc::new(alloc, lists)?)
-}
-
 // Whether the list at the index isn't hopeless. If `sure`, this is known to be true, and nothing is read.
 fn is_opened(
     view: &View,
-    all: &AtomLists,
+    all: &SharedLists,
     index: usize,
     buffer: &mut Vec<Atom>,
     sure: bool,
@@ -189,44 +179,86 @@ fn opened_crossed(
     ensures few { IfOk result (λ ps. next + length ps.items ≤ 4294967296) }
     ensures why { IfErr result (λ e. ((e ≡ Refusal.Spent) × (4294967296 < next + length (hopeful view.now (crossed (map (λ f. frozen_of log.now f) frozen.now) (stairs guards.now))))) ⊎ (e ≡ Refusal.Memory)) }
 {
-    let bases = frozen_lists(alloc, log, frozen)?;
-    let count = bases.len();
-    let shared = shared_lists(alloc, bases)?;
     let mut tasks = Vec::new(alloc);
     let mut atoms = Vec::new(alloc);
     let mut number = next;
-    for index in 0..count {
-        shared.read(index, &mut atoms)?;
+    for task in frozen {
+        let (lists, at) = frozen_list(alloc, log, task)?;
+        lists.read(at, &mut atoms)?;
         number = add_crossed(
-            view, &shared, index, &mut atoms, guards, number, edition, &mut tasks,
+            view, &lists, at, &mut atoms, guards, number, edition, &mut tasks,
         )?;
     }
     Ok(tasks)
 }
 
-// The atoms of each frozen task. What lists have in common at their beginning is stored once.
-fn frozen_lists(alloc: Global, log: &GuardLog, frozen: &[Frozen]) -> Result<AtomLists, Refusal>
-    requires { AreFrozen log.now frozen.now }
-    ensures ok { IfOk result (λ lists. lists ≡ map (λ f. frozen_of log.now f) frozen.now) }
+// Lists and an index, at which they have the atoms of the frozen task. Only what the task's own list lacks is stored.
+fn frozen_list(
+    alloc: Global,
+    log: &GuardLog,
+    frozen: &Frozen,
+) -> Result<(SharedLists, usize), Refusal>
+    requires { IsFrozen log.now frozen.now }
+    ensures at { IfOk result (λ r. r.1 < length r.0) }
+    ensures list { IfOk result (λ r. slice_index_or r.0 r.1 [] ≡ frozen_of log.now frozen.now) }
+    ensures why { IfErr result (λ e. e ≡ Refusal.Memory) }
+{
+    let since = log.since(frozen.made);
+    let laid = &since[..frozen.count];
+    match &frozen.own {
+        Own::Listed(lists, index) => list_after(alloc, lists, *index, laid),
+        Own::Stair(stair) => {
+            let mut atoms = Vec::new(alloc);
+            stair.append_to(log, &mut atoms)?;
+            atoms.extend_from_slice(laid)?;
+            list_alone(alloc, &atoms)
+        }
+        Own::Crossed(lists, index, stair) => {
+            let mut atoms = Vec::new(alloc);
+            stair.append_to(log, &mut atoms)?;
+            atoms.extend_from_slice(laid)?;
+            list_after(alloc, lists, *index, &atoms)
+        }
+    }
+}
+
+// Lists and an index, at which they have the list at the index followed by these atoms.
+fn list_after(
+    alloc: Global,
+    lists: &SharedLists,
+    index: usize,
+    more: &[Atom],
+) -> Result<(SharedLists, usize), Refusal>
+    requires { index < length lists.now }
+    ensures at { IfOk result (λ r. r.1 < length r.0) }
+    ensures list { IfOk result (λ r. slice_index_or r.0 r.1 [] ≡ slice_index_or lists.now index [] ++ more.now) }
+    ensures why { IfErr result (λ e. e ≡ Refusal.Memory) }
+{
+    if more.is_empty() {
+        return Ok((lists.try_clone()?, index));
+    }
+    Ok((lists.after(alloc, index, more)?, 0))
+}
+
+// Lists and an index, at which they have this list.
+fn list_alone(alloc: Global, atoms: &[Atom]) -> Result<(SharedLists, usize), Refusal>
+    ensures at { IfOk result (λ r. r.1 < length r.0) }
+    ensures list { IfOk result (λ r. slice_index_or r.0 r.1 [] ≡ atoms.now) }
     ensures why { IfErr result (λ e. e ≡ Refusal.Memory) }
 {
     let mut lists = AtomLists::new(alloc);
-    let mut atoms = Vec::new(alloc);
-    for task in frozen {
-        read_frozen(log, task, &mut atoms)?;
-        lists.push(&atoms)?;
-    }
-    Ok(lists)
+    lists.push(atoms)?;
+    Ok((lists.share(alloc, None)?, 0))
 }
 
 // The list at the index, which is shared, followed by the stair.
-fn stair_after(bases: &Arc<AtomLists>, index: usize, stair: Stair) -> Result<Own, Refusal>
-    requires { index < length (arc_value bases.now) }
-    ensures reads { IfOk result (λ o. (log : List (List AtomOf)) → own_of log o ≡ slice_index_or (arc_value bases.now) index [] ++ stair_of log stair) }
+fn stair_after(bases: &SharedLists, index: usize, stair: Stair) -> Result<Own, Refusal>
+    requires { index < length bases.now }
+    ensures reads { IfOk result (λ o. (log : List (List AtomOf)) → own_of log o ≡ slice_index_or bases.now index [] ++ stair_of log stair) }
     ensures stands { IfOk result (λ o. (log : List (List AtomOf)) → IsStairOf log stair → IsOwn log o) }
     ensures why { IfErr result (λ e. e ≡ Refusal.Memory) }
 {
-    let shared = Arc::try_clone(bases)?;
+    let shared = bases.try_clone()?;
     Ok(Own::Crossed(shared, index, stair))
 }
 
@@ -235,7 +267,7 @@ fn stair_after(bases: &Arc<AtomLists>, index: usize, stair: Stair) -> Result<Own
 // of the last task.
 fn add_crossed(
     view: &View,
-    bases: &Arc<AtomLists>,
+    bases: &SharedLists,
     at: usize,
     atoms: &mut Vec<Atom>,
     guards: &[Atom],
@@ -243,8 +275,8 @@ fn add_crossed(
     edition: u64,
     tasks: &mut Vec<Pending>,
 ) -> Result<u64, Refusal>
-    requires at { at < length (arc_value bases.now) }
-    requires base { atoms.old.items ≡ slice_index_or (arc_value bases.now) at [] }
+    requires at { at < length bases.now }
+    requires base { atoms.old.items ≡ slice_index_or bases.now at [] }
     requires start { start ≤ 4294967296 }
     requires edition { edition ≤ MAX_CHANGES }
     requires small { AllSmall guards.now }

@@ -17,7 +17,7 @@ use crate::book::Book;
 use crate::fresh::opened;
 use crate::parts::Parts;
 use crate::step::{Applied, Ending};
-use crate::task::{Pending, all_atoms};
+use crate::task::{Pending, all_atoms, list_of};
 use poly_grid::Refusal;
 use poly_report::{Leaves, Report, fits};
 
@@ -92,7 +92,16 @@ pub(crate) fn apply_leaves(
     let Leaves { tilings, rests } = leaves;
     let now = parts.log.len() as u64;
     let start = parts.next;
-    let fresh = opened(parts.alloc, parts.scene.view(), rests, start, now, sure)?;
+    let base = list_of(&parts.log, &parts.tasks[at].own);
+    let fresh = opened(
+        parts.alloc,
+        parts.scene.view(),
+        rests,
+        base,
+        start,
+        now,
+        sure,
+    )?;
     let more = fresh.len();
     let found = tilings.len() as u64;
     let place = parts.endings.len() as u64 + 1;

@@ -23,6 +23,7 @@ mod apply;
 mod begin;
 mod book;
 mod edit;
+mod forget;
 mod found;
 mod fresh;
 mod hand_in;

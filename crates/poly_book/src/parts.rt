@@ -27,8 +27,10 @@ pub(crate) struct Parts {
     pub scene: Scene,
     /// The listed tilings.
     pub listed: Catalogue,
-    /// The guards of each change.
+    /// The guards of each change. Those of the first changes may have been dropped if nothing reads them any more.
     pub log: GuardLog,
+    /// How many guards the log had after the last time that guards were dropped.
+    pub settled: usize,
     /// The pending tasks, in the order of their numbers.
     pub tasks: Vec<Pending>,
     /// The pending tasks by the placements and items of their own atoms. The newest tasks may not be noted yet.

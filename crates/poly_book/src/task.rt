@@ -1,5 +1,5 @@
 //! Pending tasks.
-ghost use Rattle.std.specs.Prelude.{IfErr, IfOk, IsTrue, List, OnOk, ◌≡◌, ◌↔◌};
+ghost use Rattle.std.specs.Prelude.{IfErr, IfOk, IsTrue, List, MatchOption, OnOk, length, ◌<◌, ◌≡◌, ◌↔◌, ⊤};
 ghost use Rattle.poly_atom.specs.declared.atom.Atom.{Atom as AtomOf};
 ghost use Rattle.poly_atom.specs.Hopeless.{hopeless};
 ghost use Rattle.poly_atom.specs.Logs.{IsStairOf, stair_of};
@@ -9,21 +9,20 @@ ghost use Rattle.poly_book.specs.Tasks.{atoms_of};
 use crate::shelf::Frozen;
 use poly_atom::{Atom, GuardLog, Stair, hopeless};
 use poly_grid::Refusal;
-use poly_report::AtomLists;
+use poly_report::SharedLists;
 use poly_tiling::View;
 use std::alloc::Global;
-use std::sync::Arc;
 
 /// A task's own atoms.
 #[derive(Debug, Drop)]
 pub enum Own {
     /// The list at this index. The tasks that were opened for the rests of one report share their lists.
-    Listed(Arc<AtomLists>, usize),
+    Listed(SharedLists, usize),
     /// A stair of a change. Its atoms are read from the guard log.
     Stair(Stair),
-    /// The list at this index, followed by a stair of the change that opened the task. The tasks that were opened for the frozen
-    /// tasks of one shelf share the lists of these.
-    Crossed(Arc<AtomLists>, usize, Stair),
+    /// The list at this index, followed by a stair of the change that opened the task. The tasks that were opened for one frozen
+    /// task share its list.
+    Crossed(SharedLists, usize, Stair),
 }
 
 /// A pending task.
@@ -77,6 +76,19 @@ pub(crate) fn read_own(log: &GuardLog, own: &Own, buffer: &mut Vec<Atom>) -> Res
     }
 }
 
+/// The list that the own atoms begin with, if there is one: lists, and its index among them.
+pub(crate) fn list_of<'a>(log: &GuardLog, own: &'a Own) -> Option<(&'a SharedLists, usize)>
+    requires { IsOwn log.now own.now }
+    ensures { MatchOption result ⊤ (λ b. b.1 < length b.0.now) }
+{
+    let _ = log;
+    match own {
+        Own::Listed(lists, index) => Some((lists, *index)),
+        Own::Stair(_) => None,
+        Own::Crossed(lists, index, _) => Some((lists, *index)),
+    }
+}
+
 /// A copy of the own atoms, as a list.
 pub(crate) fn own_atoms(alloc: Global, log: &GuardLog, own: &Own) -> Result<Vec<Atom>, Refusal>
     requires { IsOwn log.now own.now }
@@ -96,12 +108,12 @@ fn share(own: &Own) -> Result<Own, Refusal>
 {
     match own {
         Own::Listed(lists, index) => {
-            let shared = Arc::try_clone(lists)?;
+            let shared = lists.try_clone()?;
             Ok(Own::Listed(shared, *index))
         }
         Own::Stair(stair) => Ok(Own::Stair(*stair)),
         Own::Crossed(lists, index, stair) => {
-            let shared = Arc::try_clone(lists)?;
+            let shared = lists.try_clone()?;
             Ok(Own::Crossed(shared, *index, *stair))
         }
     }
@@ -121,22 +133,6 @@ pub(crate) fn freeze(log: &GuardLog, task: &Pending) -> Result<Frozen, Refusal>
         made: task.made,
         count,
     })
-}
-
-/// Writes a frozen task's atoms to the buffer, in place of what it had.
-pub(crate) fn read_frozen(
-    log: &GuardLog,
-    frozen: &Frozen,
-    buffer: &mut Vec<Atom>,
-) -> Result<(), Refusal>
-    requires { IsFrozen log.now frozen.now }
-    ensures ok { OnOk result (buffer.new.items ≡ frozen_of log.now frozen.now) }
-    ensures why { IfErr result (λ e. e ≡ Refusal.Memory) }
-{
-    read_own(log, &frozen.own, buffer)?;
-    let since = log.since(frozen.made);
-    buffer.extend_from_slice(&since[..frozen.count])?;
-    Ok(())
 }
 
 /// If this is true, the task's own atoms and the guards of every change since it was made are exactly these. Never allocates.

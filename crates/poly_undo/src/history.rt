@@ -1,7 +1,7 @@
 //! The steps to undo and the steps to redo. Each list has room for `MAX_STEPS` steps from the start, and never has more. So
 //! only `new` can run out of memory, and every change that was made can be recorded.
 
-ghost use Rattle.std.specs.Prelude.{◌≡◌, ◌+◌, ◌∷◌, ◌++◌, ◌<◌, ◌≤◌, ◌↔◌, [], IfErr, IfOk, IsSome, length, option_copied};
+ghost use Rattle.std.specs.Prelude.{◌≡◌, ◌+◌, ◌∷◌, ◌++◌, ◌<◌, ◌≤◌, ◌↔◌, [], IfErr, IfOk, IsSome, length, option_copied, slice_get};
 ghost use Rattle.poly_undo.specs.Steps.{Moves, newest, next_of};
 
 use crate::shelf::Shelf;
@@ -92,6 +92,20 @@ impl<C: Drop, K: Drop> History<C, K> {
         ensures few { length self.now.undo + length self.now.redo ≤ MAX_STEPS }
     {
         self.redo.last()
+    }
+
+    /// The step to undo at the index, if there is one. The step at index 0 is undone last.
+    pub fn undo_step(&self, index: usize) -> Option<&Step<C, K>>
+        ensures { option_copied result ≡ slice_get self.now.undo index }
+    {
+        self.undo.get(index)
+    }
+
+    /// The step to redo at the index, if there is one. The step at index 0 is redone last.
+    pub fn redo_step(&self, index: usize) -> Option<&Step<C, K>>
+        ensures { option_copied result ≡ slice_get self.now.redo index }
+    {
+        self.redo.get(index)
     }
 
     /// Removes the last of the steps to undo and adds it as the last of the steps to redo, so it is redone next. Keeps `kept`

@@ -1,4 +1,4 @@
-use Rattle.std.proofs.Common.{None, Some, ap, false, inl, inr, refl, rules, subst, sym, true, ◌∙◌, ◌≡◌}
+use Rattle.std.proofs.Common.{None, Some, ap, false, inl, inr, refl, rules, subst, sym, ◌∙◌, ◌≡◌}
 use Rattle.std.proofs.lemmas.Result.{IfErr-weaker, IfOk-weaker}
 use Rattle.std.specs.Arc.{arc_value}
 use Rattle.std.specs.List.{position_from}

@@ -1,6 +1,5 @@
 use Rattle.std.proofs.Common.{[], ap, append_assoc, arith, get_or, inl, length, refl, subst, sym, take, ◌++◌, ◌+◌, ◌<◌, ◌∙◌, ◌∷◌, ◌≡◌, true, false}
 use Rattle.std.proofs.lemmas.List.{take_more}
-use Rattle.std.specs.Arc.{arc_value}
 use Rattle.poly_atom.specs.declared.stair.Stair.{Stair}
 use Rattle.poly_atom.specs.Atoms.{IsSmall, negated}
 use Rattle.poly_atom.specs.Hopeless.{hopeless}

@@ -1,7 +1,6 @@
 use Rattle.std.proofs.Common.{Bool, List, [], ap, arith, drop, false, get_or, inl, length, not, refl, replicate, subst, suc, sym, true, ◌+◌, ◌<◌, ◌∙◌, ◌∷◌, ◌≡◌}
 use Rattle.std.proofs.Math.Seq.{drop-cons}
 use Rattle.std.proofs.lemmas.List.{length-replicate, length_push}
-use Rattle.std.specs.Arc.{arc_value}
 use Rattle.poly_atom.specs.declared.atom.Atom.{Atom}
 use Rattle.poly_atom.specs.Hopeless.{hopeless}
 use Rattle.poly_book.specs.Tasks.{AreHopeful}
@@ -29,13 +28,13 @@ loop-index-preserved c =
     let rest = drop (i + 1) all in
     let within : i < length all = omega (arith, c.len-count.ensures, c.loop-index-test.true) in
     let cons = from_here all i within in
-    let read : c.in_ok-is_opened.field-0 ≡ not (hopeless w A) = c.in_ok-is_opened.ensures.ok ∙ ap (λ l. not (hopeless w (get_or l i []))) (c.deref.ensures ∙ c.in_ok-shared.ensures.same) in
+    let read : c.in_ok-is_opened.field-0 ≡ not (hopeless w A) = c.in_ok-is_opened.ensures.ok ∙ ap (λ l. not (hopeless w (get_or l i []))) c.in_ok-shared.ensures.ok in
     let sure : c.args.sure ≡ true → AreHopeful w rest = λ yes. (first_hopeful w A rest (subst (AreHopeful w) cons (c.loop-index.invariant.sure yes))).1 in
     elim c.if-branch.branch [
       | then-branch+else-number-gt-LAST+in_ok-try_clone+in_ok-push k ↦
           let fresh = opposite (hopeless w A) true (sym read ∙ k.if-branch.true) in
-          let lists : arc_value k.in_ok-try_clone.field-0 ≡ all = k.in_ok-try_clone.ensures ∙ c.in_ok-shared.ensures.same in
-          let here : i < length (arc_value k.in_ok-try_clone.field-0) = omega (arith, ap length lists, within) in
+          let lists : k.in_ok-try_clone.field-0 ≡ all = k.in_ok-try_clone.ensures.ok ∙ c.in_ok-shared.ensures.ok in
+          let here : i < length k.in_ok-try_clone.field-0 = omega (arith, ap length lists, within) in
           let task : Pending = record { number = c.loop-index.number; own = Listed k.in_ok-try_clone.field-0 i; made = c.args.made } in
           let pushed = ap (λ t. t.items) k.tasks-is ∙ k.in_ok-push.ensures.items in
           record {
@@ -64,7 +63,7 @@ returns-then-number-gt-LAST-clause-why c =
     let A = get_or all i [] in
     let within : i < length all = omega (arith, c.len-count.ensures, c.loop-index-test.true) in
     let cons = from_here all i within in
-    let read : c.in_ok-is_opened.field-0 ≡ not (hopeless w A) = c.in_ok-is_opened.ensures.ok ∙ ap (λ l. not (hopeless w (get_or l i []))) (c.deref.ensures ∙ c.in_ok-shared.ensures.same) in
+    let read : c.in_ok-is_opened.field-0 ≡ not (hopeless w A) = c.in_ok-is_opened.ensures.ok ∙ ap (λ l. not (hopeless w (get_or l i []))) c.in_ok-shared.ensures.ok in
     let fresh = opposite (hopeless w A) true (sym read ∙ c.if-branch.true) in
     let log : List (List Atom) = replicate c.args.made [] in
     let before = rw cons at c.loop-index.invariant.same log (length-replicate c.args.made []) in

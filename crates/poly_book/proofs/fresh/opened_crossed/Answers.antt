@@ -1,32 +1,32 @@
-use Rattle.std.proofs.Common.{[], ap, arith, drop, inl, inr, length, map, slice_index_or, subst, sym, ◌++◌, ◌+◌, ◌<◌, ◌∙◌, ◌∷◌, ◌≡◌, rules}
+use Rattle.std.proofs.Common.{[], arith, drop, inl, inr, map, subst, sym, ◌++◌, ◌+◌, ◌∙◌, ◌∷◌, ◌≡◌}
 use Rattle.std.proofs.lemmas.Result.{err_from_is_err_and}
-use Rattle.std.specs.Arc.{arc_value}
 use Rattle.poly_atom.specs.Stairs.{stairs}
-use Rattle.poly_book.specs.Meaning.{frozen_of}
+use Rattle.poly_book.specs.Meaning.{IsFrozen, frozen_of}
 use Rattle.poly_book.specs.Opens.{Opening}
 use Rattle.poly_book.specs.Shelves.{crossed}
-use Rattle.poly_book.specs.Tasks.{hopeful}
-use Rattle.poly_book.proofs.Holding.{crossed_head}
+use Rattle.poly_book.proofs.Holding.{frozen_at, frozen_head}
 use Rattle.poly_book.proofs.fresh.opened_crossed.Goals as goal
 
-pub loop-index-preserved : goal.loop-index-preserved
-loop-index-preserved c =
+pub frozen_list-requires : goal.frozen_list-requires
+frozen_list-requires c = subst (λ f. IsFrozen c.args.log.now f) (sym c.task-item.is) (frozen_at c.args.log.now c.args.frozen.now c.loop-task.task-index c.task-item.result c.requires.frozen c.loop-task-test.true)
+
+pub loop-task-preserved : goal.loop-task-preserved
+loop-task-preserved c =
     let log = c.args.log.now in
     let g = c.args.guards.now in
     let w = c.args.view.now in
-    let L = arc_value c.in_ok-shared.shared in
+    let fs = c.args.frozen.now in
+    let L = map (λ f. frozen_of log f) fs in
     let S = stairs g in
-    let i = c.loop-index.index in
-    let low : i < length L = search rules in
-    let all = crossed L S in
+    let i = c.loop-task.task-index in
     let rest = crossed (drop (i + 1) L) S in
     let base = c.read.new.buffer.items in
-    let is : base ≡ slice_index_or L i [] = search rules in
-    let head : crossed (drop i L) S ≡ map (λ B. base ++ B) S ++ rest = crossed_head L S i low ∙ ap (λ A. map (λ B. A ++ B) S ++ rest) (sym is) in
+    let is : base ≡ frozen_of log c.task-item.result = c.in_ok-read.ensures.ok ∙ c.in_ok-lists.ensures.list in
+    let head = frozen_head log S fs i c.task-item.result base c.loop-task-test.true c.task-item.is is in
     record {
-      same = c.in_ok-number.ensures.ok log c.args.next all rest c.requires.log
-          (subst (λ r. Opening (log ++ g ∷ []) c.args.next c.loop-index.number w all r c.loop-index.tasks.items) head c.loop-index.invariant.same);
-      number = let a = c.loop-index.invariant.number in let b = c.in_ok-number.ensures.count in omega (arith, a, b);
+      same = c.in_ok-number.ensures.ok log c.args.next (crossed L S) rest c.requires.log
+          (subst (λ r. Opening (log ++ g ∷ []) c.args.next c.loop-task.number w (crossed L S) r c.loop-task.tasks.items) head c.loop-task.invariant.same);
+      number = let a = c.loop-task.invariant.number in let b = c.in_ok-number.ensures.count in omega (arith, a, b);
       few = c.in_ok-number.ensures.few;
     }
 
@@ -36,21 +36,18 @@ returns-in_err-number-clause-why c =
     let log = c.args.log.now in
     let g = c.args.guards.now in
     let w = c.args.view.now in
-    let L = arc_value c.in_ok-shared.shared in
+    let fs = c.args.frozen.now in
+    let L = map (λ f. frozen_of log f) fs in
     let S = stairs g in
-    let i = c.loop-index.index in
-    let low : i < length L = search rules in
-    let all = crossed L S in
+    let i = c.loop-task.task-index in
     let rest = crossed (drop (i + 1) L) S in
     let base = c.read.new.buffer.items in
-    let is : base ≡ slice_index_or L i [] = search rules in
-    let head : crossed (drop i L) S ≡ map (λ B. base ++ B) S ++ rest = crossed_head L S i low ∙ ap (λ A. map (λ B. A ++ B) S ++ rest) (sym is) in
-    let frozen : L ≡ map (λ f. frozen_of log f) c.args.frozen.now = c.in_ok-shared.ensures.same ∙ c.in_ok-bases.ensures.ok in
+    let is : base ≡ frozen_of log c.task-item.result = c.in_ok-read.ensures.ok ∙ c.in_ok-lists.ensures.list in
+    let head = frozen_head log S fs i c.task-item.result base c.loop-task-test.true c.task-item.is is in
     rw (p.1, p.2) (elim c.in_err-number.ensures.why [
       | inl m ↦ inl (
         m.0,
-        subst (λ K. 4294967296 < c.args.next + length (hopeful w (crossed K S))) frozen
-            (m.1 log c.args.next all rest c.requires.log c.loop-index.invariant.number (subst (λ r. Opening (log ++ g ∷ []) c.args.next c.loop-index.number w all r c.loop-index.tasks.items) head c.loop-index.invariant.same)),
+        m.1 log c.args.next (crossed L S) rest c.requires.log c.loop-task.invariant.number (subst (λ r. Opening (log ++ g ∷ []) c.args.next c.loop-task.number w (crossed L S) r c.loop-task.tasks.items) head c.loop-task.invariant.same),
       )
       | inr m ↦ inr m
     ])

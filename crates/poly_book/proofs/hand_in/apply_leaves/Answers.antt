@@ -1,4 +1,4 @@
-use Rattle.std.proofs.Common.{Err, [], ap, arith, drop, get_or, inl, inr, length, nat_lt, refl, rules, subst, sym, take, true, ◌++◌, ◌+◌, ◌∙◌, ◌∷◌, ◌≡◌, ◌≤◌}
+use Rattle.std.proofs.Common.{Err, [], ap, arith, drop, get_or, inl, inr, length, nat_lt, refl, rules, subst, sym, take, true, ◌++◌, ◌+◌, ◌<◌, ◌∙◌, ◌∷◌, ◌≡◌, ◌≤◌}
 use Rattle.std.proofs.lemmas.Bool.{and_from}
 use Rattle.std.proofs.lemmas.Result.{err_from_is_err_and}
 use Rattle.std.proofs.lemmas.List.{length-reverse, length_push}
@@ -10,7 +10,9 @@ use Rattle.poly_book.specs.Keeps.{state_of}
 use Rattle.poly_book.specs.Opens.{Opens}
 use Rattle.poly_book.specs.Tasks.{hopeful}
 use Rattle.poly_book.proofs.Cataloguing.{cut_enters}
-use Rattle.poly_book.proofs.Held.{opened_length}
+use Rattle.poly_book.specs.Meaning.{IsOwn}
+use Rattle.poly_book.specs.declared.task.Pending.{Pending}
+use Rattle.poly_book.proofs.Held.{opened_length, task_at}
 use Rattle.poly_book.proofs.Indices.{at_below, first_at}
 use Rattle.poly_book.proofs.Taking.{cut_listed, cut_within, took_becomes, took_from, took_keeps}
 use Rattle.poly_book.proofs.hand_in.apply_leaves.Goals as goal
@@ -103,3 +105,21 @@ returns-in_err-list_all-clause-why c =
           inr (inl (m, cut_listed s k l.task tree c.args.leaves.tilings.items l.there right l.cut.tilings (c.in_err-list_all.ensures.full.0 (ap Err m)), cut_within s k l.task tree c.args.leaves.rests l.there right l.cut.rests low))
       | inr m ↦ inr (inr m)
     ])
+
+pub index-requires : goal.index-requires
+index-requires c =
+    let k = c.requires.leaves.0 in
+    let ps = c.args.parts.now.tasks.items in
+    let l = c.requires.leaves.2 in
+    omega (arith, c.args.parts.now.tasks.ok.0, at_below k ps c.args.at (first_at k ps c.args.at l.first))
+
+pub list_of-base-requires : goal.list_of-base-requires
+list_of-base-requires c =
+    let k = c.requires.leaves.0 in
+    let a = c.args.parts.now in
+    let ps = a.tasks.items in
+    let l = c.requires.leaves.2 in
+    let low : c.args.at < length ps = omega (arith, at_below k ps c.args.at (first_at k ps c.args.at l.first)) in
+    let x = c.index.result.now in
+    let is : x ≡ get_or ps c.args.at x = search rules in
+    subst (λ (t : Pending). IsOwn a.log t.own) (sym is) (task_at a.log ps c.args.at x c.requires.keeps.tasks low).own

@@ -1,6 +1,5 @@
 use Rattle.std.proofs.Common.{Bool, [], ap, arith, refl, slice_index_or, subst, sym, take, true, ℕ, ◌++◌, ◌∙◌, ◌≡◌}
 use Rattle.std.proofs.lemmas.Bool.{and_from}
-use Rattle.std.specs.Arc.{arc_value}
 use Rattle.std.specs.List.{filter, list_all}
 use Rattle.poly_tiling.proofs.Lists.{all_append}
 use Rattle.poly_atom.specs.declared.atom.Atom.{Atom}
@@ -27,10 +26,10 @@ returns-in_ok-read_others-in-Listed-clause-ok c =
     let m = c.note_list.new.self in
     let s : Span = record { from = k; to = k } in
     let f : Atom → Bool = λ a. under m a k in
-    let A = c.deref-in-Listed.result.now in
+    let A = c.deref.result.now in
     let own = c.args.own.now in
-    let read = c.in_ok-read_others-in-Listed.ensures.ok ∙ ap (λ ls. filter is_other (slice_index_or ls c.in-Listed.index [])) c.deref.ensures in
-    let is : filter is_other (own_of log own) ≡ A = ap (λ o. filter is_other (own_of log o)) c.in-Listed.is ∙ sym (c.deref-in-Listed.ensures.value ∙ read) in
+    let read = c.in_ok-read_others-in-Listed.ensures.ok in
+    let is : filter is_other (own_of log own) ≡ A = ap (λ o. filter is_other (own_of log o)) c.in-Listed.is ∙ sym (c.deref.ensures.value ∙ read) in
     on_ok_then c.note_list.result ((n : ℕ) → in_span s n ≡ true → list_all (λ a. under m a n) A ≡ true) (list_all f (own_of log own) ≡ true)
     (λ noted. all_others f (own_of log own) (λ p. refl) (ap (list_all f) is ∙ noted k (within s k (omega arith) (omega arith))))
     c.note_list.ensures.ok
@@ -40,7 +39,7 @@ returns-in-Crossed-clause-ok c =
     let k = c.args.number in
     let log = c.args.log.now in
     let own = c.args.own.now in
-    let base = slice_index_or (arc_value c.in-Crossed.field-0) c.in-Crossed.field-1 [] in
+    let base = slice_index_or c.in-Crossed.field-0 c.in-Crossed.field-1 [] in
     let stair = stair_of log c.in-Crossed.stair in
     let m = c.note_stair-in-Crossed.new.self in
     let f : Atom → Bool = λ a. under m a k in
