@@ -1,3 +1,4 @@
 pub mod Sums
 pub mod Steps
 pub mod Workers
+pub mod Crossing

@@ -4,3 +4,4 @@ pub mod Hints
 pub mod Rule
 pub mod Views
 pub mod Worked
+pub mod Seen

@@ -4,8 +4,8 @@ ghost use Rattle.std.specs.Prelude.{◌≡◌, ◌≤◌, length};
 
 mod desk;
 
-use crate::scene::{Scene, explore_job};
-use crate::{Gate, MOST_TURNS, MOST_WORKERS, OpenGate, crew};
+use crate::last_view::{LastView, explore_job};
+use crate::{Crew, Gate, MOST_TURNS, MOST_WORKERS, OpenGate, crew};
 use poly_book::{Applied, Book, Found, Job, Which};
 use poly_design::{Design, Edit, Mode, Name, Need};
 use poly_desk::{Bench, Receipt};
@@ -195,6 +195,23 @@ fn cards(rt: &impl Abort, alloc: Global, count: usize) -> Vec<Card>
     cards
 }
 
+// Runs a crew at the bench, one worker for each pass, with searches of one node. No other function of these tests has to show
+// that threads may share the bench.
+fn crew_at<R: Threads + Wait + Sync, G: Gate + Sync>(
+    rt: &R,
+    alloc: Global,
+    shared: &Shared,
+    passes: Vec<Card>,
+    turns: u64,
+    gate: &G,
+) -> Crew<Card>
+    requires some { 1 ≤ length passes.items }
+    requires few { length passes.items ≤ MOST_WORKERS }
+    requires turns { turns ≤ MOST_TURNS }
+{
+    crew(rt, alloc, shared, passes, turns, 1, gate)
+}
+
 // How many receipts all workers have together.
 fn count(receipts: &[Vec<Receipt>]) -> u64 {
     let mut count = 0u64;
@@ -217,7 +234,7 @@ fn the_gate_test(rt: HostRuntime) {
     let gate = HoldingGate::new();
     let shared = make_shared(&rt, rt.alloc(), None);
     let passes = cards(&rt, rt.alloc(), 2);
-    let after = crew(&rt, rt.alloc(), &shared, passes, 1000, 1, &gate);
+    let after = crew_at(&rt, rt.alloc(), &shared, passes, 1000, &gate);
     assert!(rt; gate.was_passed());
     assert_eq!(rt; after.end, Ok(()));
     assert_eq!(rt; (after.passes.len(), after.receipts.len()), (2, 2));
@@ -231,7 +248,7 @@ fn find_all<R: Threads + Wait + Sync + Abort>(rt: &R, alloc: Global, workers: us
 {
     let shared = make_shared(rt, alloc, None);
     let passes = cards(rt, alloc, workers);
-    let after = crew(rt, alloc, &shared, passes, 1000, 1, &OpenGate);
+    let after = crew_at(rt, alloc, &shared, passes, 1000, &OpenGate);
     assert_eq!(rt; after.end, Ok(()));
     assert_eq!(rt; after.passes.len(), workers);
     assert!(rt; after.applied > 1 && after.applied == count(&after.receipts));
@@ -253,7 +270,7 @@ fn crews_of_every_size(rt: HostRuntime) {
 fn workers_that_use_up_their_turns_are_unfinished(rt: HostRuntime) {
     let shared = make_shared(&rt, rt.alloc(), None);
     let passes = cards(&rt, rt.alloc(), 2);
-    let after = crew(&rt, rt.alloc(), &shared, passes, 1, 1, &OpenGate);
+    let after = crew_at(&rt, rt.alloc(), &shared, passes, 1, &OpenGate);
     assert_eq!(rt; after.end, Err(Refusal::Unfinished));
     assert!(rt; after.applied == 1 || after.applied == 2);
 }
@@ -268,7 +285,7 @@ fn work_alone<R: Threads + Wait + Sync + Abort>(
     requires { turns ≤ MOST_TURNS }
 {
     let passes = cards(rt, alloc, 1);
-    let after = crew(rt, alloc, shared, passes, turns, 1, &OpenGate);
+    let after = crew_at(rt, alloc, shared, passes, turns, &OpenGate);
     (after.applied, after.end)
 }
 
@@ -292,7 +309,7 @@ fn a_worker_goes_on_where_its_turns_were_used_up(rt: HostRuntime) {
 fn a_report_on_a_task_that_has_ended_costs_a_turn(rt: HostRuntime) {
     let shared = make_shared(&rt, rt.alloc(), Some(Refusal::Gone));
     let passes = cards(&rt, rt.alloc(), 2);
-    let after = crew(&rt, rt.alloc(), &shared, passes, 5, 1, &OpenGate);
+    let after = crew_at(&rt, rt.alloc(), &shared, passes, 5, &OpenGate);
     assert_eq!(rt; (after.applied, after.end), (0, Err(Refusal::Unfinished)));
 }
 
@@ -300,7 +317,7 @@ fn a_report_on_a_task_that_has_ended_costs_a_turn(rt: HostRuntime) {
 fn another_refusal_ends_the_worker(rt: HostRuntime) {
     let shared = make_shared(&rt, rt.alloc(), Some(Refusal::CatalogueFull));
     let passes = cards(&rt, rt.alloc(), 2);
-    let after = crew(&rt, rt.alloc(), &shared, passes, 5, 1, &OpenGate);
+    let after = crew_at(&rt, rt.alloc(), &shared, passes, 5, &OpenGate);
     assert_eq!(rt;
         (after.applied, after.end),
         (0, Err(Refusal::CatalogueFull))
@@ -308,11 +325,16 @@ fn another_refusal_ends_the_worker(rt: HostRuntime) {
 }
 
 // Explores the newest task as a worker does, and hands the report in. Returns whether a task was pending.
-fn cut_newest(rt: &impl Abort, alloc: Global, scene: &mut Option<Scene>, book: &mut Book) -> bool {
+fn cut_newest(
+    rt: &impl Abort,
+    alloc: Global,
+    last: &mut Option<LastView>,
+    book: &mut Book,
+) -> bool {
     let Some(job) = book.take(Which::Any).expect(rt, "memory") else {
         return false;
     };
-    let found = explore_job::<Shared>(alloc, scene, job, 1).expect(rt, "memory");
+    let found = explore_job::<Shared>(alloc, last, job, 1).expect(rt, "memory");
     book.hand_in(found.report).expect(rt, "a tree that holds");
     true
 }
@@ -320,8 +342,8 @@ fn cut_newest(rt: &impl Abort, alloc: Global, scene: &mut Option<Scene>, book: &
 #[test]
 fn a_worker_takes_the_view_of_a_new_edition(rt: HostRuntime) {
     let mut book = two_dominoes(&rt, rt.alloc());
-    let mut scene = None;
-    cut_newest(&rt, rt.alloc(), &mut scene, &mut book);
+    let mut last = None;
+    cut_newest(&rt, rt.alloc(), &mut last, &mut book);
     for (x, y) in [(1, 1), (2, 0)] {
         let mode = Mode::Optional;
         let cell = cell(&rt, x, y);
@@ -329,7 +351,7 @@ fn a_worker_takes_the_view_of_a_new_edition(rt: HostRuntime) {
             .expect(&rt, "an edit that is accepted");
     }
     for _ in 0..1000u32 {
-        if !cut_newest(&rt, rt.alloc(), &mut scene, &mut book) {
+        if !cut_newest(&rt, rt.alloc(), &mut last, &mut book) {
             break;
         }
     }

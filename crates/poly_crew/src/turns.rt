@@ -5,7 +5,7 @@ ghost use Rattle.poly_crew.specs.Worked.{HasRun, IsWorked};
 ghost use Rattle.poly_report.specs.declared.size.TheConstants.{NODES};
 
 use crate::gate::Gate;
-use crate::scene::{Scene, explore_job};
+use crate::last_view::{LastView, explore_job};
 use crate::worker::Worker;
 use poly_book::{Found, Which};
 use poly_desk::Bench;
@@ -40,9 +40,9 @@ pub(crate) fn run<R: Wait, B: Bench, G: Gate>(
 )
     ensures { HasRun B.changes B.cuts B.gave B.found_none B.refused work.now.turns worker.old worker.new }
 {
-    let mut scene: Option<Scene> = None;
+    let mut last: Option<LastView> = None;
     for turn in 0..work.turns {
-        match take_turn(rt, work, number, turn, &mut scene, worker) {
+        match take_turn(rt, work, number, turn, &mut last, worker) {
             Ok(true) => {}
             Ok(false) => {
                 worker.end = Ok(());
@@ -64,11 +64,11 @@ fn take_turn<R: Wait, B: Bench, G: Gate>(
     work: &Work<B, G>,
     number: u32,
     turn: u64,
-    scene: &mut Option<Scene>,
+    last: &mut Option<LastView>,
     worker: &mut Worker<B::Pass>,
 ) -> Result<bool, Refusal>
-    requires scene { IfSome scene.old (λ s. B.is_view_at s.edition (arc_value s.view)) }
-    ensures scene { IfSome scene.new (λ s. B.is_view_at s.edition (arc_value s.view)) }
+    requires last { IfSome last.old (λ s. B.is_view_at s.edition s.view) }
+    ensures last { IfSome last.new (λ s. B.is_view_at s.edition s.view) }
     ensures worked { IsWorked B.changes B.cuts B.gave 1 worker.old worker.new }
     ensures none { IfOk result (λ more. more ≡ false → B.found_none worker.new.pass) }
     ensures why { IfErr result (λ e. (e ≡ Refusal.Memory) ⊎ B.refused worker.new.pass e) }
@@ -81,7 +81,7 @@ fn take_turn<R: Wait, B: Bench, G: Gate>(
         };
     };
     work.gate.enter(number, turn);
-    let found = explore_job::<B>(work.alloc, scene, job, work.nodes);
+    let found = explore_job::<B>(work.alloc, last, job, work.nodes);
     work.gate.leave(number, turn);
     hand_in(rt, work.bench, worker, found?)?;
     Ok(true)

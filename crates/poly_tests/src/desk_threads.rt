@@ -25,24 +25,50 @@ struct Hand<C: Ledger, K: Ledger, O: Opening> {
     receipts: Vec<Receipt>,
 }
 
-impl<C: Ledger, K: Ledger, O: Opening> Hand<C, K, O> {
-    // Makes the cell optional and required in turn, 50 times in all, and keeps the receipts.
-    fn edit_often<R: Wait>(&mut self, rt: &R, desk: &Desk<C, K, O>) {
+// Where threads edit a design together.
+trait Shared {
+    type Hand;
+
+    // Makes the cell of the hand optional and required in turn, 50 times in all, and keeps the receipts.
+    fn edit_often<R: Wait>(&self, rt: &R, hand: &mut Self::Hand);
+}
+
+impl<C: Ledger, K: Ledger, O: Opening> Shared for Desk<C, K, O> {
+    type Hand = Hand<C, K, O>;
+
+    fn edit_often<R: Wait>(&self, rt: &R, hand: &mut Hand<C, K, O>) {
         for turn in 0..50u32 {
             let mode = if turn % 2 == 0 {
                 Mode::Optional
             } else {
                 Mode::Required
             };
-            let cell = self.cell;
-            match desk.edit(rt, &mut self.pass, Edit::Cell { cell, mode }) {
+            let cell = hand.cell;
+            match self.edit(rt, &mut hand.pass, Edit::Cell { cell, mode }) {
                 Ok(receipt) => {
-                    let _ = self.receipts.push(receipt);
+                    let _ = hand.receipts.push(receipt);
                 }
                 Err(_) => {}
             }
         }
     }
+}
+
+// Lets two threads edit at the same time.
+fn edit_at_once<S: Shared + Sync, R: Threads + Wait + Sync>(
+    rt: &R,
+    shared: &S,
+    one: &mut S::Hand,
+    two: &mut S::Hand,
+)
+where
+    S::Hand: Send,
+{
+    let _ = thread::join(
+        rt,
+        || shared.edit_often(rt, one),
+        || shared.edit_often(rt, two),
+    );
 }
 
 // Whether one of the receipts has the place.
@@ -76,11 +102,7 @@ fn edit_together<
         cell: Cell::new(1, 1).expect(rt, "a coordinate below 64"),
         receipts: Vec::new(alloc),
     };
-    let _ = thread::join(
-        rt,
-        || one.edit_often(rt, &desk),
-        || two.edit_often(rt, &desk),
-    );
+    edit_at_once(rt, &desk, &mut one, &mut two);
     assert!(rt; (one.receipts.len(), two.receipts.len()) == (50, 50));
     for place in 1..101u64 {
         assert!(rt; has(&one.receipts, place) != has(&two.receipts, place));
