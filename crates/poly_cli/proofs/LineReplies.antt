@@ -13,7 +13,9 @@ use Rattle.poly_text.specs.Commands.{AskedBy, Asks, CommandSays}
 use Rattle.poly_text.specs.Gives.{◌>>=◌}
 use Rattle.poly_text.specs.Replies.{ok_text, refusal_text, step_text}
 use Rattle.poly_cli.specs.Slow.{Answers, AnswersFailed, AnswersOf, IsRefusal, Replies, Responds, Steps, WordsSay}
-use Rattle.poly_cli.specs.Questions.{AnswersQuestion}
+use Rattle.poly_cli.specs.declared.questions.Survey.{Survey}
+use Rattle.poly_cli.specs.declared.questions.Survey.TheVariants as survey
+use Rattle.poly_cli.specs.Questions.{AnswersQuestion, SurveySays, command_of}
 use Rattle.poly_cli.specs.Current.{IsCurrent}
 use Rattle.poly_cli.specs.States.{IsNotAnswered, IsRefusedFor, IsUnanswered, State, answered}
 use Rattle.poly_text.specs.Words.{words_of}
@@ -88,6 +90,18 @@ module _ (Failures : Refusal → Type 0) (c : Command) (Says : Layout → List (
       go : (f : Option Refusal) → IsRefusedFor (IsUnanswered s) f e → AnswersOf Failures f c s (refusal_text e) t
       go None unanswered = into (refusal_text e) (inr (inl (e, unanswered, inl same, refl)))
       go (Some failure) is = into_failed failure (refusal_text e) (same, ap refusal_text is)
+
+-- an answer to a question about all tilings is a reply to the command that asks it
+pub survey_answers : (Failures : Refusal → Type 0) (a : Survey) (s t : State) (out : List ℕ) → AnswersQuestion Failures (SurveySays a) s out t → Answers Failures (command_of a) s out t
+survey_answers Failures survey.List s t out h = h
+survey_answers Failures (survey.Browse question) s t out h = h
+survey_answers Failures survey.Classes s t out h = h
+
+-- the same if the engine has failed before
+pub survey_fails : (a : Survey) (s t : State) (failure : Refusal) (out : List ℕ) → IsRefusal failure s out t → AnswersFailed failure (command_of a) s out t
+survey_fails survey.List s t failure out h = h
+survey_fails (survey.Browse question) s t failure out h = h
+survey_fails survey.Classes s t failure out h = h
 
 -- a state in which a question was answered stays the same if one is answered again
 pub answered_again : (s : State) → s.settled ≡ true → s ≡ answered s

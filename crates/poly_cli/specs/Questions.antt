@@ -9,8 +9,12 @@ use Rattle.poly_tiling.specs.declared.item.Item.{Item}
 use Rattle.poly_browse.specs.Browsing.{Asked, IsAnswer}
 use Rattle.poly_browse.specs.Classes.{AreClasses}
 use Rattle.poly_text.specs.Asked.{Asked as Question}
+use Rattle.poly_text.specs.declared.command.Command.{Command}
+use Rattle.poly_text.specs.declared.command.Command.TheVariants as command
 use Rattle.poly_text.specs.Replies.{classes_text, forced_text, item_text, matches_text, refusal_text, status_text, tiling_text, tilings_text}
 use Rattle.poly_book.specs.declared.book.Numbers.{Numbers}
+use Rattle.poly_cli.specs.declared.questions.Survey.{Survey}
+use Rattle.poly_cli.specs.declared.questions.Survey.TheVariants as survey
 use Rattle.poly_cli.specs.States.{AreNumbers, Fails, IsUnanswered, State, answered}
 
 -- a line for each tiling, in order, and their number
@@ -37,6 +41,18 @@ answer_text forced options count = forced_text forced ++ (flat_map (λ o. item_t
 
 abbrev pub BrowseSays : Question → Layout → List (List Placement) → List ℕ → Type 0
 BrowseSays q d all out = (count : ℕ) × (forced : List Placement) × (options : List (Item × ℕ)) × IsAnswer d all (asked_of q) count forced options × (out ≡ answer_text forced options count)
+
+-- the command that asks the question
+abbrev pub command_of : Survey → Command
+command_of survey.List = command.ListAll
+command_of (survey.Browse question) = command.Browse question
+command_of survey.Classes = command.Classes
+
+-- the answer to the question
+abbrev pub SurveySays : Survey → Layout → List (List Placement) → List ℕ → Type 0
+SurveySays survey.List = ListSays
+SurveySays (survey.Browse question) = BrowseSays question
+SurveySays survey.Classes = ClassesSay
 
 -- A question about all tilings of the design is answered or refused, or the engine fails at it. Even if it is refused, the
 -- search may have finished before that.

@@ -40,7 +40,7 @@ pub fn advice(refusal: Refusal) -> &'static str {
         Refusal::CatalogueFull =>
             "There are over 1,000,000 tilings. Pin a piece or require a cell.",
         Refusal::BadCommand => {
-            "The line isn't a command. Check the first word, the number of words, the keywords, and the form of cells (`3,1`)."
+            "The line isn't a command. Check the first word, the number of words, the keywords, the form of cells (`3,1`), and that the numbers of `copies` are at most 16, the smaller one first."
         }
         Refusal::LineTooLong => "A line has at most 65,536 bytes.",
         Refusal::Unfinished => {

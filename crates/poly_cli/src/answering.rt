@@ -12,6 +12,7 @@ ghost use Rattle.poly_cli.specs.Slow.{IsRefusal, Responds, Slow};
 ghost use Rattle.poly_cli.specs.declared.answering.TheConstants.{MOST_PLACED};
 
 use crate::engine::Engine;
+use crate::questions::Survey;
 use crate::writing::{Fault, write_whole};
 use poly_book::Quiet;
 use poly_design::{MAX_CELLS, Placement};
@@ -112,9 +113,9 @@ impl Answerer {
             }
             Command::Status => self.status(engine, writer),
             Command::Count => self.count(engine, writer),
-            Command::ListAll => self.list(engine, writer),
-            Command::Browse(question) => self.browse(engine, question, writer),
-            Command::Classes => self.classes(engine, writer),
+            Command::ListAll => self.survey(engine, Survey::List, writer),
+            Command::Browse(question) => self.survey(engine, Survey::Browse(question), writer),
+            Command::Classes => self.survey(engine, Survey::Classes, writer),
         }
     }
 

@@ -39,7 +39,9 @@ Exit status: 0 the input ended, or help or the version was asked for; 1 the puzz
 
 The guide is docs/GUIDE.md of the repository; docs/FORMATS.md has each line in full.";
 
-const VERSION: &str = "1.0.0";
+const VERSION: &str = "1.1.0";
+
+const NAME: &str = "polybench";
 
 const TURNS: &str = "turns";
 
@@ -62,7 +64,8 @@ pub struct Options {
 }
 
 /// Reads the words of the command line, the program's own name first: `--turns N`, with N from 1 to
-/// `MOST_TURNS`, `--workers N`, with N from 1 to `MOST_WORKERS`, `--verbose`, `--help` and `--version`.
+/// `MOST_TURNS`, `--workers N`, with N from 1 to `MOST_WORKERS`, `--verbose`, `--help` and `--version`. Whatever the first
+/// word is, help and errors call the program `polybench`.
 ///
 /// The error holds the text of the help, of the version or of a mistake, or says that memory ran out. `Error::print` writes
 /// help and version to standard output and the rest to standard error; `Error::exit_code` is 0 for help and version and 2
@@ -101,7 +104,9 @@ fn command<'a>(alloc: Global) -> Result<Command<'a>, Error> {
         .long(VERBOSE)
         .help("Explains each refused line, and reports how far a long search is, on standard error")
         .action(ArgAction::SetTrue);
-    let command = Command::new(alloc, "polybench")
+    // Without `bin_name`, help and errors would have the name of the file by which the program was started.
+    let command = Command::new(alloc, NAME)
+        .bin_name(NAME)?
         .version(VERSION)
         .about(ABOUT)
         .after_help(EXAMPLE)

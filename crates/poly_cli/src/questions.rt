@@ -8,7 +8,7 @@ ghost use Rattle.poly_browse.specs.Browsing.{IsAnswer};
 ghost use Rattle.poly_grid.specs.declared.refusal.Refusal.TheVariants.{Memory};
 ghost use Rattle.poly_text.specs.Replies.{covered, refusal_text};
 ghost use Rattle.poly_cli.specs.Current.{IsCurrent};
-ghost use Rattle.poly_cli.specs.Questions.{BrowseSays, ClassesSay, asked_of, list_text};
+ghost use Rattle.poly_cli.specs.Questions.{BrowseSays, ClassesSay, SurveySays, asked_of, command_of, list_text};
 ghost use Rattle.poly_cli.specs.Runs.{Writes};
 ghost use Rattle.poly_cli.specs.Slow.{Responds};
 ghost use Rattle.poly_cli.specs.States.{IsNotAnswered, answered};
@@ -24,6 +24,18 @@ use poly_text::{Command, Question};
 use poly_tiling::{listings_show, numbers_show};
 use std::alloc::Global;
 use std::io::Write;
+
+/// A question that is answered from all tilings of the design.
+#[derive(Drop)]
+pub(crate) enum Survey {
+    /// Which tilings there are.
+    List,
+    /// Which placements all matching tilings have, how many different placements of these tilings cover each item, and how
+    /// many tilings match.
+    Browse(Question),
+    /// How many tilings there are up to the symmetries of the design.
+    Classes,
+}
 
 impl Answerer {
     /// Writes how many tilings there are.
@@ -47,67 +59,22 @@ impl Answerer {
         }
     }
 
-    /// Writes all tilings, and how many there are.
-    pub(crate) fn list<E: Engine, W: Write>(
+    /// Writes the answer to a question about all tilings, or why it is refused.
+    pub(crate) fn survey<E: Engine, W: Write>(
         &mut self,
         engine: &mut E,
+        survey: Survey,
         writer: &mut W,
     ) -> Result<(), Fault>
         requires ready { E.ready engine.old }
         requires kept { IsCurrent self.old.kept (E.state engine.old) }
         ensures ready { E.ready engine.new }
         ensures kept { IsCurrent self.new.kept (E.state engine.new) }
-        ensures says { (out : List ℕ) × Responds E.failures Command.ListAll (E.state engine.old) out (E.state engine.new) × Writes result (W.contents writer.old) (W.contents writer.new) out }
+        ensures says { (out : List ℕ) × Responds E.failures (command_of survey) (E.state engine.old) out (E.state engine.new) × Writes result (W.contents writer.old) (W.contents writer.new) out }
     {
         match self.all_tilings(engine) {
             Ok(quiet) => {
-                let written = self.list_all(&quiet, writer);
-                self.kept = Some(quiet);
-                written
-            }
-            Err(refusal) => refuse(refusal, writer),
-        }
-    }
-
-    /// Writes which placements all matching tilings have, how many different placements of these tilings cover each item, and
-    /// how many tilings match.
-    pub(crate) fn browse<E: Engine, W: Write>(
-        &mut self,
-        engine: &mut E,
-        question: Question,
-        writer: &mut W,
-    ) -> Result<(), Fault>
-        requires ready { E.ready engine.old }
-        requires kept { IsCurrent self.old.kept (E.state engine.old) }
-        ensures ready { E.ready engine.new }
-        ensures kept { IsCurrent self.new.kept (E.state engine.new) }
-        ensures says { (out : List ℕ) × Responds E.failures (Command.Browse question) (E.state engine.old) out (E.state engine.new) × Writes result (W.contents writer.old) (W.contents writer.new) out }
-    {
-        match self.all_tilings(engine) {
-            Ok(quiet) => {
-                let written = self.browse_all(&quiet, question, writer);
-                self.kept = Some(quiet);
-                written
-            }
-            Err(refusal) => refuse(refusal, writer),
-        }
-    }
-
-    /// Writes how many tilings there are up to the symmetries of the design.
-    pub(crate) fn classes<E: Engine, W: Write>(
-        &mut self,
-        engine: &mut E,
-        writer: &mut W,
-    ) -> Result<(), Fault>
-        requires ready { E.ready engine.old }
-        requires kept { IsCurrent self.old.kept (E.state engine.old) }
-        ensures ready { E.ready engine.new }
-        ensures kept { IsCurrent self.new.kept (E.state engine.new) }
-        ensures says { (out : List ℕ) × Responds E.failures Command.Classes (E.state engine.old) out (E.state engine.new) × Writes result (W.contents writer.old) (W.contents writer.new) out }
-    {
-        match self.all_tilings(engine) {
-            Ok(quiet) => {
-                let written = self.count_classes(&quiet, writer);
+                let written = self.say(&quiet, survey, writer);
                 self.kept = Some(quiet);
                 written
             }
@@ -128,6 +95,18 @@ impl Answerer {
         match self.kept.take() {
             Some(quiet) => Ok(quiet),
             None => engine.settle(),
+        }
+    }
+
+    // Writes what these tilings say to the question.
+    fn say<W: Write>(&mut self, quiet: &Quiet, survey: Survey, writer: &mut W) -> Result<(), Fault>
+        ensures says { (out : List ℕ) × (SurveySays survey quiet.now.design (map (placed quiet.now.view) quiet.now.tilings) out ⊎ (out ≡ refusal_text Memory)) × Writes result (W.contents writer.old) (W.contents writer.new) out }
+        ensures all { IsListOfTilings quiet.now.design (map (placed quiet.now.view) quiet.now.tilings) }
+    {
+        match survey {
+            Survey::List => self.list_all(quiet, writer),
+            Survey::Browse(question) => self.browse_all(quiet, question, writer),
+            Survey::Classes => self.count_classes(quiet, writer),
         }
     }
 
