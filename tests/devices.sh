@@ -27,17 +27,18 @@ on_file() {
 # Help goes to standard output.
 ./polybench --help </dev/null >"$room/output" 2>"$room/errors"
 status=$?
-if [ "$status" -eq 0 ] && grep -q '^Usage: polybench' "$room/output" && [ ! -s "$room/errors" ]; then
+if [ "$status" -eq 0 ] && grep -qxF 'Usage: polybench [OPTIONS]' "$room/output" && [ ! -s "$room/errors" ]; then
     passed=$((passed + 1))
 else
     failed=$((failed + 1))
     echo "failed: help (status $status)"
 fi
 
-# The version goes to standard output too.
+# The version goes to standard output too. It is the newest one of CHANGELOG.md.
+printf 'polybench %s\n' "$(sed -n 's/^## \([0-9.]*\)$/\1/p' CHANGELOG.md | head -n 1)" >"$room/wanted"
 ./polybench --version </dev/null >"$room/output" 2>"$room/errors"
 status=$?
-if [ "$status" -eq 0 ] && grep -q '^polybench [0-9.]*$' "$room/output" && [ ! -s "$room/errors" ]; then
+if [ "$status" -eq 0 ] && cmp -s "$room/wanted" "$room/output" && [ ! -s "$room/errors" ]; then
     passed=$((passed + 1))
 else
     failed=$((failed + 1))
@@ -77,6 +78,13 @@ refused_argument() {
 }
 
 refused_argument '--fly'
+# The usage in an error has the same name as the one in the help.
+if grep -qxF 'Usage: polybench [OPTIONS]' "$room/errors"; then
+    passed=$((passed + 1))
+else
+    failed=$((failed + 1))
+    echo "failed: the usage in an error"
+fi
 refused_argument 'fly'
 refused_argument '--help=1'
 refused_argument '--turns'

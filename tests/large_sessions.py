@@ -78,6 +78,18 @@ def new_names(size, pairs):
     return [puzzle(["+" * size] * size, []), *lines], accepted(len(lines))
 
 
+def wide_edits_and_questions(size, pairs):
+    """Changes of whether a piece may be turned over, with a question after each, so that no task is pending. A change has a guard
+    for each placement that comes or goes. F lies in (size - 2) squared places in each of 8 orientations, or 4 if it isn't turned
+    over, and one tiling is the empty board."""
+    places = (size - 2) ** 2
+    lines = [line for _ in range(pairs) for line in ("mirror F on", "count", "mirror F off", "count")]
+    numbers = range(2, 2 * pairs + 2)
+    replies = [reply for number in numbers for reply in (f"ok {number}", f"tilings {places * (8 if number % 2 == 0 else 4) + 1}")]
+    opening = f"add F optional off {words(PENTOMINOES['F'])}"
+    return [puzzle(["+" * size] * size, []), opening, *lines], ["ok 0", "ok 1", *replies]
+
+
 def many_edits(edits):
     """Edits of four pentominoes on 4 by 5, with a question only at the end: this rectangle has 12 tilings by L, P, V and Y."""
     lines = ["cell 0,0 optional" if number % 2 == 0 else "cell 0,0 required" for number in range(edits)]
@@ -133,6 +145,7 @@ SESSIONS = {
     "80 undos and redos of a new cell": (undos_and_redos(80), "40M"),
     "a shelf over thousands of tasks": (shelf_over_many_tasks(16, 10), "200M"),
     "300 new names": (new_names(16, 300), "80M"),
+    "2,000 wide changes with a question after each": (wide_edits_and_questions(10, 1000), "18M"),
     "over 1,000,000 tilings of a wide board": (too_many(7), "400M"),
     "an edit after such a question": (narrowed_after_too_many(10), "500M"),
     "1,000,000 tilings": (exactly_a_million(), "600M"),
