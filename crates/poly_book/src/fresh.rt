@@ -1,6 +1,6 @@
 //! New tasks: the stairs of a change or, if a shelf was kept for this undo or redo, each frozen list of the shelf followed by
 //! each stair; and the rests of a report. A hopeless list gets no task.
-ghost use Rattle.std.specs.Prelude.{◌≡◌, ◌≤◌, ◌<◌, ◌++◌, ◌+◌, ◌∷◌, ◌⊎◌, ℕ, [], IfErr, IfOk, List, false, length, map, not, option_copied, slice_index_or, true, MatchOption, ⊤};
+ghost use Rattle.std.specs.Prelude.{◌≡◌, ◌≤◌, ◌<◌, ◌++◌, ◌+◌, ◌∷◌, ◌⊎◌, ℕ, [], IfErr, IfOk, List, OnOk, false, length, map, not, option_copied, slice_index_or, true, MatchOption, ⊤};
 ghost use Rattle.poly_atom.specs.declared.atom.Atom.{Atom as AtomOf};
 ghost use Rattle.poly_atom.specs.Atoms.{AllSmall, IsSmall, negated};
 ghost use Rattle.poly_atom.specs.Hopeless.{hopeless};
@@ -13,7 +13,7 @@ ghost use Rattle.poly_book.specs.Tasks.{AreHopeful, hopeful};
 ghost use Rattle.poly_book.specs.declared.prepare.TheConstants.{MAX_CHANGES};
 
 use crate::shelf::{Frozen, Shelf};
-use crate::task::{Own, Pending};
+use crate::task::{Own, Pending, read_own};
 use poly_atom::{Atom, GuardLog, Stair, hopeless};
 use poly_grid::Refusal;
 use poly_report::{AtomLists, SharedLists};
@@ -183,8 +183,7 @@ fn opened_crossed(
     let mut atoms = Vec::new(alloc);
     let mut number = next;
     for task in frozen {
-        let (lists, at) = frozen_list(alloc, log, task)?;
-        lists.read(at, &mut atoms)?;
+        let (lists, at) = frozen_list(alloc, log, task, &mut atoms)?;
         number = add_crossed(
             view, &lists, at, &mut atoms, guards, number, edition, &mut tasks,
         )?;
@@ -192,32 +191,32 @@ fn opened_crossed(
     Ok(tasks)
 }
 
-// Lists and an index, at which they have the atoms of the frozen task. Only what the task's own list lacks is stored.
+// Lists and an index, at which they have the atoms of the frozen task. Only what the task's own list lacks is stored. The atoms
+// are written to the buffer, too, in place of what it had.
 fn frozen_list(
     alloc: Global,
     log: &GuardLog,
     frozen: &Frozen,
+    atoms: &mut Vec<Atom>,
 ) -> Result<(SharedLists, usize), Refusal>
     requires { IsFrozen log.now frozen.now }
     ensures at { IfOk result (λ r. r.1 < length r.0) }
     ensures list { IfOk result (λ r. slice_index_or r.0 r.1 [] ≡ frozen_of log.now frozen.now) }
+    ensures atoms { OnOk result (atoms.new.items ≡ frozen_of log.now frozen.now) }
     ensures why { IfErr result (λ e. e ≡ Refusal.Memory) }
 {
     let since = log.since(frozen.made);
     let laid = &since[..frozen.count];
+    read_own(log, &frozen.own, atoms)?;
+    atoms.extend_from_slice(laid)?;
     match &frozen.own {
         Own::Listed(lists, index) => list_after(alloc, lists, *index, laid),
-        Own::Stair(stair) => {
-            let mut atoms = Vec::new(alloc);
-            stair.append_to(log, &mut atoms)?;
-            atoms.extend_from_slice(laid)?;
-            list_alone(alloc, &atoms)
-        }
+        Own::Stair(_) => list_alone(alloc, atoms),
         Own::Crossed(lists, index, stair) => {
-            let mut atoms = Vec::new(alloc);
-            stair.append_to(log, &mut atoms)?;
-            atoms.extend_from_slice(laid)?;
-            list_after(alloc, lists, *index, &atoms)
+            let mut more = Vec::new(alloc);
+            stair.append_to(log, &mut more)?;
+            more.extend_from_slice(laid)?;
+            list_after(alloc, lists, *index, &more)
         }
     }
 }
@@ -240,15 +239,17 @@ fn list_after(
     Ok((lists.after(alloc, index, more)?, 0))
 }
 
-// Lists and an index, at which they have this list.
+// Lists and an index, at which they have this list. It is kept over an empty list, which is faster than adding it to lists
+// that may grow further.
 fn list_alone(alloc: Global, atoms: &[Atom]) -> Result<(SharedLists, usize), Refusal>
     ensures at { IfOk result (λ r. r.1 < length r.0) }
     ensures list { IfOk result (λ r. slice_index_or r.0 r.1 [] ≡ atoms.now) }
     ensures why { IfErr result (λ e. e ≡ Refusal.Memory) }
 {
     let mut lists = AtomLists::new(alloc);
-    lists.push(atoms)?;
-    Ok((lists.share(alloc, None)?, 0))
+    lists.push(&[])?;
+    let empty = lists.share(alloc, None)?;
+    Ok((empty.after(alloc, 0, atoms)?, 0))
 }
 
 // The list at the index, which is shared, followed by the stair.

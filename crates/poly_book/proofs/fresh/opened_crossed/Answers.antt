@@ -1,4 +1,4 @@
-use Rattle.std.proofs.Common.{[], arith, drop, inl, inr, map, subst, sym, ◌++◌, ◌+◌, ◌∙◌, ◌∷◌, ◌≡◌}
+use Rattle.std.proofs.Common.{[], arith, drop, inl, inr, map, subst, sym, ◌++◌, ◌+◌, ◌∷◌, ◌≡◌}
 use Rattle.std.proofs.lemmas.Result.{err_from_is_err_and}
 use Rattle.poly_atom.specs.Stairs.{stairs}
 use Rattle.poly_book.specs.Meaning.{IsFrozen, frozen_of}
@@ -20,8 +20,8 @@ loop-task-preserved c =
     let S = stairs g in
     let i = c.loop-task.task-index in
     let rest = crossed (drop (i + 1) L) S in
-    let base = c.read.new.buffer.items in
-    let is : base ≡ frozen_of log c.task-item.result = c.in_ok-read.ensures.ok ∙ c.in_ok-lists.ensures.list in
+    let base = c.frozen_list.new.atoms.items in
+    let is : base ≡ frozen_of log c.task-item.result = c.in_ok-lists.ensures.atoms in
     let head = frozen_head log S fs i c.task-item.result base c.loop-task-test.true c.task-item.is is in
     record {
       same = c.in_ok-number.ensures.ok log c.args.next (crossed L S) rest c.requires.log
@@ -41,8 +41,8 @@ returns-in_err-number-clause-why c =
     let S = stairs g in
     let i = c.loop-task.task-index in
     let rest = crossed (drop (i + 1) L) S in
-    let base = c.read.new.buffer.items in
-    let is : base ≡ frozen_of log c.task-item.result = c.in_ok-read.ensures.ok ∙ c.in_ok-lists.ensures.list in
+    let base = c.frozen_list.new.atoms.items in
+    let is : base ≡ frozen_of log c.task-item.result = c.in_ok-lists.ensures.atoms in
     let head = frozen_head log S fs i c.task-item.result base c.loop-task-test.true c.task-item.is is in
     rw (p.1, p.2) (elim c.in_err-number.ensures.why [
       | inl m ↦ inl (
