@@ -36,12 +36,12 @@ is_answered() {
 }
 
 # The program has the guide's text for each refusal that a session answers.
-source=$(tr -s ' \n' ' ' <crates/poly_cli/src/advising.rt)
+source=$(tr -s ' \n' ' ' <crates/poly_grid/src/refusal.rt)
 while IFS=$'\t' read -r reply text; do
     text="\"${text//\"/\\\"}\""
-    name="Refusal::${reply##* }"
-    [[ $source == *"$name => $text"* || $source == *"$name => { $text }"* || $source == *"$name { .. } => { $text }"* ]]
-    tell "the text of $reply in docs/GUIDE.md and in crates/poly_cli/src/advising.rt" $?
+    name="${reply##* }"
+    [[ $source == *"#[error($text)] $name,"* || $source == *"#[error($text)] $name {"* ]]
+    tell "the text of $reply in docs/GUIDE.md and in crates/poly_grid/src/refusal.rt" $?
 done <"$room/table"
 sed -n '/^const ANSWERED/,/^];/s/^    Refusal::\([A-Za-z]*\).*/\1/p' crates/poly_cli/src/explaining.rt >"$room/answered"
 [ -s "$room/answered" ] && sed 's/\t.*//; s/.* //' "$room/table" | cmp -s - "$room/answered"

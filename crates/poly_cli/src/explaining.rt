@@ -1,8 +1,7 @@
-//! Explains refusals while replies are written.
+//! Explains refusals while replies are written, by the texts that poly_grid gives them.
 ghost use Rattle.std.specs.Prelude.{◌≡◌, IfSome};
 ghost use Rattle.poly_text.specs.Replies.{refusal_text};
 
-use crate::advising::advice;
 use poly_grid::Refusal;
 use poly_text::refusal_line;
 use std::io;
@@ -93,7 +92,7 @@ impl<W: Write, T: Write> Write for Explained<W, T> {
 
 /// Writes what the refusal means. Ignores a failure of the writer.
 pub fn explain<T: Write>(errors: &mut T, refusal: Refusal) {
-    let _ = writeln!(errors, "polybench: {}", advice(refusal));
+    let _ = writeln!(errors, "polybench: {refusal}");
 }
 
 // The refusal whose line this is, if it is the line of a refusal.

@@ -2,7 +2,6 @@
 //! edited, and finds all tilings of the design.
 #![tactic(auto)]
 
-mod advising;
 mod answering;
 mod arguments;
 mod engine;
@@ -32,7 +31,6 @@ pub use solo::Solo;
 pub use team::Team;
 
 // What a verbose session adds: it explains refusals and reports how far a search is.
-pub use advising::advice;
 pub use explaining::{Explained, explain};
 pub use watching::Watched;
 
