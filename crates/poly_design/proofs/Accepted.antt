@@ -1,5 +1,5 @@
 -- The design after an accepted edit.
-use Rattle.std.proofs.Common.{◌≡◌, ◌∙◌, ℕ, ◌<◌, ◌≤◌, ◌⊎◌, ◌↔◌, inl, inr, Bool, true, false, List, [], ◌∷◌, length, Option, Some, None, refl, sym, ap, subst, arith}
+use Rattle.std.proofs.Common.{◌≡◌, ◌∙◌, ℕ, ◌<◌, ◌≤◌, ◌⊎◌, ◌↔◌, inl, inr, Bool, true, false, List, [], ◌∷◌, length, Option, Some, None, Result, Ok, Err, IfOk, refl, sym, ap, subst, arith}
 use mathlib.Core.Bool.{true≢false}
 use Rattle.std.specs.Prelude.{IsTrue, is_some}
 use Rattle.std.specs.Ordering.{eq_by_cmp}
@@ -156,16 +156,17 @@ pub few_there : (d : Layout) (name : List ℕ) (before : Option Spec) (f : Spec 
 few_there d name before f s after found same few =
     subst (λ (v : Spec). FewPlacements (changed d (Piece name before (Some v)))) (sym same) (subst (λ (v : Change). FewPlacements (changed d v)) (sym (is_change_by d name f s found)) few)
 
-pub accept : (d : Layout) (e : Edit) (name : List ℕ) (f : Spec → Spec) (s before after : Spec) → IsDesign d → spec_of d name ≡ Some s → change_by d name f ≡ change_of d e → before ≡ s → after ≡ f s
-    → NoneHolds (causes d e) → (f s).shape ≡ s.shape → FewPlacements (changed d (change_by d name f)) → IsAccepted d e (Piece name (Some before) (Some after))
-accept d e name f s before after is found asked eb ea free shape few =
-    let step : Piece name (Some before) (Some after) ≡ Piece name (Some s) (Some (f s)) = λ i. Piece name (Some (eb i)) (Some (ea i)) in
+pub accept : (d : Layout) (e : Edit) (name : List ℕ) (f : Spec → Spec) (s after : Spec) (r : Result Change Refusal) → IsDesign d → spec_of d name ≡ Some s → change_by d name f ≡ change_of d e → after ≡ f s
+    → IfOk r (λ change. change ≡ Piece name (Some s) (Some after)) → NoneHolds (causes d e) → (f s).shape ≡ s.shape → FewPlacements (changed d (change_by d name f)) → IfOk r (λ change. IsAccepted d e change)
+accept d e name f s after (Ok change) is found asked same made free shape few =
+    let step : change ≡ Piece name (Some s) (Some (f s)) = made ∙ ap (λ v. Piece name (Some s) (Some v)) same in
     let there : FewPlacements (changed d (Piece name (Some s) (Some (f s)))) = few_there d name (Some s) f s (f s) found refl few in
     record {
       is = step ∙ is_change_by d name f s found ∙ asked;
       free = free;
       design = subst (λ (v : Change). IsDesign (changed d v)) (sym step) (design_by d name f s is found shape there);
     }
+accept d e name f s after (Err why) is found asked same made free shape few = tt
 
 pub accept_drop : (d : Layout) (name : List ℕ) (s before : Spec) → IsDesign d → spec_of d name ≡ Some s → before ≡ s → IsAccepted d (edit.Drop name) (Piece name (Some before) None)
 accept_drop d name s before is found eb = record {

@@ -1,5 +1,5 @@
 //! Checking edits: which are refused and why, and which changes the accepted ones make.
-ghost use Rattle.std.specs.Prelude.{◌≡◌, ◌≢◌, ◌≤◌, length, ◌⊎◌, ◌↔◌, None, Err, OnOk, IfOk, IfErr, IsTrue};
+ghost use Rattle.std.specs.Prelude.{◌≡◌, ◌≢◌, ◌≤◌, length, ◌⊎◌, ◌↔◌, None, Some, Err, OnOk, IfOk, IfErr, IsTrue};
 ghost use Rattle.poly_design.specs.Limits.{IsDesign};
 ghost use Rattle.poly_design.specs.Changes.{changed, set_mode};
 ghost use Rattle.poly_design.specs.Placements.{FewPlacements, IsPlacement};
@@ -89,14 +89,9 @@ impl Design {
         if same_copies(spec.copies, copies) {
             return Err(Refusal::NoChange);
         }
-        let before = spec.copy()?;
         let mut after = spec.copy()?;
         after.copies = copies;
-        Ok(Change::Piece {
-            name,
-            before: Some(before),
-            after: Some(after),
-        })
+        changed_spec(name, spec, after)
     }
 
     fn check_pin(&self, name: Name, cells: Cells) -> Result<Change, Refusal>
@@ -113,14 +108,9 @@ impl Design {
         if !self.is_placement(name, &cells)? {
             return Err(Refusal::NotAPlacement);
         }
-        let before = spec.copy()?;
         let mut after = spec.copy()?;
         after.pin = Some(cells);
-        Ok(Change::Piece {
-            name,
-            before: Some(before),
-            after: Some(after),
-        })
+        changed_spec(name, spec, after)
     }
 
     fn check_unpin(&self, name: Name) -> Result<Change, Refusal>
@@ -134,14 +124,9 @@ impl Design {
         if !is_pinned(spec) {
             return Err(Refusal::NoChange);
         }
-        let before = spec.copy()?;
         let mut after = spec.copy()?;
         after.pin = None;
-        Ok(Change::Piece {
-            name,
-            before: Some(before),
-            after: Some(after),
-        })
+        changed_spec(name, spec, after)
     }
 
     fn check_forbid(&self, name: Name, cells: Cells) -> Result<Change, Refusal>
@@ -158,15 +143,10 @@ impl Design {
         if !self.is_placement(name, &cells)? {
             return Err(Refusal::NotAPlacement);
         }
-        let before = spec.copy()?;
         let mut forbidden = spec.forbidden.copy()?;
         forbidden.insert(cells)?;
         let after = with_forbidden(spec, forbidden);
-        Ok(Change::Piece {
-            name,
-            before: Some(before),
-            after: Some(after),
-        })
+        changed_spec(name, spec, after)
     }
 
     fn check_allow(&self, name: Name, cells: Cells) -> Result<Change, Refusal>
@@ -180,15 +160,10 @@ impl Design {
         if !spec.forbidden.contains(&cells) {
             return Err(Refusal::NoChange);
         }
-        let before = spec.copy()?;
         let mut forbidden = spec.forbidden.copy()?;
         forbidden.remove(&cells);
         let after = with_forbidden(spec, forbidden);
-        let change = Change::Piece {
-            name,
-            before: Some(before),
-            after: Some(after),
-        };
+        let change = changed_spec(name, spec, after)?;
         match self.keeps_few(&change) {
             Ok(()) => Ok(change),
             Err(refusal) => Err(refusal),
@@ -206,14 +181,9 @@ impl Design {
         if has_mirror(spec, mirror) {
             return Err(Refusal::NoChange);
         }
-        let before = spec.copy()?;
         let mut after = spec.copy()?;
         after.mirror = mirror;
-        let change = Change::Piece {
-            name,
-            before: Some(before),
-            after: Some(after),
-        };
+        let change = changed_spec(name, spec, after)?;
         match self.keeps_few(&change) {
             Ok(()) => Ok(change),
             Err(refusal) => Err(refusal),
@@ -319,6 +289,18 @@ impl Design {
             cells: *cells,
         }))
     }
+}
+
+// The change of the piece with this name from `spec` to `after`. Fails only when out of memory.
+fn changed_spec(name: Name, spec: &Spec, after: Spec) -> Result<Change, Refusal>
+    ensures ok { IfOk result (λ change. change ≡ Change.Piece name (Some spec.now) (Some after)) }
+    ensures why { IfErr result (λ e. e ≡ Refusal.Memory) }
+{
+    Ok(Change::Piece {
+        name,
+        before: Some(spec.copy()?),
+        after: Some(after),
+    })
 }
 
 fn with_forbidden(spec: &Spec, forbidden: CellsSet) -> Spec

@@ -1,4 +1,4 @@
-use Rattle.std.proofs.Common.{◌≡◌, ◌∙◌, List, Some, inl, inr, refl, sym, ap}
+use Rattle.std.proofs.Common.{◌≡◌, ◌∙◌, List, Ok, Some, inl, inr, refl, sym, ap}
 use Rattle.std.specs.BTreeMap.{is_at}
 use Rattle.std.specs.Set.{remove_key}
 use Rattle.poly_grid.specs.Spot.{Spot}
@@ -33,8 +33,8 @@ returns-in-Ok-clause-ok c =
     let list : c.remove.new.self ≡ remove_key (is_at (cells_cmp c.args.cells)) s.forbidden = c.remove.ensures.list ∙ ap (λ (l : List (List Spot)). remove_key (is_at (cells_cmp c.args.cells)) l) c.in_ok-forbidden.ensures.ok in
     let same : c.with_forbidden-after.result ≡ f s = c.with_forbidden-after.ensures ∙ (λ i. record s { forbidden = list i }) in
     let gone : s ≡ f s → ⊥ = allows_more s c.args.cells (c.if-not-contains.ensures.found.0 refl) in
-    let few = few_here d name (Some c.in_ok-before.before) f s _ found same (rw (← c.self.view_is) at c.in-Ok.ensures.ok) in
-    rw (← c.self.view_is) (accept d (edit.Allow name c.args.cells) name f s c.in_ok-before.before _ c.self.invariant.design found refl c.in_ok-before.ensures.ok same
+    let few = few_here d name (Some s) f s _ found same (rw c.in_ok-change.ensures.ok at (rw (← c.self.view_is) at c.in-Ok.ensures.ok)) in
+    rw (← c.self.view_is) (accept d (edit.Allow name c.args.cells) name f s _ (Ok c.in_ok-change.change) c.self.invariant.design found refl same c.in_ok-change.ensures.ok
     (is_there d name s found, (not_idle d name f s found gone, (λ no. no few, tt))) refl few)
 
 pub returns-in-Err-clause-why : goal.returns-in-Err-clause-why
@@ -47,10 +47,10 @@ returns-in-Err-clause-why c =
     let list : c.remove.new.self ≡ remove_key (is_at (cells_cmp c.args.cells)) s.forbidden = c.remove.ensures.list ∙ ap (λ (l : List (List Spot)). remove_key (is_at (cells_cmp c.args.cells)) l) c.in_ok-forbidden.ensures.ok in
     let same : c.with_forbidden-after.result ≡ f s = c.with_forbidden-after.ensures ∙ (λ i. record s { forbidden = list i }) in
     let gone : s ≡ f s → ⊥ = allows_more s c.args.cells (c.if-not-contains.ensures.found.0 refl) in
-    rw (← c.self.view_is) (refuse_many d name (Some c.in_ok-before.before) f s _ c.in-Err.refusal found gone same (rw (← c.self.view_is) at c.in-Err.ensures.why))
+    rw (← c.self.view_is) (refuse_many d name (Some s) f s _ c.in-Err.refusal found gone same (rw c.in_ok-change.ensures.ok at (rw (← c.self.view_is) at c.in-Err.ensures.why)))
 
-pub returns-in_err-before-clause-memory : goal.returns-in_err-before-clause-memory
-returns-in_err-before-clause-memory c =
+pub returns-in_err-forbidden-clause-memory : goal.returns-in_err-forbidden-clause-memory
+returns-in_err-forbidden-clause-memory c =
     let d : Layout = record { grid = c.self.inside.grid; cells = c.self.inside.cells.entries; pieces = c.self.inside.pieces.entries } in
     let s = c.in-Some.spec.now in
     let name = c.args.name in
@@ -59,8 +59,8 @@ returns-in_err-before-clause-memory c =
     let other = not_idle d name f s found (allows_more s c.args.cells (c.if-not-contains.ensures.found.0 refl)) in
     λ _. rw (← c.self.view_is) (λ _. is_there d name s found, (λ _. other, (λ late. absurd late, tt)))
 
-pub returns-in_err-forbidden-clause-memory : goal.returns-in_err-forbidden-clause-memory
-returns-in_err-forbidden-clause-memory c =
+pub returns-in_err-change-clause-memory : goal.returns-in_err-change-clause-memory
+returns-in_err-change-clause-memory c =
     let d : Layout = record { grid = c.self.inside.grid; cells = c.self.inside.cells.entries; pieces = c.self.inside.pieces.entries } in
     let s = c.in-Some.spec.now in
     let name = c.args.name in

@@ -47,21 +47,11 @@ returns-clause-ok c =
     let more : (k : List Spot) → Contains s.forbidden k → Contains (insert_key cells_cmp s.forbidden c.args.cells) k =
     λ k h. subst (λ (l : List (List Spot)). Contains l k) list ((c.in_ok-insert.ensures.adds k).1 (inl (subst (λ (l : List (List Spot)). Contains l k) (sym c.in_ok-forbidden.ensures.ok) h))) in
     let few = few_here d name (Some s) f s (f s) found refl (few_with d name (Some s) s (f s) c.self.invariant.design.few_placements found (place_with_forbidden (IsUnblocked d) s (insert_key cells_cmp s.forbidden c.args.cells) more)) in
-    rw (← c.self.view_is) (accept d (edit.Forbid name c.args.cells) name f s c.in_ok-before.before _ c.self.invariant.design found refl c.in_ok-before.ensures.ok (c.with_forbidden-after.ensures ∙ (λ i. record s { forbidden = list i }))
+    rw (← c.self.view_is) (accept d (edit.Forbid name c.args.cells) name f s _ c.changed_spec.result c.self.invariant.design found refl (c.with_forbidden-after.ensures ∙ (λ i. record s { forbidden = list i })) c.changed_spec.ensures.ok
     (is_there d name s found, (not_idle d name f s found new, (λ no. no lies, tt))) refl few)
 
 pub returns-in_err-is_placement-clause-memory : goal.returns-in_err-is_placement-clause-memory
 returns-in_err-is_placement-clause-memory c =
-    let d : Layout = record { grid = c.self.inside.grid; cells = c.self.inside.cells.entries; pieces = c.self.inside.pieces.entries } in
-    let s = c.in-Some.spec.now in
-    let name = c.args.name in
-    let f : Spec → Spec = λ v. record v { forbidden = insert_key cells_cmp v.forbidden c.args.cells } in
-    let found = sym c.in-Some.ensures.value in
-    let other = not_idle d name f s found (forbids_more s c.args.cells (λ h. true≢false (sym (c.if-contains.ensures.found.1 h)))) in
-    λ _. rw (← c.self.view_is) (λ _. is_there d name s found, (λ _. other, (λ late. absurd late, tt)))
-
-pub returns-in_err-before-clause-memory : goal.returns-in_err-before-clause-memory
-returns-in_err-before-clause-memory c =
     let d : Layout = record { grid = c.self.inside.grid; cells = c.self.inside.cells.entries; pieces = c.self.inside.pieces.entries } in
     let s = c.in-Some.spec.now in
     let name = c.args.name in
@@ -82,6 +72,16 @@ returns-in_err-forbidden-clause-memory c =
 
 pub returns-in_err-insert-clause-memory : goal.returns-in_err-insert-clause-memory
 returns-in_err-insert-clause-memory c =
+    let d : Layout = record { grid = c.self.inside.grid; cells = c.self.inside.cells.entries; pieces = c.self.inside.pieces.entries } in
+    let s = c.in-Some.spec.now in
+    let name = c.args.name in
+    let f : Spec → Spec = λ v. record v { forbidden = insert_key cells_cmp v.forbidden c.args.cells } in
+    let found = sym c.in-Some.ensures.value in
+    let other = not_idle d name f s found (forbids_more s c.args.cells (λ h. true≢false (sym (c.if-contains.ensures.found.1 h)))) in
+    λ _. rw (← c.self.view_is) (λ _. is_there d name s found, (λ _. other, (λ late. absurd late, tt)))
+
+pub returns-clause-memory : goal.returns-clause-memory
+returns-clause-memory c =
     let d : Layout = record { grid = c.self.inside.grid; cells = c.self.inside.cells.entries; pieces = c.self.inside.pieces.entries } in
     let s = c.in-Some.spec.now in
     let name = c.args.name in

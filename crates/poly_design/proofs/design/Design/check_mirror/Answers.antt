@@ -1,4 +1,4 @@
-use Rattle.std.proofs.Common.{Some, refl, sym, ap}
+use Rattle.std.proofs.Common.{Ok, Some, refl, sym, ap}
 use mathlib.Core.Bool.{true≢false}
 use Rattle.poly_design.specs.declared.spec.Spec.{Spec}
 use Rattle.poly_design.specs.declared.edit.Edit.TheVariants as edit
@@ -14,9 +14,9 @@ returns-in-Ok-clause-ok c =
     let f : Spec → Spec = λ v. record v { mirror = c.args.mirror } in
     let found = sym c.in-Some.ensures.value in
     let same = ap f c.in_ok-after.ensures.ok in
-    let few = few_here d name (Some c.in_ok-before.before) f s _ found same (rw (← c.self.view_is) at c.in-Ok.ensures.ok) in
+    let few = few_here d name (Some s) f s _ found same (rw c.in_ok-change.ensures.ok at (rw (← c.self.view_is) at c.in-Ok.ensures.ok)) in
     let other = not_idle d name f s found (λ e. true≢false (sym (c.if-has_mirror.ensures.1 (ap (λ (v : Spec). v.mirror) e)))) in
-    rw (← c.self.view_is) (accept d (edit.Mirror name c.args.mirror) name f s c.in_ok-before.before _ c.self.invariant.design found refl c.in_ok-before.ensures.ok same
+    rw (← c.self.view_is) (accept d (edit.Mirror name c.args.mirror) name f s _ (Ok c.in_ok-change.change) c.self.invariant.design found refl same c.in_ok-change.ensures.ok
     (is_there d name s found, (other, (λ no. no few, tt))) refl few)
 
 pub returns-in-Err-clause-why : goal.returns-in-Err-clause-why
@@ -27,10 +27,10 @@ returns-in-Err-clause-why c =
     let f : Spec → Spec = λ v. record v { mirror = c.args.mirror } in
     let found = sym c.in-Some.ensures.value in
     let same = ap f c.in_ok-after.ensures.ok in
-    rw (← c.self.view_is) (refuse_many d name (Some c.in_ok-before.before) f s _ c.in-Err.refusal found (λ e. true≢false (sym (c.if-has_mirror.ensures.1 (ap (λ (v : Spec). v.mirror) e)))) same (rw (← c.self.view_is) at c.in-Err.ensures.why))
+    rw (← c.self.view_is) (refuse_many d name (Some s) f s _ c.in-Err.refusal found (λ e. true≢false (sym (c.if-has_mirror.ensures.1 (ap (λ (v : Spec). v.mirror) e)))) same (rw c.in_ok-change.ensures.ok at (rw (← c.self.view_is) at c.in-Err.ensures.why)))
 
-pub returns-in_err-before-clause-memory : goal.returns-in_err-before-clause-memory
-returns-in_err-before-clause-memory c =
+pub returns-in_err-after-clause-memory : goal.returns-in_err-after-clause-memory
+returns-in_err-after-clause-memory c =
     let d : Layout = record { grid = c.self.inside.grid; cells = c.self.inside.cells.entries; pieces = c.self.inside.pieces.entries } in
     let s = c.in-Some.spec.now in
     let name = c.args.name in
@@ -39,8 +39,8 @@ returns-in_err-before-clause-memory c =
     let other = not_idle d name f s found (λ e. true≢false (sym (c.if-has_mirror.ensures.1 (ap (λ (v : Spec). v.mirror) e)))) in
     λ _. rw (← c.self.view_is) (λ _. is_there d name s found, (λ _. other, (λ late. absurd late, tt)))
 
-pub returns-in_err-after-clause-memory : goal.returns-in_err-after-clause-memory
-returns-in_err-after-clause-memory c =
+pub returns-in_err-change-clause-memory : goal.returns-in_err-change-clause-memory
+returns-in_err-change-clause-memory c =
     let d : Layout = record { grid = c.self.inside.grid; cells = c.self.inside.cells.entries; pieces = c.self.inside.pieces.entries } in
     let s = c.in-Some.spec.now in
     let name = c.args.name in

@@ -17,7 +17,7 @@ returns-clause-ok c =
     let few = few_here d name (Some s) f s (f s) found refl (few_with d name (Some s) s (f s) c.self.invariant.design.few_placements found (place_with_pin (IsUnblocked d) s (Some c.args.cells))) in
     let other = not_idle d name f s found (λ e. true≢false (sym (c.if-same_pin.ensures.1 (ap (λ (v : Spec). v.pin) e)))) in
     let lies = rw (← c.self.view_is) at (c.in_ok-is_placement.ensures.ok.0 c.if-not-branch.false) in
-    rw (← c.self.view_is) (accept d (edit.Pin name c.args.cells) name f s c.in_ok-before.before _ c.self.invariant.design found refl c.in_ok-before.ensures.ok (ap f c.in_ok-after.ensures.ok)
+    rw (← c.self.view_is) (accept d (edit.Pin name c.args.cells) name f s _ c.changed_spec.result c.self.invariant.design found refl (ap f c.in_ok-after.ensures.ok) c.changed_spec.ensures.ok
     (is_there d name s found, (other, (λ no. no lies, tt))) refl few)
 
 pub returns-in_err-is_placement-clause-memory : goal.returns-in_err-is_placement-clause-memory
@@ -30,8 +30,8 @@ returns-in_err-is_placement-clause-memory c =
     let other = not_idle d name f s found (λ e. true≢false (sym (c.if-same_pin.ensures.1 (ap (λ (v : Spec). v.pin) e)))) in
     λ _. rw (← c.self.view_is) (λ _. is_there d name s found, (λ _. other, (λ late. absurd late, tt)))
 
-pub returns-in_err-before-clause-memory : goal.returns-in_err-before-clause-memory
-returns-in_err-before-clause-memory c =
+pub returns-in_err-after-clause-memory : goal.returns-in_err-after-clause-memory
+returns-in_err-after-clause-memory c =
     let d : Layout = record { grid = c.self.inside.grid; cells = c.self.inside.cells.entries; pieces = c.self.inside.pieces.entries } in
     let s = c.in-Some.spec.now in
     let name = c.args.name in
@@ -40,8 +40,8 @@ returns-in_err-before-clause-memory c =
     let other = not_idle d name f s found (λ e. true≢false (sym (c.if-same_pin.ensures.1 (ap (λ (v : Spec). v.pin) e)))) in
     λ _. rw (← c.self.view_is) (λ _. is_there d name s found, (λ _. other, (λ late. absurd late, tt)))
 
-pub returns-in_err-after-clause-memory : goal.returns-in_err-after-clause-memory
-returns-in_err-after-clause-memory c =
+pub returns-clause-memory : goal.returns-clause-memory
+returns-clause-memory c =
     let d : Layout = record { grid = c.self.inside.grid; cells = c.self.inside.cells.entries; pieces = c.self.inside.pieces.entries } in
     let s = c.in-Some.spec.now in
     let name = c.args.name in
