@@ -145,22 +145,21 @@ design_by d name f s is found shape few =
     let len = length_known nat_list_cmp_total d.pieces name (f s) s is.pieces_ascend found in
     after_spec d name (Some s) (f s) is (omega (arith, len, is.few_pieces)) (ap (λ v. v.grid) shape ∙ is.of_grid name s entry) few
 
--- the placements after the change depend only on its after side
-pub few_here : (d : Layout) (name : List ℕ) (before : Option Spec) (f : Spec → Spec) (s after : Spec) → spec_of d name ≡ Some s → after ≡ f s
-    → FewPlacements (changed d (Piece name before (Some after))) → FewPlacements (changed d (change_by d name f))
-few_here d name before f s after found same few =
-    subst (λ (v : Change). FewPlacements (changed d v)) (is_change_by d name f s found) (subst (λ (v : Spec). FewPlacements (changed d (Piece name before (Some v)))) same few)
+pub few_here : (d : Layout) (name : List ℕ) (f : Spec → Spec) (s after : Spec) → spec_of d name ≡ Some s → after ≡ f s
+    → FewPlacements (changed d (Piece name (Some s) (Some after))) → FewPlacements (changed d (change_by d name f))
+few_here d name f s after found same few =
+    subst (λ (v : Change). FewPlacements (changed d v)) (is_change_by d name f s found) (subst (λ (v : Spec). FewPlacements (changed d (Piece name (Some s) (Some v)))) same few)
 
-pub few_there : (d : Layout) (name : List ℕ) (before : Option Spec) (f : Spec → Spec) (s after : Spec) → spec_of d name ≡ Some s → after ≡ f s
-    → FewPlacements (changed d (change_by d name f)) → FewPlacements (changed d (Piece name before (Some after)))
-few_there d name before f s after found same few =
-    subst (λ (v : Spec). FewPlacements (changed d (Piece name before (Some v)))) (sym same) (subst (λ (v : Change). FewPlacements (changed d v)) (sym (is_change_by d name f s found)) few)
+pub few_there : (d : Layout) (name : List ℕ) (f : Spec → Spec) (s after : Spec) → spec_of d name ≡ Some s → after ≡ f s
+    → FewPlacements (changed d (change_by d name f)) → FewPlacements (changed d (Piece name (Some s) (Some after)))
+few_there d name f s after found same few =
+    subst (λ (v : Spec). FewPlacements (changed d (Piece name (Some s) (Some v)))) (sym same) (subst (λ (v : Change). FewPlacements (changed d v)) (sym (is_change_by d name f s found)) few)
 
 pub accept : (d : Layout) (e : Edit) (name : List ℕ) (f : Spec → Spec) (s after : Spec) (r : Result Change Refusal) → IsDesign d → spec_of d name ≡ Some s → change_by d name f ≡ change_of d e → after ≡ f s
     → IfOk r (λ change. change ≡ Piece name (Some s) (Some after)) → NoneHolds (causes d e) → (f s).shape ≡ s.shape → FewPlacements (changed d (change_by d name f)) → IfOk r (λ change. IsAccepted d e change)
 accept d e name f s after (Ok change) is found asked same made free shape few =
     let step : change ≡ Piece name (Some s) (Some (f s)) = made ∙ ap (λ v. Piece name (Some s) (Some v)) same in
-    let there : FewPlacements (changed d (Piece name (Some s) (Some (f s)))) = few_there d name (Some s) f s (f s) found refl few in
+    let there : FewPlacements (changed d (Piece name (Some s) (Some (f s)))) = few_there d name f s (f s) found refl few in
     record {
       is = step ∙ is_change_by d name f s found ∙ asked;
       free = free;
@@ -250,10 +249,10 @@ refuse_cell d c before mode e same other room why = elim why [
 ]
 
 -- ---- placements that may be too many
-pub refuse_many : (d : Layout) (name : List ℕ) (before : Option Spec) (f : Spec → Spec) (s after : Spec) (e : Refusal) → spec_of d name ≡ Some s → (s ≡ f s → ⊥) → after ≡ f s
-    → (e ≡ Memory) ⊎ ((e ≡ TooManyPlacements) × (FewPlacements (changed d (Piece name before (Some after))) → ⊥))
+pub refuse_many : (d : Layout) (name : List ℕ) (f : Spec → Spec) (s after : Spec) (e : Refusal) → spec_of d name ≡ Some s → (s ≡ f s → ⊥) → after ≡ f s
+    → (e ≡ Memory) ⊎ ((e ≡ TooManyPlacements) × (FewPlacements (changed d (Piece name (Some s) (Some after))) → ⊥))
     → (e ≡ Memory) ⊎ IsFirst ((NoSuchPiece, spec_of d name ≡ None) ∷ (NoChange, IsIdle (change_by d name f)) ∷ (TooManyPlacements, ¬ FewPlacements (changed d (change_by d name f))) ∷ []) e
-refuse_many d name before f s after e found other same why = elim why [
+refuse_many d name f s after e found other same why = elim why [
   | inl memory ↦ inl memory
-  | inr many ↦ inr (inr (is_there d name s found, inr (not_idle d name f s found other, inl (many.0, λ few. many.1 (few_there d name before f s after found same few)))))
+  | inr many ↦ inr (inr (is_there d name s found, inr (not_idle d name f s found other, inl (many.0, λ few. many.1 (few_there d name f s after found same few)))))
 ]

@@ -1,4 +1,4 @@
-use Rattle.std.proofs.Common.{◌≡◌, ◌∙◌, List, Ok, Some, inl, inr, refl, sym, ap}
+use Rattle.std.proofs.Common.{◌≡◌, ◌∙◌, List, Ok, inl, inr, refl, sym, ap}
 use Rattle.std.specs.BTreeMap.{is_at}
 use Rattle.std.specs.Set.{remove_key}
 use Rattle.poly_grid.specs.Spot.{Spot}
@@ -33,7 +33,7 @@ returns-in-Ok-clause-ok c =
     let list : c.remove.new.self ≡ remove_key (is_at (cells_cmp c.args.cells)) s.forbidden = c.remove.ensures.list ∙ ap (λ (l : List (List Spot)). remove_key (is_at (cells_cmp c.args.cells)) l) c.in_ok-forbidden.ensures.ok in
     let same : c.with_forbidden-after.result ≡ f s = c.with_forbidden-after.ensures ∙ (λ i. record s { forbidden = list i }) in
     let gone : s ≡ f s → ⊥ = allows_more s c.args.cells (c.if-not-contains.ensures.found.0 refl) in
-    let few = few_here d name (Some s) f s _ found same (rw c.in_ok-change.ensures.ok at (rw (← c.self.view_is) at c.in-Ok.ensures.ok)) in
+    let few = few_here d name f s _ found same (rw c.in_ok-change.ensures.ok at (rw (← c.self.view_is) at c.in-Ok.ensures.ok)) in
     rw (← c.self.view_is) (accept d (edit.Allow name c.args.cells) name f s _ (Ok c.in_ok-change.change) c.self.invariant.design found refl same c.in_ok-change.ensures.ok
     (is_there d name s found, (not_idle d name f s found gone, (λ no. no few, tt))) refl few)
 
@@ -47,7 +47,7 @@ returns-in-Err-clause-why c =
     let list : c.remove.new.self ≡ remove_key (is_at (cells_cmp c.args.cells)) s.forbidden = c.remove.ensures.list ∙ ap (λ (l : List (List Spot)). remove_key (is_at (cells_cmp c.args.cells)) l) c.in_ok-forbidden.ensures.ok in
     let same : c.with_forbidden-after.result ≡ f s = c.with_forbidden-after.ensures ∙ (λ i. record s { forbidden = list i }) in
     let gone : s ≡ f s → ⊥ = allows_more s c.args.cells (c.if-not-contains.ensures.found.0 refl) in
-    rw (← c.self.view_is) (refuse_many d name (Some s) f s _ c.in-Err.refusal found gone same (rw c.in_ok-change.ensures.ok at (rw (← c.self.view_is) at c.in-Err.ensures.why)))
+    rw (← c.self.view_is) (refuse_many d name f s _ c.in-Err.refusal found gone same (rw c.in_ok-change.ensures.ok at (rw (← c.self.view_is) at c.in-Err.ensures.why)))
 
 pub returns-in_err-forbidden-clause-memory : goal.returns-in_err-forbidden-clause-memory
 returns-in_err-forbidden-clause-memory c =

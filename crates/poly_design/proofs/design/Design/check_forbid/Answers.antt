@@ -46,7 +46,7 @@ returns-clause-ok c =
     let list : c.insert.new.self ≡ insert_key cells_cmp s.forbidden c.args.cells = c.in_ok-insert.ensures.list ∙ ap (λ (l : List (List Spot)). insert_key cells_cmp l c.args.cells) c.in_ok-forbidden.ensures.ok in
     let more : (k : List Spot) → Contains s.forbidden k → Contains (insert_key cells_cmp s.forbidden c.args.cells) k =
     λ k h. subst (λ (l : List (List Spot)). Contains l k) list ((c.in_ok-insert.ensures.adds k).1 (inl (subst (λ (l : List (List Spot)). Contains l k) (sym c.in_ok-forbidden.ensures.ok) h))) in
-    let few = few_here d name (Some s) f s (f s) found refl (few_with d name (Some s) s (f s) c.self.invariant.design.few_placements found (place_with_forbidden (IsUnblocked d) s (insert_key cells_cmp s.forbidden c.args.cells) more)) in
+    let few = few_here d name f s (f s) found refl (few_with d name (Some s) s (f s) c.self.invariant.design.few_placements found (place_with_forbidden (IsUnblocked d) s (insert_key cells_cmp s.forbidden c.args.cells) more)) in
     rw (← c.self.view_is) (accept d (edit.Forbid name c.args.cells) name f s _ c.changed_spec.result c.self.invariant.design found refl (c.with_forbidden-after.ensures ∙ (λ i. record s { forbidden = list i })) c.changed_spec.ensures.ok
     (is_there d name s found, (not_idle d name f s found new, (λ no. no lies, tt))) refl few)
 

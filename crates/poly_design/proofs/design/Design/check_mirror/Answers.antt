@@ -1,4 +1,4 @@
-use Rattle.std.proofs.Common.{Ok, Some, refl, sym, ap}
+use Rattle.std.proofs.Common.{Ok, refl, sym, ap}
 use mathlib.Core.Bool.{true≢false}
 use Rattle.poly_design.specs.declared.spec.Spec.{Spec}
 use Rattle.poly_design.specs.declared.edit.Edit.TheVariants as edit
@@ -14,7 +14,7 @@ returns-in-Ok-clause-ok c =
     let f : Spec → Spec = λ v. record v { mirror = c.args.mirror } in
     let found = sym c.in-Some.ensures.value in
     let same = ap f c.in_ok-after.ensures.ok in
-    let few = few_here d name (Some s) f s _ found same (rw c.in_ok-change.ensures.ok at (rw (← c.self.view_is) at c.in-Ok.ensures.ok)) in
+    let few = few_here d name f s _ found same (rw c.in_ok-change.ensures.ok at (rw (← c.self.view_is) at c.in-Ok.ensures.ok)) in
     let other = not_idle d name f s found (λ e. true≢false (sym (c.if-has_mirror.ensures.1 (ap (λ (v : Spec). v.mirror) e)))) in
     rw (← c.self.view_is) (accept d (edit.Mirror name c.args.mirror) name f s _ (Ok c.in_ok-change.change) c.self.invariant.design found refl same c.in_ok-change.ensures.ok
     (is_there d name s found, (other, (λ no. no few, tt))) refl few)
@@ -27,7 +27,7 @@ returns-in-Err-clause-why c =
     let f : Spec → Spec = λ v. record v { mirror = c.args.mirror } in
     let found = sym c.in-Some.ensures.value in
     let same = ap f c.in_ok-after.ensures.ok in
-    rw (← c.self.view_is) (refuse_many d name (Some s) f s _ c.in-Err.refusal found (λ e. true≢false (sym (c.if-has_mirror.ensures.1 (ap (λ (v : Spec). v.mirror) e)))) same (rw c.in_ok-change.ensures.ok at (rw (← c.self.view_is) at c.in-Err.ensures.why)))
+    rw (← c.self.view_is) (refuse_many d name f s _ c.in-Err.refusal found (λ e. true≢false (sym (c.if-has_mirror.ensures.1 (ap (λ (v : Spec). v.mirror) e)))) same (rw c.in_ok-change.ensures.ok at (rw (← c.self.view_is) at c.in-Err.ensures.why)))
 
 pub returns-in_err-after-clause-memory : goal.returns-in_err-after-clause-memory
 returns-in_err-after-clause-memory c =

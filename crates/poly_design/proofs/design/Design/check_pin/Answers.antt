@@ -14,7 +14,7 @@ returns-clause-ok c =
     let name = c.args.name in
     let f : Spec → Spec = λ v. record v { pin = Some c.args.cells } in
     let found = sym c.in-Some.ensures.value in
-    let few = few_here d name (Some s) f s (f s) found refl (few_with d name (Some s) s (f s) c.self.invariant.design.few_placements found (place_with_pin (IsUnblocked d) s (Some c.args.cells))) in
+    let few = few_here d name f s (f s) found refl (few_with d name (Some s) s (f s) c.self.invariant.design.few_placements found (place_with_pin (IsUnblocked d) s (Some c.args.cells))) in
     let other = not_idle d name f s found (λ e. true≢false (sym (c.if-same_pin.ensures.1 (ap (λ (v : Spec). v.pin) e)))) in
     let lies = rw (← c.self.view_is) at (c.in_ok-is_placement.ensures.ok.0 c.if-not-branch.false) in
     rw (← c.self.view_is) (accept d (edit.Pin name c.args.cells) name f s _ c.changed_spec.result c.self.invariant.design found refl (ap f c.in_ok-after.ensures.ok) c.changed_spec.ensures.ok

@@ -13,7 +13,7 @@ returns-clause-ok c =
     let name = c.args.name in
     let f : Spec → Spec = λ v. record v { pin = None } in
     let found = sym c.in-Some.ensures.value in
-    let few = few_here d name (Some s) f s (f s) found refl (few_with d name (Some s) s (f s) c.self.invariant.design.few_placements found (place_with_pin (IsUnblocked d) s None)) in
+    let few = few_here d name f s (f s) found refl (few_with d name (Some s) s (f s) c.self.invariant.design.few_placements found (place_with_pin (IsUnblocked d) s None)) in
     let other = not_idle d name f s found (λ e. c.if-not-is_pinned.ensures.0 refl (ap (λ (v : Spec). v.pin) e)) in
     rw (← c.self.view_is) (accept d (edit.Unpin name) name f s _ c.changed_spec.result c.self.invariant.design found refl (ap f c.in_ok-after.ensures.ok) c.changed_spec.ensures.ok
     (is_there d name s found, (other, tt)) refl few)
