@@ -24,7 +24,7 @@ use std::alloc::Global;
 const LAST: u64 = 4_294_967_295;
 
 /// The lists that aren't hopeless, as tasks with the numbers from `next` on, which share the lists. If the lists begin with the
-/// list of `base`, they are kept over it. If `sure`, none of the lists is hopeless, and none is read.
+/// list of `base`, they are kept over it as far as this pays. If `sure`, none of the lists is hopeless, and none is read.
 pub(crate) fn opened(
     alloc: Global,
     view: &View,

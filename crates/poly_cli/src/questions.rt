@@ -38,7 +38,7 @@ pub(crate) enum Survey {
 }
 
 impl Answerer {
-    /// Writes how many tilings there are.
+    /// Writes how many tilings there are, or why that is refused.
     pub(crate) fn count<E: Engine, W: Write>(
         &mut self,
         engine: &mut E,

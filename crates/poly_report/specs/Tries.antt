@@ -2,7 +2,7 @@
 use Rattle.std.specs.Prelude.{List, ℕ}
 use Rattle.poly_atom.specs.declared.atom.Atom.{Atom}
 
--- the lists, and a bound on how many tries they are read from
+-- the lists, and a bound on how many other tries they are read from
 pub record TrieLists : Type 0 where
   pub lists : List (List Atom)
   pub depth : ℕ

@@ -1,6 +1,7 @@
 //! Reports: trees that certify how a family of tilings is cut up.
 //!
 //! - [`Report`], [`Tree`], [`Arm`]: what a worker hands in. [`fits`]: whether a tree is within [`NODES`] and [`DEPTH`].
+//! - [`discard`]: drops a tree of any depth with a small stack; a report drops its tree so.
 //! - [`holds`]: whether each Branch of a tree has all arms that it needs, each different and with the Branch's item, and no
 //!   placement is open at a Found. If so, no tiling of the family is lost or listed twice. The tree under a dead placement
 //!   isn't checked, since no tiling of the family has that placement.
@@ -38,4 +39,4 @@ pub use leaf::Leaves;
 pub use poly_frame::{Frame, Matrix, STEPS};
 pub use shared_lists::SharedLists;
 pub use size::{DEPTH, NODES, fits};
-pub use tree::{Arm, Report, Tree};
+pub use tree::{Arm, Report, Tree, discard};

@@ -1,6 +1,6 @@
 //! Lists of atoms that are finished, and shared by whoever reads them.
 //!
-//! The rests of a report begin with the atoms of the task that the report cuts up, and these are a list of an earlier report.
+//! The rests of a report begin with the atoms of the task that the report cuts up, and these are often a list of an earlier report.
 //! On a wide board they are most of each rest. So lists can be kept over a list of other lists: they store only what follows
 //! it, and whoever reads them begins there.
 ghost use Rattle.std.specs.Arc.{arc_value};
@@ -22,7 +22,7 @@ use std::sync::Arc;
 // The greatest depth of a trie. Reading a list is a recursion as deep as its trie.
 const DEEPEST: u32 = 64;
 
-// How many atoms a list has at least if other lists are kept over it. Fewer of them take less memory than the trie itself.
+// How many atoms a list has at least if the lists of a report are kept over it. Fewer of them take less memory than a trie.
 const SHORTEST: usize = 16;
 
 /// Lists of atoms to which none is added any more. A clone shares them.
@@ -41,7 +41,7 @@ impl Model for SharedLists {
     ghost view = { λ r. (arc_value r.trie).lists };
 }
 
-/// A trie whose lists all begin with the same list of an earlier trie.
+/// A trie whose lists all begin with the same list of an earlier trie, or with no list.
 #[derive(Debug, Drop)]
 #[cycle(trie)]
 pub(crate) struct Trie {
@@ -93,7 +93,7 @@ impl Trie {
         self.ends.len()
     }
 
-    // The bound on how many tries the lists are read from.
+    // The bound on how many other tries the lists are read from.
     fn depth(&self) -> u32
         ensures { result ≡ self.now.depth }
     {

@@ -68,7 +68,7 @@ fn push_later(tail: &mut Nodes, link: Link, first: usize, index: usize) -> Resul
     }
 }
 
-/// The numbers that the nodes have in the tail. If one of them is among the first nodes, `None`. The only refusal is `Memory`.
+/// The numbers that the nodes have in the tail. If one of them stands before the last of the first nodes, `None`. The only refusal is `Memory`.
 pub(crate) fn later_ends(
     alloc: Global,
     ends: &[u32],

@@ -1,5 +1,6 @@
 //! Trees that cut a family of tilings into listed tilings and rests, and the reports in which workers hand trees in.
 use poly_tiling::Item;
+use std::mem;
 
 /// A certificate of how a family is cut up.
 #[derive(Debug, Drop)]
@@ -33,7 +34,7 @@ pub struct Arm {
 }
 
 /// What a worker hands in: a tree for a task, made at an edition.
-#[derive(Debug, Drop)]
+#[derive(Debug)]
 pub struct Report {
     /// The task's number.
     pub task: u32,
@@ -41,4 +42,81 @@ pub struct Report {
     pub edition: u64,
     /// How the family of the task is cut up.
     pub tree: Tree,
+}
+
+/// A report's tree is dropped by [`discard`].
+impl Drop for Report {
+    fn drop(self) {
+        let Report {
+            task: _,
+            edition: _,
+            tree,
+        } = self;
+        discard(tree);
+    }
+}
+
+/// Drops a tree, and uses a small stack however deep it is: a tree that is dropped otherwise recurses once for each level.
+/// Never allocates.
+pub fn discard(tree: Tree) {
+    let mut next = Some((tree, Tree::Rest));
+    for _turn in 0..u64::MAX {
+        next = match next {
+            None => return,
+            Some((tree, above)) => below(tree, above),
+        };
+    }
+}
+
+// Takes one tree out of `tree`, and returns it with what remains. That is `tree` with `above` in the place of the tree that was
+// taken out: so the nodes from there up to the root form a chain, with Rest at its end. If no tree is left in `tree`, goes on with
+// the chain; `None` at its end.
+fn below(tree: Tree, above: Tree) -> Option<(Tree, Tree)> {
+    match tree {
+        Tree::Rest | Tree::Found => beside(above),
+        Tree::Split {
+            placement,
+            taken,
+            left,
+        } => {
+            let mut taken = taken;
+            let inner = mem::replace(&mut *taken, above);
+            Some((
+                inner,
+                Tree::Split {
+                    placement,
+                    taken,
+                    left,
+                },
+            ))
+        }
+        Tree::Branch { item, arms } => {
+            let mut arms = arms;
+            let Some(arm) = arms.pop() else {
+                return beside(above);
+            };
+            let Arm { placement, tree } = arm;
+            arms.push_reserved(Arm {
+                placement,
+                tree: above,
+            });
+            Some((tree, Tree::Branch { item, arms }))
+        }
+    }
+}
+
+// Takes the first node off a chain that `below` made. Returns what is left of its trees, and the rest of the chain.
+fn beside(above: Tree) -> Option<(Tree, Tree)> {
+    match above {
+        Tree::Rest | Tree::Found => None,
+        Tree::Split { taken, left, .. } => Some((Box::into_inner(left), Box::into_inner(taken))),
+        Tree::Branch { item, arms } => {
+            let mut arms = arms;
+            let Some(arm) = arms.pop() else {
+                return None;
+            };
+            let Arm { tree, .. } = arm;
+            Some((Tree::Branch { item, arms }, tree))
+        }
+    }
 }

@@ -11,6 +11,8 @@ mod answers;
 #[cfg(test)]
 mod books;
 #[cfg(test)]
+mod deep_tree;
+#[cfg(test)]
 mod designs;
 #[cfg(test)]
 mod desk_day;

@@ -1,4 +1,4 @@
-//! The number and the name of each refusal, the texts of three of them, and the refusal that an allocation error becomes.
+//! The number and the name of each refusal, the texts of two of them, and the refusal that an allocation error becomes.
 
 use poly_grid::Refusal;
 use std::alloc::AllocError;
@@ -44,19 +44,14 @@ fn each_has_its_number_and_name(rt: HostRuntime) {
 
 #[test]
 fn texts_say_the_cause(rt: HostRuntime) -> Result<(), Fail> {
-    let unsettled = Refusal::Unsettled { seen: 7, found: 5 };
     let busy = Refusal::Busy { pending: 3 };
     assert_eq!(rt;
-        format!(in rt.alloc(); "{unsettled}")?.as_str(),
-        "seen 7, found 5"
-    );
-    assert_eq!(rt;
         format!(in rt.alloc(); "{busy}")?.as_str(),
-        "3 tasks are pending"
+        "3 tasks are pending, so some tilings may not be listed yet."
     );
     assert_eq!(rt;
-        format!(in rt.alloc(); "{}", Refusal::Memory)?.as_str(),
-        "out of memory"
+        format!(in rt.alloc(); "{}", Refusal::NoChange)?.as_str(),
+        "The edit would change nothing."
     );
     Ok(())
 }

@@ -1,0 +1,46 @@
+//! A report whose tree is far deeper than any tree that fits.
+
+use crate::books::begun;
+use crate::designs::DOMINOES;
+use poly_grid::{Cell, Refusal};
+use poly_report::{Arm, Report, Tree};
+use poly_tiling::Item;
+use std::alloc::Global;
+use std::test::Fail;
+
+// How many Branches the tree has, one below the other, with a Split below each. To drop the tree by recursion would need more
+// stack than a thread has.
+const BRANCHES: u32 = 500_000;
+
+fn deep_tree(alloc: Global) -> Result<Tree, Refusal> {
+    let item = Item::Cell(Cell::ORIGIN);
+    let mut tree = Tree::Rest;
+    for placement in 0..BRANCHES {
+        let taken = Box::new(alloc, tree)?;
+        let left = Box::new(alloc, Tree::Found)?;
+        let split = Tree::Split {
+            placement,
+            taken,
+            left,
+        };
+        let mut arms = Vec::new(alloc);
+        arms.push(Arm {
+            placement,
+            tree: split,
+        })?;
+        tree = Tree::Branch { item, arms };
+    }
+    Ok(tree)
+}
+
+#[test]
+fn a_report_of_any_depth_is_refused_and_dropped(rt: HostRuntime) -> Result<(), Fail> {
+    let mut book = begun(rt.alloc(), DOMINOES)?;
+    let report = Report {
+        task: 1,
+        edition: 0,
+        tree: deep_tree(rt.alloc())?,
+    };
+    assert!(rt; matches!(book.hand_in(report), Err(Refusal::TooLarge)));
+    Ok(())
+}
