@@ -1,0 +1,161 @@
+#!/usr/bin/env python3
+"""Hands in reports that are made to be slow to check, and bounds the steps of the check by a count.
+
+usage: tests/hostile_report.py PLAYER SHIM
+
+The base of a task is 15 of the 16 copies of a piece. Its other atoms are the guards of changes, which leave placements out, and
+there can be many thousands of them. The report's tree has up to 4,096 nodes, which are all Branches. While a report is checked,
+its desk is locked. A check that reads all atoms for each member of the base at each node, or even for each item of each member,
+takes 10^9 to 10^10 steps.
+
+So what a `hand_in` takes for nodes and atoms together is counted. With tests/count_steps.c, the SHIM, the player tells how many
+instructions it takes: say s(n, a) for n nodes and a atoms. In
+
+    s(n + m, a + b) - s(n + m, a) - s(n, a + b) + s(n, a)
+
+all steps that are taken once, or for each node, or for each atom cancel each other. A step that is taken for each node and each
+atom is left m * b times. To read an atom takes two steps at least. So the difference is below m * b / 4 only if fewer than one
+node in eight reads all atoms. By this measure, 4,096 nodes and 20,000 atoms together cost at most 2 * 10^7 steps. The count
+doesn't depend on how busy the machine is.
+
+A tree of over 3,600 nodes is also handed in for over 19,000 atoms, without a count, to compare the answers. That it holds is
+seen by hand: once a cell of the last row is taken, no row is left for the 16th copy of A. So at most 15 placements of A are not
+ruled out, and a Branch on A without arms holds. A Branch on C, which then has its one copy, doesn't hold without arms.
+
+Standard output ends with a line `N passed, M failed`, which counts comparisons.
+"""
+import fnmatch
+import json
+import os
+import subprocess
+import sys
+import tempfile
+
+# How many rows the board has. One copy of A fills a row.
+ROWS = 16
+# How wide the board is if steps are counted, and in how many rounds all dominoes are then left out.
+WIDTH = 5
+ROUNDS = (1, 4)
+# A hand_in that takes more steps than this is cut off. Each should take less than half of them.
+MOST = 1000000
+# With these settings of the C library, a long copy takes the same steps on each processor.
+PLAIN_COPIES = "glibc.cpu.x86_rep_movsb_threshold=1000000000:glibc.cpu.x86_rep_stosb_threshold=1000000000"
+# What holds below a cell of the last row, what doesn't, and the answer to a report that holds.
+LEAF = "branch A end"
+WRONG_LEAF = "branch C end"
+APPLIED = "applied * listed 0 opened 0 first *"
+
+
+class Fault(Exception):
+    """What is wrong."""
+
+
+def puzzle(width):
+    """A board of 16 rows. A fills a row, and C, D and E are single cells."""
+    pieces = [{"name": "A", "cells": [[x, 0] for x in range(width)], "least": ROWS, "most": ROWS}]
+    pieces += [{"name": name, "cells": [[0, 0]], "least": 1, "most": 1} for name in "CDE"]
+    return json.dumps({"format": 2, "grid": "square", "board": ["+" * width] * ROWS, "pieces": pieces})
+
+
+def row(y, width):
+    return "A=" + "/".join(f"{x},{y}" for x in range(width))
+
+
+def tree(names, free):
+    """A tree as deep as there are names: each Branch takes the free cells of the last row in turn for the next name."""
+    if not names:
+        return LEAF
+    arms = [f"{names[0]}={x},{ROWS - 1} {tree(names[1:], [other for other in free if other != x])}" for x in free]
+    return f"branch {names[0]} {' '.join(arms)} end"
+
+
+def script(width, rounds, trees):
+    """A task whose base is 15 copies of A, and whose other atoms leave out all dominoes, once for each round. Then reports with
+    these trees on the task. Before them a report on another task is handed in, so that what serves all checks is there."""
+    yield puzzle(width)
+    yield f"report base 1 0 {' '.join(f'split {row(y, width)}' for y in range(ROWS - 1))}{' rest' * ROWS}"
+    yield "hand_in base"
+    for made in range(rounds):
+        if made > 0:
+            yield "drop F"
+        yield "add F optional on 0,0 1,0"
+    edition = 2 * rounds - 1
+    yield f"report other 3 {edition} rest"
+    yield "hand_in other"
+    for text in trees:
+        yield f"report hostile 2 {edition} {text}"
+        yield "hand_in hostile"
+
+
+def play(player, lines, environment):
+    """Plays the lines, and returns the lines that are printed."""
+    text = "".join(line + "\n" for line in lines)
+    try:
+        done = subprocess.run(
+            [player], input=text.encode(), capture_output=True, timeout=300, check=False, env={**os.environ, **environment}
+        )
+    except subprocess.TimeoutExpired as late:
+        raise Fault("took over five minutes") from late
+    return done.stdout.decode("utf-8", "replace").split("\n")[:-1]
+
+
+def expect(line, wanted):
+    if not fnmatch.fnmatchcase(line, wanted):
+        raise Fault(f"printed '{line[:200]}' in place of '{wanted}'")
+
+
+def steps(player, shim, rounds, text):
+    """How many steps the `hand_in` of this tree takes."""
+    with tempfile.TemporaryDirectory() as room:
+        log = os.path.join(room, "log")
+        counting = {"LD_PRELOAD": shim, "FROM": "report on 2 ", "MOST": str(MOST), "LOG": log, "GLIBC_TUNABLES": PLAIN_COPIES}
+        printed = play(player, script(WIDTH, rounds, [text]), counting)
+        if not os.path.exists(log):
+            raise Fault(f"no steps were counted, and the last line is {printed[-1:]}")
+        with open(log, encoding="ascii") as file:
+            logged = file.read().strip()
+    if logged == "over":
+        raise Fault(f"a hand_in takes over {MOST} steps")
+    expect(printed[-1], APPLIED)
+    if int(logged) < text.count("branch"):
+        raise Fault(f"only {logged} steps were counted")
+    return int(logged)
+
+
+def growth(player, shim):
+    """Compares what nodes and atoms take together with their numbers."""
+    trees = [tree(names, range(WIDTH)) for names in ("C", "CD")]
+    nodes = trees[1].count("branch") - trees[0].count("branch")
+    atoms = (ROUNDS[1] - ROUNDS[0]) * (ROWS * (WIDTH - 1) + (ROWS - 1) * WIDTH)
+    few, many = ([steps(player, shim, rounds, text) for rounds in ROUNDS] for text in trees)
+    both = many[1] - many[0] - few[1] + few[0]
+    print(f"steps: {few} and {many}, {both} for {nodes} nodes and {atoms} atoms together", file=sys.stderr)
+    if 4 * both >= nodes * atoms:
+        raise Fault(f"a hand_in takes {both} steps for {nodes} nodes and {atoms} atoms together")
+
+
+def answers(player, _):
+    """Compares the answers to a large report: with a last leaf that doesn't hold, as it holds, and once more."""
+    right = tree("CDE", range(16))
+    before, _, after = right.rpartition(LEAF)
+    printed = play(player, script(16, 40, [before + WRONG_LEAF + after, right, right]), {})
+    for line, wanted in zip(printed[-5::2], ("no 24 DoesNotHold", APPLIED, "no 23 Gone")):
+        expect(line, wanted)
+
+
+def main():
+    player, shim = (os.path.abspath(path) for path in sys.argv[1:3])
+    passed = failed = 0
+    for compare in (growth, answers):
+        try:
+            compare(player, shim)
+            passed += 1
+        except Fault as fault:
+            failed += 1
+            print(f"failed: {compare.__name__}: {fault}")
+    print(f"{passed} passed, {failed} failed")
+    return 1 if failed else 0
+
+
+if __name__ == "__main__":
+    sys.exit(main())
