@@ -12,23 +12,28 @@ use std::test::Fail;
 // stack than a thread has.
 const BRANCHES: u32 = 500_000;
 
-fn deep_tree(alloc: Global) -> Result<Tree, Refusal> {
+// A Branch with one arm, a Split that takes the tree.
+fn over(alloc: Global, placement: u32, tree: Tree) -> Result<Tree, Refusal> {
+    let taken = Box::new(alloc, tree)?;
+    let left = Box::new(alloc, Tree::Found)?;
+    let split = Tree::Split {
+        placement,
+        taken,
+        left,
+    };
+    let mut arms = Vec::new(alloc);
+    arms.push(Arm {
+        placement,
+        tree: split,
+    })?;
     let item = Item::Cell(Cell::ORIGIN);
+    Ok(Tree::Branch { item, arms })
+}
+
+fn deep_tree(alloc: Global) -> Result<Tree, Refusal> {
     let mut tree = Tree::Rest;
     for placement in 0..BRANCHES {
-        let taken = Box::new(alloc, tree)?;
-        let left = Box::new(alloc, Tree::Found)?;
-        let split = Tree::Split {
-            placement,
-            taken,
-            left,
-        };
-        let mut arms = Vec::new(alloc);
-        arms.push(Arm {
-            placement,
-            tree: split,
-        })?;
-        tree = Tree::Branch { item, arms };
+        tree = over(alloc, placement, tree)?;
     }
     Ok(tree)
 }
