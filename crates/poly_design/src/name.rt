@@ -13,8 +13,9 @@ use std::marker::Model;
 pub struct Name {
     /// The bytes of the name, and after them zeros up to the end.
     bytes: [u8; 16],
-    /// How many bytes the name has, 1 to 16.
-    len: usize,
+    /// How many bytes the name has, 1 to 16. One byte is enough for it: a book keeps millions of atoms, and most of an atom's
+    /// size is that of a name.
+    len: u8,
 }
 
 impl Model for Name {
@@ -48,7 +49,7 @@ impl Name {
         kept[..bytes.len()].copy_from_slice(bytes);
         Ok(Name {
             bytes: kept,
-            len: bytes.len(),
+            len: bytes.len() as u8,
         })
     }
 
@@ -57,7 +58,7 @@ impl Name {
         ensures value { result.now ≡ self.now }
         ensures name { IsName self.now }
     {
-        &self.bytes[..self.len]
+        &self.bytes[..self.len as usize]
     }
 }
 
