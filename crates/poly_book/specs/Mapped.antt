@@ -10,6 +10,7 @@ use Rattle.poly_tiling.specs.declared.item.Item.TheVariants.{Cell, Piece}
 use Rattle.poly_atom.specs.declared.atom.Atom.{Atom}
 use Rattle.poly_atom.specs.declared.atom.Atom.TheVariants.{AtLeast, AtMost, Has, Lacks}
 use Rattle.poly_book.specs.declared.maps.TheConstants.{FIRST_NAME}
+use Rattle.poly_book.specs.declared.maps.Base.{Base}
 use Rattle.poly_book.specs.declared.maps.Maps.{Maps}
 use Rattle.poly_book.specs.declared.maps.Prefix.{Prefix}
 use Rattle.poly_book.specs.declared.rows.Span.{Span}
@@ -67,6 +68,10 @@ abbrev pub HasBase : Own → Type 0
 HasBase (Listed v i) = Unit {0}
 HasBase (OfStair s) = Unit {0}
 HasBase (Crossed v i s) = i < length v
+
+-- each of the base's atoms is noted for all tasks of the span
+abbrev pub IsNotedBase : Maps → Base → Type 0
+IsNotedBase m b = (n : ℕ) → in_span b.span n ≡ true → list_all (λ a. under m a n) b.others.items ≡ true
 
 -- each task is noted under each of its own atoms
 abbrev pub AreNoted : Maps → List (List Atom) → List Pending → Type 0

@@ -10,11 +10,11 @@ ghost use Rattle.std.specs.Prelude.{◌≡◌, ◌≤◌, ◌⊎◌, IfErr, IfOk
 ghost use Rattle.std.specs.List.{list_all};
 ghost use Rattle.std.specs.List.Sorted.{IsNonDecreasingBy};
 ghost use Rattle.poly_atom.specs.Logs.{IsStairOf, stair_of};
-ghost use Rattle.poly_book.specs.Mapped.{AreNoted, HasBase, IsPrefix, IsWider, KeepsPending, base_of, in_span, key_of, key_of_name, under};
+ghost use Rattle.poly_book.specs.Mapped.{AreNoted, HasBase, IsNotedBase, IsPrefix, IsWider, KeepsPending, base_of, in_span, key_of, key_of_name, under};
 ghost use Rattle.poly_book.specs.Meaning.{AreTasks, IsOwn, own_of};
 
 use crate::rows::{Row, Span, note_span, tidy_rows};
-use crate::task::{Own, Pending};
+use crate::task::{Own, Pending, is_same_list};
 use poly_atom::{Atom, GuardLog, Stair};
 use poly_grid::{Refusal, SIDE};
 use poly_tiling::Item;
@@ -46,6 +46,15 @@ pub(crate) struct Prefix {
     span: Span,
 }
 
+/// A base, but for its `Lacks`, and the tasks for which it is noted.
+#[derive(Debug, Drop)]
+pub(crate) struct Base {
+    /// The atoms of the base that are no `Lacks`.
+    others: Vec<Atom>,
+    /// The tasks for which each of them is noted.
+    span: Span,
+}
+
 impl Maps {
     /// Maps without tasks.
     pub(crate) fn new(alloc: Global) -> Maps {
@@ -72,20 +81,14 @@ impl Maps {
             count: 0,
             span: Span { from: 0, to: 0 },
         };
-        let mut shared = Span { from: 1, to: 0 };
+        let mut base = Base {
+            others: Vec::new(self.alloc),
+            span: Span { from: 1, to: 0 },
+        };
         let mut buffer = Vec::new(self.alloc);
-        let mut before = 0;
         for (i, task) in tasks.iter().enumerate() {
-            shared = self.note_base(
-                &tasks[before].own,
-                &task.own,
-                shared,
-                task.number,
-                &tasks[i..],
-                &mut buffer,
-            )?;
+            self.note_base(&task.own, &mut base, task.number, &tasks[i..], &mut buffer)?;
             self.note_task(log, &task.own, task.number, last, &mut prefix, &mut buffer)?;
-            before = i;
         }
         Ok(())
     }
@@ -135,45 +138,60 @@ impl Maps {
         }
     }
 
-    // Notes the base of a crossed task for this task and the next ones that have the same, and nothing for another task.
-    // `rest` are the tasks from this one on. Skips the base if it is noted for the tasks of `shared`, this one among them, since
-    // the task `known` has the same. Returns the tasks for which the base is noted. The base is read into the buffer.
+    // Notes the base of a crossed task for this task and the next ones that have the same, and nothing for another task. `known`
+    // is the base that was noted last; if it is the same and noted for this task, nothing is left to note. `rest` are the tasks
+    // from this one on. The base is read into the buffer.
     fn note_base(
         &mut self,
-        known: &Own,
         own: &Own,
-        shared: Span,
+        known: &mut Base,
         number: u32,
         rest: &[Pending],
         buffer: &mut Vec<Atom>,
-    ) -> Result<Span, Refusal>
+    ) -> Result<(), Refusal>
         requires own { HasBase own.now }
-        requires known { (n : ℕ) → in_span shared n ≡ true → list_all (λ a. under self.old a n) (base_of known.now) ≡ true }
-        ensures noted { IfOk result (λ s. (n : ℕ) → in_span s n ≡ true → list_all (λ a. under self.new a n) (base_of own.now) ≡ true) }
-        ensures here { IfOk result (λ s. in_span s number ≡ true) }
+        requires known { IsNotedBase self.old known.old }
+        ensures known { OnOk result (IsNotedBase self.new known.new) }
+        ensures ok { OnOk result (list_all (λ a. under self.new a number) (base_of own.now) ≡ true) }
         ensures wider { IsWider self.old self.new }
         ensures why { IfErr result (λ e. e ≡ Refusal.Memory) }
     {
-        let alone = Span {
-            from: number,
-            to: number,
-        };
         match own {
-            Own::Listed(_, _) => Ok(alone),
-            Own::Stair(_) => Ok(alone),
+            Own::Listed(_, _) => Ok(()),
+            Own::Stair(_) => Ok(()),
             Own::Crossed(lists, index, _) => {
-                lists.read(*index, buffer)?;
-                if is_shared(known, *index, buffer, &shared, number) {
-                    return Ok(shared);
+                lists.read_others(*index, buffer)?;
+                if is_noted(known, buffer, number) {
+                    return Ok(());
                 }
-                let span = Span {
-                    from: number,
-                    to: last_with(rest, *index, buffer).max(number),
-                };
-                self.note_list(buffer, span)?;
-                Ok(span)
+                self.note_new_base(known, number, rest, buffer)
             }
         }
+    }
+
+    // Notes a base, of which `others` are the atoms that are no `Lacks`, for the task with the number and the next ones that
+    // have the same. `rest` are the tasks from this one on. The base becomes the known one.
+    fn note_new_base(
+        &mut self,
+        known: &mut Base,
+        number: u32,
+        rest: &[Pending],
+        others: &[Atom],
+    ) -> Result<(), Refusal>
+        ensures known { OnOk result (IsNotedBase self.new known.new) }
+        ensures ok { OnOk result (list_all (λ a. under self.new a number) others.now ≡ true) }
+        ensures wider { IsWider self.old self.new }
+        ensures why { IfErr result (λ e. e ≡ Refusal.Memory) }
+    {
+        let span = Span {
+            from: number,
+            to: last_with(self.alloc, rest, others)?.max(number),
+        };
+        self.note_list(others, span)?;
+        known.others.clear();
+        known.others.extend_from_slice(others)?;
+        known.span = span;
+        Ok(())
     }
 
     // Notes the stair: the guards before its last atom for all tasks from this one to the last, and its last atom for this
@@ -242,37 +260,45 @@ impl Maps {
     }
 }
 
-// Whether the task `known` has this base, and the task with the number is in the span.
-fn is_shared(known: &Own, index: usize, base: &[Atom], span: &Span, number: u32) -> bool
-    ensures { result ≡ true → (base_of known.now ≡ base.now) × (in_span span.now number ≡ true) }
+// Whether the base, of which `others` are the atoms that are no `Lacks`, is noted for the task with the number.
+fn is_noted(known: &Base, others: &[Atom], number: u32) -> bool
+    ensures { result ≡ true → (others.now ≡ known.now.others.items) × (in_span known.now.span number ≡ true) }
 {
-    if number < span.from || span.to < number {
+    if number < known.span.from || known.span.to < number {
         return false;
     }
-    has_base(known, index, base)
+    is_same_list(others, &known.others)
 }
 
-// The number of the last of the first tasks that have this base, each as the list at the index; 0 if there is none.
-fn last_with(tasks: &[Pending], index: usize, base: &[Atom]) -> u32 {
+// The number of the last of the first tasks whose base has these atoms besides its `Lacks`; 0 if there is none. Fails only when
+// out of memory.
+fn last_with(alloc: Global, tasks: &[Pending], others: &[Atom]) -> Result<u32, Refusal>
+    ensures { IfErr result (λ e. e ≡ Refusal.Memory) }
+{
     let mut last = 0;
+    let mut buffer = Vec::new(alloc);
     for task in tasks {
-        if !has_base(&task.own, index, base) {
-            return last;
+        if !has_base(&task.own, others, &mut buffer)? {
+            return Ok(last);
         }
         last = task.number;
     }
-    last
+    Ok(last)
 }
 
-// Whether the task has this base, as the list at the index.
-fn has_base(own: &Own, index: usize, base: &[Atom]) -> bool
-    ensures { result ≡ true → base_of own.now ≡ base.now }
+// Whether the task's base has these atoms besides its `Lacks`. The base is read into the buffer. Fails only when out of memory.
+fn has_base(own: &Own, others: &[Atom], buffer: &mut Vec<Atom>) -> Result<bool, Refusal>
+    ensures { IfErr result (λ e. e ≡ Refusal.Memory) }
 {
     match own {
-        Own::Listed(_, _) => false,
-        Own::Stair(_) => false,
-        Own::Crossed(lists, other, _) => {
-            *other == index && index < lists.len() && lists.matches(index, base)
+        Own::Listed(_, _) => Ok(false),
+        Own::Stair(_) => Ok(false),
+        Own::Crossed(lists, index, _) => {
+            if *index >= lists.len() {
+                return Ok(false);
+            }
+            lists.read_others(*index, buffer)?;
+            Ok(is_same_list(others, buffer))
         }
     }
 }

@@ -179,7 +179,8 @@ fn is_stair(log: &GuardLog, stair: &Stair, atoms: &[Atom]) -> bool
     atoms[index] == guards[index].negated()
 }
 
-fn is_same_list(one: &[Atom], other: &[Atom]) -> bool
+/// Whether both lists are the same.
+pub(crate) fn is_same_list(one: &[Atom], other: &[Atom]) -> bool
     ensures { IsTrue result ↔ (one.now ≡ other.now) }
 {
     one == other

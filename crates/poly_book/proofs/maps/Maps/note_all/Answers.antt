@@ -1,7 +1,6 @@
-use Rattle.std.proofs.Common.{[], arith, get_or, slice_index_or, subst, sym, take, true, ◌∙◌, ◌≡◌}
-use Rattle.std.proofs.lemmas.List.{get_or_default}
+use Rattle.std.proofs.Common.{[], slice_index_or, subst, sym, take, true, ◌≡◌}
 use Rattle.std.specs.List.{list_all}
-use Rattle.poly_book.specs.Mapped.{base_of, under}
+use Rattle.poly_book.specs.Mapped.{under}
 use Rattle.poly_book.specs.Meaning.{IsTask, own_of}
 use Rattle.poly_book.proofs.Held.{task_at}
 use Rattle.poly_book.proofs.Mapping.{all_more, has_base_of, wide_atoms, wide_tasks}
@@ -9,7 +8,7 @@ use Rattle.poly_book.proofs.maps.Maps.note_all.Goals as goal
 
 pub note_base-requires : goal.note_base-requires
 note_base-requires c = record {
-  known = λ n h. c.loop-i.invariant.base c.index-tasks-before.result n h;
+  known = c.loop-i.invariant.base;
   own = has_base_of c.args.log.now c.index-tasks-i.result.own (subst (λ p. IsTask c.args.log.now p) (sym c.index-tasks-i.is) (task_at c.args.log.now c.args.tasks.now c.loop-i.i c.index-tasks-i.result c.requires c.loop-i-test.true)).own;
 }
 
@@ -17,7 +16,7 @@ pub note_task-requires-clause-own : goal.note_task-requires-clause-own
 note_task-requires-clause-own c = (subst (λ p. IsTask c.args.log.now p) (sym c.index-tasks-i.is) (task_at c.args.log.now c.args.tasks.now c.loop-i.i c.index-tasks-i.result c.requires c.loop-i-test.true)).own
 
 pub note_task-requires-clause-base : goal.note_task-requires-clause-base
-note_task-requires-clause-base c = c.in_ok-shared.ensures.noted c.index-tasks-i.result.number c.in_ok-shared.ensures.here
+note_task-requires-clause-base c = c.in_ok-note_base.ensures.ok
 
 pub note_task-requires-clause-prefix : goal.note_task-requires-clause-prefix
 note_task-requires-clause-prefix c =
@@ -38,7 +37,5 @@ loop-i-preserved c =
       noted = all_more (λ p. list_all (λ a. under m a p.number) (own_of log p.own)) ps i x c.loop-i-test.true
           (wide_tasks m1 m log (take i ps) c.note_task.ensures.wider (wide_tasks c.loop-i.self m1 log (take i ps) c.note_base.ensures.wider c.loop-i.invariant.noted))
           (subst (λ p. list_all (λ a. under m a p.number) (own_of log p.own) ≡ true) c.index-tasks-i.is c.in_ok-note_task.ensures.ok);
-      low = omega arith;
-      base = λ d n h. wide_atoms m1 m n (base_of (get_or ps i d).own) c.note_task.ensures.wider
-          (subst (λ p. list_all (λ a. under m1 a n) (base_of p.own) ≡ true) (c.index-tasks-i.is ∙ get_or_default ps i x d c.loop-i-test.true) (c.in_ok-shared.ensures.noted n h));
+      base = λ n h. wide_atoms m1 m n c.note_base.new.known.others.items c.note_task.ensures.wider (c.in_ok-note_base.ensures.known n h);
     }
