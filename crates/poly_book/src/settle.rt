@@ -12,7 +12,8 @@ ghost use Rattle.poly_report.specs.declared.size.TheConstants.{NODES};
 use crate::book::Book;
 use crate::hand_in::apply_leaves;
 use crate::parts::Parts;
-use crate::task::all_atoms;
+use crate::task::read_all;
+use poly_atom::Atom;
 use poly_grid::Refusal;
 use poly_report::Leaves;
 
@@ -47,8 +48,9 @@ fn settle_all(parts: &mut Parts, turns: u64, nodes: u32) -> Result<u64, Refusal>
     ensures why { IfErr result (λ e. IsNotSettled turns (state_of parts.old) (state_of parts.new) e) }
 {
     let mut unsure = parts.tasks.len();
+    let mut atoms = Vec::new(parts.alloc);
     for applied in 0..turns {
-        match settle_one(parts, nodes, &mut unsure) {
+        match settle_one(parts, nodes, &mut unsure, &mut atoms) {
             Ok(true) => {}
             Ok(false) => return Ok(applied),
             Err(refusal) => return Err(refusal),
@@ -61,8 +63,14 @@ fn settle_all(parts: &mut Parts, turns: u64, nodes: u32) -> Result<u64, Refusal>
 }
 
 // Does one turn, and returns whether there was a task. The tree that is found holds, so this isn't checked again. Only the
-// first `unsure` tasks may be hopeless. So no rest of a later task is hopeless, and this isn't checked either.
-fn settle_one(parts: &mut Parts, nodes: u32, unsure: &mut usize) -> Result<bool, Refusal>
+// first `unsure` tasks may be hopeless. So no rest of a later task is hopeless, and this isn't checked either. The task's atoms
+// are read into the buffer, in place of what it had.
+fn settle_one(
+    parts: &mut Parts,
+    nodes: u32,
+    unsure: &mut usize,
+    buffer: &mut Vec<Atom>,
+) -> Result<bool, Refusal>
     requires some { 1 ≤ nodes }
     requires few { nodes ≤ NODES }
     requires keeps { Keeps parts.old }
@@ -78,7 +86,7 @@ fn settle_one(parts: &mut Parts, nodes: u32, unsure: &mut usize) -> Result<bool,
     }
     let at = parts.tasks.len() - 1;
     let sure = *unsure <= at;
-    let leaves = explored_leaves(parts, at, nodes)?;
+    let leaves = explored_leaves(parts, at, nodes, buffer)?;
     let edition = parts.log.len() as u64;
     match apply_leaves(parts, at, edition, leaves, sure) {
         Ok(_) => {
@@ -89,8 +97,14 @@ fn settle_one(parts: &mut Parts, nodes: u32, unsure: &mut usize) -> Result<bool,
     }
 }
 
-// The leaves of a tree that fits and holds for the task at the index. If the task isn't hopeless, no rest is.
-fn explored_leaves(parts: &mut Parts, at: usize, nodes: u32) -> Result<Leaves, Refusal>
+// The leaves of a tree that fits and holds for the task at the index. If the task isn't hopeless, no rest is. The task's atoms
+// are read into the buffer.
+fn explored_leaves(
+    parts: &mut Parts,
+    at: usize,
+    nodes: u32,
+    buffer: &mut Vec<Atom>,
+) -> Result<Leaves, Refusal>
     requires some { 1 ≤ nodes }
     requires few { nodes ≤ NODES }
     requires keeps { Keeps parts.old }
@@ -100,7 +114,7 @@ fn explored_leaves(parts: &mut Parts, at: usize, nodes: u32) -> Result<Leaves, R
     ensures sure { IfOk result (λ l. (n : ℕ) → n ≤ at → AreHopefulFrom n (state_of parts.old) → AreHopeful parts.old.scene l.rests) }
     ensures why { IfErr result (λ e. e ≡ Refusal.Memory) }
 {
-    let atoms = all_atoms(parts.alloc, &parts.log, &parts.tasks[at])?;
-    let found = parts.scene.explore(parts.alloc, &atoms, nodes)?;
+    read_all(&parts.log, &parts.tasks[at], buffer)?;
+    let found = parts.scene.explore(parts.alloc, buffer, nodes)?;
     Ok(found.leaves)
 }

@@ -89,17 +89,6 @@ pub(crate) fn list_of<'a>(log: &GuardLog, own: &'a Own) -> Option<(&'a SharedLis
     }
 }
 
-/// A copy of the own atoms, as a list.
-pub(crate) fn own_atoms(alloc: Global, log: &GuardLog, own: &Own) -> Result<Vec<Atom>, Refusal>
-    requires { IsOwn log.now own.now }
-    ensures ok { IfOk result (λ atoms. atoms.items ≡ own_of log.now own.now) }
-    ensures why { IfErr result (λ e. e ≡ Refusal.Memory) }
-{
-    let mut atoms = Vec::new(alloc);
-    read_own(log, own, &mut atoms)?;
-    Ok(atoms)
-}
-
 // The same own atoms. Lists are shared.
 fn share(own: &Own) -> Result<Own, Refusal>
     ensures same { IfOk result (λ o. (log : List (List AtomOf)) → own_of log o ≡ own_of log own.now) }
@@ -186,13 +175,28 @@ pub(crate) fn is_same_list(one: &[Atom], other: &[Atom]) -> bool
     one == other
 }
 
-/// The task's own atoms, and the guards of every change since it was made.
+/// Writes the task's own atoms, and the guards of every change since it was made, to the buffer, in place of what it had.
+pub(crate) fn read_all(
+    log: &GuardLog,
+    task: &Pending,
+    buffer: &mut Vec<Atom>,
+) -> Result<(), Refusal>
+    requires { IsTask log.now task.now }
+    ensures ok { OnOk result (buffer.new.items ≡ atoms_of (task_of log.now task.now)) }
+    ensures why { IfErr result (λ e. e ≡ Refusal.Memory) }
+{
+    read_own(log, &task.own, buffer)?;
+    buffer.extend_from_slice(log.since(task.made))?;
+    Ok(())
+}
+
+/// The task's own atoms, and the guards of every change since it was made, as a list.
 pub(crate) fn all_atoms(alloc: Global, log: &GuardLog, task: &Pending) -> Result<Vec<Atom>, Refusal>
     requires { IsTask log.now task.now }
     ensures ok { IfOk result (λ atoms. atoms.items ≡ atoms_of (task_of log.now task.now)) }
     ensures why { IfErr result (λ e. e ≡ Refusal.Memory) }
 {
-    let mut atoms = own_atoms(alloc, log, &task.own)?;
-    atoms.extend_from_slice(log.since(task.made))?;
+    let mut atoms = Vec::new(alloc);
+    read_all(log, task, &mut atoms)?;
     Ok(atoms)
 }

@@ -11,8 +11,8 @@ use Rattle.poly_book.proofs.Hoping.{hopeful_at, rests_hopeful}
 use Rattle.poly_book.proofs.Taking.{found_leaves_at}
 use Rattle.poly_book.proofs.settle.explored_leaves.Goals as goal
 
-pub all_atoms-requires : goal.all_atoms-requires
-all_atoms-requires c =
+pub read_all-requires : goal.read_all-requires
+read_all-requires c =
     let ps = c.args.parts.now.tasks.items in
     let x = c.index.result.now in
     let is : x ≡ get_or ps c.args.at x = search rules in
@@ -27,7 +27,7 @@ returns-clause-leaves c =
     let u = task_of a.log x in
     let tree = plan_of c.in_ok-found.found.tree in
     let is : x ≡ get_or ps c.args.at x = search rules in
-    let atoms : c.deref.result.now ≡ atoms_of u = c.deref.ensures.value ∙ c.in_ok-atoms.ensures.ok in
+    let atoms : c.deref.result.now ≡ atoms_of u = c.deref.ensures.value ∙ c.in_ok-read_all.ensures.ok in
     let right : holds v (atoms_of u) tree ≡ true = sym (ap (λ A. holds v A tree) atoms) ∙ c.in_ok-found.ensures.holds in
     let found : c.in_ok-found.found.leaves.tilings.items ≡ tilings v (atoms_of u) tree = c.in_ok-found.ensures.tilings ∙ ap (λ A. tilings v A tree) atoms in
     let left : c.in_ok-found.found.leaves.rests ≡ rests v (atoms_of u) tree = c.in_ok-found.ensures.rests ∙ ap (λ A. rests v A tree) atoms in
@@ -46,7 +46,7 @@ returns-clause-sure c =
     let u = task_of a.log x in
     let tree = plan_of c.in_ok-found.found.tree in
     let is : x ≡ get_or ps c.args.at x = search rules in
-    let atoms : c.deref.result.now ≡ atoms_of u = c.deref.ensures.value ∙ c.in_ok-atoms.ensures.ok in
+    let atoms : c.deref.result.now ≡ atoms_of u = c.deref.ensures.value ∙ c.in_ok-read_all.ensures.ok in
     let free : opened v (atoms_of u) tree ≡ true = sym (ap (λ A. opened v A tree) atoms) ∙ c.in_ok-found.ensures.opened in
     let left : c.in_ok-found.found.leaves.rests ≡ rests v (atoms_of u) tree = c.in_ok-found.ensures.rests ∙ ap (λ A. rests v A tree) atoms in
     λ n low from. subst (λ L. AreHopeful v L) (sym left) (rests_hopeful v (atoms_of u) tree free (hopeful_at a x c.args.at n low c.requires.index is from))
