@@ -1,13 +1,13 @@
 -- Rows of bits: putting a number in, taking out one number or those of another row, and searching two rows.
-use Rattle.std.proofs.Common.{◌≡◌, ℕ, zero, suc, ◌+◌, ◌-◌, ◌*◌, ◌/◌, ◌%◌, ◌^◌, ◌<◌, ◌≤◌, min, Bool, true, false, not, ◌&&◌, ◌||◌, eqb, List, [], ◌++◌, inl, inr, refl, sym, ap, ◌∙◌, arith, length, length-append, take, drop, replicate, get_or, get_or-set_other, get_or-set_same, w64, bit_and, bit_or}
+use Rattle.std.proofs.Common.{◌≡◌, ℕ, zero, suc, ◌+◌, ◌-◌, ◌*◌, ◌/◌, ◌%◌, ◌^◌, ◌<◌, ◌≤◌, min, Bool, true, false, not, ◌&&◌, ◌||◌, eqb, List, [], ◌++◌, ◌⊎◌, inl, inr, refl, sym, ap, subst, ◌∙◌, arith, length, length-append, take, drop, replicate, get_or, get_or-set_other, get_or-set_same, w64, bit_and, bit_or}
 use Rattle.std.proofs.Math.ListN.{set}
 use Rattle.std.proofs.lemmas.Bool.{cases_eq, cases_lt, eq-eqb, ne_eqb, or_right}
 use Rattle.std.proofs.lemmas.Nat.Bits.{bit_at_and, bit_at_not, bit_at-lt, bit_at_set_same, bit_at_set_other, bit_at_clear_same, bit_at_clear_other, bit_at-trailing_zeros, bit_at-zero, bit_at_above, shr_and_one}
 use Rattle.std.proofs.lemmas.Nat.{shr-shr}
 use Rattle.std.proofs.Math.Nat.{div-le_self}
-use Rattle.std.proofs.lemmas.List.{get_or-append-add, get_or-drop, get_or-take, get_or_append_left, length-drop, length-take-le}
+use Rattle.std.proofs.lemmas.List.{get_or-append-add, get_or-drop, get_or-take, get_or_append_left, length-drop, length-set, length-take-le}
 use Rattle.std.specs.Int.{bit_at, bit_not, trailing_zeros}
-use Rattle.poly_frame.specs.Bits.{FirstIn, NoneIn, has_bit, in_both}
+use Rattle.poly_frame.specs.Bits.{FirstIn, IsLess, NoneIn, has_bit, in_both}
 
 less_at : (x y : ℕ) → x < 2 → y < 2 → eqb (min x (1 - y)) 1 ≡ (eqb x 1 && not (eqb y 1))
 less_at zero zero h k = refl
@@ -123,9 +123,82 @@ same_word ws new x e = ap (λ w. eqb (bit_at w (x % 64)) 1) e
 pub same_row : (ws new : List ℕ) (at to j : ℕ) → get_or new (to + j / 64) 0 ≡ get_or ws (at + j / 64) 0 → has_bit new (64 * to + j) ≡ has_bit ws (64 * at + j)
 same_row ws new at to j e = in_word new to j ∙ ap (λ w. eqb (bit_at w (j % 64)) 1) e ∙ sym (in_word ws at j)
 
-pub row_less : (ws rs new : List ℕ) (at from j : ℕ) → ((t : ℕ) → t < 64 → eqb (bit_at (get_or new (at + j / 64) 0) t) 1 ≡ (eqb (bit_at (get_or ws (at + j / 64) 0) t) 1 && not (eqb (bit_at (get_or rs (from + j / 64) 0) t) 1))) →
-    has_bit new (64 * at + j) ≡ (has_bit ws (64 * at + j) && not (has_bit rs (64 * from + j)))
-row_less ws rs new at from j h = in_word new at j ∙ h (j % 64) (omega arith) ∙ ap (λ b. b && not (eqb (bit_at (get_or rs (from + j / 64) 0) (j % 64)) 1)) (sym (in_word ws at j)) ∙ ap (λ b. has_bit ws (64 * at + j) && not b) (sym (in_word rs from j))
+-- a row whose words each lack the bits of another row's word lacks that row's numbers
+pub words_less : (ws rs new : List ℕ) (n : ℕ) → ((k t : ℕ) → k < n → t < 64 → eqb (bit_at (get_or new k 0) t) 1 ≡ (eqb (bit_at (get_or ws k 0) t) 1 && not (eqb (bit_at (get_or rs k 0) t) 1))) →
+    (j : ℕ) → j < 64 * n → has_bit new j ≡ (has_bit ws j && not (has_bit rs j))
+unfolding has_bit
+words_less ws rs new n f j h = f (j / 64) (j % 64) (omega arith) (omega arith)
+
+pub words_less_three : (ws xs ys zs new : List ℕ) (n : ℕ) → ((k : ℕ) → k < n → IsLess (get_or new k 0) (get_or ws k 0) (get_or xs k 0) (get_or ys k 0) (get_or zs k 0)) →
+    (j : ℕ) → j < 64 * n → has_bit new j ≡ (has_bit ws j && not (has_bit xs j || (has_bit ys j || has_bit zs j)))
+unfolding has_bit
+words_less_three ws xs ys zs new n f j h = f (j / 64) (omega arith) (j % 64) (omega arith)
+
+pub not_three : (w a b c : Bool) → (((w && not a) && not b) && not c) ≡ (w && not (a || (b || c)))
+not_three false a b c = refl
+not_three true true b c = refl
+not_three true false true c = refl
+not_three true false false c = refl
+
+-- four words that stand one after another are written
+module _ (ws : List ℕ) (k a b c d : ℕ) (size : k + 3 < length ws) where
+  abbrev pub four_set : List ℕ
+  four_set = set (set (set (set ws k a) (k + 1) b) (k + 2) c) (k + 3) d
+
+  len_one : length (set ws k a) ≡ length ws
+  len_one = length-set ws k a
+
+  len_two : length (set (set ws k a) (k + 1) b) ≡ length ws
+  len_two = length-set (set ws k a) (k + 1) b ∙ len_one
+
+  len_three : length (set (set (set ws k a) (k + 1) b) (k + 2) c) ≡ length ws
+  len_three = length-set (set (set ws k a) (k + 1) b) (k + 2) c ∙ len_two
+
+  pub four_len : length four_set ≡ length ws
+  four_len = length-set (set (set (set ws k a) (k + 1) b) (k + 2) c) (k + 3) d ∙ len_three
+
+  past_four : (i : ℕ) → (i ≡ k + 3 → ⊥) → get_or four_set i 0 ≡ get_or (set (set (set ws k a) (k + 1) b) (k + 2) c) i 0
+  past_four i n = other_at (set (set (set ws k a) (k + 1) b) (k + 2) c) (k + 3) d i n
+
+  past_three : (i : ℕ) → (i ≡ k + 2 → ⊥) → get_or (set (set (set ws k a) (k + 1) b) (k + 2) c) i 0 ≡ get_or (set (set ws k a) (k + 1) b) i 0
+  past_three i n = other_at (set (set ws k a) (k + 1) b) (k + 2) c i n
+
+  past_two : (i : ℕ) → (i ≡ k + 1 → ⊥) → get_or (set (set ws k a) (k + 1) b) i 0 ≡ get_or (set ws k a) i 0
+  past_two i n = other_at (set ws k a) (k + 1) b i n
+
+  pub four_other : (i : ℕ) → (i < k) ⊎ (k + 4 ≤ i) → get_or four_set i 0 ≡ get_or ws i 0
+  four_other i (inl h) = past_four i (λ e. absurd (omega arith)) ∙ past_three i (λ e. absurd (omega arith)) ∙ past_two i (λ e. absurd (omega arith)) ∙ other_at ws k a i (λ e. absurd (omega arith))
+  four_other i (inr h) = past_four i (λ e. absurd (omega arith)) ∙ past_three i (λ e. absurd (omega arith)) ∙ past_two i (λ e. absurd (omega arith)) ∙ other_at ws k a i (λ e. absurd (omega arith))
+
+  pub four_a : get_or four_set k 0 ≡ a
+  four_a = past_four k (λ e. absurd (omega arith)) ∙ past_three k (λ e. absurd (omega arith)) ∙ past_two k (λ e. absurd (omega arith)) ∙ same_at ws k a k (omega (arith, size)) refl
+
+  pub four_b : get_or four_set (k + 1) 0 ≡ b
+  four_b = past_four (k + 1) (λ e. absurd (omega arith)) ∙ past_three (k + 1) (λ e. absurd (omega arith)) ∙ same_at (set ws k a) (k + 1) b (k + 1) (omega (arith, size, len_one)) refl
+
+  pub four_c : get_or four_set (k + 2) 0 ≡ c
+  four_c = past_four (k + 2) (λ e. absurd (omega arith)) ∙ same_at (set (set ws k a) (k + 1) b) (k + 2) c (k + 2) (omega (arith, size, len_two)) refl
+
+  pub four_d : get_or four_set (k + 3) 0 ≡ d
+  four_d = same_at (set (set (set ws k a) (k + 1) b) (k + 2) c) (k + 3) d (k + 3) (omega (arith, size, len_three)) refl
+
+  -- what held of each word below `k` and of the four new words holds of each word below `k + 4`
+  pub four_done : (P : ℕ → ℕ → Type 0) → ((i : ℕ) → i < k → P i (get_or ws i 0)) → P k a → P (k + 1) b → P (k + 2) c → P (k + 3) d → (i : ℕ) → i < k + 4 → P i (get_or four_set i 0)
+  four_done P low pa pb pc pd i h = elim (cases_lt i k) [
+    | inl l ↦ subst (λ (x : ℕ). P i x) (sym (four_other i (inl l))) (low i l)
+    | inr g ↦ elim (cases_eq i k) [
+      | inl e ↦ subst (λ (n : ℕ). P n (get_or four_set n 0)) (sym e) (subst (λ (x : ℕ). P k x) (sym four_a) pa)
+      | inr na ↦ elim (cases_eq i (k + 1)) [
+        | inl e ↦ subst (λ (n : ℕ). P n (get_or four_set n 0)) (sym e) (subst (λ (x : ℕ). P (k + 1) x) (sym four_b) pb)
+        | inr nb ↦ elim (cases_eq i (k + 2)) [
+          | inl e ↦ subst (λ (n : ℕ). P n (get_or four_set n 0)) (sym e) (subst (λ (x : ℕ). P (k + 2) x) (sym four_c) pc)
+          | inr nc ↦
+              let last : i ≡ k + 3 = omega (arith, na, nb, nc) in
+              subst (λ (n : ℕ). P n (get_or four_set n 0)) (sym last) (subst (λ (x : ℕ). P (k + 3) x) (sym four_d) pd)
+        ]
+      ]
+    ]
+  ]
 
 -- a number whose word is 0 is not in the set
 pub past_none : (ws : List ℕ) (x : ℕ) → get_or ws (x / 64) 0 ≡ 0 → has_bit ws x ≡ false
@@ -145,6 +218,10 @@ drop_bits ws n j =
     let zero_row : j ≡ 64 * 0 + j = omega arith in
     let first : 0 + j / 64 ≡ j / 64 = omega arith in
     ap (λ x. has_bit (drop n ws) x) zero_row ∙ same_row ws (drop n ws) n 0 j (ap (λ k. get_or (drop n ws) k 0) first ∙ get_or-drop n ws (j / 64) 0)
+
+-- the bits of a part of a list
+pub part_bits : (ws : List ℕ) (at w n j : ℕ) → n ≡ w → j < 64 * w → has_bit (take n (drop at ws)) j ≡ has_bit ws (64 * at + j)
+part_bits ws at w n j e h = take_bits (drop at ws) n j (omega (arith, e, h)) ∙ drop_bits ws at j
 
 pub no_bits : (n x : ℕ) → has_bit (replicate n 0) x ≡ false
 no_bits n x = past_none (replicate n 0) x (get_same n (x / 64) 0)
@@ -269,6 +346,12 @@ module _ (old new post tail : List ℕ) (n at w : ℕ) (size : length old ≡ n)
       ∙ ap (λ i. get_or (take at old ++ (new ++ post)) (i + k) 0) (sym front)
       ∙ get_or-append-add (take at old) (new ++ post) k 0
       ∙ get_or_append_left new post 0 k (omega (arith, same))
+
+  pub replaced_bits : (j : ℕ) → j < 64 * w → has_bit replaced (64 * at + j) ≡ has_bit new j
+  replaced_bits j h =
+      let zero_row : 64 * 0 + j ≡ j = omega arith in
+      let first : j / 64 ≡ 0 + j / 64 = omega arith in
+      same_row new replaced 0 at j (replaced_at (j / 64) (omega (arith, h)) ∙ ap (λ k. get_or new k 0) first) ∙ ap (λ x. has_bit new x) zero_row
 
 -- the word at an index of a part of a list
 pub part_at : (xs : List ℕ) (at w n k : ℕ) → n ≡ w → k < w → get_or (take n (drop at xs)) k 0 ≡ get_or xs (at + k) 0

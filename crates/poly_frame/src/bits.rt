@@ -2,7 +2,7 @@
 //! the number `j` if bit `64 * at + j` of the list is set.
 ghost use Rattle.std.specs.Prelude.{MatchOption, length, not, slice_index, vec_capacity, vec_len, ℕ, ◌&&◌, ◌^◌, ◌*◌, ◌+◌, ◌-◌, ◌/◌, ◌<◌, ◌==◌, ◌||◌, ◌≡◌, ◌≤◌};
 ghost use Rattle.std.specs.Int.{bit_at};
-ghost use Rattle.poly_frame.specs.Bits.{FirstIn, NoneIn, has_bit, in_both};
+ghost use Rattle.poly_frame.specs.Bits.{FirstIn, IsLess, NoneIn, has_bit, in_both};
 
 /// Whether the row that begins at word `at` has the number.
 #[tactic(auto, using(crate::proofs::Words::has_at))]
@@ -58,15 +58,73 @@ pub(crate) fn take_out_row(words: &mut Vec<u64>, at: usize, rows: &[u64], from: 
     take_out_words(&mut words[at..at + width], &rows[from..from + width]);
 }
 
-// Removes from each word the bits that the word of the row at the same index has. A loop over slices: the compiler then takes
-// several words at once.
-fn take_out_words(words: &mut [u64], row: &[u64])
+/// Removes from a row all numbers that another row has. A loop over slices: the compiler then takes several words at once.
+pub(crate) fn take_out_words(words: &mut [u64], row: &[u64])
     requires { length words.old ≡ length row.now }
     ensures len { length words.new ≡ length words.old }
-    ensures bits { (k t : ℕ) → k < length words.old → t < 64 → (bit_at (slice_index words.new k) t == 1) ≡ ((bit_at (slice_index words.old k) t == 1) && not (bit_at (slice_index row.now k) t == 1)) }
+    ensures bits { (j : ℕ) → j < 64 * length words.old → has_bit words.new j ≡ (has_bit words.old j && not (has_bit row.now j)) }
 {
     for k in 0..words.len() {
         words[k] = less(words[k], row[k]);
+    }
+}
+
+// The bits that the word has and none of the other three has.
+fn less_three(word: u64, first: u64, second: u64, third: u64) -> u64
+    ensures { IsLess result word first second third }
+{
+    less(less(less(word, first), second), third)
+}
+
+/// Removes from a row all numbers that one of three other rows has: one pass over the row does what else takes three.
+pub(crate) fn take_out_three(words: &mut [u64], first: &[u64], second: &[u64], third: &[u64])
+    requires first { length first.now ≡ length words.old }
+    requires second { length second.now ≡ length words.old }
+    requires third { length third.now ≡ length words.old }
+    ensures len { length words.new ≡ length words.old }
+    ensures bits { (j : ℕ) → j < 64 * length words.old → has_bit words.new j ≡ (has_bit words.old j && not (has_bit first.now j || (has_bit second.now j || has_bit third.now j))) }
+{
+    let fours = words.len() / 4;
+    take_out_fours(words, fours, first, second, third);
+    take_out_rest(words, 4 * fours, first, second, third);
+}
+
+// Does what `take_out_three` does, in the first `4 * fours` words. It reads four words of each row before it writes one: the
+// compiler needn't know then that the rows are apart to take several words at once.
+fn take_out_fours(words: &mut [u64], fours: usize, first: &[u64], second: &[u64], third: &[u64])
+    requires words { 4 * fours ≤ length words.old }
+    requires first { length first.now ≡ length words.old }
+    requires second { length second.now ≡ length words.old }
+    requires third { length third.now ≡ length words.old }
+    ensures len { length words.new ≡ length words.old }
+    ensures done { (k : ℕ) → k < 4 * fours → IsLess (slice_index words.new k) (slice_index words.old k) (slice_index first.now k) (slice_index second.now k) (slice_index third.now k) }
+    ensures rest { (k : ℕ) → 4 * fours ≤ k → slice_index words.new k ≡ slice_index words.old k }
+{
+    for c in 0..fours {
+        let k = 4 * c;
+        let one = less_three(words[k], first[k], second[k], third[k]);
+        let two = less_three(words[k + 1], first[k + 1], second[k + 1], third[k + 1]);
+        let three = less_three(words[k + 2], first[k + 2], second[k + 2], third[k + 2]);
+        let four = less_three(words[k + 3], first[k + 3], second[k + 3], third[k + 3]);
+        words[k] = one;
+        words[k + 1] = two;
+        words[k + 2] = three;
+        words[k + 3] = four;
+    }
+}
+
+// Does what `take_out_three` does, in the words from `from` on.
+fn take_out_rest(words: &mut [u64], from: usize, first: &[u64], second: &[u64], third: &[u64])
+    requires words { from ≤ length words.old }
+    requires first { length first.now ≡ length words.old }
+    requires second { length second.now ≡ length words.old }
+    requires third { length third.now ≡ length words.old }
+    ensures len { length words.new ≡ length words.old }
+    ensures done { (k : ℕ) → from ≤ k → k < length words.old → IsLess (slice_index words.new k) (slice_index words.old k) (slice_index first.now k) (slice_index second.now k) (slice_index third.now k) }
+    ensures before { (k : ℕ) → k < from → slice_index words.new k ≡ slice_index words.old k }
+{
+    for k in from..words.len() {
+        words[k] = less_three(words[k], first[k], second[k], third[k]);
     }
 }
 

@@ -115,10 +115,86 @@ fn close(
     ensures row { (j : ℕ) → j < 64 * matrix.now.width → has_bit live.new.items (64 * at + j) ≡ (has_bit live.old.items (64 * at + j) && not (list_any (λ b. nat_le (slice_index table.now.limits.items b) (slice_index have.now b) && has_bit matrix.now.rows.items (bit_index matrix.now.width b j)) indices.now)) }
     ensures before { (x : ℕ) → x < 64 * at → has_bit live.new.items x ≡ has_bit live.old.items x }
 {
-    for b in indices {
-        if u64::from(table.limits[*b]) <= have[*b] {
-            bits::take_out_row(live, at, &matrix.rows, matrix.width * *b, matrix.width);
+    close_row(
+        &matrix.rows,
+        &table.limits,
+        have,
+        indices,
+        &mut live[at..at + matrix.width],
+    );
+}
+
+// Does what `close` does, in the row alone. Takes three items at once where it can.
+fn close_row(rows: &[u64], limits: &[u8], have: &[u64], indices: &[usize], row: &mut [u64])
+    requires low { list_all (λ b. nat_lt b (length have.now)) indices.now ≡ true }
+    requires limits { length limits.now ≡ length have.now }
+    requires rows { length rows.now ≡ length row.old * length have.now }
+    ensures len { length row.new ≡ length row.old }
+    ensures bits { (j : ℕ) → j < 64 * length row.old → has_bit row.new j ≡ (has_bit row.old j && not (list_any (λ b. nat_le (slice_index limits.now b) (slice_index have.now b) && has_bit rows.now (bit_index (length row.old) b j)) indices.now)) }
+{
+    let width = row.len();
+    let mut k = 0;
+    while k < indices.len() {
+        if are_at_limit(limits, have, indices, k) {
+            bits::take_out_three(
+                row,
+                item_row(rows, width, indices[k]),
+                item_row(rows, width, indices[k + 1]),
+                item_row(rows, width, indices[k + 2]),
+            );
+            k += 3;
+        } else {
+            close_item(rows, limits, have, indices[k], row);
+            k += 1;
         }
+    }
+}
+
+// Whether there are three indices from `k` on, and the counts of their items have all reached their limits.
+fn are_at_limit(limits: &[u8], have: &[u64], indices: &[usize], k: usize) -> bool
+    requires low { list_all (λ b. nat_lt b (length have.now)) indices.now ≡ true }
+    requires limits { length limits.now ≡ length have.now }
+    requires inside { k < length indices.now }
+    ensures three { result ≡ true → k + 3 ≤ length indices.now }
+    ensures first { result ≡ true → nat_le (slice_index limits.now (slice_index indices.now k)) (slice_index have.now (slice_index indices.now k)) ≡ true }
+    ensures second { result ≡ true → nat_le (slice_index limits.now (slice_index indices.now (k + 1))) (slice_index have.now (slice_index indices.now (k + 1))) ≡ true }
+    ensures third { result ≡ true → nat_le (slice_index limits.now (slice_index indices.now (k + 2))) (slice_index have.now (slice_index indices.now (k + 2))) ≡ true }
+{
+    indices.len() - k >= 3
+        && is_at_limit(limits, have, indices[k])
+        && is_at_limit(limits, have, indices[k + 1])
+        && is_at_limit(limits, have, indices[k + 2])
+}
+
+// Whether the count of the item at `b` has reached its limit.
+fn is_at_limit(limits: &[u8], have: &[u64], b: usize) -> bool
+    requires limits { b < length limits.now }
+    requires have { b < length have.now }
+    ensures { result ≡ nat_le (slice_index limits.now b) (slice_index have.now b) }
+{
+    u64::from(limits[b]) <= have[b]
+}
+
+// The row of the item at `b`.
+fn item_row<'a>(rows: &'a [u64], width: usize, b: usize) -> &'a [u64]
+    requires { width * (b + 1) ≤ length rows.now }
+    ensures len { length result.now ≡ width }
+    ensures bits { (j : ℕ) → j < 64 * width → has_bit result.now j ≡ has_bit rows.now (bit_index width b j) }
+{
+    &rows[width * b..width * b + width]
+}
+
+// Closes the placements that have the item at `b`, if its count has reached its limit.
+fn close_item(rows: &[u64], limits: &[u8], have: &[u64], b: usize, row: &mut [u64])
+    requires limits { b < length limits.now }
+    requires have { b < length have.now }
+    requires rows { length row.old * (b + 1) ≤ length rows.now }
+    ensures len { length row.new ≡ length row.old }
+    ensures bits { (j : ℕ) → j < 64 * length row.old → has_bit row.new j ≡ (has_bit row.old j && not (nat_le (slice_index limits.now b) (slice_index have.now b) && has_bit rows.now (bit_index (length row.old) b j))) }
+{
+    if is_at_limit(limits, have, b) {
+        let width = row.len();
+        bits::take_out_words(row, item_row(rows, width, b));
     }
 }
 

@@ -1,6 +1,6 @@
-use Rattle.std.proofs.Common.{◌&&◌, ◌+◌, ◌-◌, ◌/◌, ◌<◌, ◌≤◌, ◌∙◌, ◌≡◌, ap, arith, drop, eqb, get_or, length, not, sym, take}
-use Rattle.std.specs.Int.{bit_at}
-use Rattle.poly_frame.proofs.Words.{part_at, part_len, replaced_at, replaced_before, row_less, same_word}
+use Rattle.std.proofs.Common.{◌&&◌, ◌*◌, ◌+◌, ◌-◌, ◌/◌, ◌≤◌, ◌∙◌, ◌≡◌, ap, arith, drop, get_or, length, not, sym, take}
+use Rattle.poly_frame.specs.Bits.{has_bit}
+use Rattle.poly_frame.proofs.Words.{part_bits, part_len, replaced_before, replaced_bits, same_word}
 use Rattle.poly_frame.proofs.bits.take_out_row.Goals as goal
 
 pub returns-clause-row : goal.returns-clause-row
@@ -11,20 +11,16 @@ returns-clause-row c = λ j h.
     let w = c.args.width in
     let at = c.args.at in
     let from = c.args.from in
-    let k = j / 64 in
-    let low : k < w = omega (arith, h) in
     let wide : at + w - at ≡ w = omega arith in
     let long : from + w - from ≡ w = omega arith in
     let size : length here ≡ c.args.words.now.len = ap length c.deref_mut.ensures.value ∙ sym c.args.words.now.ok.0 in
     let fits : at + w ≤ c.args.words.now.len = omega (arith, c.requires.words, c.args.words.now.ok.0) in
     let part = part_len here at w (at + w - at) wide (omega (arith, size, fits)) in
     let same : length new ≡ w = c.take_out_words.ensures.len ∙ part in
-    let row = take (from + w - from) (drop from c.args.rows.now) in
-    row_less old c.args.rows.now _ at from j (λ t l.
-    ap (λ x. eqb (bit_at x t) 1) (replaced_at here new _ _ c.args.words.now.len at w size fits same k low)
-    ∙ c.take_out_words.ensures.bits k t (omega (arith, part, low)) l
-    ∙ ap (λ x. eqb (bit_at x t) 1 && not (eqb (bit_at (get_or row k 0) t) 1)) (part_at here at w (at + w - at) k wide low ∙ ap (λ xs. get_or xs (at + k) 0) c.deref_mut.ensures.value)
-    ∙ ap (λ x. eqb (bit_at (get_or old (at + k) 0) t) 1 && not (eqb (bit_at x t) 1)) (part_at c.args.rows.now from w (from + w - from) k long low))
+    replaced_bits here new _ _ c.args.words.now.len at w size fits same j h
+    ∙ c.take_out_words.ensures.bits j (omega (arith, part, h))
+    ∙ ap (λ b. b && not (has_bit (take (from + w - from) (drop from c.args.rows.now)) j)) (part_bits here at w (at + w - at) j wide h ∙ ap (λ xs. has_bit xs (64 * at + j)) c.deref_mut.ensures.value)
+    ∙ ap (λ b. has_bit old (64 * at + j) && not b) (part_bits c.args.rows.now from w (from + w - from) j long h)
 
 pub returns-clause-before : goal.returns-clause-before
 returns-clause-before c = λ x h.
