@@ -77,7 +77,7 @@ fn note_number(
     requires part { IsMatrix view.now matrix.now }
     requires column { IfSome column (λ j. (j < length matrix.now.numbers.items) × (slice_index matrix.now.numbers.items j ≡ number)) }
     requires room { vec_len noted.old + PLACEMENT_ITEMS ≤ vec_capacity noted.old }
-    ensures capacity { vec_capacity noted.new ≡ vec_capacity noted.old }
+    ensures capacity { vec_capacity noted.old ≤ vec_capacity noted.new }
     ensures len { vec_len noted.new ≤ vec_len noted.old + PLACEMENT_ITEMS }
     ensures indices { (indices : List ℕ) × (noted.new.items ≡ noted.old.items ++ indices) × Noted view.now.bounds (items view.now number) indices }
 {
@@ -87,14 +87,13 @@ fn note_number(
     }
 }
 
+// Appends a list, for which there is room.
 fn note_list(list: &[usize], noted: &mut Vec<usize>)
     requires { vec_len noted.old + length list.now ≤ vec_capacity noted.old }
-    ensures capacity { vec_capacity noted.new ≡ vec_capacity noted.old }
+    ensures capacity { vec_capacity noted.old ≤ vec_capacity noted.new }
     ensures items { noted.new.items ≡ noted.old.items ++ list.now }
 {
-    for b in list {
-        noted.push_reserved(*b);
-    }
+    let _ = noted.extend_from_slice(list);
 }
 
 // Closes the placements that have an item at one of the indices, if the count of that item has reached its limit.

@@ -1,0 +1,23 @@
+use Rattle.std.proofs.Common.{arith, get_or, ◌+◌, ◌-◌, ◌∙◌}
+use Rattle.std.proofs.lemmas.List.{length-set}
+use Rattle.poly_frame.proofs.FrameItems.{raise_fits, raise_step}
+use Rattle.poly_frame.proofs.frame.notes.raise_noted.Goals as goal
+
+pub overflow_add-count : goal.overflow_add-count
+overflow_add-count c =
+    let old = c.args.have.now in
+    let have = c.loop-b.have in
+    let xs = c.args.indices.now in
+    let k = c.loop-b.b-index in
+    omega (arith, raise_fits old have xs k c.loop-b-test.true c.loop-b.invariant.len c.requires.low c.requires.small c.loop-b.invariant.more)
+
+pub loop-b-preserved : goal.loop-b-preserved
+loop-b-preserved c =
+    let old = c.args.have.now in
+    let have = c.loop-b.have in
+    let xs = c.args.indices.now in
+    let k = c.loop-b.b-index in
+    record {
+      len = length-set have (get_or xs k 0) (get_or have (get_or xs k 0) 0 + 1) ∙ c.loop-b.invariant.len;
+      more = λ b h. raise_step old have xs k c.loop-b-test.true c.loop-b.invariant.len c.requires.low c.loop-b.invariant.more b h;
+    }
