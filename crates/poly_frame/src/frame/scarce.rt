@@ -77,6 +77,9 @@ pub(crate) fn scarcest(live: &[u64], rows: &Rows<'_>, needs: &Needs<'_>, due: &[
     let narrow = is_narrow(live);
     let occupied = occupied_words(live);
     for k in 0..due.len().min(NOTED) {
+        if best.spare == 0 {
+            return best;
+        }
         best = if !narrow {
             scarcest_wide(live, &occupied, rows, needs, 64 * k, due[k], best)
         } else if needs.single {
@@ -89,7 +92,8 @@ pub(crate) fn scarcest(live: &[u64], rows: &Rows<'_>, needs: &Needs<'_>, due: &[
 }
 
 // The scarcest of `best` and the items whose bits are set in the word. Bit 0 is that of the item at `first`. No `needs` say that
-// at most one member with each item is asked for. Inlined, so that this frequent case has a loop of its own.
+// at most one member with each item is asked for. Inlined, so that this frequent case has a loop of its own. `best` has options
+// to spare.
 #[inline(always)]
 fn scarcest_narrow(
     live: &[u64],
@@ -104,10 +108,7 @@ fn scarcest_narrow(
 {
     let mut best = best;
     let mut left = word;
-    for _turn in 0..64u32 {
-        if left == 0 || best.spare == 0 {
-            return best;
-        }
+    while left != 0 {
         let b = first + left.trailing_zeros() as usize;
         left &= left - 1;
         if b < rows.items {
@@ -120,6 +121,9 @@ fn scarcest_narrow(
             let spare = count_common(live, row, most).saturating_sub(further);
             if spare < best.spare {
                 best = Scarce { index: b, spare };
+                if spare == 0 {
+                    return best;
+                }
             }
         }
     }
