@@ -359,3 +359,21 @@ part_at xs at w n k e h = get_or-take n (drop at xs) k 0 (omega (arith, e)) ∙ 
 
 pub part_len : (xs : List ℕ) (at w n : ℕ) → n ≡ w → at + w ≤ length xs → length (take n (drop at xs)) ≡ w
 part_len xs at w n e h = length-take-le n (drop at xs) (omega (arith, e, h, length-drop at xs)) ∙ e
+
+-- a list that is put together from two parts
+module _ (front new tail : List ℕ) (n w size : ℕ) (low : length front ≡ n) (same : length new ≡ w) (whole : size ≡ n + w) where
+  abbrev pub joined : List ℕ
+  joined = take size ((front ++ new) ++ tail)
+
+  pub joined_before : (k : ℕ) → k < n → get_or joined k 0 ≡ get_or front k 0
+  joined_before k h =
+      get_or-take size ((front ++ new) ++ tail) k 0 (omega (arith, h, whole))
+      ∙ get_or_append_left (front ++ new) tail 0 k (omega (arith, h, low, length-append front new))
+      ∙ get_or_append_left front new 0 k (omega (arith, h, low))
+
+  pub joined_at : (k : ℕ) → k < w → get_or joined (n + k) 0 ≡ get_or new k 0
+  joined_at k h =
+      get_or-take size ((front ++ new) ++ tail) (n + k) 0 (omega (arith, h, whole))
+      ∙ get_or_append_left (front ++ new) tail 0 (n + k) (omega (arith, h, low, same, length-append front new))
+      ∙ ap (λ i. get_or (front ++ new) (i + k) 0) (sym low)
+      ∙ get_or-append-add front new k 0

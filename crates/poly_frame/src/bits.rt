@@ -133,15 +133,15 @@ pub(crate) fn copy_last(words: &mut Vec<u64>, width: usize)
     requires some { width ≤ vec_len words.old }
     requires room { vec_len words.old + width ≤ vec_capacity words.old }
     ensures len { vec_len words.new ≡ vec_len words.old + width }
-    ensures capacity { vec_capacity words.new ≡ vec_capacity words.old }
+    ensures capacity { vec_capacity words.old ≤ vec_capacity words.new }
     ensures before { (x : ℕ) → x < 64 * vec_len words.old → has_bit words.new.items x ≡ has_bit words.old.items x }
     ensures row { (j : ℕ) → j < 64 * width → has_bit words.new.items (64 * vec_len words.old + j) ≡ has_bit words.old.items (64 * (vec_len words.old - width) + j) }
 {
-    let from = words.len() - width;
-    for k in 0..width {
-        let word = words[from + k];
-        words.push_reserved(word);
-    }
+    let at = words.len();
+    // there is room, so this can't fail
+    let _ = words.resize(at + width, 0);
+    let (before, row) = words.split_at_mut(at);
+    row.copy_from_slice(&before[at - width..]);
 }
 
 /// The bits that both words have.
