@@ -65,28 +65,51 @@ fn occupied_at(rows: &Rows<'_>, b: usize) -> Occupied {
     }
 }
 
+// Nothing was found yet.
+fn none_found() -> Scarce {
+    Scarce {
+        index: 0,
+        spare: usize::MAX,
+    }
+}
+
 /// The item with the fewest options to spare among those whose bit is set in `due`. `live` is the row of the open columns. Stops
 /// at an item that has too few options.
 pub(crate) fn scarcest(live: &[u64], rows: &Rows<'_>, needs: &Needs<'_>, due: &[u64]) -> Scarce
     requires { length rows.now.words.now ≡ length live.now * rows.now.items }
 {
-    let mut best = Scarce {
-        index: 0,
-        spare: usize::MAX,
-    };
-    let narrow = is_narrow(live);
-    let occupied = occupied_words(live);
+    if !is_narrow(live) {
+        all_wide(live, rows, needs, due)
+    } else if needs.single {
+        all_narrow(live, rows, None, due)
+    } else {
+        all_narrow(live, rows, Some(needs), due)
+    }
+}
+
+// Does what `scarcest` does, for narrow rows. Inlined, as `scarcest_narrow` is.
+#[inline(always)]
+fn all_narrow(live: &[u64], rows: &Rows<'_>, needs: Option<&Needs<'_>>, due: &[u64]) -> Scarce
+    requires { length rows.now.words.now ≡ length live.now * rows.now.items }
+{
+    let mut best = none_found();
     for k in 0..due.len().min(NOTED) {
         if best.spare == 0 {
             return best;
         }
-        best = if !narrow {
-            scarcest_wide(live, &occupied, rows, needs, 64 * k, due[k], best)
-        } else if needs.single {
-            scarcest_narrow(live, rows, None, 64 * k, due[k], best)
-        } else {
-            scarcest_narrow(live, rows, Some(needs), 64 * k, due[k], best)
-        };
+        best = scarcest_narrow(live, rows, needs, 64 * k, due[k], best);
+    }
+    best
+}
+
+// Does what `scarcest` does, for rows that aren't narrow.
+fn all_wide(live: &[u64], rows: &Rows<'_>, needs: &Needs<'_>, due: &[u64]) -> Scarce
+    requires { length rows.now.words.now ≡ length live.now * rows.now.items }
+{
+    let occupied = occupied_words(live);
+    let mut best = none_found();
+    for k in 0..due.len().min(NOTED) {
+        best = scarcest_wide(live, &occupied, rows, needs, 64 * k, due[k], best);
     }
     best
 }

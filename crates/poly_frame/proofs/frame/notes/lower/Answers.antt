@@ -1,4 +1,4 @@
-use Rattle.std.proofs.Common.{arith, get_or, ◌+◌, ◌-◌, ◌∙◌}
+use Rattle.std.proofs.Common.{arith, get_or, ◌-◌, ◌∙◌}
 use Rattle.std.proofs.lemmas.List.{length-set}
 use Rattle.poly_frame.proofs.FrameItems.{lowered_fits, lowered_step}
 use Rattle.poly_frame.proofs.frame.notes.lower.Goals as goal

@@ -1,4 +1,4 @@
-use Rattle.std.proofs.Common.{arith, get_or, ◌+◌, ◌-◌, ◌∙◌}
+use Rattle.std.proofs.Common.{arith, get_or, ◌+◌, ◌∙◌}
 use Rattle.std.proofs.lemmas.List.{length-set}
 use Rattle.poly_frame.proofs.FrameItems.{raise_fits, raise_step}
 use Rattle.poly_frame.proofs.frame.notes.raise_noted.Goals as goal
