@@ -1,7 +1,9 @@
 -- The base: steps put members in, and undoing the steps takes them out.
-use Rattle.std.proofs.Common.{◌≡◌, ℕ, zero, suc, ◌+◌, ◌-◌, ◌<◌, ◌≤◌, Bool, true, false, cond, ◌||◌, eqb, ltb, List, [], ◌∷◌, ◌++◌, inl, inr, refl, sym, ap, ◌∙◌, arith, length, get_or, take, drop, length-append, length-take}
-use Rattle.std.proofs.lemmas.Bool.{both_ways, cases_Bool, cases_lt, eq-eqb, ne_eqb}
-use Rattle.std.proofs.lemmas.List.{take-append-le, take_all, take_more}
+use Rattle.std.proofs.Common.{◌≡◌, ℕ, zero, suc, ◌+◌, ◌-◌, ◌<◌, ◌≤◌, Bool, true, false, cond, ◌||◌, eqb, ltb, List, [], ◌∷◌, ◌++◌, inl, inr, refl, sym, ap, ◌∙◌, arith, length, get_or, take, drop, length-append, length-take, get_or-set_other, get_or-set_same}
+use Rattle.std.proofs.lemmas.Bool.{both_ways, cases_Bool, cases_eq, cases_lt, eq-eqb, ne_eqb}
+use Rattle.std.proofs.Math.ListN.{set}
+use Rattle.std.proofs.Math.Seq.{get_or-append_seam}
+use Rattle.std.proofs.lemmas.List.{ext_get_or, get_or-append-add, get_or-drop, get_or-take, get_or_append_left, length-drop, length-set, take-append-le, take_all, take_more}
 use Rattle.poly_tiling.specs.Lists.{mem, put, put_all}
 use Rattle.poly_tiling.specs.Puzzle.{View}
 use Rattle.poly_atom.specs.declared.atom.Atom.{Atom}
@@ -10,6 +12,50 @@ use Rattle.poly_atom.specs.Hopeless.{asked, base}
 use Rattle.poly_frame.specs.FrameMembers.{SizesShow, without}
 use Rattle.poly_frame.proofs.Steps.{base_leave, base_pick}
 use Rattle.poly_frame.proofs.FramePicks.{base_again}
+
+-- the later numbers move down by one, and the last place goes
+pub removed : (xs ys : List ℕ) (k n : ℕ) → n ≡ length xs → k < n → length ys ≡ n → ((i : ℕ) → i < k → get_or ys i 0 ≡ get_or xs i 0) → ((i : ℕ) → k ≤ i → i < k + (n - (k + 1)) → get_or ys i 0 ≡ get_or xs (k + 1 + (i - k)) 0) →
+    take (n - 1) ys ≡ take k xs ++ drop (k + 1) xs
+removed xs ys k n whole inside same below above =
+    let front : length (take k xs) ≡ k = omega (arith, length-take k xs, whole, inside) in
+    let size : length (take (n - 1) ys) ≡ n - 1 = omega (arith, length-take (n - 1) ys, same) in
+    ext_get_or 0 (take (n - 1) ys) (take k xs ++ drop (k + 1) xs) (omega (arith, size, front, length-append (take k xs) (drop (k + 1) xs), length-drop (k + 1) xs, whole, inside)) (λ i h.
+    get_or-take (n - 1) ys i 0 (omega (arith, h, size)) ∙ elim (cases_lt i k) [
+      | inl l ↦ below i l ∙ sym (get_or_append_left (take k xs) (drop (k + 1) xs) 0 i (omega (arith, l, front)) ∙ get_or-take k xs i 0 l)
+      | inr g ↦
+          let on : k + (i - k) ≡ i = omega arith in
+          above i g (omega (arith, h, size, inside))
+          ∙ sym (ap (λ m. get_or (take k xs ++ drop (k + 1) xs) m 0) (sym on) ∙ ap (λ m. get_or (take k xs ++ drop (k + 1) xs) (m + (i - k)) 0) (sym front) ∙ get_or-append-add (take k xs) (drop (k + 1) xs) (i - k) 0 ∙ get_or-drop (k + 1) xs (i - k) 0)
+    ])
+
+set_apart : (ys : List ℕ) (k p i : ℕ) → (i ≡ k → ⊥) → get_or (set ys k p) i 0 ≡ get_or ys i 0
+set_apart ys k p i ne = rw get_or-set_other refl
+
+set_there : (ys : List ℕ) (k p i : ℕ) → k < length ys → i ≡ k → get_or (set ys k p) i 0 ≡ p
+set_there ys k p i h e = ap (λ m. get_or (set ys k p) m 0) e ∙ rw get_or-set_same refl
+
+-- the later numbers move up by one, into a place that was added, and p stands where they began
+pub inserted : (xs ys : List ℕ) (k n p : ℕ) → n ≡ length xs → k ≤ n → length ys ≡ n + 1 → ((i : ℕ) → i < k → get_or ys i 0 ≡ get_or (xs ++ p ∷ []) i 0) →
+    ((i : ℕ) → k + 1 ≤ i → i < k + 1 + (n - k) → get_or ys i 0 ≡ get_or (xs ++ p ∷ []) (k + (i - (k + 1))) 0) → set ys k p ≡ take k xs ++ p ∷ drop k xs
+inserted xs ys k n p whole inside same below above =
+    let front : length (take k xs) ≡ k = omega (arith, length-take k xs, whole, inside) in
+    let size : length (set ys k p) ≡ n + 1 = length-set ys k p ∙ same in
+    let all = take k xs ++ p ∷ drop k xs in
+    ext_get_or 0 (set ys k p) all (omega (arith, size, front, length-append (take k xs) (p ∷ drop k xs), length-drop k xs, whole, inside)) (λ i h. elim (cases_lt i k) [
+      | inl l ↦
+          set_apart ys k p i (λ e. absurd (omega (arith, l, e))) ∙ below i l ∙ get_or_append_left xs (p ∷ []) 0 i (omega (arith, l, inside, whole))
+          ∙ sym (get_or_append_left (take k xs) (p ∷ drop k xs) 0 i (omega (arith, l, front)) ∙ get_or-take k xs i 0 l)
+      | inr g ↦ elim (cases_eq i k) [
+        | inl e ↦
+            set_there ys k p i (omega (arith, same, inside)) e
+            ∙ sym (ap (λ m. get_or all m 0) (e ∙ sym front) ∙ get_or-append_seam (take k xs) p (drop k xs) 0)
+        | inr ne ↦
+            let m = i - (k + 1) in
+            let on : k + suc m ≡ i = omega (arith, g, ne) in
+            set_apart ys k p i ne ∙ above i (omega (arith, g, ne)) (omega (arith, h, size, inside)) ∙ get_or_append_left xs (p ∷ []) 0 (k + m) (omega (arith, on, h, size, whole))
+            ∙ sym (ap (λ x. get_or all x 0) (sym on) ∙ ap (λ x. get_or all (x + suc m) 0) (sym front) ∙ get_or-append-add (take k xs) (p ∷ drop k xs) (suc m) 0 ∙ get_or-drop k xs m 0)
+      ]
+    ])
 
 -- removing the first occurrence of a number leaves what is before and after its index
 where_it_stands : (p : ℕ) (xs : List ℕ) (k : ℕ) → k < length xs → ((j : ℕ) → j < k → eqb p (get_or xs j 0) ≡ false) → eqb p (get_or xs k 0) ≡ true → without p xs ≡ take k xs ++ drop (suc k) xs

@@ -1,6 +1,6 @@
 //! What is open, dead, due and found at a list of atoms, read from the view placement by placement. `members` is the
 //! base of the atoms; `make_base` makes it.
-ghost use Rattle.std.specs.Prelude.{MatchOption, false, if◌then◌else◌, length, map, nat_le, nat_lt, not, true, vec_len, ◌&&◌, ◌||◌, ◌+◌, ◌==◌, ◌<◌, ◌≡◌, ◌≤◌, ◌∷◌};
+ghost use Rattle.std.specs.Prelude.{MatchOption, drop, false, if◌then◌else◌, length, map, nat_le, nat_lt, not, take, true, vec_len, ◌&&◌, ◌||◌, ◌++◌, ◌+◌, ◌==◌, ◌<◌, ◌≡◌, ◌≤◌, ◌∷◌};
 ghost use Rattle.std.specs.List.{filter, list_all, list_any};
 ghost use Rattle.std.specs.Vec.{vec_capacity};
 ghost use Rattle.poly_tiling.specs.Lists.{mem, put, put_all, tally};
@@ -18,6 +18,20 @@ use poly_design::Name;
 use poly_grid::Cell;
 use poly_tiling::{Item, View, has_number};
 
+// Inserts a number at an index of a list. The list is short: a plain loop is faster than the general `insert`.
+fn insert_at(numbers: &mut Vec<u32>, k: usize, number: u32)
+    requires inside { k ≤ length numbers.old.items }
+    requires room { vec_len numbers.old < vec_capacity numbers.old }
+    ensures items { numbers.new.items ≡ take k numbers.old.items ++ number ∷ drop k numbers.old.items }
+    ensures len { vec_len numbers.new ≡ vec_len numbers.old + 1 }
+    ensures room { vec_capacity numbers.new ≡ vec_capacity numbers.old }
+{
+    let len = numbers.len();
+    numbers.push_reserved(number);
+    numbers.copy_within(k..len, k + 1);
+    numbers[k] = number;
+}
+
 /// Puts a number into its place in an ascending list, unless the list has it already.
 pub(crate) fn put_number(numbers: &mut Vec<u32>, number: u32)
     requires { vec_len numbers.old < vec_capacity numbers.old }
@@ -30,7 +44,7 @@ pub(crate) fn put_number(numbers: &mut Vec<u32>, number: u32)
             return;
         }
         if number < numbers[k] {
-            let _ = numbers.insert(k, number);
+            insert_at(numbers, k, number);
             return;
         }
     }

@@ -1,11 +1,22 @@
 //! The base of a frame's atoms: an ascending list. A step adds at most one number, and undoing the step removes that number.
-ghost use Rattle.std.specs.Prelude.{[], length, take, vec_capacity, vec_len, ℕ, ◌++◌, ◌+◌, ◌-◌, ◌<◌, ◌∷◌, ◌≡◌, ◌≢◌, ◌≤◌};
+ghost use Rattle.std.specs.Prelude.{[], drop, length, take, vec_capacity, vec_len, ℕ, ◌++◌, ◌+◌, ◌-◌, ◌<◌, ◌∷◌, ◌≡◌, ◌≢◌, ◌≤◌};
 ghost use Rattle.poly_atom.specs.Hopeless.{base};
 ghost use Rattle.poly_frame.specs.FrameMembers.{SizesShow, without};
 
 use crate::frame::node::Node;
 use crate::plain::put_number;
 use poly_atom::Atom;
+
+// Removes the number at an index from a list. The list is short: a plain loop is faster than the general `remove`.
+fn remove_at(numbers: &mut Vec<u32>, k: usize)
+    requires { k < length numbers.old.items }
+    ensures items { numbers.new.items ≡ take k numbers.old.items ++ drop (k + 1) numbers.old.items }
+    ensures room { vec_capacity numbers.new ≡ vec_capacity numbers.old }
+{
+    let len = numbers.len();
+    numbers.copy_within(k + 1..len, k);
+    numbers.truncate(len - 1);
+}
 
 // Removes the first occurrence of a number from a list.
 fn take_number(numbers: &mut Vec<u32>, number: u32)
@@ -14,7 +25,7 @@ fn take_number(numbers: &mut Vec<u32>, number: u32)
 {
     for k in 0..numbers.len() {
         if number == numbers[k] {
-            let _ = numbers.remove(k);
+            remove_at(numbers, k);
             return;
         }
     }
