@@ -73,8 +73,8 @@ fn none_found() -> Scarce {
     }
 }
 
-/// The item with the fewest options to spare among those whose bit is set in `due`. `live` is the row of the open columns. Stops
-/// at an item that has too few options.
+/// The item with the fewest options to spare among those whose bit is set in `due`. `live` is the row of the open columns.
+/// Stops at an item that has too few options.
 pub(crate) fn scarcest(live: &[u64], rows: &Rows<'_>, needs: &Needs<'_>, due: &[u64]) -> Scarce
     requires { length rows.now.words.now ≡ length live.now * rows.now.items }
 {
@@ -114,9 +114,9 @@ fn all_wide(live: &[u64], rows: &Rows<'_>, needs: &Needs<'_>, due: &[u64]) -> Sc
     best
 }
 
-// The scarcest of `best` and the items whose bits are set in the word. Bit 0 is that of the item at `first`. No `needs` say that
-// at most one member with each item is asked for. Inlined, so that this frequent case has a loop of its own. `best` has options
-// to spare.
+// The scarcest of `best` and the items whose bits are set in the word. Bit 0 is that of the item at `first`. No `needs` say
+// that at most one member with each item is asked for. Inlined, so that this frequent case has a loop of its own. The
+// caller stops once `best` has no options to spare.
 #[inline(always)]
 fn scarcest_narrow(
     live: &[u64],
