@@ -1,7 +1,7 @@
 //! A node of a search, kept as bits: rows of words with a bit for each column of a matrix. A step copies the last row and
 //! removes from the copy what the step closes. It doesn't search for the placements to close, and it allocates nothing. These
 //! bits replace the linked lists of Knuth's dancing links (The Art of Computer Programming, volume 4B, section 7.2.2.1).
-ghost use Rattle.std.specs.Prelude.{IfErr, IfOk, IfSome, MatchOption, [], false, length, not, true, ℕ, ◌&&◌, ◌++◌, ◌+◌, ◌-◌, ◌<◌, ◌∷◌, ◌≡◌, ◌≤◌};
+ghost use Rattle.std.specs.Prelude.{IfErr, IfOk, IfSome, MatchOption, [], drop, false, length, not, true, ℕ, ◌&&◌, ◌++◌, ◌+◌, ◌-◌, ◌<◌, ◌∷◌, ◌≡◌, ◌≤◌};
 ghost use Rattle.std.specs.List.{list_all};
 ghost use Rattle.poly_tiling.specs.Lists.{distinct, mem, tally};
 ghost use Rattle.poly_tiling.specs.Names.{WellNamed};
@@ -216,6 +216,13 @@ impl<'a> Frame<'a> {
         ensures { result.now ≡ self.now.atoms }
     {
         self.trail.as_slice()
+    }
+
+    /// The atoms of the steps that were not undone.
+    pub fn path(&self) -> &[Atom]
+        ensures { result.now ≡ drop self.now.given self.now.atoms }
+    {
+        &self.trail[self.stand.given..]
     }
 
     /// Takes the placement: adds the atom `Has(placement)`. Requires that the frame has fewer than [`STEPS`] steps.
