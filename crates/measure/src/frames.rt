@@ -4,7 +4,7 @@ ghost use Rattle.poly_frame.specs.Matrices.{IsWhole};
 use poly_design::Design;
 use poly_frame::{Frame, Matrix};
 use poly_grid::Refusal;
-use poly_report::AtomLists;
+use poly_report::Rests;
 use poly_search::explore_over;
 use poly_tiling::View;
 use std::alloc::Global;
@@ -68,7 +68,7 @@ fn measure_frames(
     rt: &HostRuntime,
     view: &View,
     matrix: &Matrix,
-    tasks: &AtomLists,
+    tasks: &Rests,
 ) -> io::Result<()>
     requires { IsWhole view.now matrix.now }
 {
@@ -89,7 +89,7 @@ fn make_frames(
     alloc: Global,
     view: &View,
     matrix: &Matrix,
-    tasks: &AtomLists,
+    tasks: &Rests,
 ) -> Result<(), Refusal>
     requires { IsWhole view.now matrix.now }
 {

@@ -10,7 +10,7 @@ use Rattle.poly_atom.specs.Hopeless.{hopeless}
 use Rattle.poly_report.specs.Leaves.{rests}
 use Rattle.poly_report.specs.Opened.{opened}
 use Rattle.poly_report.specs.Trees.{Plan}
-use Rattle.poly_report.proofs.Rests.{open_paths_add_nothing_hopeless_lem}
+use Rattle.poly_report.proofs.OpenPaths.{open_paths_add_nothing_hopeless_lem}
 use Rattle.poly_book.specs.declared.parts.Parts.{Parts}
 use Rattle.poly_book.specs.declared.step.Applied.{Applied}
 use Rattle.poly_book.specs.declared.task.Pending.{Pending}

@@ -16,7 +16,7 @@ use Rattle.poly_book.specs.Partition.{Becomes}
 use Rattle.poly_book.specs.Trails.{Led, Consistent, Trail, trailed}
 use Rattle.poly_book.specs.Quiet.{HopelessAlong, StaysQuiet, hopeless_along, owns, stands}
 use Rattle.poly_book.proofs.Numbered.{drop_in, found_in}
-use Rattle.poly_report.proofs.Rests.{rest_has}
+use Rattle.poly_report.proofs.OpenPaths.{rest_has}
 use Rattle.poly_book.proofs.Along.{along_at, along_for, along_more}
 use Rattle.poly_book.proofs.Coming.{tasks_in}
 use Rattle.poly_book.proofs.Turning.{edited_stays_quiet, redone_stays_quiet, undone_stays_quiet}

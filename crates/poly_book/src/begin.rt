@@ -18,7 +18,7 @@ use poly_catalogue::Catalogue;
 use poly_design::Design;
 use poly_grid::Refusal;
 use poly_place::Table;
-use poly_report::AtomLists;
+use poly_report::SharedLists;
 use poly_tiling::View;
 use poly_undo::History;
 use std::alloc::Global;
@@ -61,9 +61,7 @@ fn first_task(alloc: Global) -> Result<Vec<Pending>, Refusal>
     ensures ok { IfOk result (λ ps. (own : OwnOf) × (own_of [] own ≡ []) × IsOwn [] own × (ps.items ≡ (record { number = 1; own = own; made = 0 }) ∷ [])) }
     ensures why { IfErr result (λ e. e ≡ Refusal.Memory) }
 {
-    let mut lists = AtomLists::new(alloc);
-    lists.push(&[])?;
-    let shared = lists.share(alloc, None)?;
+    let shared = SharedLists::one(alloc, &[])?;
     let mut tasks = Vec::new(alloc);
     tasks.push(Pending {
         number: 1,

@@ -16,7 +16,7 @@ use crate::shelf::{Frozen, Shelf};
 use crate::task::{Own, Pending, read_own};
 use poly_atom::{Atom, GuardLog, Stair, hopeless};
 use poly_grid::Refusal;
-use poly_report::{AtomLists, SharedLists};
+use poly_report::{Rests, SharedLists};
 use poly_tiling::View;
 use std::alloc::Global;
 
@@ -28,7 +28,7 @@ const LAST: u64 = 4_294_967_295;
 pub(crate) fn opened(
     alloc: Global,
     view: &View,
-    all: AtomLists,
+    all: Rests,
     base: Option<(&SharedLists, usize)>,
     next: u64,
     made: u64,
@@ -239,17 +239,13 @@ fn list_after(
     Ok((lists.after(alloc, index, more)?, 0))
 }
 
-// Lists and an index, at which they have this list. It is kept over an empty list, which is faster than adding it to lists
-// that may grow further.
+// Lists and an index, at which they have this list.
 fn list_alone(alloc: Global, atoms: &[Atom]) -> Result<(SharedLists, usize), Refusal>
     ensures at { IfOk result (λ r. r.1 < length r.0) }
     ensures list { IfOk result (λ r. slice_index_or r.0 r.1 [] ≡ atoms.now) }
     ensures why { IfErr result (λ e. e ≡ Refusal.Memory) }
 {
-    let mut lists = AtomLists::new(alloc);
-    lists.push(&[])?;
-    let empty = lists.share(alloc, None)?;
-    Ok((empty.after(alloc, 0, atoms)?, 0))
+    Ok((SharedLists::one(alloc, atoms)?, 0))
 }
 
 // The list at the index, which is shared, followed by the stair.

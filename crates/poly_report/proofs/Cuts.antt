@@ -17,8 +17,9 @@ use Rattle.poly_frame.specs.Walk.{Walk, with_step}
 use Rattle.poly_report.specs.Trees.{Arms, Branches, NoArms, OneArm, Plan, heads}
 use Rattle.poly_frame.specs.Open.{arms_fit, dead}
 use Rattle.poly_report.specs.Holds.{arm_atoms, arms_hold, holds}
-use Rattle.poly_report.specs.Leaves.{arms_rests, arms_tilings, rests, tilings}
-use Rattle.poly_report.specs.Gather.{taken_holds, taken_rests, taken_tilings}
+use Rattle.poly_report.specs.Leaves.{arms_tilings, tilings}
+use Rattle.poly_report.specs.Paths.{arms_paths, paths}
+use Rattle.poly_report.specs.Gather.{taken_holds, taken_paths, taken_tilings}
 use Rattle.poly_frame.proofs.Walks.{or_false}
 
 pub fit_once : (v : View) (A : List Atom) (i : Item) (ps : List ℕ) → arms_fit v A i ps ≡ true → distinct ps ≡ true
@@ -47,10 +48,10 @@ pub arm_tilings : (v : View) (A : List Atom) (before : List ℕ) (p : ℕ) (t : 
 arm_tilings v A before p t n =
     ap (λ b. cond b [] (tilings v ((A ++ map (λ q. Lacks q) before) ++ Has p ∷ []) t)) (dead_behind v A before p n) ∙ ap (λ B. cond (dead v A p) [] (tilings v B t)) (atoms_behind A before p)
 
-pub arm_rests : (v : View) (A : List Atom) (before : List ℕ) (p : ℕ) (t : Plan) → mem before p ≡ false →
-    taken_rests v (A ++ map (λ q. Lacks q) before) p t ≡ cond (dead v A p) [] (rests v (A ++ arm_atoms before p) t)
-arm_rests v A before p t n =
-    ap (λ b. cond b [] (rests v ((A ++ map (λ q. Lacks q) before) ++ Has p ∷ []) t)) (dead_behind v A before p n) ∙ ap (λ B. cond (dead v A p) [] (rests v B t)) (atoms_behind A before p)
+pub arm_paths : (g : ℕ) (v : View) (A : List Atom) (before : List ℕ) (p : ℕ) (t : Plan) → mem before p ≡ false →
+    taken_paths g v (A ++ map (λ q. Lacks q) before) p t ≡ cond (dead v A p) [] (paths g v (A ++ arm_atoms before p) t)
+arm_paths g v A before p t n =
+    ap (λ b. cond b [] (paths g v ((A ++ map (λ q. Lacks q) before) ++ Has p ∷ []) t)) (dead_behind v A before p n) ∙ ap (λ B. cond (dead v A p) [] (paths g v B t)) (atoms_behind A before p)
 
 -- in a list without repeats, p isn't among the numbers before it
 pub apart_from : (xs : List ℕ) (p : ℕ) (ys : List ℕ) → distinct (xs ++ p ∷ ys) ≡ true → mem xs p ≡ false
@@ -118,18 +119,18 @@ tilings_at v A g arms k a lt e d w here old new more =
     ∙ ap (λ xs. xs ++ rest) (more ∙ ap (λ xs. old ++ xs) it) ∙ append_assoc old first rest
     ∙ ap (λ r. old ++ arms_tilings v A (walked arms k) r) (sym (unwalked_at arms k a lt e))
 
-pub rests_at : (v : View) (A : List Atom) (g : ℕ) (arms : List Arm) (k : ℕ) (a : Arm) → k < length arms → a ≡ get_or arms k a → distinct (heads (arms_list arms)) ≡ true →
-    (w : Walk) → w ≡ at_arm v A g arms k → (old new : List (List Atom)) → new ≡ old ++ taken_rests w.scene w.atoms a.placement (plan_of a.tree) →
-    new ++ arms_rests v A (walked arms (k + 1)) (unwalked arms (k + 1)) ≡ old ++ arms_rests v A (walked arms k) (unwalked arms k)
-rests_at v A g arms k a lt e d w here old new more =
+pub paths_at : (v : View) (A : List Atom) (g : ℕ) (arms : List Arm) (k : ℕ) (a : Arm) → k < length arms → a ≡ get_or arms k a → distinct (heads (arms_list arms)) ≡ true →
+    (w : Walk) → w ≡ at_arm v A g arms k → (old new : List (List Atom)) → new ≡ old ++ taken_paths w.given w.scene w.atoms a.placement (plan_of a.tree) →
+    new ++ arms_paths g v A (walked arms (k + 1)) (unwalked arms (k + 1)) ≡ old ++ arms_paths g v A (walked arms k) (unwalked arms k)
+paths_at v A g arms k a lt e d w here old new more =
     let p = a.placement in
     let t = plan_of a.tree in
-    let it = ap (λ (x : Walk). taken_rests x.scene x.atoms p t) here ∙ arm_rests v A (walked arms k) p t (apart_at arms k a lt e d) in
-    let first = cond (dead v A p) [] (rests v (A ++ arm_atoms (walked arms k) p) t) in
-    let rest = arms_rests v A (walked arms k ++ p ∷ []) (unwalked arms (k + 1)) in
-    ap (λ xs. new ++ arms_rests v A xs (unwalked arms (k + 1))) (walked_at arms k a lt e)
+    let it = ap (λ (x : Walk). taken_paths x.given x.scene x.atoms p t) here ∙ arm_paths g v A (walked arms k) p t (apart_at arms k a lt e d) in
+    let first = cond (dead v A p) [] (paths g v (A ++ arm_atoms (walked arms k) p) t) in
+    let rest = arms_paths g v A (walked arms k ++ p ∷ []) (unwalked arms (k + 1)) in
+    ap (λ xs. new ++ arms_paths g v A xs (unwalked arms (k + 1))) (walked_at arms k a lt e)
     ∙ ap (λ xs. xs ++ rest) (more ∙ ap (λ xs. old ++ xs) it) ∙ append_assoc old first rest
-    ∙ ap (λ r. old ++ arms_rests v A (walked arms k) r) (sym (unwalked_at arms k a lt e))
+    ∙ ap (λ r. old ++ arms_paths g v A (walked arms k) r) (sym (unwalked_at arms k a lt e))
 
 pub leave_at : (v : View) (A : List Atom) (g : ℕ) (arms : List Arm) (k : ℕ) (a : Arm) → k < length arms → a ≡ get_or arms k a →
     (w : Walk) → w ≡ at_arm v A g arms k → with_step w (Lacks a.placement) ≡ at_arm v A g arms (k + 1)
@@ -168,8 +169,8 @@ bare_says v A p i t b e d h =
 pub bare_tilings : (v : View) (A : List Atom) (p : ℕ) (i : Item) (t : Plan) (found : List (List ℕ)) → t ≡ Branches i NoArms → dead v A p ≡ false → found ≡ found ++ taken_tilings v A p t
 bare_tilings v A p i t found e d = sym (append-nil found) ∙ ap (λ x. found ++ x) (sym (ap (λ x. cond x [] []) d) ∙ ap (λ x. taken_tilings v A p x) (sym e))
 
-pub bare_rests : (v : View) (A : List Atom) (p : ℕ) (i : Item) (t : Plan) (left : List (List Atom)) → t ≡ Branches i NoArms → dead v A p ≡ false → left ≡ left ++ taken_rests v A p t
-bare_rests v A p i t left e d = sym (append-nil left) ∙ ap (λ x. left ++ x) (sym (ap (λ x. cond x [] []) d) ∙ ap (λ x. taken_rests v A p x) (sym e))
+pub bare_paths : (g : ℕ) (v : View) (A : List Atom) (p : ℕ) (i : Item) (t : Plan) (left : List (List Atom)) → t ≡ Branches i NoArms → dead v A p ≡ false → left ≡ left ++ taken_paths g v A p t
+bare_paths g v A p i t left e d = sym (append-nil left) ∙ ap (λ x. left ++ x) (sym (ap (λ x. cond x [] []) d) ∙ ap (λ x. taken_paths g v A p x) (sym e))
 
 pub no_arms : (arms : List Arm) → length arms ≡ 0 → arms_list arms ≡ NoArms
 no_arms [] h = refl

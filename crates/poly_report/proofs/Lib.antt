@@ -5,10 +5,10 @@ pub mod Heads
 pub mod Rows
 pub mod Measures
 pub mod Cuts
-pub mod Rests
+pub mod Followed
+pub mod OpenPaths
 pub mod Exact
 mod Linking
 mod Stored
 mod Trails
-mod Tails
 mod Stems

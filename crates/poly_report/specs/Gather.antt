@@ -8,6 +8,7 @@ use Rattle.poly_report.specs.Trees.{Plan}
 use Rattle.poly_frame.specs.Open.{dead}
 use Rattle.poly_report.specs.Holds.{holds}
 use Rattle.poly_report.specs.Leaves.{rests, tilings}
+use Rattle.poly_report.specs.Paths.{paths}
 
 -- vectors as lists
 abbrev pub lists : {X : Type 0} → List (Vec X Global) → List (List X)
@@ -21,8 +22,8 @@ taken_holds v A p t = dead v A p || holds v (A ++ Has p ∷ []) t
 abbrev pub taken_tilings : View → List Atom → ℕ → Plan → List (List ℕ)
 taken_tilings v A p t = cond (dead v A p) [] (tilings v (A ++ Has p ∷ []) t)
 
-abbrev pub taken_rests : View → List Atom → ℕ → Plan → List (List Atom)
-taken_rests v A p t = cond (dead v A p) [] (rests v (A ++ Has p ∷ []) t)
+abbrev pub taken_paths : ℕ → View → List Atom → ℕ → Plan → List (List Atom)
+taken_paths g v A p t = cond (dead v A p) [] (paths g v (A ++ Has p ∷ []) t)
 
 -- the leaves of a tree that holds
 pub record IsCutUp (v : View) (A : List Atom) (t : Plan) (found : List (List ℕ)) (left : List (List Atom)) : Type 0 where

@@ -3,6 +3,7 @@ pub mod Shapes
 pub mod Sizes
 pub mod Holds
 pub mod Leaves
+pub mod Paths
 pub mod Gather
 pub mod Opened
 pub mod Laws
@@ -11,4 +12,3 @@ pub mod Words
 pub mod Tries
 pub mod Stems
 pub mod Trails
-pub mod Tails

@@ -36,10 +36,6 @@ pub record Stores (others : List Atom) (w : Word) (a : Atom) : Type 0 where
   pub stored : IsStored (length others) w
   pub says : (n : ℕ) → link_of others n w ≡ record { before = n; atom = Some a }
 
--- the link at the index adds the atom to the list of the node right before
-abbrev pub Adds : List Link → ℕ → Atom → Type 0
-Adds links i a = (d : Link) → slice_index_or links i d ≡ record { before = i; atom = Some a }
-
 -- the atom is no `Lacks`
 abbrev pub is_other : Atom → Bool
 is_other (HasAtom p) = true

@@ -1,10 +1,10 @@
 //! Lists of atoms that share their beginnings.
 //!
-//! A walk over a tree meets its rests in order, and each begins as the one before it does up to where their paths part. On a
-//! wide board a list has thousands of atoms and a tree thousands of rests. So each atom is stored once for all lists that
+//! A walk over a tree meets its rests in order, and the path of each begins as that of the rest before it does, up to where
+//! they part. A path can have thousands of atoms, and a tree thousands of rests. So each atom is stored once for all lists that
 //! agree up to it, with a link to the atom before it: the lists are a trie, in which the end of a list leads back to its
 //! beginning.
-ghost use Rattle.std.specs.Prelude.{◌≡◌, ◌++◌, ◌∷◌, ◌<◌, ◌↔◌, [], IfErr, IfOk, IsTrue, MatchOption, OnErr, OnOk, length, slice_index_or, take, ⊤};
+ghost use Rattle.std.specs.Prelude.{◌≡◌, ◌++◌, ◌∷◌, ◌<◌, ◌↔◌, [], IfErr, IfOk, IsTrue, MatchOption, OnErr, OnOk, length, map, slice_index_or, take, ⊤};
 
 use crate::growing::Growing;
 use crate::nodes::short;
@@ -115,18 +115,19 @@ impl AtomLists {
         Ok(())
     }
 
-    /// The lists, to be shared. If all of them begin with the list of other lists at an index, that list is not stored once
-    /// more but read from there, as far as this pays. Requires that there is a list at the index. The only refusal is
-    /// `Memory`.
-    pub fn share(
+    /// The lists, each after the stem, to be shared. If the stem begins with the list of other lists at an index, that list is
+    /// not stored once more but read from there, unless it is already read from too many others. Requires that there is a list
+    /// at the index. The only refusal is `Memory`.
+    pub(crate) fn share_over(
         self,
         alloc: Global,
+        stem: &[Atom],
         base: Option<(&SharedLists, usize)>,
     ) -> Result<SharedLists, Refusal>
         requires { MatchOption base ⊤ (λ b. b.1 < length b.0.now) }
-        ensures ok { IfOk result (λ lists. lists ≡ self) }
+        ensures ok { IfOk result (λ lists. lists ≡ map (λ p. stem.now ++ p) self) }
         ensures why { IfErr result (λ e. e ≡ Refusal.Memory) }
     {
-        SharedLists::of(alloc, self.nodes.into_nodes(), self.ends, base)
+        SharedLists::over(alloc, stem, self.nodes.into_nodes(), self.ends, base)
     }
 }

@@ -6,11 +6,13 @@ ghost use Rattle.poly_report.specs.Trees.{heads};
 ghost use Rattle.poly_report.specs.Shapes.{arms_list, plan_of};
 ghost use Rattle.poly_report.specs.Sizes.{arms_total, fits, total};
 ghost use Rattle.poly_report.specs.Holds.{arms_hold, holds};
-ghost use Rattle.poly_report.specs.Leaves.{arms_rests, arms_tilings, rests, tilings};
-ghost use Rattle.poly_report.specs.Gather.{IsCutUp, taken_holds, taken_rests, taken_tilings};
+ghost use Rattle.poly_report.specs.Leaves.{arms_tilings, rests, tilings};
+ghost use Rattle.poly_report.specs.Paths.{arms_paths, paths};
+ghost use Rattle.poly_report.specs.Gather.{IsCutUp, taken_holds, taken_paths, taken_tilings};
 ghost use Rattle.poly_frame.specs.declared.frame.TheConstants.{STEPS};
 
 use crate::arms::arms_fit;
+use crate::gathered::Gathered;
 use crate::leaf::Leaves;
 use crate::tree::{Arm, Tree};
 use poly_atom::Atom;
@@ -27,14 +29,14 @@ fn walk(
     frame: &mut Frame<'_>,
     tree: &Tree,
     keep: bool,
-    out: &mut Leaves,
+    out: &mut Gathered,
 ) -> Result<bool, Refusal>
     requires begun { frame.old.given ≤ length frame.old.atoms }
     requires steps { length frame.old.atoms + total (plan_of tree.now) ≤ frame.old.given + STEPS + 1 }
     ensures same { IfOk result (λ yes. yes ≡ true → frame.new ≡ frame.old) }
     ensures says { IfOk result (λ yes. yes ≡ holds frame.old.scene frame.old.atoms (plan_of tree.now)) }
     ensures tilings { IfOk result (λ yes. yes ≡ true → keep ≡ true → out.new.tilings.items ≡ out.old.tilings.items ++ tilings frame.old.scene frame.old.atoms (plan_of tree.now)) }
-    ensures rests { IfOk result (λ yes. yes ≡ true → keep ≡ true → out.new.rests ≡ out.old.rests ++ rests frame.old.scene frame.old.atoms (plan_of tree.now)) }
+    ensures paths { IfOk result (λ yes. yes ≡ true → keep ≡ true → out.new.paths ≡ out.old.paths ++ paths frame.old.given frame.old.scene frame.old.atoms (plan_of tree.now)) }
     ensures why { IfErr result (λ e. e ≡ Refusal.Memory) }
 {
     match tree {
@@ -87,7 +89,7 @@ fn walk_arms(
     frame: &mut Frame<'_>,
     arms: &[Arm],
     keep: bool,
-    out: &mut Leaves,
+    out: &mut Gathered,
 ) -> Result<bool, Refusal>
     requires begun { frame.old.given ≤ length frame.old.atoms }
     requires steps { length frame.old.atoms + arms_total (arms_list arms.now) ≤ frame.old.given + STEPS }
@@ -95,7 +97,7 @@ fn walk_arms(
     ensures same { IfOk result (λ yes. yes ≡ true → frame.new ≡ frame.old) }
     ensures says { IfOk result (λ yes. yes ≡ arms_hold frame.old.scene frame.old.atoms [] (arms_list arms.now)) }
     ensures tilings { IfOk result (λ yes. yes ≡ true → keep ≡ true → out.new.tilings.items ≡ out.old.tilings.items ++ arms_tilings frame.old.scene frame.old.atoms [] (arms_list arms.now)) }
-    ensures rests { IfOk result (λ yes. yes ≡ true → keep ≡ true → out.new.rests ≡ out.old.rests ++ arms_rests frame.old.scene frame.old.atoms [] (arms_list arms.now)) }
+    ensures paths { IfOk result (λ yes. yes ≡ true → keep ≡ true → out.new.paths ≡ out.old.paths ++ arms_paths frame.old.given frame.old.scene frame.old.atoms [] (arms_list arms.now)) }
     ensures why { IfErr result (λ e. e ≡ Refusal.Memory) }
 {
     let level = frame.level();
@@ -119,14 +121,14 @@ fn walk_taken(
     placement: u32,
     tree: &Tree,
     keep: bool,
-    out: &mut Leaves,
+    out: &mut Gathered,
 ) -> Result<bool, Refusal>
     requires begun { frame.old.given ≤ length frame.old.atoms }
     requires steps { length frame.old.atoms + total (plan_of tree.now) ≤ frame.old.given + STEPS }
     ensures same { IfOk result (λ yes. yes ≡ true → frame.new ≡ frame.old) }
     ensures says { IfOk result (λ yes. yes ≡ taken_holds frame.old.scene frame.old.atoms placement (plan_of tree.now)) }
     ensures tilings { IfOk result (λ yes. yes ≡ true → keep ≡ true → out.new.tilings.items ≡ out.old.tilings.items ++ taken_tilings frame.old.scene frame.old.atoms placement (plan_of tree.now)) }
-    ensures rests { IfOk result (λ yes. yes ≡ true → keep ≡ true → out.new.rests ≡ out.old.rests ++ taken_rests frame.old.scene frame.old.atoms placement (plan_of tree.now)) }
+    ensures paths { IfOk result (λ yes. yes ≡ true → keep ≡ true → out.new.paths ≡ out.old.paths ++ taken_paths frame.old.given frame.old.scene frame.old.atoms placement (plan_of tree.now)) }
     ensures why { IfErr result (λ e. e ≡ Refusal.Memory) }
 {
     if frame.dead(placement) {
@@ -161,7 +163,7 @@ pub fn holds(alloc: Global, view: &View, atoms: &[Atom], tree: &Tree) -> Result<
     ensures why { IfErr result (λ e. e ≡ Refusal.Memory) }
 {
     let mut frame = Frame::new(alloc, view, atoms)?;
-    let mut none = Leaves::none(alloc);
+    let mut none = Gathered::new(alloc);
     let yes = walk(alloc, &mut frame, tree, false, &mut none)?;
     Ok(yes)
 }
@@ -177,9 +179,10 @@ pub fn leaves(alloc: Global, view: &View, atoms: &[Atom], tree: &Tree) -> Result
     ensures why { IfErr result (λ e. e ≡ Refusal.Memory) }
 {
     let mut frame = Frame::new(alloc, view, atoms)?;
-    let mut all = Leaves::none(alloc);
+    let mut all = Gathered::new(alloc);
     let _ = walk(alloc, &mut frame, tree, true, &mut all)?;
-    Ok(all)
+    let leaves = all.into_leaves(alloc, atoms)?;
+    Ok(leaves)
 }
 
 /// The leaves of a tree, if it holds, and `None` if it doesn't. One walk does what `holds` and `leaves` do. Requires that
@@ -215,10 +218,11 @@ pub fn cut_up_over(
     ensures why { IfErr result (λ e. e ≡ Refusal.Memory) }
 {
     let mut frame = Frame::over(alloc, view, whole, atoms)?;
-    let mut all = Leaves::none(alloc);
+    let mut all = Gathered::new(alloc);
     let yes = walk(alloc, &mut frame, tree, true, &mut all)?;
     if !yes {
         return Ok(None);
     }
-    Ok(Some(all))
+    let leaves = all.into_leaves(alloc, atoms)?;
+    Ok(Some(leaves))
 }

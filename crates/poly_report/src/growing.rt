@@ -91,8 +91,8 @@ impl Growing {
     }
 }
 
-// How many atoms both lists begin with, but no more than `most`.
-fn common(one: &[Atom], other: &[Atom], most: usize) -> usize
+/// How many atoms both lists begin with, but no more than `most`.
+pub(crate) fn common(one: &[Atom], other: &[Atom], most: usize) -> usize
     requires { most ≤ length one.now }
     ensures most { result ≤ most }
     ensures other { result ≤ length other.now }

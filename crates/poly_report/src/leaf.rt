@@ -1,14 +1,13 @@
 //! The leaves of a tree that holds.
-ghost use Rattle.std.specs.Prelude.{IfErr, OnErr, OnOk, [], ◌++◌, ◌∷◌, ◌≡◌};
-ghost use Rattle.poly_report.specs.Leaves.{tilings};
-ghost use Rattle.poly_report.specs.Trees.{Finds};
+ghost use Rattle.std.specs.Prelude.{◌≡◌, ◌++◌, ◌<◌, ◌↔◌, [], IfErr, IfOk, IsTrue, MatchOption, OnOk, length, map, slice_index_or, ⊤};
 
 use crate::atom_lists::AtomLists;
+use crate::shared_lists::SharedLists;
 use poly_atom::Atom;
-use poly_frame::Frame;
 use poly_grid::Refusal;
 use poly_tiling::Tiling;
 use std::alloc::Global;
+use std::marker::Model;
 
 /// The leaves of a tree: the tilings of its Found nodes, and for each Rest the atoms that say what is left there. Nodes under
 /// a dead placement add nothing.
@@ -17,59 +16,84 @@ pub struct Leaves {
     /// The tilings of the Found nodes, in the order of the tree.
     pub tilings: Vec<Tiling>,
     /// The atoms of each Rest, in the order of the tree.
-    pub rests: AtomLists,
+    pub rests: Rests,
 }
 
-impl Leaves {
-    /// No leaves.
-    pub fn none(alloc: Global) -> Leaves
-        ensures tilings { result.tilings.items ≡ [] }
-        ensures rests { result.rests ≡ [] }
+/// Lists of atoms that all begin with the same atoms, which are stored once.
+#[derive(Drop)]
+pub struct Rests {
+    /// The atoms that each list begins with.
+    stem: Vec<Atom>,
+    /// What follows them, for each list.
+    paths: AtomLists,
+}
+
+impl Model for Rests {
+    ghost use Rattle.std.specs.Prelude.{List, map, ◌++◌};
+    ghost use Rattle.poly_atom.specs.declared.atom.Atom.{Atom};
+
+    ghost Value = { List (List Atom) };
+
+    ghost view = { λ r. map (λ p. r.stem.items ++ p) r.paths };
+}
+
+impl Rests {
+    /// The stem followed by each path.
+    pub(crate) fn new(stem: Vec<Atom>, paths: AtomLists) -> Rests
+        ensures { result ≡ map (λ p. stem.items ++ p) paths }
     {
-        Leaves {
-            tilings: Vec::new(alloc),
-            rests: AtomLists::new(alloc),
-        }
+        Rests { stem, paths }
     }
 
-    /// Adds what a Found at the frame's atoms gives: the base, if it is a tiling that meets the atoms. The only refusal is
-    /// `Memory`, and it leaves the leaves as they were.
-    pub fn push_found(&mut self, alloc: Global, frame: &Frame<'_>) -> Result<(), Refusal>
-        ensures tilings { OnOk result (self.new.tilings.items ≡ self.old.tilings.items ++ tilings frame.now.scene frame.now.atoms Finds) }
-        ensures rests { OnOk result (self.new.rests ≡ self.old.rests) }
-        ensures err_tilings { OnErr result (self.new.tilings.items ≡ self.old.tilings.items) }
-        ensures err_rests { OnErr result (self.new.rests ≡ self.old.rests) }
+    /// No rests.
+    pub fn none(alloc: Global) -> Rests
+        ensures { result ≡ [] }
+    {
+        Rests::new(Vec::new(alloc), AtomLists::new(alloc))
+    }
+
+    /// How many rests there are.
+    pub fn len(&self) -> usize
+        ensures { result ≡ length self.now }
+    {
+        self.paths.len()
+    }
+
+    /// Whether there are no rests.
+    pub fn is_empty(&self) -> bool
+        ensures { IsTrue result ↔ (length self.now ≡ 0) }
+    {
+        self.len() == 0
+    }
+
+    /// Writes the rest at the index to the buffer, in place of what the buffer had. Requires that there is such a rest. The
+    /// only refusal is `Memory`.
+    pub fn read(&self, index: usize, buffer: &mut Vec<Atom>) -> Result<(), Refusal>
+        requires { index < length self.now }
+        ensures ok { OnOk result (buffer.new.items ≡ slice_index_or self.now index []) }
         ensures why { IfErr result (λ e. e ≡ Refusal.Memory) }
     {
-        if let Some(base) = frame.found() {
-            let numbers = Vec::from_slice(alloc, base)?;
-            self.tilings.push(Tiling::new(numbers))?;
-        }
+        self.paths.read(index, buffer)?;
+        let count = buffer.len();
+        buffer.extend_from_slice(&self.stem)?;
+        buffer.rotate_left(count);
         Ok(())
     }
 
-    /// Adds a rest with the frame's atoms. The only refusal is `Memory`, and it leaves the leaves as they were.
-    pub fn push_rest(&mut self, frame: &Frame<'_>) -> Result<(), Refusal>
-        ensures tilings { OnOk result (self.new.tilings.items ≡ self.old.tilings.items) }
-        ensures rests { OnOk result (self.new.rests ≡ self.old.rests ++ frame.now.atoms ∷ []) }
-        ensures err_tilings { OnErr result (self.new.tilings.items ≡ self.old.tilings.items) }
-        ensures err_rests { OnErr result (self.new.rests ≡ self.old.rests) }
+    /// The rests, to be shared. If all of them begin with the list of other lists at an index, that list is not stored once
+    /// more but read from there, unless it is already read from too many others. Requires that there is a list at the index.
+    /// The only refusal is `Memory`.
+    pub fn share(
+        self,
+        alloc: Global,
+        base: Option<(&SharedLists, usize)>,
+    ) -> Result<SharedLists, Refusal>
+        requires { MatchOption base ⊤ (λ b. b.1 < length b.0.now) }
+        ensures ok { IfOk result (λ lists. lists ≡ self) }
         ensures why { IfErr result (λ e. e ≡ Refusal.Memory) }
     {
-        self.rests.push(frame.atoms())?;
-        Ok(())
-    }
-
-    /// Adds a rest with the frame's atoms and one more atom, without a step on the frame. The only refusal is `Memory`, and it
-    /// leaves the leaves as they were.
-    pub(crate) fn push_rest_with(&mut self, frame: &Frame<'_>, atom: Atom) -> Result<(), Refusal>
-        ensures tilings { OnOk result (self.new.tilings.items ≡ self.old.tilings.items) }
-        ensures rests { OnOk result (self.new.rests ≡ self.old.rests ++ (frame.now.atoms ++ atom ∷ []) ∷ []) }
-        ensures err_tilings { OnErr result (self.new.tilings.items ≡ self.old.tilings.items) }
-        ensures err_rests { OnErr result (self.new.rests ≡ self.old.rests) }
-        ensures why { IfErr result (λ e. e ≡ Refusal.Memory) }
-    {
-        self.rests.push_with(frame.atoms(), atom)?;
-        Ok(())
+        let Rests { stem, paths } = self;
+        let lists = paths.share_over(alloc, &stem, base)?;
+        Ok(lists)
     }
 }

@@ -7,10 +7,11 @@
 //!   isn't checked, since no tiling of the family has that placement.
 //! - [`leaves`], [`Leaves`]: the tilings and the rests of a tree that holds. [`cut_up`], [`cut_up_over`]: the check and the
 //!   leaves in one walk.
-//! - [`AtomLists`], [`SharedLists`]: the rests of a tree. Shared lists can begin in other shared lists, as the rests of a
-//!   report do in the lists of the task that it cuts up. `SharedLists::after` makes a list of one of them and the atoms that
-//!   follow it.
-//! - [`Frame`], [`Matrix`], [`STEPS`] come from `poly_frame`: `Leaves` reads a frame, and `cut_up_over` takes a matrix.
+//! - [`Gathered`], [`AtomLists`]: the leaves while a walk over a frame gathers them. Of each rest it keeps only the path, which
+//!   follows the atoms that the tree is for. `Gathered::into_leaves` puts these before the paths.
+//! - [`Rests`], [`SharedLists`]: the rests of a tree. Shared lists can begin in other shared lists, as the rests of a report do
+//!   in the lists of the task that it cuts up. `SharedLists::after` makes a list of one of them and the atoms that follow it.
+//! - [`Frame`], [`Matrix`], [`STEPS`] come from `poly_frame`: `Gathered` reads a frame, and `cut_up_over` takes a matrix.
 //! - The laws give the limits of trees. They say that a tree that holds shares out its family, and that it keeps holding after
 //!   a change if the guards of the change are added; that the tilings of a tree belong to its family; and that if a tree takes
 //!   and leaves only open placements of the design, each of its rests is hopeless exactly if the atoms are.
@@ -19,23 +20,24 @@
 mod arms;
 mod atom_lists;
 mod cut;
+mod gathered;
 mod growing;
 mod laws;
 mod leaf;
 mod nodes;
 mod shared_lists;
 mod size;
-mod tail;
 mod tree;
 mod walk;
 
 pub use atom_lists::AtomLists;
 pub use cut::{cut_up, cut_up_over, holds, leaves};
+pub use gathered::Gathered;
 pub use laws::{
     limits_of_trees, open_paths_add_nothing_hopeless, tree_tilings_belong, trees_keep_holding,
     trees_share_out,
 };
-pub use leaf::Leaves;
+pub use leaf::{Leaves, Rests};
 pub use poly_frame::{Frame, Matrix, STEPS};
 pub use shared_lists::SharedLists;
 pub use size::{DEPTH, NODES, fits};

@@ -4,9 +4,9 @@
 //! every link the earlier node is the one right before it, and nearly every atom says that a placement is there or is not. So
 //! a link is stored as one word: the atom that follows the list of the node right before. If a list goes on from another node,
 //! a word between them leads back to that node.
-ghost use Rattle.std.specs.Prelude.{◌≡◌, ◌++◌, ◌∷◌, ◌<◌, [], All, IfErr, IfOk, IsTrue, None, OnErr, OnOk, Some, length, slice_index_or};
+ghost use Rattle.std.specs.Prelude.{◌≡◌, ◌++◌, ◌∷◌, ◌<◌, [], All, IfErr, IfOk, None, OnErr, OnOk, Some, length, slice_index_or};
 ghost use Rattle.std.specs.List.{filter};
-ghost use Rattle.poly_report.specs.Words.{Adds, IsBeginning, IsStored, Reads, Stores, is_other, kept, links_of};
+ghost use Rattle.poly_report.specs.Words.{IsBeginning, IsStored, Reads, Stores, is_other, kept, links_of};
 
 use poly_atom::Atom;
 use poly_grid::Refusal;
@@ -83,15 +83,6 @@ impl Nodes {
         ensures { result ≡ slice_index_or self.now index result }
     {
         link_at(&self.words, &self.others, index)
-    }
-
-    /// Whether the node with the number `index + 1` has the list of the node right before it, followed by the atom. Requires
-    /// that there is such a node.
-    pub fn adds(&self, index: usize, atom: &Atom) -> bool
-        requires { index < length self.now }
-        ensures { IsTrue result → Adds self.now index atom.now }
-    {
-        adds_at(&self.words, &self.others, index, atom)
     }
 
     /// Appends the atom of the node with the number `index + 1` to the buffer, if its link has one, and returns the node
@@ -176,20 +167,6 @@ fn link_at(words: &[Word], others: &[Atom], index: usize) -> Link
             before: node as usize,
             atom: None,
         },
-    }
-}
-
-// Whether the word at the index is one for the atom.
-fn adds_at(words: &[Word], others: &[Atom], index: usize, atom: &Atom) -> bool
-    requires index { index < length words.now }
-    requires stored { All (λ w. IsStored (length others.now) w) words.now }
-    ensures { IsTrue result → Adds (links_of others.now 0 words.now) index atom.now }
-{
-    match words[index] {
-        Word::Has(placement) => *atom == Atom::Has(placement),
-        Word::Lacks(placement) => *atom == Atom::Lacks(placement),
-        Word::Other(other) => *atom == others[other as usize],
-        Word::Back(_) => false,
     }
 }
 

@@ -1,17 +1,18 @@
 //! Lists of atoms that are finished, and shared by whoever reads them.
 //!
-//! The rests of a report begin with the atoms of the task that the report cuts up, and these are often a list of an earlier report.
-//! On a wide board they are most of each rest. So lists can be kept over a list of other lists: they store only what follows
-//! it, and whoever reads them begins there.
+//! The rests of a report begin with the atoms of the task that the report cuts up. These are most of each rest on a wide
+//! board, and they are often a list of an earlier report. So lists are kept over their stem, the list that all of them begin
+//! with: it is a list of other lists, and whoever reads them begins there.
 ghost use Rattle.std.specs.Arc.{arc_value};
 ghost use Rattle.std.specs.List.{filter};
-ghost use Rattle.std.specs.Prelude.{◌≡◌, ◌++◌, ◌∷◌, ◌<◌, ◌↔◌, [], IfErr, IfOk, IsTrue, MatchOption, OnOk, length, reverse, slice_index_or, ⊤};
+ghost use Rattle.std.specs.Prelude.{◌≡◌, ◌++◌, ◌∷◌, ◌<◌, ◌≤◌, ◌↔◌, [], IfErr, IfOk, IsTrue, MatchOption, OnOk, length, map, reverse, slice_index_or, ⊤};
 ghost use Rattle.poly_report.specs.Linked.{AreEarlier, AreLinked, at_node, ended};
 ghost use Rattle.poly_report.specs.Stems.{IsStem, stem_of};
 ghost use Rattle.poly_report.specs.Words.{is_other, kept};
+ghost use Rattle.poly_report.specs.declared.shared_lists.TheConstants.{DEEPEST};
 
+use crate::growing::common;
 use crate::nodes::{Nodes, short};
-use crate::tail::{begins_with, later_ends, tail_of};
 use crate::walk::{read_back, without_list};
 use poly_atom::Atom;
 use poly_grid::Refusal;
@@ -21,9 +22,6 @@ use std::sync::Arc;
 
 // The greatest depth of a trie. Reading a list is a recursion as deep as its trie.
 const DEEPEST: u32 = 64;
-
-// How many atoms a list has at least if the lists of a report are kept over it. Fewer of them take less memory than a trie.
-const SHORTEST: usize = 16;
 
 /// Lists of atoms to which none is added any more. A clone shares them.
 #[derive(Debug, Drop)]
@@ -134,27 +132,33 @@ impl Trie {
 }
 
 impl SharedLists {
-    /// The lists of these nodes. If all of them begin with the list of other lists at the index, that list is read from there,
-    /// as far as this pays. The only refusal is `Memory`.
-    pub(crate) fn of(
+    /// The lists of these nodes, each after the stem. If the stem begins with the list of other lists at the index, that list
+    /// is read from there, unless it is already read from too many others. The only refusal is `Memory`.
+    pub(crate) fn over(
         alloc: Global,
+        stem: &[Atom],
         nodes: Nodes,
         ends: Vec<u32>,
         base: Option<(&SharedLists, usize)>,
     ) -> Result<SharedLists, Refusal>
         requires linked { AreLinked nodes ends.items }
         requires index { MatchOption base ⊤ (λ b. b.1 < length b.0.now) }
-        ensures ok { IfOk result (λ lists. lists ≡ ended nodes ends.items) }
+        ensures ok { IfOk result (λ lists. lists ≡ map (λ B. stem.now ++ B) (ended nodes ends.items)) }
         ensures why { IfErr result (λ e. e ≡ Refusal.Memory) }
     {
-        if let Some((lists, index)) = base {
-            if let Some(trie) = trie_over(alloc, &nodes, &ends, &lists.trie, index)? {
-                return Ok(SharedLists {
-                    trie: Arc::new(alloc, trie)?,
-                });
-            }
-        }
-        let trie = trie_alone(nodes, ends);
+        let stored = stem_for(alloc, stem, base)?;
+        let trie = trie_over(stored, nodes, ends);
+        Ok(SharedLists {
+            trie: Arc::new(alloc, trie)?,
+        })
+    }
+
+    /// One list. The only refusal is `Memory`.
+    pub fn one(alloc: Global, list: &[Atom]) -> Result<SharedLists, Refusal>
+        ensures ok { IfOk result (λ lists. lists ≡ list.now ∷ []) }
+        ensures why { IfErr result (λ e. e ≡ Refusal.Memory) }
+    {
+        let trie = trie_of_one(alloc, Stem::Empty, 0, list)?;
         Ok(SharedLists {
             trie: Arc::new(alloc, trie)?,
         })
@@ -223,58 +227,123 @@ impl SharedLists {
     }
 }
 
-// The lists of these nodes, all stored in one trie.
-fn trie_alone(nodes: Nodes, ends: Vec<u32>) -> Trie
-    requires { AreLinked nodes ends.items }
-    ensures { result.lists ≡ ended nodes ends.items }
+// A stem, and the depth of a trie over it.
+struct Stored {
+    stem: Stem,
+    depth: u32,
+}
+
+// The lists of these nodes, each after the stem.
+fn trie_over(stored: Stored, nodes: Nodes, ends: Vec<u32>) -> Trie
+    requires linked { AreLinked nodes ends.items }
+    requires stem { IsStem stored.stem stored.depth }
+    ensures { result.lists ≡ map (λ B. stem_of stored.stem ++ B) (ended nodes ends.items) }
 {
+    let Stored { stem, depth } = stored;
     let mut nodes = nodes;
     nodes.shrink();
     let mut ends = ends;
     ends.shrink_to_fit();
     Trie {
-        stem: Stem::Empty,
-        depth: 0,
+        stem,
+        depth,
         nodes,
         ends,
     }
 }
 
-// The lists of these nodes, over the base's list at the index. If they don't all begin with that list, or if that list is too
-// short or read from too many tries, `None`.
-fn trie_over(
+// The list as a stem. If it begins with the base's list at the index, only the atoms after that one are stored, unless the base
+// is read from too many tries.
+fn stem_for(
     alloc: Global,
-    nodes: &Nodes,
-    ends: &[u32],
-    base: &Arc<Trie>,
-    index: usize,
-) -> Result<Option<Trie>, Refusal>
-    requires linked { AreLinked nodes.now ends.now }
-    requires index { index < length (arc_value base.now).lists }
-    ensures ok { IfOk result (λ o. MatchOption o ⊤ (λ trie. trie.lists ≡ ended nodes.now ends.now)) }
+    list: &[Atom],
+    base: Option<(&SharedLists, usize)>,
+) -> Result<Stored, Refusal>
+    requires index { MatchOption base ⊤ (λ b. b.1 < length b.0.now) }
+    ensures stem { IfOk result (λ s. IsStem s.stem s.depth) }
+    ensures list { IfOk result (λ s. stem_of s.stem ≡ list.now) }
     ensures why { IfErr result (λ e. e ≡ Refusal.Memory) }
 {
-    let depth = base.depth();
-    if depth >= DEEPEST {
+    if let Some((lists, index)) = base {
+        if let Some(stored) = stem_over(alloc, list, &lists.trie, index)? {
+            return Ok(stored);
+        }
+    }
+    stem_alone(alloc, list)
+}
+
+// The list as a stem, over the base's list at the index. If it doesn't begin with that list, or if the base is read from too
+// many tries, `None`.
+fn stem_over(
+    alloc: Global,
+    list: &[Atom],
+    base: &Arc<Trie>,
+    index: usize,
+) -> Result<Option<Stored>, Refusal>
+    requires index { index < length (arc_value base.now).lists }
+    ensures stem { IfOk result (λ o. MatchOption o ⊤ (λ s. IsStem s.stem s.depth)) }
+    ensures list { IfOk result (λ o. MatchOption o ⊤ (λ s. stem_of s.stem ≡ list.now)) }
+    ensures why { IfErr result (λ e. e ≡ Refusal.Memory) }
+{
+    if base.depth() >= DEEPEST - 1 {
         return Ok(None);
     }
-    let list = list_of(alloc, base, index)?;
-    let first = list.len();
-    if first < SHORTEST || !begins_with(nodes, &list) {
-        return Ok(None);
+    if base.matches(index, list) {
+        let stored = stem_at(base, index)?;
+        return Ok(Some(stored));
     }
-    let Some(tail) = tail_of(alloc, nodes, first)? else {
+    let begin = list_of(alloc, base, index)?;
+    let Some(more) = without_begin(list, &begin) else {
         return Ok(None);
     };
-    let Some(ends) = later_ends(alloc, ends, first)? else {
-        return Ok(None);
-    };
-    Ok(Some(Trie {
-        stem: Stem::Listed(Arc::try_clone(base)?, index),
-        depth: depth + 1,
-        nodes: tail,
-        ends,
-    }))
+    let trie = trie_after(alloc, base, index, more)?;
+    let whole = Arc::new(alloc, trie)?;
+    let stored = stem_at(&whole, 0)?;
+    Ok(Some(stored))
+}
+
+// The list at the index, as a stem.
+fn stem_at(trie: &Arc<Trie>, index: usize) -> Result<Stored, Refusal>
+    requires index { index < length (arc_value trie.now).lists }
+    requires depth { (arc_value trie.now).depth ≤ DEEPEST }
+    ensures stem { IfOk result (λ s. IsStem s.stem s.depth) }
+    ensures list { IfOk result (λ s. stem_of s.stem ≡ slice_index_or (arc_value trie.now).lists index []) }
+    ensures why { IfErr result (λ e. e ≡ Refusal.Memory) }
+{
+    let depth = trie.depth() + 1;
+    Ok(Stored {
+        stem: Stem::Listed(Arc::try_clone(trie)?, index),
+        depth,
+    })
+}
+
+// The list as a stem that is stored in a trie of its own. An empty list needs none.
+fn stem_alone(alloc: Global, list: &[Atom]) -> Result<Stored, Refusal>
+    ensures stem { IfOk result (λ s. IsStem s.stem s.depth) }
+    ensures list { IfOk result (λ s. stem_of s.stem ≡ list.now) }
+    ensures why { IfErr result (λ e. e ≡ Refusal.Memory) }
+{
+    if list.is_empty() {
+        return Ok(Stored {
+            stem: Stem::Empty,
+            depth: 0,
+        });
+    }
+    let trie = trie_of_one(alloc, Stem::Empty, 0, list)?;
+    let whole = Arc::new(alloc, trie)?;
+    let stored = stem_at(&whole, 0)?;
+    Ok(stored)
+}
+
+// What follows the beginning in the list, or `None` if the list doesn't begin so.
+fn without_begin<'a>(list: &'a [Atom], begin: &[Atom]) -> Option<&'a [Atom]>
+    ensures { MatchOption result ⊤ (λ more. begin.now ++ more.now ≡ list.now) }
+{
+    let count = common(begin, list, begin.len());
+    if count < begin.len() {
+        return None;
+    }
+    Some(&list[count..])
 }
 
 // The list at the index.
@@ -293,6 +362,7 @@ fn list_of(alloc: Global, trie: &Trie, index: usize) -> Result<Vec<Atom>, Refusa
 fn trie_after(alloc: Global, base: &Arc<Trie>, index: usize, more: &[Atom]) -> Result<Trie, Refusal>
     requires { index < length (arc_value base.now).lists }
     ensures ok { IfOk result (λ trie. trie.lists ≡ (slice_index_or (arc_value base.now).lists index [] ++ more.now) ∷ []) }
+    ensures depth { IfOk result (λ trie. trie.depth ≤ DEEPEST) }
     ensures why { IfErr result (λ e. e ≡ Refusal.Memory) }
 {
     let depth = base.depth();
@@ -309,6 +379,7 @@ fn trie_after(alloc: Global, base: &Arc<Trie>, index: usize, more: &[Atom]) -> R
 fn trie_of_one(alloc: Global, stem: Stem, depth: u32, more: &[Atom]) -> Result<Trie, Refusal>
     requires { IsStem stem depth }
     ensures ok { IfOk result (λ trie. trie.lists ≡ (stem_of stem ++ more.now) ∷ []) }
+    ensures depth { IfOk result (λ trie. trie.depth ≡ depth) }
     ensures why { IfErr result (λ e. e ≡ Refusal.Memory) }
 {
     let nodes = chain(alloc, more)?;

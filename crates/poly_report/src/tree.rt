@@ -2,7 +2,8 @@
 use poly_tiling::Item;
 use std::mem;
 
-/// A certificate of how a family is cut up.
+/// A certificate of how a family is cut up. A tree that is dropped without [`discard`] is dropped by a recursion that is as
+/// deep as the tree.
 #[derive(Debug, Drop)]
 #[cycle(tree)]
 pub enum Tree {
@@ -56,10 +57,10 @@ impl Drop for Report {
     }
 }
 
-/// Drops a tree, and uses a small stack however deep it is: a tree that is dropped otherwise recurses once for each level.
-/// Never allocates.
+/// Drops a tree, and uses a small stack however deep it is. Never allocates.
 pub fn discard(tree: Tree) {
     let mut next = Some((tree, Tree::Rest));
+    // A `while` would need a measure that decreases, so the turns are counted. No tree takes all of them.
     for _turn in 0..u64::MAX {
         next = match next {
             None => return,
@@ -69,8 +70,8 @@ pub fn discard(tree: Tree) {
 }
 
 // Takes one tree out of `tree`, and returns it with what remains. That is `tree` with `above` in the place of the tree that was
-// taken out: so the nodes from there up to the root form a chain, with Rest at its end. If no tree is left in `tree`, goes on with
-// the chain; `None` at its end.
+// taken out: so the nodes from there up to the root form a chain, with Rest at its end. If no tree is left in `tree`, goes on
+// with the chain; `None` at its end.
 fn below(tree: Tree, above: Tree) -> Option<(Tree, Tree)> {
     match tree {
         Tree::Rest | Tree::Found => beside(above),

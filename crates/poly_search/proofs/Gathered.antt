@@ -15,10 +15,11 @@ use Rattle.poly_report.specs.declared.tree.Arm.{Arm}
 use Rattle.poly_report.specs.Trees.{Arms, Branches, NoArms, OneArm, Plan, Rests, Splits, heads}
 use Rattle.poly_report.specs.Shapes.{arms_list, plan_of}
 use Rattle.poly_report.specs.Holds.{arm_atoms}
-use Rattle.poly_report.specs.Leaves.{arms_rests, arms_tilings, rests, tilings}
+use Rattle.poly_report.specs.Leaves.{arms_tilings, tilings}
+use Rattle.poly_report.specs.Paths.{arms_paths, paths}
 use Rattle.poly_frame.specs.Open.{dead, open_in, ruled_out}
 use Rattle.poly_frame.specs.Walk.{Walk, is_open, with_step}
-use Rattle.poly_report.proofs.Cuts.{apart_from, arm_rests, arm_tilings}
+use Rattle.poly_report.proofs.Cuts.{apart_from, arm_paths, arm_tilings}
 use Rattle.poly_search.specs.Chains.{chain}
 use Rattle.poly_search.specs.Walked.{left_over}
 use Rattle.poly_search.proofs.Nodes.{list_snoc, past, snoc}
@@ -45,16 +46,16 @@ snoc_tilings v A before (OneArm q u arms) p t =
     ∙ ap (λ ps. first ++ (more ++ cond (dead v A p) [] (tilings v (A ++ arm_atoms ps p) t))) (append_assoc before (q ∷ []) (heads arms))
     ∙ sym (append_assoc first more (cond (dead v A p) [] (tilings v (A ++ arm_atoms (before ++ q ∷ heads arms) p) t)))
 
-snoc_rests : (v : View) (A : List Atom) (before : List ℕ) (arms : Arms) (p : ℕ) (t : Plan) →
-    arms_rests v A before (snoc arms p t) ≡ arms_rests v A before arms ++ cond (dead v A p) [] (rests v (A ++ arm_atoms (before ++ heads arms) p) t)
-snoc_rests v A before NoArms p t =
-    append-nil (cond (dead v A p) [] (rests v (A ++ arm_atoms before p) t)) ∙ ap (λ xs. cond (dead v A p) [] (rests v (A ++ arm_atoms xs p) t)) (sym (append-nil before))
-snoc_rests v A before (OneArm q u arms) p t =
-    let first = cond (dead v A q) [] (rests v (A ++ arm_atoms before q) u) in
-    let more = arms_rests v A (before ++ q ∷ []) arms in
-    ap (λ xs. first ++ xs) (snoc_rests v A (before ++ q ∷ []) arms p t)
-    ∙ ap (λ ps. first ++ (more ++ cond (dead v A p) [] (rests v (A ++ arm_atoms ps p) t))) (append_assoc before (q ∷ []) (heads arms))
-    ∙ sym (append_assoc first more (cond (dead v A p) [] (rests v (A ++ arm_atoms (before ++ q ∷ heads arms) p) t)))
+snoc_paths : (g : ℕ) (v : View) (A : List Atom) (before : List ℕ) (arms : Arms) (p : ℕ) (t : Plan) →
+    arms_paths g v A before (snoc arms p t) ≡ arms_paths g v A before arms ++ cond (dead v A p) [] (paths g v (A ++ arm_atoms (before ++ heads arms) p) t)
+snoc_paths g v A before NoArms p t =
+    append-nil (cond (dead v A p) [] (paths g v (A ++ arm_atoms before p) t)) ∙ ap (λ xs. cond (dead v A p) [] (paths g v (A ++ arm_atoms xs p) t)) (sym (append-nil before))
+snoc_paths g v A before (OneArm q u arms) p t =
+    let first = cond (dead v A q) [] (paths g v (A ++ arm_atoms before q) u) in
+    let more = arms_paths g v A (before ++ q ∷ []) arms in
+    ap (λ xs. first ++ xs) (snoc_paths g v A (before ++ q ∷ []) arms p t)
+    ∙ ap (λ ps. first ++ (more ++ cond (dead v A p) [] (paths g v (A ++ arm_atoms ps p) t))) (append_assoc before (q ∷ []) (heads arms))
+    ∙ sym (append_assoc first more (cond (dead v A p) [] (paths g v (A ++ arm_atoms (before ++ q ∷ heads arms) p) t)))
 
 -- the atoms at an arm's tree
 pub arm_path : (w wl wp : Walk) (ps hs : List ℕ) (p : ℕ) → wl ≡ past w ps → wp ≡ with_step wl (Has p) → hs ≡ ps → wp ≡ record w { atoms = w.atoms ++ arm_atoms hs p }
@@ -76,26 +77,27 @@ tilings_next w wp arms next a p m o path en ea old found new ef more =
     ∙ snoc_tilings v A [] (arms_list arms) p t ∙ ap (λ b. these ++ cond b [] last) (open_alive v A p m o) in
     more ∙ ap (λ xs. xs ++ tilings wp.scene wp.atoms t) ef ∙ ap (λ (x : Walk). (old ++ these) ++ tilings x.scene x.atoms t) path ∙ append_assoc old these last ∙ ap (λ xs. old ++ xs) (sym all)
 
-pub rests_next : (w wp : Walk) (arms next : List Arm) (a : Arm) (p : ℕ) → mem w.scene.live p ≡ true → is_open w p ≡ true → wp ≡ record w { atoms = w.atoms ++ arm_atoms (heads (arms_list arms)) p } →
-    next ≡ arms ++ a ∷ [] → a.placement ≡ p → (old found new : List (List Atom)) → found ≡ old ++ arms_rests w.scene w.atoms [] (arms_list arms) → new ≡ found ++ rests wp.scene wp.atoms (plan_of a.tree) →
-    new ≡ old ++ arms_rests w.scene w.atoms [] (arms_list next)
-rests_next w wp arms next a p m o path en ea old found new ef more =
+pub paths_next : (w wp : Walk) (arms next : List Arm) (a : Arm) (p : ℕ) → mem w.scene.live p ≡ true → is_open w p ≡ true → wp ≡ record w { atoms = w.atoms ++ arm_atoms (heads (arms_list arms)) p } →
+    next ≡ arms ++ a ∷ [] → a.placement ≡ p → (old found new : List (List Atom)) → found ≡ old ++ arms_paths w.given w.scene w.atoms [] (arms_list arms) → new ≡ found ++ paths wp.given wp.scene wp.atoms (plan_of a.tree) →
+    new ≡ old ++ arms_paths w.given w.scene w.atoms [] (arms_list next)
+paths_next w wp arms next a p m o path en ea old found new ef more =
+    let g = w.given in
     let v = w.scene in
     let A = w.atoms in
     let t = plan_of a.tree in
-    let these = arms_rests v A [] (arms_list arms) in
-    let last = rests v (A ++ arm_atoms (heads (arms_list arms)) p) t in
-    let all : arms_rests v A [] (arms_list next) ≡ these ++ last =
-    ap (λ xs. arms_rests v A [] (arms_list xs)) en ∙ ap (arms_rests v A []) (list_snoc arms a ∙ ap (λ q. snoc (arms_list arms) q t) ea)
-    ∙ snoc_rests v A [] (arms_list arms) p t ∙ ap (λ b. these ++ cond b [] last) (open_alive v A p m o) in
-    more ∙ ap (λ xs. xs ++ rests wp.scene wp.atoms t) ef ∙ ap (λ (x : Walk). (old ++ these) ++ rests x.scene x.atoms t) path ∙ append_assoc old these last ∙ ap (λ xs. old ++ xs) (sym all)
+    let these = arms_paths g v A [] (arms_list arms) in
+    let last = paths g v (A ++ arm_atoms (heads (arms_list arms)) p) t in
+    let all : arms_paths g v A [] (arms_list next) ≡ these ++ last =
+    ap (λ xs. arms_paths g v A [] (arms_list xs)) en ∙ ap (arms_paths g v A []) (list_snoc arms a ∙ ap (λ q. snoc (arms_list arms) q t) ea)
+    ∙ snoc_paths g v A [] (arms_list arms) p t ∙ ap (λ b. these ++ cond b [] last) (open_alive v A p m o) in
+    more ∙ ap (λ xs. xs ++ paths wp.given wp.scene wp.atoms t) ef ∙ ap (λ (x : Walk). (old ++ these) ++ paths x.given x.scene x.atoms t) path ∙ append_assoc old these last ∙ ap (λ xs. old ++ xs) (sym all)
 
 -- the rest for the options that weren't walked: there is none if all were walked, and one if not
-pub none_over : (A : List Atom) (n : ℕ) (arms : List Arm) → n ≤ length arms → left_over A n arms ≡ []
-none_over A n arms h = ap (λ b. cond b ((A ++ map (λ q. Lacks q) (heads (arms_list arms))) ∷ []) []) (le-ltb (length arms) n h)
+pub none_over : (g : ℕ) (A : List Atom) (n : ℕ) (arms : List Arm) → n ≤ length arms → left_over g A n arms ≡ []
+none_over g A n arms h = ap (λ b. cond b (drop g (A ++ map (λ q. Lacks q) (heads (arms_list arms))) ∷ []) []) (le-ltb (length arms) n h)
 
-pub some_over : (A : List Atom) (n : ℕ) (arms : List Arm) → length arms < n → left_over A n arms ≡ (A ++ map (λ q. Lacks q) (heads (arms_list arms))) ∷ []
-some_over A n arms h = ap (λ b. cond b ((A ++ map (λ q. Lacks q) (heads (arms_list arms))) ∷ []) []) (lt-ltb (length arms) n h)
+pub some_over : (g : ℕ) (A : List Atom) (n : ℕ) (arms : List Arm) → length arms < n → left_over g A n arms ≡ drop g (A ++ map (λ q. Lacks q) (heads (arms_list arms))) ∷ []
+some_over g A n arms h = ap (λ b. cond b (drop g (A ++ map (λ q. Lacks q) (heads (arms_list arms))) ∷ []) []) (lt-ltb (length arms) n h)
 
 -- if one more placement is left out, its atom comes after the atoms of those that were left out before; with this, the leaves
 -- of a chain are those of its arms, followed by those of its end
@@ -116,19 +118,19 @@ chain_tilings v A before (OneArm p t arms) end d =
     ∙ ap (λ ps. first ++ (more ++ tilings v (A ++ map (λ q. Lacks q) ps) end)) names
     ∙ sym (append_assoc first more (tilings v (A ++ map (λ q. Lacks q) (before ++ p ∷ heads arms)) end))
 
-chain_rests : (v : View) (A : List Atom) (before : List ℕ) (arms : Arms) (end : Plan) → distinct (before ++ heads arms) ≡ true →
-    rests v (A ++ map (λ q. Lacks q) before) (chain arms end) ≡ arms_rests v A before arms ++ rests v (A ++ map (λ q. Lacks q) (before ++ heads arms)) end
-chain_rests v A before NoArms end d = ap (λ ps. rests v (A ++ map (λ q. Lacks q) ps) end) (sym (append-nil before))
-chain_rests v A before (OneArm p t arms) end d =
+chain_paths : (g : ℕ) (v : View) (A : List Atom) (before : List ℕ) (arms : Arms) (end : Plan) → distinct (before ++ heads arms) ≡ true →
+    paths g v (A ++ map (λ q. Lacks q) before) (chain arms end) ≡ arms_paths g v A before arms ++ paths g v (A ++ map (λ q. Lacks q) (before ++ heads arms)) end
+chain_paths g v A before NoArms end d = ap (λ ps. paths g v (A ++ map (λ q. Lacks q) ps) end) (sym (append-nil before))
+chain_paths g v A before (OneArm p t arms) end d =
     let names : (before ++ p ∷ []) ++ heads arms ≡ before ++ p ∷ heads arms = append_assoc before (p ∷ []) (heads arms) in
     let B = A ++ map (λ q. Lacks q) before in
-    let first = cond (dead v A p) [] (rests v (A ++ arm_atoms before p) t) in
-    let more = arms_rests v A (before ++ p ∷ []) arms in
-    ap (λ xs. xs ++ rests v (B ++ Lacks p ∷ []) (chain arms end)) (arm_rests v A before p t (apart_from before p (heads arms) d))
-    ∙ ap (λ C. first ++ rests v C (chain arms end)) (behind_next A before p)
-    ∙ ap (λ xs. first ++ xs) (chain_rests v A (before ++ p ∷ []) arms end (subst (λ xs. distinct xs ≡ true) (sym names) d))
-    ∙ ap (λ ps. first ++ (more ++ rests v (A ++ map (λ q. Lacks q) ps) end)) names
-    ∙ sym (append_assoc first more (rests v (A ++ map (λ q. Lacks q) (before ++ p ∷ heads arms)) end))
+    let first = cond (dead v A p) [] (paths g v (A ++ arm_atoms before p) t) in
+    let more = arms_paths g v A (before ++ p ∷ []) arms in
+    ap (λ xs. xs ++ paths g v (B ++ Lacks p ∷ []) (chain arms end)) (arm_paths g v A before p t (apart_from before p (heads arms) d))
+    ∙ ap (λ C. first ++ paths g v C (chain arms end)) (behind_next A before p)
+    ∙ ap (λ xs. first ++ xs) (chain_paths g v A (before ++ p ∷ []) arms end (subst (λ xs. distinct xs ≡ true) (sym names) d))
+    ∙ ap (λ ps. first ++ (more ++ paths g v (A ++ map (λ q. Lacks q) ps) end)) names
+    ∙ sym (append_assoc first more (paths g v (A ++ map (λ q. Lacks q) (before ++ p ∷ heads arms)) end))
 
 distinct_front : (xs ys : List ℕ) → distinct (xs ++ ys) ≡ true → distinct xs ≡ true
 distinct_front [] ys d = refl
@@ -145,11 +147,11 @@ named_once ps names n e d =
 pub branch_tilings : (w : Walk) (i : Item) (arms : List Arm) (t : Plan) (old new : List (List ℕ)) → t ≡ Branches i (arms_list arms) → new ≡ old ++ arms_tilings w.scene w.atoms [] (arms_list arms) → new ≡ old ++ tilings w.scene w.atoms t
 branch_tilings w i arms t old new e more = more ∙ ap (λ x. old ++ tilings w.scene w.atoms x) (sym e)
 
-pub branch_rests : (w : Walk) (i : Item) (arms : List Arm) (n : ℕ) (t : Plan) (old new : List (List Atom)) → t ≡ Branches i (arms_list arms) → n ≤ length arms →
-    new ≡ old ++ (arms_rests w.scene w.atoms [] (arms_list arms) ++ left_over w.atoms n arms) → new ≡ old ++ rests w.scene w.atoms t
-branch_rests w i arms n t old new e many more =
-    let these = arms_rests w.scene w.atoms [] (arms_list arms) in
-    more ∙ ap (λ xs. old ++ (these ++ xs)) (none_over w.atoms n arms many) ∙ ap (λ xs. old ++ xs) (append-nil these) ∙ ap (λ x. old ++ rests w.scene w.atoms x) (sym e)
+pub branch_paths : (w : Walk) (i : Item) (arms : List Arm) (n : ℕ) (t : Plan) (old new : List (List Atom)) → t ≡ Branches i (arms_list arms) → n ≤ length arms →
+    new ≡ old ++ (arms_paths w.given w.scene w.atoms [] (arms_list arms) ++ left_over w.given w.atoms n arms) → new ≡ old ++ paths w.given w.scene w.atoms t
+branch_paths w i arms n t old new e many more =
+    let these = arms_paths w.given w.scene w.atoms [] (arms_list arms) in
+    more ∙ ap (λ xs. old ++ (these ++ xs)) (none_over w.given w.atoms n arms many) ∙ ap (λ xs. old ++ xs) (append-nil these) ∙ ap (λ x. old ++ paths w.given w.scene w.atoms x) (sym e)
 
 -- the leaves of a chain over the arms, with Rest at its end
 pub linked_tilings : (w : Walk) (arms : List Arm) (t : Plan) (old new : List (List ℕ)) → t ≡ chain (arms_list arms) Rests → distinct (heads (arms_list arms)) ≡ true →
@@ -160,13 +162,13 @@ linked_tilings w arms t old new e d more =
     ap (tilings w.scene w.atoms) e ∙ ap (λ B. tilings w.scene B (chain (arms_list arms) Rests)) (sym (append-nil w.atoms)) ∙ chain_tilings w.scene w.atoms [] (arms_list arms) Rests d ∙ append-nil these in
     more ∙ ap (λ xs. old ++ xs) (sym all)
 
-pub linked_rests : (w : Walk) (arms : List Arm) (n : ℕ) (t : Plan) (old new : List (List Atom)) → t ≡ chain (arms_list arms) Rests → distinct (heads (arms_list arms)) ≡ true → length arms < n →
-    new ≡ old ++ (arms_rests w.scene w.atoms [] (arms_list arms) ++ left_over w.atoms n arms) → new ≡ old ++ rests w.scene w.atoms t
-linked_rests w arms n t old new e d few more =
-    let these = arms_rests w.scene w.atoms [] (arms_list arms) in
-    let all : rests w.scene w.atoms t ≡ these ++ (w.atoms ++ map (λ q. Lacks q) (heads (arms_list arms))) ∷ [] =
-    ap (rests w.scene w.atoms) e ∙ ap (λ B. rests w.scene B (chain (arms_list arms) Rests)) (sym (append-nil w.atoms)) ∙ chain_rests w.scene w.atoms [] (arms_list arms) Rests d in
-    more ∙ ap (λ xs. old ++ (these ++ xs)) (some_over w.atoms n arms few) ∙ ap (λ xs. old ++ xs) (sym all)
+pub linked_paths : (w : Walk) (arms : List Arm) (n : ℕ) (t : Plan) (old new : List (List Atom)) → t ≡ chain (arms_list arms) Rests → distinct (heads (arms_list arms)) ≡ true → length arms < n →
+    new ≡ old ++ (arms_paths w.given w.scene w.atoms [] (arms_list arms) ++ left_over w.given w.atoms n arms) → new ≡ old ++ paths w.given w.scene w.atoms t
+linked_paths w arms n t old new e d few more =
+    let these = arms_paths w.given w.scene w.atoms [] (arms_list arms) in
+    let all : paths w.given w.scene w.atoms t ≡ these ++ drop w.given (w.atoms ++ map (λ q. Lacks q) (heads (arms_list arms))) ∷ [] =
+    ap (paths w.given w.scene w.atoms) e ∙ ap (λ B. paths w.given w.scene B (chain (arms_list arms) Rests)) (sym (append-nil w.atoms)) ∙ chain_paths w.given w.scene w.atoms [] (arms_list arms) Rests d in
+    more ∙ ap (λ xs. old ++ (these ++ xs)) (some_over w.given w.atoms n arms few) ∙ ap (λ xs. old ++ xs) (sym all)
 
 -- the leaves of a Split on an open placement are those of both trees
 pub split_tilings : (w wp wl : Walk) (q : ℕ) (t u : Plan) (old found new : List (List ℕ)) → mem w.scene.live q ≡ true → is_open w q ≡ true → wp ≡ with_step w (Has q) → wl ≡ with_step w (Lacks q) →
@@ -178,14 +180,15 @@ split_tilings w wp wl q t u old found new m o ep el first more =
     more ∙ ap (λ xs. xs ++ tilings wl.scene wl.atoms u) first ∙ ap (λ (x : Walk). (old ++ tilings wp.scene wp.atoms t) ++ tilings x.scene x.atoms u) el
     ∙ ap (λ (x : Walk). (old ++ tilings x.scene x.atoms t) ++ b) ep ∙ append_assoc old a b ∙ ap (λ d. old ++ (cond d [] a ++ b)) (sym (open_alive v w.atoms q m o))
 
-pub split_rests : (w wp wl : Walk) (q : ℕ) (t u : Plan) (old left new : List (List Atom)) → mem w.scene.live q ≡ true → is_open w q ≡ true → wp ≡ with_step w (Has q) → wl ≡ with_step w (Lacks q) →
-    left ≡ old ++ rests wp.scene wp.atoms t → new ≡ left ++ rests wl.scene wl.atoms u → new ≡ old ++ rests w.scene w.atoms (Splits q t u)
-split_rests w wp wl q t u old left new m o ep el first more =
+pub split_paths : (w wp wl : Walk) (q : ℕ) (t u : Plan) (old left new : List (List Atom)) → mem w.scene.live q ≡ true → is_open w q ≡ true → wp ≡ with_step w (Has q) → wl ≡ with_step w (Lacks q) →
+    left ≡ old ++ paths wp.given wp.scene wp.atoms t → new ≡ left ++ paths wl.given wl.scene wl.atoms u → new ≡ old ++ paths w.given w.scene w.atoms (Splits q t u)
+split_paths w wp wl q t u old left new m o ep el first more =
+    let g = w.given in
     let v = w.scene in
-    let a = rests v (w.atoms ++ Has q ∷ []) t in
-    let b = rests v (w.atoms ++ Lacks q ∷ []) u in
-    more ∙ ap (λ xs. xs ++ rests wl.scene wl.atoms u) first ∙ ap (λ (x : Walk). (old ++ rests wp.scene wp.atoms t) ++ rests x.scene x.atoms u) el
-    ∙ ap (λ (x : Walk). (old ++ rests x.scene x.atoms t) ++ b) ep ∙ append_assoc old a b ∙ ap (λ d. old ++ (cond d [] a ++ b)) (sym (open_alive v w.atoms q m o))
+    let a = paths g v (w.atoms ++ Has q ∷ []) t in
+    let b = paths g v (w.atoms ++ Lacks q ∷ []) u in
+    more ∙ ap (λ xs. xs ++ paths wl.given wl.scene wl.atoms u) first ∙ ap (λ (x : Walk). (old ++ paths wp.given wp.scene wp.atoms t) ++ paths x.given x.scene x.atoms u) el
+    ∙ ap (λ (x : Walk). (old ++ paths x.given x.scene x.atoms t) ++ b) ep ∙ append_assoc old a b ∙ ap (λ d. old ++ (cond d [] a ++ b)) (sym (open_alive v w.atoms q m o))
 
 -- the leaves of a tree, removed again
 pub leaves_cut : {X : Type 0} (old new short more : List X) (n : ℕ) → n ≡ length old → new ≡ old ++ more → short ≡ take n new → short ≡ old

@@ -1,5 +1,5 @@
 -- What a walk over the options of an item returns.
-use Rattle.std.specs.Prelude.{◌≡◌, ℕ, ◌+◌, ◌++◌, ◌-◌, ◌<◌, ◌≤◌, ◌∷◌, List, [], cond, length, map, nat_lt, take}
+use Rattle.std.specs.Prelude.{◌≡◌, ℕ, ◌+◌, ◌++◌, ◌-◌, ◌<◌, ◌≤◌, ◌∷◌, List, [], cond, drop, length, map, nat_lt, take}
 use Rattle.poly_atom.specs.declared.atom.Atom.{Atom}
 use Rattle.poly_atom.specs.declared.atom.Atom.TheVariants.{Lacks}
 use Rattle.poly_report.specs.declared.tree.Arm.{Arm}
@@ -25,6 +25,6 @@ pub record Walked (w : Walk) (depth kept : ℕ) (options : List ℕ) (nodes held
   pub grown : ArmsGrown w.scene w.atoms (depth - 1) (arms_list arms)
   pub early : length arms < length options → CanChain w depth kept nodes held arms
 
--- the rest for the options that weren't walked, if there are any: the tilings that have none of the arms' placements
-abbrev pub left_over : List Atom → ℕ → List Arm → List (List Atom)
-left_over A n arms = cond (nat_lt (length arms) n) ((A ++ map (λ q. Lacks q) (heads (arms_list arms))) ∷ []) []
+-- the path of the rest for the options that weren't walked, if there are any: the tilings that have none of the arms' placements
+abbrev pub left_over : ℕ → List Atom → ℕ → List Arm → List (List Atom)
+left_over g A n arms = cond (nat_lt (length arms) n) (drop g (A ++ map (λ q. Lacks q) (heads (arms_list arms))) ∷ []) []

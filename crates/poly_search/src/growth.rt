@@ -8,11 +8,12 @@
 //! become a chain of Splits. The chain ends in one Rest, for the tilings that have none of the placements of these arms. A
 //! Branch holds nothing back and doesn't become a chain if it has too many options for the remaining depth, or if it used the
 //! last node of the budget. A small subtree that has a Rest is replaced by a single Rest.
-ghost use Rattle.std.specs.Prelude.{◌≡◌, ◌&&◌, ◌^◌, ◌++◌, [], ◌∷◌, ℕ, true, false, ◌+◌, ◌-◌, ◌≤◌, ◌<◌, IfOk, IfErr, OnOk, length, if◌then◌else◌};
+ghost use Rattle.std.specs.Prelude.{◌≡◌, ◌&&◌, ◌^◌, ◌++◌, [], ◌∷◌, ℕ, true, false, ◌+◌, ◌-◌, ◌≤◌, ◌<◌, IfOk, IfErr, OnOk, drop, length, if◌then◌else◌};
 ghost use Rattle.poly_tiling.specs.Lists.{distinct, mem};
 ghost use Rattle.poly_report.specs.Trees.{Branches, NoArms, Rests};
 ghost use Rattle.poly_report.specs.Shapes.{plan_of, arms_list};
-ghost use Rattle.poly_report.specs.Leaves.{arms_rests, arms_tilings, rests, tilings};
+ghost use Rattle.poly_report.specs.Leaves.{arms_tilings, tilings};
+ghost use Rattle.poly_report.specs.Paths.{arms_paths, paths};
 ghost use Rattle.poly_report.specs.Opened.{arms_opened, opened};
 ghost use Rattle.poly_report.specs.Sizes.{total, arms_total, inner, arms_inner, is_rest, Grown};
 ghost use Rattle.poly_frame.specs.Walk.{is_due, is_open, is_option};
@@ -21,7 +22,7 @@ ghost use Rattle.poly_search.specs.Walked.{Walked, left_over};
 ghost use Rattle.poly_frame.specs.declared.frame.TheConstants.{STEPS};
 
 use poly_grid::Refusal;
-use poly_report::{Arm, Frame, Leaves, Tree};
+use poly_report::{Arm, Frame, Gathered, Tree};
 use poly_tiling::Item;
 use std::alloc::Global;
 
@@ -35,7 +36,7 @@ pub struct Growth {
     /// How many nodes that aren't Rest the whole tree may have.
     pub whole: u32,
     /// The leaves of what has grown, in the order of the tree.
-    pub leaves: Leaves,
+    pub gathered: Gathered,
     /// Lists of options that have been walked. The next Branch reuses one of them instead of making its own list.
     pub spare: Vec<Vec<u32>>,
 }
@@ -71,7 +72,7 @@ fn dead_end(alloc: Global, growth: &mut Growth, item: Item) -> Tree
     ensures tree { plan_of result ≡ Branches item NoArms }
     ensures nodes { growth.new.nodes + 1 ≡ growth.old.nodes }
     ensures inner { growth.new.inner + 1 ≡ growth.old.inner }
-    ensures leaves { growth.new.leaves ≡ growth.old.leaves }
+    ensures gathered { growth.new.gathered ≡ growth.old.gathered }
 {
     growth.nodes -= 1;
     growth.inner -= 1;
@@ -86,12 +87,12 @@ fn rest(frame: &Frame<'_>, growth: &mut Growth) -> Result<Tree, Refusal>
     ensures tree { IfOk result (λ t. plan_of t ≡ Rests) }
     ensures nodes { OnOk result (growth.new.nodes + 1 ≡ growth.old.nodes) }
     ensures inner { OnOk result (growth.new.inner ≡ growth.old.inner) }
-    ensures tilings { OnOk result (growth.new.leaves.tilings.items ≡ growth.old.leaves.tilings.items) }
-    ensures rests { OnOk result (growth.new.leaves.rests ≡ growth.old.leaves.rests ++ frame.now.atoms ∷ []) }
+    ensures tilings { OnOk result (growth.new.gathered.tilings.items ≡ growth.old.gathered.tilings.items) }
+    ensures paths { OnOk result (growth.new.gathered.paths ≡ growth.old.gathered.paths ++ drop frame.now.given frame.now.atoms ∷ []) }
     ensures why { IfErr result (λ e. e ≡ Refusal.Memory) }
 {
     growth.nodes -= 1;
-    growth.leaves.push_rest(frame)?;
+    growth.gathered.push_rest(frame)?;
     Ok(Tree::Rest)
 }
 
@@ -117,8 +118,8 @@ pub fn grow(
     ensures opened { IfOk result (λ t. opened frame.old.scene frame.old.atoms (plan_of t) ≡ true) }
     ensures nodes { IfOk result (λ t. growth.new.nodes + total (plan_of t) ≡ growth.old.nodes) }
     ensures inner { IfOk result (λ t. growth.new.inner + inner (plan_of t) ≤ growth.old.inner) }
-    ensures tilings { IfOk result (λ t. growth.new.leaves.tilings.items ≡ growth.old.leaves.tilings.items ++ tilings frame.old.scene frame.old.atoms (plan_of t)) }
-    ensures rests { IfOk result (λ t. growth.new.leaves.rests ≡ growth.old.leaves.rests ++ rests frame.old.scene frame.old.atoms (plan_of t)) }
+    ensures tilings { IfOk result (λ t. growth.new.gathered.tilings.items ≡ growth.old.gathered.tilings.items ++ tilings frame.old.scene frame.old.atoms (plan_of t)) }
+    ensures paths { IfOk result (λ t. growth.new.gathered.paths ≡ growth.old.gathered.paths ++ paths frame.old.given frame.old.scene frame.old.atoms (plan_of t)) }
     ensures kept { OnOk result (kept ≤ growth.new.nodes) }
     ensures root { IfOk result (λ t. root ≡ true → kept + 3 ≤ growth.old.nodes → 1 ≤ growth.old.inner → 2 ≤ depth → is_rest (plan_of t) ≡ false) }
     ensures why { IfErr result (λ e. e ≡ Refusal.Memory) }
@@ -130,7 +131,7 @@ pub fn grow(
         None => {
             growth.nodes -= 1;
             growth.inner -= 1;
-            growth.leaves.push_found(alloc, frame)?;
+            growth.gathered.push_found(alloc, frame)?;
             return Ok(Tree::Found);
         }
         Some(p) => p,
@@ -178,20 +179,20 @@ fn child(
     ensures opened { IfOk result (λ t. opened frame.old.scene frame.old.atoms (plan_of t) ≡ true) }
     ensures nodes { IfOk result (λ t. growth.new.nodes + total (plan_of t) ≡ growth.old.nodes) }
     ensures inner { IfOk result (λ t. growth.new.inner + inner (plan_of t) ≤ growth.old.inner) }
-    ensures tilings { IfOk result (λ t. growth.new.leaves.tilings.items ≡ growth.old.leaves.tilings.items ++ tilings frame.old.scene frame.old.atoms (plan_of t)) }
-    ensures rests { IfOk result (λ t. growth.new.leaves.rests ≡ growth.old.leaves.rests ++ rests frame.old.scene frame.old.atoms (plan_of t)) }
+    ensures tilings { IfOk result (λ t. growth.new.gathered.tilings.items ≡ growth.old.gathered.tilings.items ++ tilings frame.old.scene frame.old.atoms (plan_of t)) }
+    ensures paths { IfOk result (λ t. growth.new.gathered.paths ≡ growth.old.gathered.paths ++ paths frame.old.given frame.old.scene frame.old.atoms (plan_of t)) }
     ensures kept { OnOk result (kept ≤ growth.new.nodes) }
     ensures why { IfErr result (λ e. e ≡ Refusal.Memory) }
 {
     let nodes = growth.nodes;
     let inner = growth.inner;
-    let tilings = growth.leaves.tilings.len();
-    let rests = growth.leaves.rests.len();
+    let tilings = growth.gathered.tilings.len();
+    let rests = growth.gathered.paths.len();
     let tree = grow(alloc, frame, growth, kept, depth, false)?;
-    if rests < growth.leaves.rests.len() && inner - growth.inner < growth.whole / 8 {
+    if rests < growth.gathered.paths.len() && inner - growth.inner < growth.whole / 8 {
         growth.nodes = nodes;
-        growth.leaves.tilings.truncate(tilings);
-        growth.leaves.rests.truncate(rests);
+        growth.gathered.tilings.truncate(tilings);
+        growth.gathered.paths.truncate(rests);
         let cut = rest(frame, growth)?;
         return Ok(cut);
     }
@@ -229,8 +230,8 @@ fn walk_arms(
     ensures opened { IfOk result (λ a. arms_opened frame.old.scene frame.old.atoms [] (arms_list a.arms.items) ≡ true) }
     ensures nodes { IfOk result (λ a. growth.new.nodes + arms_total (arms_list a.arms.items) ≡ growth.old.nodes) }
     ensures inner { IfOk result (λ a. growth.new.inner + arms_inner (arms_list a.arms.items) + a.held ≤ growth.old.inner) }
-    ensures tilings { IfOk result (λ a. growth.new.leaves.tilings.items ≡ growth.old.leaves.tilings.items ++ arms_tilings frame.old.scene frame.old.atoms [] (arms_list a.arms.items)) }
-    ensures rests { IfOk result (λ a. growth.new.leaves.rests ≡ growth.old.leaves.rests ++ (arms_rests frame.old.scene frame.old.atoms [] (arms_list a.arms.items) ++ left_over frame.old.atoms (length options.now) a.arms.items)) }
+    ensures tilings { IfOk result (λ a. growth.new.gathered.tilings.items ≡ growth.old.gathered.tilings.items ++ arms_tilings frame.old.scene frame.old.atoms [] (arms_list a.arms.items)) }
+    ensures paths { IfOk result (λ a. growth.new.gathered.paths ≡ growth.old.gathered.paths ++ (arms_paths frame.old.given frame.old.scene frame.old.atoms [] (arms_list a.arms.items) ++ left_over frame.old.given frame.old.atoms (length options.now) a.arms.items)) }
     ensures why { IfErr result (λ e. e ≡ Refusal.Memory) }
 {
     let start = frame.level();
@@ -246,7 +247,7 @@ fn walk_arms(
                 && j <= held as usize + 1
                 && j <= (growth.nodes - kept) as usize
             {
-                growth.leaves.push_rest(frame)?;
+                growth.gathered.push_rest(frame)?;
                 frame.backtrack_to(start);
                 return Ok(Arms { arms, held });
             }
@@ -297,8 +298,8 @@ fn branch(
     ensures opened { IfOk result (λ t. opened frame.old.scene frame.old.atoms (plan_of t) ≡ true) }
     ensures nodes { IfOk result (λ t. growth.new.nodes + total (plan_of t) ≡ growth.old.nodes) }
     ensures inner { IfOk result (λ t. growth.new.inner + inner (plan_of t) ≤ growth.old.inner) }
-    ensures tilings { IfOk result (λ t. growth.new.leaves.tilings.items ≡ growth.old.leaves.tilings.items ++ tilings frame.old.scene frame.old.atoms (plan_of t)) }
-    ensures rests { IfOk result (λ t. growth.new.leaves.rests ≡ growth.old.leaves.rests ++ rests frame.old.scene frame.old.atoms (plan_of t)) }
+    ensures tilings { IfOk result (λ t. growth.new.gathered.tilings.items ≡ growth.old.gathered.tilings.items ++ tilings frame.old.scene frame.old.atoms (plan_of t)) }
+    ensures paths { IfOk result (λ t. growth.new.gathered.paths ≡ growth.old.gathered.paths ++ paths frame.old.given frame.old.scene frame.old.atoms (plan_of t)) }
     ensures kept { OnOk result (kept ≤ growth.new.nodes) }
     ensures root { IfOk result (λ t. is_rest (plan_of t) ≡ false) }
     ensures why { IfErr result (λ e. e ≡ Refusal.Memory) }
@@ -362,8 +363,8 @@ fn split(
     ensures opened { IfOk result (λ t. opened frame.old.scene frame.old.atoms (plan_of t) ≡ true) }
     ensures nodes { IfOk result (λ t. growth.new.nodes + total (plan_of t) ≡ growth.old.nodes) }
     ensures inner { IfOk result (λ t. growth.new.inner + inner (plan_of t) ≤ growth.old.inner) }
-    ensures tilings { IfOk result (λ t. growth.new.leaves.tilings.items ≡ growth.old.leaves.tilings.items ++ tilings frame.old.scene frame.old.atoms (plan_of t)) }
-    ensures rests { IfOk result (λ t. growth.new.leaves.rests ≡ growth.old.leaves.rests ++ rests frame.old.scene frame.old.atoms (plan_of t)) }
+    ensures tilings { IfOk result (λ t. growth.new.gathered.tilings.items ≡ growth.old.gathered.tilings.items ++ tilings frame.old.scene frame.old.atoms (plan_of t)) }
+    ensures paths { IfOk result (λ t. growth.new.gathered.paths ≡ growth.old.gathered.paths ++ paths frame.old.given frame.old.scene frame.old.atoms (plan_of t)) }
     ensures kept { OnOk result (kept ≤ growth.new.nodes) }
     ensures root { IfOk result (λ t. is_rest (plan_of t) ≡ false) }
     ensures why { IfErr result (λ e. e ≡ Refusal.Memory) }

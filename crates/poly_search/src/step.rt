@@ -10,7 +10,7 @@ ghost use Rattle.poly_report.specs.Sizes.{all_fewer, fits, inner, is_rest};
 use crate::growth::{Growth, grow};
 use poly_atom::Atom;
 use poly_grid::Refusal;
-use poly_report::{DEPTH, Frame, Leaves, Matrix, NODES, Tree};
+use poly_report::{DEPTH, Frame, Gathered, Leaves, Matrix, NODES, Tree};
 use poly_tiling::View;
 use std::alloc::Global;
 
@@ -76,11 +76,12 @@ pub fn explore_over(
         nodes: NODES,
         inner: nodes,
         whole: nodes,
-        leaves: Leaves::none(alloc),
+        gathered: Gathered::new(alloc),
         spare: Vec::new(alloc),
     };
     let tree = grow(alloc, &mut frame, &mut growth, 0, DEPTH, true)?;
-    let Growth { leaves, .. } = growth;
+    let Growth { gathered, .. } = growth;
+    let leaves = gathered.into_leaves(alloc, atoms)?;
     Ok(Explored { tree, leaves })
 }
 

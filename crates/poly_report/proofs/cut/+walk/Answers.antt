@@ -7,11 +7,12 @@ use Rattle.poly_report.specs.Shapes.{arms_list, plan_of}
 use Rattle.poly_report.specs.Sizes.{arms_total, total}
 use Rattle.poly_frame.specs.Open.{arms_fit}
 use Rattle.poly_report.specs.Holds.{arms_hold}
-use Rattle.poly_report.specs.Leaves.{rests, tilings}
+use Rattle.poly_report.specs.Leaves.{tilings}
+use Rattle.poly_report.specs.Paths.{paths}
 use Rattle.poly_frame.specs.Walk.{Walk}
 use Rattle.poly_report.proofs.Rows.{plan_of-Branch}
 use Rattle.poly_report.proofs.Measures.{total_some}
-use Rattle.poly_report.proofs.Cuts.{bare_rests, bare_says, bare_tilings, branch_says, fit_once, leave_at, length_at, no_arms, rests_at, says_at, tilings_at, unwalked_at}
+use Rattle.poly_report.proofs.Cuts.{bare_paths, bare_says, bare_tilings, branch_says, fit_once, leave_at, length_at, no_arms, paths_at, says_at, tilings_at, unwalked_at}
 use Rattle.poly_report.proofs.cut.+walk.Goals as goal
 
 pub walk-returns-then-not-arms_fit-clause-says : goal.walk-returns-then-not-arms_fit-clause-says
@@ -60,12 +61,12 @@ walk-returns-in_ok-yes-in-Branch-clause-tilings t c = λ y k.
     let plan = ap plan_of c.in-Branch.is ∙ plan_of-Branch c.in-Branch.item c.in-Branch.arms ∙ ap (λ xs. Branches c.in-Branch.item (arms_list xs)) (sym c.deref-in-Branch.ensures.value) in
     c.in_ok-yes-in-Branch.ensures.tilings y k ∙ ap (λ p. c.args.out.now.tilings.items ++ tilings v A p) (sym plan)
 
-pub walk-returns-in_ok-yes-in-Branch-clause-rests : goal.walk-returns-in_ok-yes-in-Branch-clause-rests
-walk-returns-in_ok-yes-in-Branch-clause-rests t c = λ y k.
+pub walk-returns-in_ok-yes-in-Branch-clause-paths : goal.walk-returns-in_ok-yes-in-Branch-clause-paths
+walk-returns-in_ok-yes-in-Branch-clause-paths t c = λ y k.
     let v = c.args.frame.now.scene in
     let A = c.args.frame.now.atoms in
     let plan = ap plan_of c.in-Branch.is ∙ plan_of-Branch c.in-Branch.item c.in-Branch.arms ∙ ap (λ xs. Branches c.in-Branch.item (arms_list xs)) (sym c.deref-in-Branch.ensures.value) in
-    c.in_ok-yes-in-Branch.ensures.rests y k ∙ ap (λ p. c.args.out.now.rests ++ rests v A p) (sym plan)
+    c.in_ok-yes-in-Branch.ensures.paths y k ∙ ap (λ p. c.args.out.now.paths ++ paths c.args.frame.now.given v A p) (sym plan)
 
 pub walk_arms-leave-requires : goal.walk_arms-leave-requires
 walk_arms-leave-requires t c =
@@ -109,7 +110,7 @@ walk_arms-loop-arm-preserved t c =
       steps = omega arith;
       says = inv.says ∙ says_at v A g arms k a lt c.arm-item.is c.requires.once c.loop-arm.frame inv.frame true says;
       tilings = λ y. tilings_at v A g arms k a lt c.arm-item.is c.requires.once c.loop-arm.frame inv.frame c.loop-arm.out.tilings.items c.walk_taken.new.out.tilings.items (c.in_ok-yes.ensures.tilings passed y) ∙ inv.tilings y;
-      rests = λ y. rests_at v A g arms k a lt c.arm-item.is c.requires.once c.loop-arm.frame inv.frame c.loop-arm.out.rests c.walk_taken.new.out.rests (c.in_ok-yes.ensures.rests passed y) ∙ inv.rests y;
+      paths = λ y. paths_at v A g arms k a lt c.arm-item.is c.requires.once c.loop-arm.frame inv.frame c.loop-arm.out.paths c.walk_taken.new.out.paths (c.in_ok-yes.ensures.paths passed y) ∙ inv.paths y;
     }
 
 pub walk_taken-returns-then-is_empty : goal.walk_taken-returns-then-is_empty
@@ -125,6 +126,6 @@ walk_taken-returns-then-is_empty t c =
       same = λ y. c.starves.ensures.same;
       says = bare_says v A p i (plan_of c.args.tree.now) c.starves.result plan alive c.starves.ensures.value;
       tilings = λ y k. bare_tilings v A p i (plan_of c.args.tree.now) c.args.out.now.tilings.items plan alive;
-      rests = λ y k. bare_rests v A p i (plan_of c.args.tree.now) c.args.out.now.rests plan alive;
+      paths = λ y k. bare_paths c.args.frame.now.given v A p i (plan_of c.args.tree.now) c.args.out.now.paths plan alive;
       why = tt;
     }

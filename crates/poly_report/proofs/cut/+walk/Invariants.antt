@@ -3,7 +3,8 @@ use Rattle.poly_atom.specs.declared.atom.Atom.TheVariants.{Lacks}
 use Rattle.poly_report.specs.Shapes.{arms_list}
 use Rattle.poly_report.specs.Sizes.{arms_total}
 use Rattle.poly_report.specs.Holds.{arms_hold}
-use Rattle.poly_report.specs.Leaves.{arms_rests, arms_tilings}
+use Rattle.poly_report.specs.Leaves.{arms_tilings}
+use Rattle.poly_report.specs.Paths.{arms_paths}
 use Rattle.poly_report.proofs.cut.+walk.Given as goal
 
 abbrev pub decreases-walk : goal.decreases-walk
@@ -27,5 +28,5 @@ invariant-walk_arms-loop-arm l =
       steps : l.arm-index + arms_total more ≤ arms_total (arms_list l.arms);
       says : arms_hold v A [] (arms_list l.arms) ≡ arms_hold v A before more;
       tilings : l.keep ≡ true → l.out.tilings.items ++ arms_tilings v A before more ≡ l.fn.out.tilings.items ++ arms_tilings v A [] (arms_list l.arms);
-      rests : l.keep ≡ true → l.out.rests ++ arms_rests v A before more ≡ l.fn.out.rests ++ arms_rests v A [] (arms_list l.arms);
+      paths : l.keep ≡ true → l.out.paths ++ arms_paths l.fn.frame.given v A before more ≡ l.fn.out.paths ++ arms_paths l.fn.frame.given v A [] (arms_list l.arms);
     }

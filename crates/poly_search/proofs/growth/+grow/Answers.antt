@@ -1,16 +1,17 @@
-use Rattle.std.proofs.Common.{◌≡◌, ◌+◌, ◌-◌, ◌<◌, ◌≤◌, get_or, take, length, ◌++◌, [], ◌∷◌, arith, refl, rules, true, sym, ap, subst, length-append, ◌∙◌}
+use Rattle.std.proofs.Common.{◌≡◌, ◌+◌, ◌-◌, ◌<◌, ◌≤◌, drop, get_or, take, length, ◌++◌, [], ◌∷◌, arith, refl, rules, true, sym, ap, subst, length-append, ◌∙◌}
 use Rattle.poly_atom.specs.declared.atom.Atom.TheVariants.{Has, Lacks}
 use Rattle.poly_report.specs.declared.tree.Arm.{Arm}
-use Rattle.poly_report.specs.declared.leaf.Leaves.{Leaves}
+use Rattle.poly_report.specs.declared.gathered.Gathered.{Gathered}
 use Rattle.poly_report.specs.Trees.{Plan, heads}
 use Rattle.poly_report.proofs.Rows.{plan_of-Branch}
 use Rattle.poly_report.specs.Shapes.{arms_list, plan_of}
-use Rattle.poly_report.specs.Leaves.{rests, tilings}
+use Rattle.poly_report.specs.Leaves.{tilings}
+use Rattle.poly_report.specs.Paths.{paths}
 use Rattle.std.proofs.lemmas.Bool.{eqb-true, true≢false}
 use Rattle.poly_report.specs.Sizes.{Grown, inner, total}
 use Rattle.poly_frame.specs.Walk.{Walk, is_due}
 use Rattle.poly_search.specs.declared.growth.Growth.{Growth}
-use Rattle.poly_search.proofs.Gathered.{arm_path, branch_rests, branch_tilings, linked_rests, linked_tilings, named_once, leaves_cut, rests_next, split_rests, split_tilings, tilings_next}
+use Rattle.poly_search.proofs.Gathered.{arm_path, branch_paths, branch_tilings, linked_paths, linked_tilings, named_once, leaves_cut, paths_next, split_paths, split_tilings, tilings_next}
 use Rattle.poly_search.proofs.Nodes.{back_is, branch_of, option_at, take_whole, split_of, past_next, past_back, dead_end_grown, names_next, total_next, inner_next, grown_next, total_some}
 use Rattle.poly_search.proofs.Links.{chain_grown, chain_inner, chain_no_rest, chain_total, grown_deeper, linked_next}
 use Rattle.poly_search.proofs.Paths.{branch_opened, linked_opened, opened_next, split_opened}
@@ -54,13 +55,13 @@ split-returns-clause-tilings t c =
     let a = split_tilings w c.pick.new.self c.leave.new.self c.args.placement (plan_of c.in_ok-taken.taken) (plan_of c.in_ok-left.left) _ _ _ r.place r.open c.pick.ensures left c.in_ok-taken.ensures.tilings c.in_ok-left.ensures.tilings in
     rw (c.in_ok-taken-2.ensures.ok, c.in_ok-left-2.ensures.ok) a
 
-pub split-returns-clause-rests : goal.split-returns-clause-rests
-split-returns-clause-rests t c =
+pub split-returns-clause-paths : goal.split-returns-clause-paths
+split-returns-clause-paths t c =
     let w = c.args.frame.now in
     let r = c.requires in
     let back = back_is w c.pick.new.self c.child.new.frame c.backtrack_to.new.self (Has c.args.placement) c.level-level.result c.level-level.ensures c.pick.ensures c.in_ok-taken.ensures.same c.backtrack_to.ensures in
     let left : c.leave.new.self ≡ record w { atoms = w.atoms ++ Lacks c.args.placement ∷ [] } = c.leave.ensures ∙ ap (λ (x : Walk). record x { atoms = x.atoms ++ Lacks c.args.placement ∷ [] }) back in
-    let a = split_rests w c.pick.new.self c.leave.new.self c.args.placement (plan_of c.in_ok-taken.taken) (plan_of c.in_ok-left.left) _ _ _ r.place r.open c.pick.ensures left c.in_ok-taken.ensures.rests c.in_ok-left.ensures.rests in
+    let a = split_paths w c.pick.new.self c.leave.new.self c.args.placement (plan_of c.in_ok-taken.taken) (plan_of c.in_ok-left.left) _ _ _ r.place r.open c.pick.ensures left c.in_ok-taken.ensures.paths c.in_ok-left.ensures.paths in
     rw (c.in_ok-taken-2.ensures.ok, c.in_ok-left-2.ensures.ok) a
 
 pub walk_arms-loop-j-preserved : goal.walk_arms-loop-j-preserved
@@ -93,10 +94,10 @@ walk_arms-loop-j-preserved t c =
     let some = total_some (plan_of a.tree) in
     let o = option_at w c.args.item.now ps j lt r.members in
     let under = arm_path w c.loop-j.frame c.pick.new.self (take j ps) (heads (arms_list c.loop-j.arms.items)) p here c.pick.ensures i.names in
-    let same : c.if-chained.growth.leaves ≡ c.loop-j.growth.leaves = elim c.if-chained.branch [
-      | walk_arms-then-chained+then-j-gt0+then-growth-gt1 k ↦ ap (λ (b : Growth). b.leaves) k.growth-is
-      | walk_arms-then-chained+then-j-gt0+else-growth-gt1+else-options-j-gt1 k ↦ ap (λ (b : Growth). b.leaves) k.growth-is
-      | walk_arms-else-chained k ↦ ap (λ (b : Growth). b.leaves) k.growth-is
+    let same : c.if-chained.growth.gathered ≡ c.loop-j.growth.gathered = elim c.if-chained.branch [
+      | walk_arms-then-chained+then-j-gt0+then-growth-gt1 k ↦ ap (λ (b : Growth). b.gathered) k.growth-is
+      | walk_arms-then-chained+then-j-gt0+else-growth-gt1+else-options-j-gt1 k ↦ ap (λ (b : Growth). b.gathered) k.growth-is
+      | walk_arms-else-chained k ↦ ap (λ (b : Growth). b.gathered) k.growth-is
     ] in
     record {
       path = λ h. elim c.if-after-gt0.branch [
@@ -111,8 +112,8 @@ walk_arms-loop-j-preserved t c =
       names = names_next c.loop-j.arms.items c.push.new.self.items a ps j lt more refl i.names;
       nodes = omega (arith, tn, g.nodes, i.nodes, spent.0);
       inner = omega (arith, un, g.inner, i.inner, spent.1);
-      tilings = tilings_next w c.pick.new.self c.loop-j.arms.items c.push.new.self.items a p o.0 o.1 under more refl _ c.loop-j.growth.leaves.tilings.items _ i.tilings (g.tilings ∙ ap (λ (l : Leaves). l.tilings.items ++ tilings c.pick.new.self.scene c.pick.new.self.atoms (plan_of a.tree)) same);
-      rests = rests_next w c.pick.new.self c.loop-j.arms.items c.push.new.self.items a p o.0 o.1 under more refl _ c.loop-j.growth.leaves.rests _ i.rests (g.rests ∙ ap (λ (l : Leaves). l.rests ++ rests c.pick.new.self.scene c.pick.new.self.atoms (plan_of a.tree)) same);
+      tilings = tilings_next w c.pick.new.self c.loop-j.arms.items c.push.new.self.items a p o.0 o.1 under more refl _ c.loop-j.growth.gathered.tilings.items _ i.tilings (g.tilings ∙ ap (λ (l : Gathered). l.tilings.items ++ tilings c.pick.new.self.scene c.pick.new.self.atoms (plan_of a.tree)) same);
+      paths = paths_next w c.pick.new.self c.loop-j.arms.items c.push.new.self.items a p o.0 o.1 under more refl _ c.loop-j.growth.gathered.paths _ i.paths (g.paths ∙ ap (λ (l : Gathered). l.paths ++ paths c.pick.new.self.given c.pick.new.self.scene c.pick.new.self.atoms (plan_of a.tree)) same);
       counted = omega (arith, tn, some, i.counted);
       room = omega (arith, g.kept, i.room);
       grown = grown_next w c.loop-j.frame c.pick.new.self _ c.args.item.now c.loop-j.arms.items c.push.new.self.items a ps j lt r.once r.members here c.pick.ensures i.names more refl i.grown (grown_deeper _ _ _ _ _ shallow g.grown);
@@ -128,14 +129,14 @@ walk_arms-loop-j-preserved t c =
       held = omega (arith, spent.2, i.held);
     }
 
-pub child-returns-then-inner-growth-clause-rests : goal.child-returns-then-inner-growth-clause-rests
-child-returns-then-inner-growth-clause-rests t c =
+pub child-returns-then-inner-growth-clause-paths : goal.child-returns-then-inner-growth-clause-paths
+child-returns-then-inner-growth-clause-paths t c =
     let w = c.args.frame.now in
-    let old = c.args.growth.now.leaves.rests in
+    let old = c.args.growth.now.gathered.paths in
     let cut = c.truncate-then-inner-growth in
-    let back = leaves_cut old c.grow.new.growth.leaves.rests cut.new.self _ c.len-rests.result c.len-rests.ensures c.in_ok-tree.ensures.rests cut.ensures in
-    c.in_ok-cut.ensures.rests ∙ ap (λ xs. xs ++ c.grow.new.frame.atoms ∷ []) back ∙ ap (λ (x : Walk). old ++ x.atoms ∷ []) c.in_ok-tree.ensures.same
-    ∙ ap (λ p. old ++ rests w.scene w.atoms p) (sym c.in_ok-cut.ensures.tree)
+    let back = leaves_cut old c.grow.new.growth.gathered.paths cut.new.self _ c.len-rests.result c.len-rests.ensures c.in_ok-tree.ensures.paths cut.ensures in
+    c.in_ok-cut.ensures.paths ∙ ap (λ xs. xs ++ drop c.grow.new.frame.given c.grow.new.frame.atoms ∷ []) back ∙ ap (λ (x : Walk). old ++ drop x.given x.atoms ∷ []) c.in_ok-tree.ensures.same
+    ∙ ap (λ p. old ++ paths w.given w.scene w.atoms p) (sym c.in_ok-cut.ensures.tree)
 
 pub branch-returns-then-len-options-clause-grown : goal.branch-returns-then-len-options-clause-grown
 branch-returns-then-len-options-clause-grown t c =
@@ -161,11 +162,11 @@ branch-returns-then-len-options-clause-tilings t c =
     let arms = c.in_ok-walked.walked.arms in
     branch_tilings c.args.frame.now c.args.item.now arms.items _ _ _ (plan_of-Branch c.args.item.now arms) c.in_ok-walked.ensures.tilings
 
-pub branch-returns-then-len-options-clause-rests : goal.branch-returns-then-len-options-clause-rests
-branch-returns-then-len-options-clause-rests t c =
+pub branch-returns-then-len-options-clause-paths : goal.branch-returns-then-len-options-clause-paths
+branch-returns-then-len-options-clause-paths t c =
     let arms = c.in_ok-walked.walked.arms in
     let all : length c.args.options.now ≤ length arms.items = omega (arith, c.len.ensures, c.if-len-options.true, arms.ok) in
-    branch_rests c.args.frame.now c.args.item.now arms.items (length c.args.options.now) _ _ _ (plan_of-Branch c.args.item.now arms) all c.in_ok-walked.ensures.rests
+    branch_paths c.args.frame.now c.args.item.now arms.items (length c.args.options.now) _ _ _ (plan_of-Branch c.args.item.now arms) all c.in_ok-walked.ensures.paths
 
 pub branch-returns-clause-grown : goal.branch-returns-clause-grown
 branch-returns-clause-grown t c =
@@ -199,13 +200,13 @@ branch-returns-clause-tilings t c =
     let once = named_once c.args.options.now _ (length arms.items) c.in_ok-walked.ensures.walked.names c.requires.each_once in
     linked_tilings c.args.frame.now arms.items (plan_of c.in_ok-tree.tree) _ _ c.in_ok-tree.ensures.tree once c.in_ok-walked.ensures.tilings
 
-pub branch-returns-clause-rests : goal.branch-returns-clause-rests
-branch-returns-clause-rests t c =
+pub branch-returns-clause-paths : goal.branch-returns-clause-paths
+branch-returns-clause-paths t c =
     let arms = c.in_ok-walked.walked.arms in
     let few = c.in_ok-walked.ensures.walked in
     let short : length arms.items < length c.args.options.now = omega (arith, c.len.ensures, c.if-len-options.false, arms.ok, few.few) in
     let once = named_once c.args.options.now _ (length arms.items) few.names c.requires.each_once in
-    linked_rests c.args.frame.now arms.items (length c.args.options.now) (plan_of c.in_ok-tree.tree) _ _ c.in_ok-tree.ensures.tree once short c.in_ok-walked.ensures.rests
+    linked_paths c.args.frame.now arms.items (length c.args.options.now) (plan_of c.in_ok-tree.tree) _ _ c.in_ok-tree.ensures.tree once short c.in_ok-walked.ensures.paths
 
 pub branch-returns-clause-root : goal.branch-returns-clause-root
 branch-returns-clause-root t c =

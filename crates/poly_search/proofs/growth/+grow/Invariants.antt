@@ -3,7 +3,8 @@ use Rattle.poly_atom.specs.declared.atom.Atom.TheVariants.{Lacks}
 use Rattle.poly_report.specs.Trees.{heads}
 use Rattle.poly_frame.specs.Walk.{backtrack_to}
 use Rattle.poly_report.specs.Shapes.{arms_list}
-use Rattle.poly_report.specs.Leaves.{arms_rests, arms_tilings}
+use Rattle.poly_report.specs.Leaves.{arms_tilings}
+use Rattle.poly_report.specs.Paths.{arms_paths}
 use Rattle.poly_report.specs.Opened.{arms_opened}
 use Rattle.poly_report.specs.Sizes.{arms_total, arms_inner, ArmsGrown}
 use Rattle.poly_search.specs.Chains.{Chains}
@@ -34,8 +35,8 @@ invariant-walk_arms-loop-j l = record {
   names : heads (arms_list l.arms.items) ≡ take l.j l.options;
   nodes : l.growth.nodes + arms_total (arms_list l.arms.items) ≡ l.fn.growth.nodes;
   inner : l.growth.inner + arms_inner (arms_list l.arms.items) + l.held ≤ l.fn.growth.inner;
-  tilings : l.growth.leaves.tilings.items ≡ l.fn.growth.leaves.tilings.items ++ arms_tilings l.fn.frame.scene l.fn.frame.atoms [] (arms_list l.arms.items);
-  rests : l.growth.leaves.rests ≡ l.fn.growth.leaves.rests ++ arms_rests l.fn.frame.scene l.fn.frame.atoms [] (arms_list l.arms.items);
+  tilings : l.growth.gathered.tilings.items ≡ l.fn.growth.gathered.tilings.items ++ arms_tilings l.fn.frame.scene l.fn.frame.atoms [] (arms_list l.arms.items);
+  paths : l.growth.gathered.paths ≡ l.fn.growth.gathered.paths ++ arms_paths l.fn.frame.given l.fn.frame.scene l.fn.frame.atoms [] (arms_list l.arms.items);
   counted : l.j ≤ arms_total (arms_list l.arms.items);
   room : l.kept + length l.options ≤ l.growth.nodes + l.j;
   grown : ArmsGrown l.fn.frame.scene l.fn.frame.atoms (l.depth - 1) (arms_list l.arms.items);
