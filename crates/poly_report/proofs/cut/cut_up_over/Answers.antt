@@ -1,4 +1,4 @@
-use Rattle.std.proofs.Common.{[], ap, refl, sym, ◌++◌, ◌∙◌}
+use Rattle.std.proofs.Common.{ap, refl, sym, ◌++◌, ◌∙◌}
 use Rattle.poly_frame.specs.Walk.{Walk}
 use Rattle.poly_report.specs.Holds.{holds}
 use Rattle.poly_report.specs.Leaves.{tilings}
