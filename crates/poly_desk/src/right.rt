@@ -7,8 +7,8 @@ use crate::receipt::Receipt;
 use poly_book::{Book, Ending, Kind, Step};
 
 impl Receipt {
-    /// The receipt's place, counted from 1.
-    pub(crate) fn place(&self) -> u64
+    /// The receipt's place, counted from 1: that of its step among the steps of the book, or of its ending among the endings.
+    pub fn place(&self) -> u64
         ensures { result ≡ place_of self.now }
     {
         match self {

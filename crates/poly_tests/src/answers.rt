@@ -6,7 +6,8 @@ use poly_grid::Refusal;
 use poly_tiling::{Tiling, View};
 use std::alloc::Global;
 
-fn everything(alloc: Global) -> Query {
+/// The query without words, which every tiling answers.
+pub(crate) fn everything(alloc: Global) -> Query {
     Query {
         has: Vec::new(alloc),
         lacks: Vec::new(alloc),

@@ -4,7 +4,7 @@ ghost use Rattle.poly_desk.specs.Changes.{cut_count};
 
 use crate::books::{book_of, edit, edit_of, expect_status, fail};
 use crate::designs::{DOMINOES, edited};
-use crate::desks::{FORBID, count, place_of, work};
+use crate::desks::{FORBID, count, work};
 use poly_board::Posted;
 use poly_book::{Book, Quiet, Which};
 use poly_design::Edit;
@@ -29,7 +29,7 @@ fn change<C: Ledger, K: Ledger, O: Opening, R: Wait + Abort>(
     let edit = desk.edit(rt, pass, *forbid).expect(rt, "accepted");
     let undo = desk.undo(rt, pass).expect(rt, "a step to undo");
     let redo = desk.redo(rt, pass).expect(rt, "a step to redo");
-    assert!(rt; (place_of(&edit), place_of(&undo), place_of(&redo)) == (1, 2, 3));
+    assert!(rt; (edit.place(), undo.place(), redo.place()) == (1, 2, 3));
     vec![in alloc; edit, undo, redo].expect(rt, "memory")
 }
 

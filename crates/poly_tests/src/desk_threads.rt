@@ -4,7 +4,6 @@ ghost use Rattle.poly_desk.specs.Changes.{cut_count};
 
 use crate::books::book_of;
 use crate::designs::{DOMINOES, design};
-use crate::desks::place_of;
 use poly_book::Book;
 use poly_design::{Edit, Mode};
 use poly_desk::{Desk, Opening, PARTS, Pass, Receipt};
@@ -73,7 +72,7 @@ where
 
 // Whether one of the receipts has the place.
 fn has(receipts: &[Receipt], place: u64) -> bool {
-    receipts.iter().any(|receipt| place_of(receipt) == place)
+    receipts.iter().any(|receipt| receipt.place() == place)
 }
 
 fn edit_together<

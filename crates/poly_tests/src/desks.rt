@@ -1,9 +1,8 @@
-//! The test kit of desks: the line of an edit, work on a task, how many tilings are listed, what a desk shows, and the place
-//! of a receipt.
+//! The test kit of desks: the line of an edit, work on a task, how many tilings are listed, and what a desk shows.
 
+use crate::answers::everything;
 use poly_board::Posted;
 use poly_book::{Applied, Job, Which};
-use poly_browse::Query;
 use poly_desk::{Desk, Opening, Pass, Receipt};
 use poly_grid::Refusal;
 use poly_report::Report;
@@ -47,12 +46,7 @@ pub(crate) fn count<C: Ledger, K: Ledger, O: Opening, R: Wait>(
     desk: &Desk<C, K, O>,
     pass: &mut Pass<C, K, O>,
 ) -> Result<u64, Refusal> {
-    let query = Query {
-        has: Vec::new(alloc),
-        lacks: Vec::new(alloc),
-        covers: Vec::new(alloc),
-    };
-    let answer = desk.browse(rt, alloc, pass, &query)?;
+    let answer = desk.browse(rt, alloc, pass, &everything(alloc))?;
     Ok(answer.count)
 }
 
@@ -76,13 +70,5 @@ pub(crate) fn shown<C: Ledger, K: Ledger, O: Opening, R: Wait + Abort>(
             let listed = count(rt, alloc, desk, pass).expect(rt, "memory");
             (posted, next, listed)
         }
-    }
-}
-
-/// The place of the receipt, counted from 1.
-pub(crate) fn place_of(receipt: &Receipt) -> u64 {
-    match receipt {
-        Receipt::Changed { place, .. } => *place,
-        Receipt::Cut { place, .. } => *place,
     }
 }
