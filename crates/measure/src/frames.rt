@@ -64,12 +64,7 @@ fn measure_rests(rt: &HostRuntime, view: &View, matrix: &Matrix) -> io::Result<(
 
 // Measures a frame for each of the tasks. All frames are made several times, because the first ones wait for fresh memory. A
 // worker rarely waits for that, since it makes frames all the time.
-fn measure_frames(
-    rt: &HostRuntime,
-    view: &View,
-    matrix: &Matrix,
-    tasks: &Rests,
-) -> io::Result<()>
+fn measure_frames(rt: &HostRuntime, view: &View, matrix: &Matrix, tasks: &Rests) -> io::Result<()>
     requires { IsWhole view.now matrix.now }
 {
     let begin = Instant::now(rt)?;
@@ -85,12 +80,7 @@ fn measure_frames(
     )
 }
 
-fn make_frames(
-    alloc: Global,
-    view: &View,
-    matrix: &Matrix,
-    tasks: &Rests,
-) -> Result<(), Refusal>
+fn make_frames(alloc: Global, view: &View, matrix: &Matrix, tasks: &Rests) -> Result<(), Refusal>
     requires { IsWhole view.now matrix.now }
 {
     let mut atoms = Vec::new(alloc);
