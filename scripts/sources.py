@@ -3,12 +3,13 @@
 
 usage: scripts/sources.py
 
-The first line is a comment with the version of the toolchain. Each further line is `SHA-256  PATH`, as `sha256sum -c` reads it
-at the top of the repository: crates.txt, and each file under src/ of `polybench` and of the crates below it. Contracts are part
-of these files; definitions and proofs are not compiled.
+The first line is a comment with the version of the toolchain, without the letter of its kit. Each further line is
+`SHA-256  PATH`, as `sha256sum -c` reads it at the top of the repository: crates.txt, and each file under src/ of `polybench` and
+of the crates below it. Contracts are part of these files; definitions and proofs are not compiled.
 """
 import hashlib
 import os
+import re
 import subprocess
 import sys
 
@@ -51,11 +52,16 @@ def checksum(path):
 
 
 def toolchain():
-    """Returns the version of the toolchain, or None if it isn't installed."""
+    """Returns the version of the toolchain without the letter of its kit, or None if it isn't installed.
+
+    Kits of one number have the same checker and compiler, and differ in their commands. If a compiler did differ, `./check`
+    would show it, since it compares the release with what it has built.
+    """
     try:
-        return subprocess.run(["rt", "version"], capture_output=True, check=True, text=True).stdout.strip()
+        version = subprocess.run(["rt", "version"], capture_output=True, check=True, text=True).stdout.strip()
     except (OSError, subprocess.CalledProcessError):
         return None
+    return re.sub(r"^(rattle-kit-[0-9]+)[a-z]\b", r"\1", version)
 
 
 def listing(version):
