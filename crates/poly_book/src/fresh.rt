@@ -42,6 +42,9 @@ pub(crate) fn opened(
     ensures why { IfErr result (λ e. ((e ≡ Refusal.Spent) × (4294967296 < next + length (hopeful view.now all))) ⊎ (e ≡ Refusal.Memory)) }
 {
     let mut tasks = Vec::new(alloc);
+    if all.is_empty() {
+        return Ok(tasks);
+    }
     let mut number = next;
     let mut buffer = Vec::new(alloc);
     let count = all.len();
