@@ -54,8 +54,8 @@ def checksum(path):
 def toolchain():
     """Returns the version of the toolchain without the letter of its kit, or None if it isn't installed.
 
-    Kits of one number have the same checker and compiler, and differ in their commands. If a compiler did differ, `./check`
-    would show it, since it compares the release with what it has built.
+    The kits 13b and 13f have the same checker and compiler, and differ in their commands alone. If the compiler of another
+    letter differs, `./check` shows it, since it compares the release with what it has built.
     """
     try:
         version = subprocess.run(["rt", "version"], capture_output=True, check=True, text=True).stdout.strip()
