@@ -18,7 +18,7 @@ use poly_design::Name;
 use poly_grid::Cell;
 use poly_tiling::{Item, View, has_number};
 
-// Inserts a number at an index of a list. The list is short: a plain loop is faster than the general `insert`.
+// Inserts a number at an index of a list that has room for it.
 fn insert_at(numbers: &mut Vec<u32>, k: usize, number: u32)
     requires inside { k ≤ length numbers.old.items }
     requires room { vec_len numbers.old < vec_capacity numbers.old }

@@ -5,7 +5,7 @@ ghost use Rattle.std.specs.Prelude.{Bool, IfErr, IfOk, List, MatchOption, false,
 ghost use Rattle.std.specs.List.{filter, list_all, list_any};
 ghost use Rattle.poly_tiling.specs.Lists.{distinct, mem};
 ghost use Rattle.poly_tiling.specs.Names.{WellNamed};
-ghost use Rattle.poly_tiling.specs.Puzzle.{View as Scene};
+ghost use Rattle.poly_tiling.specs.Puzzle.{View as ViewOf};
 ghost use Rattle.poly_frame.specs.Bits.{has_bit};
 
 use crate::bits;
@@ -136,7 +136,7 @@ impl Matrix {
 
     /// The indices of the items of the column.
     pub(crate) fn items_of(&self, j: usize) -> &[usize]
-        requires shows { (v : Scene) × HomesShow v self.now.numbers.items self.now.homes.items self.now.lists }
+        requires shows { (v : ViewOf) × HomesShow v self.now.numbers.items self.now.homes.items self.now.lists }
         requires column { j < length self.now.numbers.items }
         ensures { result.now ≡ column_items self.now.lists self.now.homes.items j }
     {
@@ -323,7 +323,7 @@ fn list_items(
 
 // The same lists.
 fn share(lists: &Option<Arc<Lists>>) -> Result<Option<Arc<Lists>>, Refusal>
-    ensures same { IfOk result (λ l. (v : Scene) (ns homes : List ℕ) → HomesShow v ns homes lists.now → HomesShow v ns homes l) }
+    ensures same { IfOk result (λ l. (v : ViewOf) (ns homes : List ℕ) → HomesShow v ns homes lists.now → HomesShow v ns homes l) }
     ensures why { IfErr result (λ e. e ≡ Refusal.Memory) }
 {
     match lists {

@@ -7,7 +7,7 @@ use crate::frame::node::Node;
 use crate::plain::put_number;
 use poly_atom::Atom;
 
-// Removes the number at an index from a list. The list is short: a plain loop is faster than the general `remove`.
+// Removes the number at an index from a list.
 fn remove_at(numbers: &mut Vec<u32>, k: usize)
     requires { k < length numbers.old.items }
     ensures items { numbers.new.items ≡ take k numbers.old.items ++ drop (k + 1) numbers.old.items }

@@ -3,7 +3,7 @@ ghost use Rattle.std.specs.Prelude.{IfErr, IfOk, length, nat_lt, not, slice_inde
 ghost use Rattle.std.specs.List.{list_any};
 ghost use Rattle.std.specs.Int.{bit_at};
 ghost use Rattle.poly_tiling.specs.Lists.{mem};
-ghost use Rattle.poly_tiling.specs.Puzzle.{View as Scene, is_piece};
+ghost use Rattle.poly_tiling.specs.Puzzle.{View as ViewOf, is_piece};
 ghost use Rattle.poly_atom.specs.Hopeless.{base, lacks};
 ghost use Rattle.poly_frame.specs.Bits.{has_bit};
 ghost use Rattle.poly_frame.specs.Open.{open_in};
@@ -99,7 +99,7 @@ fn take_out_shut(bounds: &[Bound], whole: &Matrix, mosts: &[u8], have: &[u64], r
 
 // Takes out a number, if it has a column.
 fn take_out_number(whole: &Matrix, number: u32, row: &mut Vec<u64>)
-    requires part { (v : Scene) × IsMatrix v whole.now }
+    requires part { (v : ViewOf) × IsMatrix v whole.now }
     requires len { length row.old.items ≡ whole.now.width }
     ensures len { length row.new.items ≡ length row.old.items }
     ensures bits { (j : ℕ) → j < length whole.now.numbers.items → has_bit row.new.items j ≡ (has_bit row.old.items j && not (number == slice_index whole.now.numbers.items j)) }
@@ -110,7 +110,7 @@ fn take_out_number(whole: &Matrix, number: u32, row: &mut Vec<u64>)
 }
 
 fn take_out_lacked_by(whole: &Matrix, atom: &Atom, row: &mut Vec<u64>)
-    requires part { (v : Scene) × IsMatrix v whole.now }
+    requires part { (v : ViewOf) × IsMatrix v whole.now }
     requires len { length row.old.items ≡ whole.now.width }
     ensures len { length row.new.items ≡ length row.old.items }
     ensures bits { (j : ℕ) → j < length whole.now.numbers.items → has_bit row.new.items j ≡ (has_bit row.old.items j && not (lacks atom.now (slice_index whole.now.numbers.items j))) }
@@ -121,7 +121,7 @@ fn take_out_lacked_by(whole: &Matrix, atom: &Atom, row: &mut Vec<u64>)
 }
 
 fn take_out_lacked(whole: &Matrix, atoms: &[Atom], row: &mut Vec<u64>)
-    requires part { (v : Scene) × IsMatrix v whole.now }
+    requires part { (v : ViewOf) × IsMatrix v whole.now }
     requires len { length row.old.items ≡ whole.now.width }
     ensures len { length row.new.items ≡ length row.old.items }
     ensures bits { (j : ℕ) → j < length whole.now.numbers.items → has_bit row.new.items j ≡ (has_bit row.old.items j && not (list_any (λ a. lacks a (slice_index whole.now.numbers.items j)) atoms.now)) }
@@ -132,7 +132,7 @@ fn take_out_lacked(whole: &Matrix, atoms: &[Atom], row: &mut Vec<u64>)
 }
 
 fn take_out_members(whole: &Matrix, members: &[u32], row: &mut Vec<u64>)
-    requires part { (v : Scene) × IsMatrix v whole.now }
+    requires part { (v : ViewOf) × IsMatrix v whole.now }
     requires len { length row.old.items ≡ whole.now.width }
     ensures len { length row.new.items ≡ length row.old.items }
     ensures bits { (j : ℕ) → j < length whole.now.numbers.items → has_bit row.new.items j ≡ (has_bit row.old.items j && not (mem members.now (slice_index whole.now.numbers.items j))) }
