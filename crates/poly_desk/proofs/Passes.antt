@@ -1,16 +1,23 @@
 -- What follows from the contracts of a floor's calls for what a worker has: the pass, a receipt, a job, all tilings.
-use Rattle.std.proofs.Common.{Bool, List, None, Option, Some, [], ap, arith, false, inl, inr, length, refl, subst, sym, true, ℕ, ◌<◌, ◌∙◌, ◌∷◌, ◌≡◌, ◌≤◌, ◌⊎◌}
+use Rattle.std.proofs.lemmas.List.{length-append}
+use Rattle.std.proofs.Common.{Bool, List, None, Option, Some, [], ap, arith, false, inl, inr, length, refl, subst, sym, true, ℕ, ◌<◌, ◌++◌, ◌∙◌, ◌∷◌, ◌≡◌, ◌≤◌, ◌⊎◌}
 use Rattle.std.specs.Arc.{arc_value}
-use Rattle.std.specs.Prelude.{IfSome, MatchOption}
+use Rattle.std.specs.Prelude.{IfSome, MatchOption, map, slice_get}
 use Rattle.poly_grid.specs.declared.refusal.Refusal.{Refusal}
 use Rattle.poly_grid.specs.declared.refusal.Refusal.TheVariants.{Busy, Memory, Spent, Unsettled}
 use Rattle.poly_design.specs.Edits.{IsAccepted}
+use Rattle.poly_design.specs.Layout.{Layout}
 use Rattle.poly_design.specs.declared.change.Change.{Change}
 use Rattle.poly_design.specs.declared.edit.Edit.{Edit}
+use Rattle.poly_design.specs.declared.placement.Placement.{Placement}
 use Rattle.poly_tiling.specs.Puzzle.{View}
+use Rattle.poly_tiling.specs.Shows.{names}
+use Rattle.poly_tiling.specs.declared.item.Item.{Item}
+use Rattle.poly_tiling.proofs.Blocked.{slice_get_back}
 use Rattle.poly_report.specs.Trees.{Plan}
 use Rattle.poly_book.specs.declared.step.Applied.{Applied}
 use Rattle.poly_book.specs.declared.step.Done.{Done}
+use Rattle.poly_book.specs.declared.step.Ending.TheVariants as ending
 use Rattle.poly_book.specs.declared.step.Kind.{Kind}
 use Rattle.poly_book.specs.declared.step.Kind.TheVariants as kind
 use Rattle.poly_book.specs.declared.step.Step.{Step}
@@ -20,15 +27,19 @@ use Rattle.poly_book.specs.declared.take.Which.TheVariants as which
 use Rattle.poly_book.specs.Events.{moved, redone, undone}
 use Rattle.poly_book.specs.AllTilings.{AllTilings, IsQuietOf}
 use Rattle.poly_book.specs.Jobs.{IsMissing, IsTaken}
+use Rattle.poly_book.specs.Nexts.{IsLeastFrom, NoneFrom}
 use Rattle.poly_book.specs.Partition.{Becomes}
 use Rattle.poly_book.specs.Refused.{IsNotApplied, IsNotEdited, IsNotRedone, IsNotUndone}
 use Rattle.poly_book.specs.Reports.{IsApplied}
 use Rattle.poly_book.specs.States.{State, Stored, Way}
 use Rattle.poly_book.specs.Steps.{IsEdited, IsRedone, IsUndone}
+use Rattle.poly_browse.specs.Browsing.{Asked, IsAnswer}
+use Rattle.poly_desk.specs.Books.{HasBook, HasBooks, IsBookOf, IsCause, IsOfDesk}
 use Rattle.poly_desk.specs.Calls.{HasNoted, IsBehind, IsRefused}
 use Rattle.poly_desk.specs.Changes.{IsChanged, OneChange}
 use Rattle.poly_desk.specs.Floors.{IsViewAt}
 use Rattle.poly_desk.specs.Noted.{Held}
+use Rattle.poly_desk.specs.Receipts.{IsRightReceipt}
 use Rattle.poly_desk.specs.Seen.{IsAskedFor, IsCut, IsMade, IsRefusedAtDesk, IsUnsettled, Later, MayRefuse, is_unsettled}
 use Rattle.poly_desk.specs.declared.ledgers.TheConstants.{MOST_PASSES}
 use Rattle.poly_desk.specs.declared.receipt.Receipt.{Receipt}
@@ -50,42 +61,109 @@ noted_later s p q h = grown_later s s p q 0 0 h (omega arith)
 pub behind_unsettled : (s : State) (p q : Held) (e : Refusal) → IsBehind s p q e → IsUnsettled p q e
 behind_unsettled s p q e h = record { found = length s.steps; why = h.why; behind = h.behind; pass = h.pass }
 
-refused_at_desk : (s : State) (p q : Held) (e : Refusal) (cause : Type 0) → (cause → is_unsettled e ≡ false) → IsRefused s p q e cause → IsRefusedAtDesk p q e
-refused_at_desk s p q e cause f (inl h) = inl (behind_unsettled s p q e h)
-refused_at_desk s p q e cause f (inr h) = inr (noted_later s p q h.0, f h.1)
+found_book : (o : Layout) (ss : List Step) (k : ℕ) (s : State) (p q : Held) (P : State → Type 0) → IsBookOf o ss k s → HasNoted s s p q 0 0 → P s → HasBook o ss k q P
+found_book o ss k s p q P of h x = record { book = s; of_desk = of; noted = ap (λ (z : Held). z.noted) h.pass; holds = x }
 
--- what a desk's refusal says of the pass as the call left it
-pub may_refuse : (p q : Held) (e : Refusal) → IsRefusedAtDesk p q e → MayRefuse q e
-may_refuse p q e (inl h) = inl (h.found, h.why ∙ ap (λ (z : Held). Unsettled z.noted.edition h.found) (sym h.pass), subst (λ (z : Held). h.found < z.noted.edition) (sym h.pass) h.behind)
-may_refuse p q e (inr h) = inr h.1
+found_books : (o : Layout) (ss : List Step) (k : ℕ) (s t : State) (p q : Held) (m n : ℕ) (P : State → State → Type 0) → IsBookOf o ss k s → IsBookOf o ss k t → HasNoted s t p q m n → P s t → HasBooks o ss k q P
+found_books o ss k s t p q m n P of of_after h x = record { before = s; after = t; of_desk = of; of_desk_after = of_after; noted = ap (λ (z : Held). z.noted) h.pass; holds = x }
 
-pub cut_given : (r : Receipt) (place task : ℕ) → r ≡ receipt.Cut place task → IsCut r
-cut_given r place task is = subst IsCut (sym is) tt
+refused_at_desk : (o : Layout) (ss : List Step) (k : ℕ) (s : State) (p q : Held) (e : Refusal) (known cause : State → Type 0) → (known s → cause s) → (known s → is_unsettled e ≡ false) →
+    IsBookOf o ss k s → IsRefused s p q e (known s) → IsRefusedAtDesk o ss k p q cause e
+refused_at_desk o ss k s p q e known cause f g of (inl h) = inl (behind_unsettled s p q e h)
+refused_at_desk o ss k s p q e known cause f g of (inr h) = inr (noted_later s p q h.0, (g h.1, found_book o ss k s p q cause of h.0 (f h.1)))
+
+weaker : (o : Layout) (ss : List Step) (k : ℕ) (q : Held) (P Q : State → Type 0) → ((b : State) → P b → Q b) → HasBook o ss k q P → HasBook o ss k q Q
+weaker o ss k q P Q f h = record { book = h.book; of_desk = h.of_desk; noted = h.noted; holds = f h.book h.holds }
+
+may_refuse : (o : Layout) (ss : List Step) (k : ℕ) (p q : Held) (e : Refusal) (cause : State → Type 0) → ((b : State) → cause b → IsCause b e) → IsRefusedAtDesk o ss k p q cause e → MayRefuse o ss k q e
+may_refuse o ss k p q e cause f (inl h) = inl (h.found, (h.why ∙ ap (λ (z : Held). Unsettled z.noted.edition h.found) (sym h.pass), subst (λ (z : Held). h.found < z.noted.edition) (sym h.pass) h.behind))
+may_refuse o ss k p q e cause f (inr h) = inr (h.1.0, weaker o ss k q cause (λ b. IsCause b e) f h.1.1)
+
+-- what a desk's refusal of `take` says of the pass as the call left it
+pub may_refuse_take : (o : Layout) (ss : List Step) (k : ℕ) (p q : Held) (e : Refusal) → IsRefusedAtDesk o ss k p q (λ b. e ≡ Memory) e → MayRefuse o ss k q e
+may_refuse_take o ss k p q e h = may_refuse o ss k p q e (λ b. e ≡ Memory) (λ b c. inl c) h
+
+-- what its refusal of a report says
+pub may_refuse_report : (o : Layout) (ss : List Step) (k : ℕ) (p q : Held) (e : Refusal) (task : ℕ) (tree : Plan) → IsRefusedAtDesk o ss k p q (λ b. IsNotApplied task tree b e) e → MayRefuse o ss k q e
+may_refuse_report o ss k p q e task tree h = may_refuse o ss k p q e (λ b. IsNotApplied task tree b e) (λ b c. inr (task, (tree, c))) h
+
+right_at : (task made : ℕ) (tree : Plan) (s t : State) (a : Applied) → IsApplied task made tree s t a → IsRightReceipt t (receipt.Cut a.place task)
+right_at task made tree s t a h =
+    let c = applied_one task made tree s t a h in
+    (
+      length s.endings,
+      omega (arith, c.place, ap length c.endings, length-append s.endings (ending.Cut task ∷ [])),
+      subst (λ es. slice_get es (length s.endings) ≡ Some (ending.Cut task)) (sym c.endings) (subst (λ n. slice_get (s.endings ++ ending.Cut task ∷ []) n ≡ Some (ending.Cut task)) (omega arith) (slice_get_back s.endings (ending.Cut task ∷ []) 0)),
+    )
+
+-- the receipt of a report that was applied is right for the desk's book after it
+pub cut_given : (o : Layout) (ss : List Step) (k : ℕ) (q : Held) (task made : ℕ) (tree : Plan) (a : Applied) (r : Receipt) → HasBooks o ss k q (λ b c. IsApplied task made tree b c a) → r ≡ receipt.Cut a.place task → IsCut r × IsOfDesk o ss k r
+cut_given o ss k q task made tree a r h is = (
+  subst IsCut (sym is) tt,
+  subst (λ z. IsOfDesk o ss k z) (sym is) (h.after, (h.of_desk_after, right_at task made tree h.before h.after a h.holds)),
+)
+
+-- if a desk has no task to take, nothing is pending
+pub none_pending : (o : Layout) (ss : List Step) (k : ℕ) (q : Held) (w : Which) (j : Option Job) → HasBook o ss k q (λ b. MatchOption j (IsMissing b w) (λ i. IsTaken b w i)) → j ≡ None → w ≡ which.Any → HasBook o ss k q (λ b. b.pending ≡ [])
+none_pending o ss k q w j h is any = record {
+  book = h.book;
+  of_desk = h.of_desk;
+  noted = h.noted;
+  holds = subst (λ z. MatchOption z (IsMissing h.book which.Any) (λ i. IsTaken h.book which.Any i)) is (subst (λ y. MatchOption j (IsMissing h.book y) (λ i. IsTaken h.book y i)) any h.holds);
+}
 
 either : {A B C : Type 0} → (A → C) → (B → C) → A ⊎ B → C
 either f g (inl a) = f a
 either f g (inr b) = g b
 
-pub pass_refused : (s : State) (n : ℕ) (p q : Held) (e : Refusal) → IsRefused s p q e (((e ≡ Spent) × (n ≡ MOST_PASSES)) ⊎ (e ≡ Memory)) → IsRefusedAtDesk p q e
-pass_refused s n p q e h = refused_at_desk s p q e _ (either (λ (k : (e ≡ Spent) × (n ≡ MOST_PASSES)). other e _ k.0 refl) (λ k. other e _ k refl)) h
+pub pass_refused : (o : Layout) (ss : List Step) (k : ℕ) (s : State) (n : ℕ) (p q : Held) (e : Refusal) → IsBookOf o ss k s → IsRefused s p q e (((e ≡ Spent) × (n ≡ MOST_PASSES)) ⊎ (e ≡ Memory)) → IsRefusedAtDesk o ss k p q (λ b. (e ≡ Spent) ⊎ (e ≡ Memory)) e
+pass_refused o ss k s n p q e of h = refused_at_desk o ss k s p q e (λ b. ((e ≡ Spent) × (n ≡ MOST_PASSES)) ⊎ (e ≡ Memory)) (λ b. (e ≡ Spent) ⊎ (e ≡ Memory))
+    (either (λ (x : (e ≡ Spent) × (n ≡ MOST_PASSES)). inl x.0) (λ x. inr x)) (either (λ (x : (e ≡ Spent) × (n ≡ MOST_PASSES)). other e _ x.0 refl) (λ x. other e _ x refl)) of h
 
-pub memory_refused : (s : State) (p q : Held) (e : Refusal) → IsRefused s p q e (e ≡ Memory) → IsRefusedAtDesk p q e
-memory_refused s p q e h = refused_at_desk s p q e _ (λ k. other e _ k refl) h
+pub memory_refused : (o : Layout) (ss : List Step) (k : ℕ) (s : State) (p q : Held) (e : Refusal) → IsBookOf o ss k s → IsRefused s p q e (e ≡ Memory) → IsRefusedAtDesk o ss k p q (λ b. e ≡ Memory) e
+memory_refused o ss k s p q e of h = refused_at_desk o ss k s p q e (λ b. e ≡ Memory) (λ b. e ≡ Memory) (λ x. x) (λ x. other e _ x refl) of h
 
-pub quiet_refused : (s : State) (p q : Held) (e : Refusal) → IsRefused s p q e (((e ≡ Busy (length s.pending)) × (0 < length s.pending)) ⊎ ((e ≡ Memory) × (s.pending ≡ []))) → IsRefusedAtDesk p q e
-quiet_refused s p q e h = refused_at_desk s p q e _ (either (λ (k : (e ≡ Busy (length s.pending)) × (0 < length s.pending)). other e _ k.0 refl) (λ (k : (e ≡ Memory) × (s.pending ≡ [])). other e _ k.0 refl)) h
+pub quiet_refused : (o : Layout) (ss : List Step) (k : ℕ) (s : State) (p q : Held) (e : Refusal) → IsBookOf o ss k s → IsRefused s p q e (((e ≡ Busy (length s.pending)) × (0 < length s.pending)) ⊎ ((e ≡ Memory) × (s.pending ≡ []))) →
+    IsRefusedAtDesk o ss k p q (λ b. ((e ≡ Busy (length b.pending)) × (0 < length b.pending)) ⊎ ((e ≡ Memory) × (b.pending ≡ []))) e
+quiet_refused o ss k s p q e of h = refused_at_desk o ss k s p q e (λ b. ((e ≡ Busy (length b.pending)) × (0 < length b.pending)) ⊎ ((e ≡ Memory) × (b.pending ≡ []))) (λ b. ((e ≡ Busy (length b.pending)) × (0 < length b.pending)) ⊎ ((e ≡ Memory) × (b.pending ≡ []))) (λ x. x)
+    (either (λ (x : (e ≡ Busy (length s.pending)) × (0 < length s.pending)). other e _ x.0 refl) (λ (x : (e ≡ Memory) × (s.pending ≡ [])). other e _ x.0 refl)) of h
 
-pub edit_refused : (x : Edit) (s : State) (p q : Held) (e : Refusal) → IsRefused s p q e (IsNotEdited x s e) → IsRefusedAtDesk p q e
-edit_refused x s p q e h = refused_at_desk s p q e _ (edited_other x s e) h
+pub edit_refused : (x : Edit) (o : Layout) (ss : List Step) (k : ℕ) (s : State) (p q : Held) (e : Refusal) → IsBookOf o ss k s → IsRefused s p q e (IsNotEdited x s e) → IsRefusedAtDesk o ss k p q (λ b. IsNotEdited x b e) e
+edit_refused x o ss k s p q e of h = refused_at_desk o ss k s p q e (λ b. IsNotEdited x b e) (λ b. IsNotEdited x b e) (λ y. y) (edited_other x s e) of h
 
-pub undo_refused : (s : State) (p q : Held) (e : Refusal) → IsRefused s p q e (IsNotUndone s e ⊎ (e ≡ Memory)) → IsRefusedAtDesk p q e
-undo_refused s p q e h = refused_at_desk s p q e _ (either (undone_other s e) (λ k. other e _ k refl)) h
+pub undo_refused : (o : Layout) (ss : List Step) (k : ℕ) (s : State) (p q : Held) (e : Refusal) → IsBookOf o ss k s → IsRefused s p q e (IsNotUndone s e ⊎ (e ≡ Memory)) → IsRefusedAtDesk o ss k p q (λ b. IsNotUndone b e ⊎ (e ≡ Memory)) e
+undo_refused o ss k s p q e of h = refused_at_desk o ss k s p q e (λ b. IsNotUndone b e ⊎ (e ≡ Memory)) (λ b. IsNotUndone b e ⊎ (e ≡ Memory)) (λ y. y) (either (undone_other s e) (λ y. other e _ y refl)) of h
 
-pub redo_refused : (s : State) (p q : Held) (e : Refusal) → IsRefused s p q e (IsNotRedone s e ⊎ (e ≡ Memory)) → IsRefusedAtDesk p q e
-redo_refused s p q e h = refused_at_desk s p q e _ (either (redone_other s e) (λ k. other e _ k refl)) h
+pub redo_refused : (o : Layout) (ss : List Step) (k : ℕ) (s : State) (p q : Held) (e : Refusal) → IsBookOf o ss k s → IsRefused s p q e (IsNotRedone s e ⊎ (e ≡ Memory)) → IsRefusedAtDesk o ss k p q (λ b. IsNotRedone b e ⊎ (e ≡ Memory)) e
+redo_refused o ss k s p q e of h = refused_at_desk o ss k s p q e (λ b. IsNotRedone b e ⊎ (e ≡ Memory)) (λ b. IsNotRedone b e ⊎ (e ≡ Memory)) (λ y. y) (either (redone_other s e) (λ y. other e _ y refl)) of h
 
-pub report_refused : (k : ℕ) (tree : Plan) (s : State) (p q : Held) (e : Refusal) → IsRefused s p q e (IsNotApplied k tree s e) → IsRefusedAtDesk p q e
-report_refused k tree s p q e h = refused_at_desk s p q e _ (applied_other k tree s e) h
+pub report_refused : (task : ℕ) (tree : Plan) (o : Layout) (ss : List Step) (k : ℕ) (s : State) (p q : Held) (e : Refusal) → IsBookOf o ss k s → IsRefused s p q e (IsNotApplied task tree s e) → IsRefusedAtDesk o ss k p q (λ b. IsNotApplied task tree b e) e
+report_refused task tree o ss k s p q e of h = refused_at_desk o ss k s p q e (λ b. IsNotApplied task tree b e) (λ b. IsNotApplied task tree b e) (λ y. y) (applied_other task tree s e) of h
+
+pub edited_books : (x : Edit) (o : Layout) (ss : List Step) (k : ℕ) (s t : State) (p q : Held) (r : Receipt) → IsBookOf o ss k s → IsBookOf o ss k t → HasNoted s t p q 1 0 → IsChanged (λ d. IsEdited x s t d) r → HasBooks o ss k q (λ b c. IsChanged (λ d. IsEdited x b c d) r)
+edited_books x o ss k s t p q r of of_after h y = found_books o ss k s t p q 1 0 (λ b c. IsChanged (λ d. IsEdited x b c d) r) of of_after h y
+
+pub undone_books : (o : Layout) (ss : List Step) (k : ℕ) (s t : State) (p q : Held) (r : Receipt) → IsBookOf o ss k s → IsBookOf o ss k t → HasNoted s t p q 1 0 → IsChanged (λ d. IsUndone s t d) r → HasBooks o ss k q (λ b c. IsChanged (λ d. IsUndone b c d) r)
+undone_books o ss k s t p q r of of_after h y = found_books o ss k s t p q 1 0 (λ b c. IsChanged (λ d. IsUndone b c d) r) of of_after h y
+
+pub redone_books : (o : Layout) (ss : List Step) (k : ℕ) (s t : State) (p q : Held) (r : Receipt) → IsBookOf o ss k s → IsBookOf o ss k t → HasNoted s t p q 1 0 → IsChanged (λ d. IsRedone s t d) r → HasBooks o ss k q (λ b c. IsChanged (λ d. IsRedone b c d) r)
+redone_books o ss k s t p q r of of_after h y = found_books o ss k s t p q 1 0 (λ b c. IsChanged (λ d. IsRedone b c d) r) of of_after h y
+
+pub applied_books : (task made : ℕ) (tree : Plan) (o : Layout) (ss : List Step) (k : ℕ) (s t : State) (p q : Held) (a : Applied) → IsBookOf o ss k s → IsBookOf o ss k t → HasNoted s t p q 0 1 → IsApplied task made tree s t a → HasBooks o ss k q (λ b c. IsApplied task made tree b c a)
+applied_books task made tree o ss k s t p q a of of_after h y = found_books o ss k s t p q 0 1 (λ b c. IsApplied task made tree b c a) of of_after h y
+
+pub next_book : (from : ℕ) (o : Layout) (ss : List Step) (k : ℕ) (s : State) (p q : Held) (n : Option ℕ) → IsBookOf o ss k s → HasNoted s s p q 0 0 → MatchOption n (NoneFrom from s.pending) (λ m. IsLeastFrom from s.pending m) → HasBook o ss k q (λ b. MatchOption n (NoneFrom from b.pending) (λ m. IsLeastFrom from b.pending m))
+next_book from o ss k s p q n of h y = found_book o ss k s p q (λ b. MatchOption n (NoneFrom from b.pending) (λ m. IsLeastFrom from b.pending m)) of h y
+
+pub taken_book : (w : Which) (o : Layout) (ss : List Step) (k : ℕ) (s : State) (p q : Held) (j : Option Job) → IsBookOf o ss k s → HasNoted s s p q 0 0 → MatchOption j (IsMissing s w) (λ i. IsTaken s w i) → HasBook o ss k q (λ b. MatchOption j (IsMissing b w) (λ i. IsTaken b w i))
+taken_book w o ss k s p q j of h y = found_book o ss k s p q (λ b. MatchOption j (IsMissing b w) (λ i. IsTaken b w i)) of h y
+
+pub quiet_book : (o : Layout) (ss : List Step) (k : ℕ) (s : State) (p q : Held) (a : AllTilings) → IsBookOf o ss k s → HasNoted s s p q 0 0 → IsQuietOf s a → HasBook o ss k q (λ b. IsQuietOf b a)
+quiet_book o ss k s p q a of h y = found_book o ss k s p q (λ b. IsQuietOf b a) of h y
+
+pub answer_book : (asked : Asked) (count : ℕ) (forced : List Placement) (options : List (Item × ℕ)) (o : Layout) (ss : List Step) (k : ℕ) (s : State) (p q : Held) → IsBookOf o ss k s → HasNoted s s p q 0 0 → IsAnswer s.design (map (names s.view) s.listed) asked count forced options →
+    HasBook o ss k q (λ b. IsAnswer b.design (map (names b.view) b.listed) asked count forced options)
+answer_book asked count forced options o ss k s p q of h y = found_book o ss k s p q (λ b. IsAnswer b.design (map (names b.view) b.listed) asked count forced options) of h y
 
 changed_later : (s t : State) (p q : Held) (d : Done) → HasNoted s t p q 1 0 → OneChange s t d → Later p q 1 0
 changed_later s t p q d h c = grown_later s t p q 1 0 h (omega (arith, ap length c.last))

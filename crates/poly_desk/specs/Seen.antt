@@ -1,12 +1,15 @@
 -- What the contracts of a desk say about a pass and about a receipt.
-use Rattle.std.specs.Prelude.{Bool, false, true, ℕ, ◌+◌, ◌<◌, ◌≡◌, ◌≤◌, ◌⊎◌}
+use Rattle.std.specs.Prelude.{Bool, List, false, true, ℕ, ◌+◌, ◌<◌, ◌≡◌, ◌≤◌, ◌⊎◌}
 use Rattle.poly_grid.specs.declared.refusal.Refusal.{Refusal}
 use Rattle.poly_grid.specs.declared.refusal.Refusal.TheVariants.{Unsettled}
 use Rattle.poly_design.specs.Edits.{IsAccepted}
 use Rattle.poly_board.specs.declared.posted.Posted.{Posted}
 use Rattle.poly_design.specs.Layout.{Layout}
 use Rattle.poly_design.specs.declared.edit.Edit.{Edit}
+use Rattle.poly_book.specs.States.{State}
 use Rattle.poly_book.specs.declared.step.Kind.{Kind}
+use Rattle.poly_book.specs.declared.step.Step.{Step}
+use Rattle.poly_desk.specs.Books.{HasBook, IsCause}
 use Rattle.poly_desk.specs.Noted.{Held}
 use Rattle.poly_desk.specs.declared.receipt.Receipt.{Receipt}
 use Rattle.poly_desk.specs.declared.receipt.Receipt.TheVariants as receipt
@@ -40,15 +43,17 @@ abbrev pub is_unsettled : Refusal → Bool
 is_unsettled (Unsettled seen found) = true
 is_unsettled _ = false
 
--- the call was refused because the edition found is below the one that the pass has noted, or else for another cause; it made
--- no change and no cut
-abbrev pub IsRefusedAtDesk : Held → Held → Refusal → Type 0
-IsRefusedAtDesk p q e = IsUnsettled p q e ⊎ (Later p q 0 0 × (is_unsettled e ≡ false))
+-- The call was refused because the edition found is below the one that the pass has noted; or else for another cause, which
+-- holds of a book that the desk may have. It made no change and no cut.
+abbrev pub IsRefusedAtDesk : Layout → List Step → ℕ → Held → Held → (State → Type 0) → Refusal → Type 0
+IsRefusedAtDesk o ss k p q cause e = IsUnsettled p q e ⊎ (Later p q 0 0 × (is_unsettled e ≡ false) × HasBook o ss k q cause)
 
--- why a call may have been refused that leaves the pass so: the edition found was below the one that the pass has noted, or it
--- was another cause than that
-abbrev pub MayRefuse : Held → Refusal → Type 0
-MayRefuse q e = ((found : ℕ) × (e ≡ Unsettled q.noted.edition found) × (found < q.noted.edition)) ⊎ (is_unsettled e ≡ false)
+-- Why a worker's call may have been refused that leaves the pass so: the edition found was below the one that the pass has noted;
+-- or it was another cause, which holds of a book that the desk may have.
+abbrev pub MayRefuse : Layout → List Step → ℕ → Held → Refusal → Type 0
+MayRefuse o ss k q e =
+    ((found : ℕ) × (e ≡ Unsettled q.noted.edition found) × (found < q.noted.edition))
+    ⊎ ((is_unsettled e ≡ false) × HasBook o ss k q (λ b. IsCause b e))
 
 -- the receipt is of a cut
 abbrev pub IsCut : Receipt → Type 0

@@ -1,8 +1,9 @@
 //! A desk as a worker sees it.
-ghost use Rattle.std.specs.Prelude.{◌≡◌, ◌+◌, ℕ, IfErr, IfOk, IfSome, None, OnErr, OnOk};
+ghost use Rattle.std.specs.Prelude.{◌≡◌, ◌+◌, [], ℕ, IfErr, IfOk, IfSome, None, OnErr, OnOk};
 ghost use Rattle.std.specs.Arc.{arc_value};
 ghost use Rattle.poly_tiling.specs.Puzzle.{View as ViewOf};
 ghost use Rattle.poly_grid.specs.declared.refusal.Refusal.{Refusal as Cause};
+ghost use Rattle.poly_desk.specs.Books.{HasBook, IsOfDesk};
 ghost use Rattle.poly_desk.specs.Floors.{IsViewAt};
 ghost use Rattle.poly_desk.specs.Seen.{IsCut, MayRefuse};
 ghost use Rattle.poly_desk.specs.declared.receipt.Receipt.{Receipt as Given};
@@ -97,10 +98,13 @@ impl<C: Ledger, K: Ledger, O: Opening> Bench for Desk<C, K, O> {
 
     ghost is_view_at = { λ edition view. IsViewAt O.steps O.view edition view };
 
-    ghost refused = { λ p e. MayRefuse p e };
+    ghost refused = { λ p e. MayRefuse O.design O.steps O.cuts p e };
 
-    ghost gave = { λ _ r. IsCut r };
+    ghost found_none = { λ p. HasBook O.design O.steps O.cuts p (λ b. b.pending ≡ []) };
 
+    ghost gave = { λ _ r. IsCut r × IsOfDesk O.design O.steps O.cuts r };
+
+    #[tactic(auto, using(crate::proofs::Passes::none_pending, crate::proofs::Passes::may_refuse_take))]
     fn take<R: Wait>(
         &self,
         rt: &R,
@@ -110,6 +114,7 @@ impl<C: Ledger, K: Ledger, O: Opening> Bench for Desk<C, K, O> {
         self.take(rt, pass, which)
     }
 
+    #[tactic(auto, using(crate::proofs::Passes::cut_given, crate::proofs::Passes::may_refuse_report))]
     fn hand_in<R: Wait>(
         &self,
         rt: &R,
@@ -119,6 +124,7 @@ impl<C: Ledger, K: Ledger, O: Opening> Bench for Desk<C, K, O> {
         self.hand_in(rt, pass, report)
     }
 
+    #[tactic(auto, using(crate::proofs::Passes::cut_given, crate::proofs::Passes::may_refuse_report))]
     fn hand_in_found<R: Wait>(
         &self,
         rt: &R,

@@ -1,10 +1,11 @@
 //! The floor of a desk, and its events: the calls that change its book.
-ghost use Rattle.std.specs.Prelude.{◌≡◌, ◌≤◌, ◌+◌, ◌⊎◌, ◌∷◌, [], IfErr, IfOk, OnErr, OnOk};
+ghost use Rattle.std.specs.Prelude.{◌≡◌, ◌≤◌, ◌+◌, ◌⊎◌, ◌∷◌, [], IfErr, IfOk, OnErr, OnOk, true};
 ghost use Rattle.poly_grid.specs.declared.refusal.Refusal.TheVariants.{Memory, Spent};
 ghost use Rattle.poly_report.specs.Shapes.{plan_of};
 ghost use Rattle.poly_book.specs.Refused.{IsNotApplied, IsNotEdited, IsNotRedone, IsNotUndone};
 ghost use Rattle.poly_book.specs.Reports.{IsApplied};
 ghost use Rattle.poly_book.specs.Steps.{IsEdited, IsRedone, IsUndone};
+ghost use Rattle.poly_desk.specs.Books.{IsBookOf};
 ghost use Rattle.poly_desk.specs.Calls.{HasNoted, IsRefused};
 ghost use Rattle.poly_desk.specs.Changes.{IsChanged, cut_count};
 ghost use Rattle.poly_desk.specs.Floors.{on_floor};
@@ -118,6 +119,14 @@ impl<C: Ledger, K: Ledger, O: Opening> Floor<C, K, O> {
             opening: PhantomData,
         };
         Ok((floor, pass))
+    }
+
+    /// Always returns true: its contract states what holds of the book of every floor.
+    pub(crate) fn whole(&self) -> bool
+        ensures book { IsBookOf O.design O.steps O.cuts self.now.book }
+        ensures yes { result ≡ true }
+    {
+        self.book.whole()
     }
 
     /// Returns a further pass, which has noted the same numbers as the given one has after the call.
