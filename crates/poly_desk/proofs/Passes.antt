@@ -37,7 +37,7 @@ use Rattle.poly_browse.specs.Browsing.{Asked, IsAnswer}
 use Rattle.poly_desk.specs.Books.{HasBook, HasBooks, IsBookOf, IsCause, IsOfDesk}
 use Rattle.poly_desk.specs.Calls.{HasNoted, IsBehind, IsRefused}
 use Rattle.poly_desk.specs.Changes.{IsChanged, OneChange}
-use Rattle.poly_desk.specs.Floors.{IsViewAt}
+use Rattle.poly_desk.specs.Floors.{IsViewAt, OnFloor}
 use Rattle.poly_desk.specs.Noted.{Held}
 use Rattle.poly_desk.specs.Receipts.{IsRightReceipt}
 use Rattle.poly_desk.specs.Seen.{IsAskedFor, IsCut, IsMade, IsRefusedAtDesk, IsUnsettled, Later, MayRefuse, is_unsettled}
@@ -61,6 +61,9 @@ noted_later s p q h = grown_later s s p q 0 0 h (omega arith)
 pub behind_unsettled : (s : State) (p q : Held) (e : Refusal) → IsBehind s p q e → IsUnsettled p q e
 behind_unsettled s p q e h = record { found = length s.steps; why = h.why; behind = h.behind; pass = h.pass }
 
+pub same_book : (o : Layout) (ss : List Step) (k : ℕ) (f g : OnFloor) → f ≡ g → IsBookOf o ss k f.book → IsBookOf o ss k g.book
+same_book o ss k f g e of = subst (λ (z : OnFloor). IsBookOf o ss k z.book) e of
+
 found_book : (o : Layout) (ss : List Step) (k : ℕ) (s : State) (p q : Held) (P : State → Type 0) → IsBookOf o ss k s → HasNoted s s p q 0 0 → P s → HasBook o ss k q P
 found_book o ss k s p q P of h x = record { book = s; of_desk = of; noted = ap (λ (z : Held). z.noted) h.pass; holds = x }
 
@@ -70,14 +73,14 @@ found_books o ss k s t p q m n P of of_after h x = record { before = s; after = 
 refused_at_desk : (o : Layout) (ss : List Step) (k : ℕ) (s : State) (p q : Held) (e : Refusal) (known cause : State → Type 0) → (known s → cause s) → (known s → is_unsettled e ≡ false) →
     IsBookOf o ss k s → IsRefused s p q e (known s) → IsRefusedAtDesk o ss k p q cause e
 refused_at_desk o ss k s p q e known cause f g of (inl h) = inl (behind_unsettled s p q e h)
-refused_at_desk o ss k s p q e known cause f g of (inr h) = inr (noted_later s p q h.0, (g h.1, found_book o ss k s p q cause of h.0 (f h.1)))
+refused_at_desk o ss k s p q e known cause f g of (inr h) = inr (noted_later s p q h.0, g h.1, found_book o ss k s p q cause of h.0 (f h.1))
 
 weaker : (o : Layout) (ss : List Step) (k : ℕ) (q : Held) (P Q : State → Type 0) → ((b : State) → P b → Q b) → HasBook o ss k q P → HasBook o ss k q Q
 weaker o ss k q P Q f h = record { book = h.book; of_desk = h.of_desk; noted = h.noted; holds = f h.book h.holds }
 
 may_refuse : (o : Layout) (ss : List Step) (k : ℕ) (p q : Held) (e : Refusal) (cause : State → Type 0) → ((b : State) → cause b → IsCause b e) → IsRefusedAtDesk o ss k p q cause e → MayRefuse o ss k q e
-may_refuse o ss k p q e cause f (inl h) = inl (h.found, (h.why ∙ ap (λ (z : Held). Unsettled z.noted.edition h.found) (sym h.pass), subst (λ (z : Held). h.found < z.noted.edition) (sym h.pass) h.behind))
-may_refuse o ss k p q e cause f (inr h) = inr (h.1.0, weaker o ss k q cause (λ b. IsCause b e) f h.1.1)
+may_refuse o ss k p q e cause f (inl h) = inl (h.found, h.why ∙ ap (λ (z : Held). Unsettled z.noted.edition h.found) (sym h.pass), subst (λ (z : Held). h.found < z.noted.edition) (sym h.pass) h.behind)
+may_refuse o ss k p q e cause f (inr h) = inr (h.1, weaker o ss k q cause (λ b. IsCause b e) f h.2)
 
 -- what a desk's refusal of `take` says of the pass as the call left it
 pub may_refuse_take : (o : Layout) (ss : List Step) (k : ℕ) (p q : Held) (e : Refusal) → IsRefusedAtDesk o ss k p q (λ b. e ≡ Memory) e → MayRefuse o ss k q e
@@ -85,7 +88,7 @@ may_refuse_take o ss k p q e h = may_refuse o ss k p q e (λ b. e ≡ Memory) (�
 
 -- what its refusal of a report says
 pub may_refuse_report : (o : Layout) (ss : List Step) (k : ℕ) (p q : Held) (e : Refusal) (task : ℕ) (tree : Plan) → IsRefusedAtDesk o ss k p q (λ b. IsNotApplied task tree b e) e → MayRefuse o ss k q e
-may_refuse_report o ss k p q e task tree h = may_refuse o ss k p q e (λ b. IsNotApplied task tree b e) (λ b c. inr (task, (tree, c))) h
+may_refuse_report o ss k p q e task tree h = may_refuse o ss k p q e (λ b. IsNotApplied task tree b e) (λ b c. inr (task, tree, c)) h
 
 right_at : (task made : ℕ) (tree : Plan) (s t : State) (a : Applied) → IsApplied task made tree s t a → IsRightReceipt t (receipt.Cut a.place task)
 right_at task made tree s t a h =
@@ -100,7 +103,7 @@ right_at task made tree s t a h =
 pub cut_given : (o : Layout) (ss : List Step) (k : ℕ) (q : Held) (task made : ℕ) (tree : Plan) (a : Applied) (r : Receipt) → HasBooks o ss k q (λ b c. IsApplied task made tree b c a) → r ≡ receipt.Cut a.place task → IsCut r × IsOfDesk o ss k r
 cut_given o ss k q task made tree a r h is = (
   subst IsCut (sym is) tt,
-  subst (λ z. IsOfDesk o ss k z) (sym is) (h.after, (h.of_desk_after, right_at task made tree h.before h.after a h.holds)),
+  subst (λ z. IsOfDesk o ss k z) (sym is) (h.after, h.of_desk_after, right_at task made tree h.before h.after a h.holds),
 )
 
 -- if a desk has no task to take, nothing is pending
