@@ -2,8 +2,10 @@
 use Rattle.std.proofs.Common.{List, None, Option, Some, [], ap, arith, drop, get_or, length, map, refl, reverse, subst, suc, sym, take, zero, ℕ, ◌++◌, ◌+◌, ◌-◌, ◌<◌, ◌∙◌, ◌∷◌, ◌≡◌}
 use Rattle.std.proofs.lemmas.List.{drop_more, length-append, length-map, length_push, reverse-append, take-append-le, take_more}
 use Rattle.poly_design.specs.declared.change.Change.{Change}
+use Rattle.poly_tiling.specs.Puzzle.{View}
 use Rattle.poly_atom.specs.declared.atom.Atom.{Atom}
 use Rattle.poly_atom.specs.Logs.{flat}
+use Rattle.poly_atom.specs.Stairs.{stairs}
 use Rattle.poly_undo.specs.declared.step.Step.{Step as Beside}
 use Rattle.poly_undo.specs.Steps.{Moves, Steps, next_of, newest}
 use Rattle.poly_undo.proofs.Turns.{next_of_ends}
@@ -14,9 +16,10 @@ use Rattle.poly_book.specs.declared.step.Kind.{Kind}
 use Rattle.poly_book.specs.declared.step.Kind.TheVariants as kind
 use Rattle.poly_book.specs.Changing.{Noted}
 use Rattle.poly_book.specs.Meaning.{AreFrozen, AreHeld, AreHeldBy, IsFrozen, IsHeld, IsHeldAt, IsHeldBy, frozen_of, stored_of, task_of, tasks_of, way_by, way_of, ways_of}
+use Rattle.poly_book.specs.Opens.{Opens}
 use Rattle.poly_book.specs.Shelves.{crossed}
 use Rattle.poly_book.specs.States.{Stored, Way}
-use Rattle.poly_book.specs.Tasks.{atoms_of}
+use Rattle.poly_book.specs.Tasks.{atoms_of, hopeful, tasks_from}
 use Rattle.poly_book.specs.declared.task.Pending.{Pending}
 use Rattle.poly_book.proofs.Held.{is_own_push, own_push, since_push, tasks_append}
 
@@ -83,6 +86,18 @@ pub frozen_at : (log : List (List Atom)) (fs : List Frozen) (i : ℕ) (d : Froze
 frozen_at log [] i d h l = absurd (omega (arith, l))
 frozen_at log (f ∷ fs) zero d h l = h.0
 frozen_at log (f ∷ fs) (suc i) d h l = frozen_at log fs i d h.1 (omega (arith, l))
+
+-- without stairs there is nothing to cross with
+crossed_none : (F : List (List Atom)) → crossed F [] ≡ []
+crossed_none [] = refl
+crossed_none (A ∷ F) = crossed_none F
+
+pub opens_none : (log : List (List Atom)) (next : ℕ) (w : View) (F : List (List Atom)) (gs : List Atom) → length gs ≡ 0 → Opens log next w (crossed F (stairs gs)) []
+opens_none log next w F [] e = record {
+  are = tt;
+  tasks = ap (λ As. tasks_from next (hopeful w As)) (sym (crossed_none F));
+}
+opens_none log next w F (g ∷ gs) e = absurd (omega (arith, e))
 
 -- of the lists that are still to be crossed, those of the next base come first
 pub crossed_head : (L S : List (List Atom)) (i : ℕ) → i < length L → crossed (drop i L) S ≡ map (λ B. get_or L i [] ++ B) S ++ crossed (drop (i + 1) L) S

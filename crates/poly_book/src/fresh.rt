@@ -183,6 +183,9 @@ fn opened_crossed(
     ensures why { IfErr result (λ e. ((e ≡ Refusal.Spent) × (4294967296 < next + length (hopeful view.now (crossed (map (λ f. frozen_of log.now f) frozen.now) (stairs guards.now))))) ⊎ (e ≡ Refusal.Memory)) }
 {
     let mut tasks = Vec::new(alloc);
+    if guards.is_empty() {
+        return Ok(tasks);
+    }
     let mut atoms = Vec::new(alloc);
     let mut number = next;
     for task in frozen {

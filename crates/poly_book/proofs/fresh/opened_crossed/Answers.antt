@@ -1,14 +1,21 @@
-use Rattle.std.proofs.Common.{[], arith, drop, inl, inr, map, subst, sym, ◌++◌, ◌+◌, ◌∷◌, ◌≡◌}
+use Rattle.std.proofs.Common.{[], arith, drop, inl, inr, length, map, rules, subst, sym, ◌++◌, ◌+◌, ◌∷◌, ◌≡◌}
 use Rattle.std.proofs.lemmas.Result.{err_from_is_err_and}
 use Rattle.poly_atom.specs.Stairs.{stairs}
 use Rattle.poly_book.specs.Meaning.{IsFrozen, frozen_of}
 use Rattle.poly_book.specs.Opens.{Opening}
 use Rattle.poly_book.specs.Shelves.{crossed}
-use Rattle.poly_book.proofs.Holding.{frozen_at, frozen_head}
+use Rattle.poly_book.proofs.Holding.{frozen_at, frozen_head, opens_none}
 use Rattle.poly_book.proofs.fresh.opened_crossed.Goals as goal
 
 pub frozen_list-requires : goal.frozen_list-requires
 frozen_list-requires c = subst (λ f. IsFrozen c.args.log.now f) (sym c.task-item.is) (frozen_at c.args.log.now c.args.frozen.now c.loop-task.task-index c.task-item.result c.requires.frozen c.loop-task-test.true)
+
+pub returns-then-is_empty-clause-ok : goal.returns-then-is_empty-clause-ok
+returns-then-is_empty-clause-ok c =
+    let log = c.args.log.now in
+    let g = c.args.guards.now in
+    let none : length g ≡ 0 = search rules in
+    rw c.new-tasks.ensures.items (opens_none (log ++ g ∷ []) c.args.next c.args.view.now (map (λ f. frozen_of log f) c.args.frozen.now) g none)
 
 pub loop-task-preserved : goal.loop-task-preserved
 loop-task-preserved c =
