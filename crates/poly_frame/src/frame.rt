@@ -99,7 +99,7 @@ impl<'a> Frame<'a> {
         ensures once { distinct view.now.live ≡ true }
     {
         let whole = Matrix::new(alloc, view)?;
-        let frame = Frame::begin(alloc, view, Columns::Own(whole), atoms)?;
+        let frame = Frame::begin(alloc, view, Columns::Own(whole), None, atoms)?;
         Ok(frame)
     }
 
@@ -118,8 +118,42 @@ impl<'a> Frame<'a> {
         ensures well { WellNamed view.now }
         ensures once { distinct view.now.live ≡ true }
     {
-        let frame = Frame::begin(alloc, view, Columns::Lent(whole), atoms)?;
+        let frame = Frame::begin(alloc, view, Columns::Lent(whole), None, atoms)?;
         Ok(frame)
+    }
+
+    /// Does what [`Frame::over`] does, but begins with `part`, which takes less time the fewer columns `part` has. Requires that
+    /// `whole` is the view's matrix, and that `part` is a matrix of the view with a column for each placement that is open at
+    /// the atoms. [`Frame::into_matrix`] returns such a matrix. Fails only when out of memory.
+    pub fn within(
+        alloc: Global,
+        view: &'a View,
+        whole: &Matrix,
+        part: &'a Matrix,
+        atoms: &[Atom],
+    ) -> Result<Frame<'a>, Refusal>
+        requires whole { IsWhole view.now whole.now }
+        requires part { IsMatrix view.now part.now }
+        requires all { HasOpen view.now atoms.now part.now }
+        ensures made { IfOk result (λ f. f ≡ record { scene = view.now; atoms = atoms.now; given = length atoms.now }) }
+        ensures why { IfErr result (λ e. e ≡ Refusal.Memory) }
+        ensures well { WellNamed view.now }
+        ensures once { distinct view.now.live ≡ true }
+    {
+        let frame = Frame::begin(alloc, view, Columns::Lent(part), Some(whole), atoms)?;
+        Ok(frame)
+    }
+
+    /// The matrix that the frame made for itself and reads at this node; `None` if it reads a matrix that was lent to it. The
+    /// matrix has a column for each placement that is open at the frame's atoms. So it also serves frames whose atoms go on
+    /// from these.
+    pub fn into_matrix(self) -> Option<Matrix>
+        ensures part { IfSome result (λ m. IsMatrix self.entry.scene m) }
+        ensures all { IfSome result (λ m. HasOpen self.entry.scene self.entry.atoms m) }
+    {
+        let Frame { stand, .. } = self;
+        let Stand { columns, .. } = stand;
+        columns.into_own()
     }
 
     /// Reads a smaller matrix from here on, until this node is left, if that seems to pay. Call this only where the search is
@@ -155,15 +189,18 @@ impl<'a> Frame<'a> {
         Ok(())
     }
 
-    // A frame at the atoms, from a matrix with a column for each placement that is open there.
+    // A frame at the atoms, from a matrix with a column for each placement that is open there. `whole` is the matrix that has
+    // columns for the members of the base, too, or `None` if that is `part`.
     #[tactic(auto, using(poly_tiling::proofs::Orders::live_once))]
     fn begin(
         alloc: Global,
         view: &'a View,
         part: Columns<'a>,
+        whole: Option<&Matrix>,
         atoms: &[Atom],
     ) -> Result<Frame<'a>, Refusal>
         requires part { IsMatrix view.now (matrix_of part) }
+        requires whole { IfSome whole (λ m. IsMatrix view.now m.now) }
         requires all { HasOpen view.now atoms.now (matrix_of part) }
         ensures made { IfOk result (λ f. f ≡ record { scene = view.now; atoms = atoms.now; given = length atoms.now }) }
         ensures why { IfErr result (λ e. e ≡ Refusal.Memory) }
@@ -171,7 +208,7 @@ impl<'a> Frame<'a> {
         ensures once { distinct view.now.live ≡ true }
     {
         let lists = lists_of(alloc, view, atoms)?;
-        let levels = levels_of(alloc, view, part, atoms, &lists.members)?;
+        let levels = levels_of(alloc, view, part, whole, atoms, &lists.members)?;
         let Lists {
             trail,
             members,

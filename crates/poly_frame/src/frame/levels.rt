@@ -1,6 +1,6 @@
 //! What a frame keeps besides its lists: how many of its first levels are consistent, the matrix that it reads, the table,
 //! and the bits and counts that its steps change.
-ghost use Rattle.std.specs.Prelude.{IfErr, IfOk, length, vec_capacity, ◌*◌, ◌<◌, ◌^◌, ◌≡◌, ◌≤◌};
+ghost use Rattle.std.specs.Prelude.{IfErr, IfOk, IfSome, length, vec_capacity, ◌*◌, ◌<◌, ◌^◌, ◌≡◌, ◌≤◌};
 ghost use Rattle.poly_atom.specs.Hopeless.{base};
 ghost use Rattle.poly_frame.specs.declared.frame.TheConstants.{STEPS};
 ghost use Rattle.poly_frame.specs.declared.frame.items.TheConstants.{PLACEMENT_ITEMS};
@@ -51,14 +51,18 @@ struct Counted {
 }
 
 /// The levels of a frame at the atoms; `members` is their base. `part` has a column for each placement that is open there.
+/// `whole` is a matrix that has columns for the members, too, or `None` if that is `part`; if a member has no column there, the
+/// base is not known to be consistent.
 pub(crate) fn levels_of<'a>(
     alloc: Global,
     view: &View,
     part: Columns<'a>,
+    whole: Option<&Matrix>,
     atoms: &[Atom],
     members: &[u32],
 ) -> Result<Levels<'a>, Refusal>
     requires part { IsMatrix view.now (matrix_of part) }
+    requires whole { IfSome whole (λ m. IsMatrix view.now m.now) }
     requires all { HasOpen view.now atoms.now (matrix_of part) }
     requires base { members.now ≡ base view.now atoms.now }
     requires few { length members.now < 2 ^ 63 }
@@ -67,7 +71,7 @@ pub(crate) fn levels_of<'a>(
     ensures room { IfOk result (λ l. HasRoom (matrix_of l.columns) l.steps) }
     ensures why { IfErr result (λ e. e ≡ Refusal.Memory) }
 {
-    let (row, counted) = counted_row(alloc, view, part.matrix(), atoms, members)?;
+    let (row, counted) = counted_row(alloc, view, part.matrix(), whole, atoms, members)?;
     let (columns, row) = columns_of(alloc, view, part, row)?;
     let Counted {
         consistent,
@@ -98,15 +102,17 @@ pub(crate) fn levels_of<'a>(
 fn counted_row(
     alloc: Global,
     view: &View,
-    whole: &Matrix,
+    part: &Matrix,
+    whole: Option<&Matrix>,
     atoms: &[Atom],
     members: &[u32],
 ) -> Result<(Vec<u64>, Counted), Refusal>
-    requires part { IsMatrix view.now whole.now }
+    requires part { IsMatrix view.now part.now }
+    requires whole { IfSome whole (λ m. IsMatrix view.now m.now) }
     requires base { members.now ≡ base view.now atoms.now }
     requires few { length members.now < 2 ^ 63 }
-    ensures len { IfOk result (λ r. length r.0.items ≡ whole.now.width) }
-    ensures row { IfOk result (λ r. RowOf (λ p. open_in view.now atoms.now p) whole.now r.0.items) }
+    ensures len { IfOk result (λ r. length r.0.items ≡ part.now.width) }
+    ensures row { IfOk result (λ r. RowOf (λ p. open_in view.now atoms.now p) part.now r.0.items) }
     ensures consistent { IfOk result (λ r. ConsistentShows view.now atoms.now (length atoms.now) r.1.consistent) }
     ensures have_len { IfOk result (λ r. length r.1.have.items ≡ length view.now.bounds) }
     ensures have { IfOk result (λ r. HaveShows view.now members.now r.1.have.items) }
@@ -118,9 +124,10 @@ fn counted_row(
     ensures why { IfErr result (λ e. e ≡ Refusal.Memory) }
 {
     let mut raised = Vec::with_capacity(alloc, STEPS * PLACEMENT_ITEMS)?;
-    let have = counts_of(alloc, view, members, &whole.cells, &mut raised)?;
-    let wanted = wanted_of(alloc, view, atoms, &whole.cells)?;
-    let row = open_row(alloc, view, whole, atoms, members, &wanted.mosts, &have)?;
+    let have = counts_of(alloc, view, members, &part.cells, &mut raised)?;
+    let wanted = wanted_of(alloc, view, atoms, &part.cells)?;
+    let row = open_row(alloc, view, part, atoms, members, &wanted.mosts, &have)?;
+    let whole = whole.unwrap_or(part);
     let consistent = consistent::begin(view, whole, atoms, members, &wanted.mosts, &have);
     Ok((
         row,

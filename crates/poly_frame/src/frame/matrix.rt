@@ -1,7 +1,7 @@
 //! The exact cover matrix of a view: a row of bits for each item, a column for each placement (Knuth, The Art of Computer
 //! Programming, volume 4B, section 7.2.2.1). A frame reads this matrix, or a smaller one that has only the columns that are
 //! open at the given atoms of the frame.
-ghost use Rattle.std.specs.Prelude.{Bool, IfErr, IfOk, List, MatchOption, false, length, nat_lt, replicate, slice_index, true, vec_capacity, ℕ, [], ◌&&◌, ◌++◌, ◌*◌, ◌+◌, ◌<◌, ◌==◌, ◌^◌, ◌||◌, ◌≡◌, ◌≤◌};
+ghost use Rattle.std.specs.Prelude.{Bool, IfErr, IfOk, IfSome, List, MatchOption, false, length, nat_lt, replicate, slice_index, true, vec_capacity, ℕ, [], ◌&&◌, ◌++◌, ◌*◌, ◌+◌, ◌<◌, ◌==◌, ◌^◌, ◌||◌, ◌≡◌, ◌≤◌};
 ghost use Rattle.std.specs.List.{filter, list_all, list_any};
 ghost use Rattle.poly_tiling.specs.Lists.{distinct, mem};
 ghost use Rattle.poly_tiling.specs.Names.{WellNamed};
@@ -72,7 +72,17 @@ impl<'a> Columns<'a> {
         }
     }
 
-    /// The frame's own matrix, or none if the matrix is the caller's.
+    /// The frame's own matrix; `None` if the matrix is the caller's.
+    pub(crate) fn into_own(self) -> Option<Matrix>
+        ensures { IfSome result (λ m. m ≡ matrix_of self.entry) }
+    {
+        match self {
+            Columns::Own(matrix) => Some(matrix),
+            Columns::Lent(_) => None,
+        }
+    }
+
+    /// The frame's own matrix, or the matrix without rows and columns if the matrix is the caller's.
     pub(crate) fn own(self, alloc: Global) -> Matrix {
         match self {
             Columns::Own(matrix) => matrix,
