@@ -1,6 +1,7 @@
 //! The worker's step.
-ghost use Rattle.std.specs.Prelude.{◌≡◌, ◌≤◌, true, false, IfOk, IfErr};
-ghost use Rattle.poly_frame.specs.Matrices.{IsWhole};
+ghost use Rattle.std.specs.Prelude.{◌≡◌, ◌≤◌, true, false, IfOk, IfErr, IfSome};
+ghost use Rattle.poly_frame.specs.FrameTable.{HasOpen};
+ghost use Rattle.poly_frame.specs.Matrices.{IsMatrix, IsWhole};
 ghost use Rattle.poly_report.specs.Holds.{holds};
 ghost use Rattle.poly_report.specs.Leaves.{rests, tilings};
 ghost use Rattle.poly_report.specs.Opened.{opened};
@@ -71,7 +72,39 @@ pub fn explore_over(
     ensures rests { IfOk result (λ e. e.leaves.rests ≡ rests view.now atoms.now (plan_of e.tree)) }
     ensures why { IfErr result (λ e. e ≡ Refusal.Memory) }
 {
-    let mut frame = Frame::over(alloc, view, whole, atoms)?;
+    let (explored, _) = explore_within(alloc, view, whole, whole, atoms, nodes)?;
+    Ok(explored)
+}
+
+/// Does what `explore_over` does, but begins with `part`, which takes less time the fewer columns `part` has. Requires that
+/// `part` is a matrix of the view with a column for each placement that is open at the atoms. Also returns the matrix that the
+/// search made for the atoms, if it made one. That matrix can be the `part` of each task whose atoms go on from these. The only
+/// refusal is `Memory`.
+pub fn explore_within(
+    alloc: Global,
+    view: &View,
+    whole: &Matrix,
+    part: &Matrix,
+    atoms: &[Atom],
+    nodes: u32,
+) -> Result<(Explored, Option<Matrix>), Refusal>
+    requires whole { IsWhole view.now whole.now }
+    requires part { IsMatrix view.now part.now }
+    requires all { HasOpen view.now atoms.now part.now }
+    requires some { 1 ≤ nodes }
+    requires few { nodes ≤ NODES }
+    ensures fits { IfOk result (λ r. fits (plan_of r.0.tree) ≡ true) }
+    ensures holds { IfOk result (λ r. holds view.now atoms.now (plan_of r.0.tree) ≡ true) }
+    ensures opened { IfOk result (λ r. opened view.now atoms.now (plan_of r.0.tree) ≡ true) }
+    ensures inner { IfOk result (λ r. inner (plan_of r.0.tree) ≤ nodes) }
+    ensures root { IfOk result (λ r. is_rest (plan_of r.0.tree) ≡ false) }
+    ensures smaller { IfOk result (λ r. all_fewer view.now atoms.now (rests view.now atoms.now (plan_of r.0.tree)) ≡ true) }
+    ensures tilings { IfOk result (λ r. r.0.leaves.tilings.items ≡ tilings view.now atoms.now (plan_of r.0.tree)) }
+    ensures rests { IfOk result (λ r. r.0.leaves.rests ≡ rests view.now atoms.now (plan_of r.0.tree)) }
+    ensures own { IfOk result (λ r. IfSome r.1 (λ m. IsMatrix view.now m × HasOpen view.now atoms.now m)) }
+    ensures why { IfErr result (λ e. e ≡ Refusal.Memory) }
+{
+    let mut frame = Frame::within(alloc, view, whole, part, atoms)?;
     let mut growth = Growth {
         nodes: NODES,
         inner: nodes,
@@ -82,7 +115,7 @@ pub fn explore_over(
     let tree = grow(alloc, &mut frame, &mut growth, 0, DEPTH, true)?;
     let Growth { gathered, .. } = growth;
     let leaves = gathered.into_leaves(alloc, atoms)?;
-    Ok(Explored { tree, leaves })
+    Ok((Explored { tree, leaves }, frame.into_matrix()))
 }
 
 /// Returns a tree that divides the family of the atoms, with at most `nodes` nodes that aren't Rest; `nodes` is from 1 to
