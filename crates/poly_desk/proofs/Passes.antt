@@ -1,8 +1,8 @@
 -- What follows from the contracts of a floor's calls for what a worker has: the pass, a receipt, a job, all tilings.
 use Rattle.std.proofs.lemmas.List.{length-append}
-use Rattle.std.proofs.Common.{Bool, List, None, Option, Some, [], ap, arith, false, inl, inr, length, refl, subst, sym, true, ℕ, ◌<◌, ◌++◌, ◌∙◌, ◌∷◌, ◌≡◌, ◌≤◌, ◌⊎◌}
+use Rattle.std.proofs.Common.{Bool, Err, List, None, Ok, Option, Result, Some, [], ap, arith, false, inl, inr, length, refl, subst, sym, true, ℕ, ◌<◌, ◌++◌, ◌∙◌, ◌∷◌, ◌≡◌, ◌≤◌, ◌⊎◌}
 use Rattle.std.specs.Arc.{arc_value}
-use Rattle.std.specs.Prelude.{IfSome, MatchOption, map, slice_get}
+use Rattle.std.specs.Prelude.{IfOk, IfSome, MatchOption, map, slice_get}
 use Rattle.poly_grid.specs.declared.refusal.Refusal.{Refusal}
 use Rattle.poly_grid.specs.declared.refusal.Refusal.TheVariants.{Busy, Memory, Spent, Unsettled}
 use Rattle.poly_design.specs.Edits.{IsAccepted}
@@ -100,11 +100,17 @@ right_at task made tree s t a h =
     )
 
 -- the receipt of a report that was applied is right for the desk's book after it
-pub cut_given : (o : Layout) (ss : List Step) (k : ℕ) (q : Held) (task made : ℕ) (tree : Plan) (a : Applied) (r : Receipt) → HasBooks o ss k q (λ b c. IsApplied task made tree b c a) → r ≡ receipt.Cut a.place task → IsCut r × IsOfDesk o ss k r
+cut_given : (o : Layout) (ss : List Step) (k : ℕ) (q : Held) (task made : ℕ) (tree : Plan) (a : Applied) (r : Receipt) → HasBooks o ss k q (λ b c. IsApplied task made tree b c a) → r ≡ receipt.Cut a.place task → IsCut r × IsOfDesk o ss k r
 cut_given o ss k q task made tree a r h is = (
   subst IsCut (sym is) tt,
   subst (λ z. IsOfDesk o ss k z) (sym is) (h.after, h.of_desk_after, right_at task made tree h.before h.after a h.holds),
 )
+
+-- the same of a call's result
+pub each_given : (o : Layout) (ss : List Step) (k : ℕ) (q : Held) (task made : ℕ) (tree : Plan) (result : Result (Applied × Receipt) Refusal) →
+    IfOk result (λ r. r.1 ≡ receipt.Cut r.0.place task) → IfOk result (λ r. HasBooks o ss k q (λ b c. IsApplied task made tree b c r.0)) → IfOk result (λ r. IsCut r.1 × IsOfDesk o ss k r.1)
+each_given o ss k q task made tree (Ok r) is h = cut_given o ss k q task made tree r.0 r.1 h is
+each_given o ss k q task made tree (Err e) is h = tt
 
 -- if a desk has no task to take, nothing is pending
 pub none_pending : (o : Layout) (ss : List Step) (k : ℕ) (q : Held) (w : Which) (j : Option Job) → HasBook o ss k q (λ b. MatchOption j (IsMissing b w) (λ i. IsTaken b w i)) → j ≡ None → w ≡ which.Any → HasBook o ss k q (λ b. b.pending ≡ [])

@@ -114,7 +114,7 @@ impl<C: Ledger, K: Ledger, O: Opening> Bench for Desk<C, K, O> {
         self.take(rt, pass, which)
     }
 
-    #[tactic(auto, using(crate::proofs::Passes::cut_given, crate::proofs::Passes::may_refuse_report))]
+    #[tactic(auto, using(crate::proofs::Passes::may_refuse_report))]
     fn hand_in<R: Wait>(
         &self,
         rt: &R,
@@ -124,7 +124,7 @@ impl<C: Ledger, K: Ledger, O: Opening> Bench for Desk<C, K, O> {
         self.hand_in(rt, pass, report)
     }
 
-    #[tactic(auto, using(crate::proofs::Passes::cut_given, crate::proofs::Passes::may_refuse_report))]
+    #[tactic(auto, using(crate::proofs::Passes::may_refuse_report))]
     fn hand_in_found<R: Wait>(
         &self,
         rt: &R,
