@@ -39,3 +39,4 @@ pub mod Refusing
 pub mod Hoping
 pub mod Searched
 pub mod Forgetting
+pub mod Narrowing

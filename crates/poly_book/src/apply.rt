@@ -108,7 +108,7 @@ fn finish_change(parts: &mut Parts, kind: Kind, change: Change, step: Step, read
     let made = parts.steps.len() as u64;
     parts.table.make(plan);
     parts.design = after;
-    parts.scene = Scene::new(view);
+    parts.scene = Scene::new(parts.alloc, view);
     parts.next += tasks.fresh.len() as u64;
     note(&mut parts.history, kind, change, Kept { made, shelf });
     replace_tasks(&mut parts.tasks, &mut parts.endings, tasks);

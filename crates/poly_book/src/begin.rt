@@ -41,7 +41,7 @@ impl Book {
                 opened,
                 design,
                 table,
-                scene: Scene::new(view),
+                scene: Scene::new(alloc, view),
                 listed: Catalogue::new(alloc),
                 log: GuardLog::new(alloc),
                 settled: 0,

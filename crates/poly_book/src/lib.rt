@@ -29,6 +29,7 @@ mod fresh;
 mod hand_in;
 pub mod laws;
 mod maps;
+mod narrowed;
 mod next_tasks;
 mod parts;
 mod prepare;

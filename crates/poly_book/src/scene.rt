@@ -1,4 +1,4 @@
-//! The design by numbers, with the cover matrix that serves to explore its tasks and to check the trees of reports.
+//! The design by numbers, with the cover matrices that serve to explore its tasks and to check the trees of reports.
 ghost use Rattle.std.specs.Prelude.{◌≡◌, ◌≤◌, IfErr, IfOk, MatchOption, None, false, true};
 ghost use Rattle.std.specs.Arc.{arc_value};
 ghost use Rattle.poly_frame.specs.Matrices.{IsWhole};
@@ -8,45 +8,53 @@ ghost use Rattle.poly_report.specs.Leaves.{rests, tilings};
 ghost use Rattle.poly_report.specs.Opened.{opened};
 ghost use Rattle.poly_report.specs.Shapes.{plan_of};
 ghost use Rattle.poly_report.specs.Sizes.{all_fewer, fits, inner, is_rest};
-ghost use Rattle.poly_book.specs.Scenes.{IsMatrixOf};
+ghost use Rattle.poly_book.specs.Scenes.{AreNarrowed, IsMatrixOf};
 ghost use Rattle.poly_report.specs.declared.size.TheConstants.{NODES};
 
+use crate::narrowed::{Narrowed, drop_others, keep, nearest};
 use poly_atom::Atom;
 use poly_grid::Refusal;
 use poly_report::{Leaves, Matrix, Tree, cut_up_over};
-use poly_search::{Explored, explore_over};
+use poly_search::{Explored, explore_within};
 use poly_tiling::View;
 use std::alloc::Global;
 use std::marker::Model;
 use std::sync::Arc;
 
-/// A design by numbers. Its matrix is made when a task first needs it, and then serves every task.
+/// A design by numbers. Its matrix is made when a task first needs it, and then serves every task. A task whose atoms go on
+/// from those of a task that was explored is served by that task's matrix.
 #[derive(Drop)]
 pub(crate) struct Scene {
     /// The design, by numbers.
     view: Arc<View>,
     /// The cover matrix of the view, once it is made.
     matrix: Option<Matrix>,
+    /// The matrices of tasks that were explored and that left rests, the widest first.
+    narrower: Vec<Narrowed>,
 }
 
 impl Model for Scene {
     ghost use Rattle.std.specs.Arc.{arc_value};
     ghost use Rattle.poly_tiling.specs.Puzzle.{View as ViewOf};
-    ghost use Rattle.poly_book.specs.Scenes.{IsMatrixOf};
+    ghost use Rattle.poly_book.specs.Scenes.{AreNarrowed, IsMatrixOf};
 
     ghost Value = { ViewOf };
 
     ghost view = { λ s. arc_value s.view };
 
-    ghost invariant = { λ s. IsMatrixOf (arc_value s.view) s.matrix };
+    ghost invariant = { λ s. IsMatrixOf (arc_value s.view) s.matrix × AreNarrowed (arc_value s.view) s.narrower.items };
 }
 
 impl Scene {
     /// The scene of a view. No matrix is made yet.
-    pub fn new(view: Arc<View>) -> Scene
+    pub fn new(alloc: Global, view: Arc<View>) -> Scene
         ensures { result ≡ arc_value view }
     {
-        Scene { view, matrix: None }
+        Scene {
+            view,
+            matrix: None,
+            narrower: Vec::new(alloc),
+        }
     }
 
     /// The view.
@@ -83,7 +91,14 @@ impl Scene {
         ensures rests { IfOk result (λ e. e.leaves.rests ≡ rests self.old atoms.now (plan_of e.tree)) }
         ensures why { IfErr result (λ e. e ≡ Refusal.Memory) }
     {
-        explore_from(alloc, &self.view, &mut self.matrix, atoms, nodes)
+        explore_from(
+            alloc,
+            &self.view,
+            &mut self.matrix,
+            &mut self.narrower,
+            atoms,
+            nodes,
+        )
     }
 
     /// What `poly_report::cut_up` answers.
@@ -102,18 +117,22 @@ impl Scene {
     }
 }
 
-// Explores the atoms with the matrix in the slot, which is made if the slot is empty.
+// Explores the atoms with the last of the narrower matrices that serves them, or else with the matrix in the slot, which is
+// made if the slot is empty. Adds the matrix of the atoms to the list if there are rests, whose atoms go on from these.
 fn explore_from(
     alloc: Global,
     view: &View,
     slot: &mut Option<Matrix>,
+    narrower: &mut Vec<Narrowed>,
     atoms: &[Atom],
     nodes: u32,
 ) -> Result<Explored, Refusal>
     requires matrix { IsMatrixOf view.now slot.old }
+    requires narrower { AreNarrowed view.now narrower.old.items }
     requires some { 1 ≤ nodes }
     requires few { nodes ≤ NODES }
     ensures matrix { IsMatrixOf view.now slot.new }
+    ensures narrower { AreNarrowed view.now narrower.new.items }
     ensures fits { IfOk result (λ e. fits (plan_of e.tree) ≡ true) }
     ensures holds { IfOk result (λ e. holds view.now atoms.now (plan_of e.tree) ≡ true) }
     ensures opened { IfOk result (λ e. opened view.now atoms.now (plan_of e.tree) ≡ true) }
@@ -125,9 +144,16 @@ fn explore_from(
     ensures why { IfErr result (λ e. e ≡ Refusal.Memory) }
 {
     let whole = take_matrix(alloc, view, slot)?;
-    let found = explore_over(alloc, view, &whole, atoms, nodes);
+    drop_others(narrower, atoms);
+    let part = nearest(&whole, narrower, atoms);
+    let found = explore_within(alloc, view, &whole, part, atoms, nodes);
     *slot = Some(whole);
-    found
+    let (explored, own) = found?;
+    if explored.leaves.rests.is_empty() {
+        return Ok(explored);
+    }
+    keep(alloc, narrower, atoms, own)?;
+    Ok(explored)
 }
 
 // The leaves of the tree, if it holds, and `None` if it doesn't. Uses the matrix in the slot, which is made if the slot is
