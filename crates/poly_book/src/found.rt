@@ -84,44 +84,93 @@ impl Found {
     }
 }
 
+/// What is left of a found report after it was applied. It is handed back so that a caller that holds a lock can free its
+/// memory after unlocking.
+#[derive(Drop)]
+pub struct Remains {
+    /// The report.
+    pub report: Report,
+    /// The atoms that were searched.
+    pub atoms: Vec<Atom>,
+    /// The view in which they were searched.
+    pub view: Arc<View>,
+}
+
 impl Book {
     /// `hand_in` for a report that a search made in the book's view. If the task has the atoms that were searched, the leaves
     /// are applied without a check. If it has other atoms, as after a change and its undo, the tree is checked. The result is
-    /// that of `hand_in`.
-    pub fn hand_in_found(&mut self, found: Found) -> Result<Applied, Refusal>
+    /// that of `hand_in`, with what is left of the report.
+    pub fn hand_in_found(&mut self, found: Found) -> Result<(Applied, Remains), Refusal>
         requires view { arc_value found.view ≡ self.old.view }
-        ensures ok { IfOk result (λ a. IsApplied found.report.task found.report.edition (plan_of found.report.tree) self.old self.new a) }
+        ensures ok { IfOk result (λ r. IsApplied found.report.task found.report.edition (plan_of found.report.tree) self.old self.new r.0) }
         ensures err { OnErr result (self.new ≡ self.old) }
         ensures why { IfErr result (λ e. IsNotApplied found.report.task (plan_of found.report.tree) self.old e) }
         ensures full { IfErr result (λ e. e ≡ Refusal.CatalogueFull → HasOverTilings MAX_TILINGS self.old.design) }
     {
-        apply_found(&mut self.parts, found)
+        let Found {
+            report,
+            atoms,
+            view,
+            leaves,
+        } = found;
+        let applied = apply_found(&mut self.parts, &report, &atoms, leaves)?;
+        Ok((
+            applied,
+            Remains {
+                report,
+                atoms,
+                view,
+            },
+        ))
+    }
+
+    /// `hand_in_found` for a report that a search made in any view. The tree is checked.
+    pub fn hand_in_checked(&mut self, found: Found) -> Result<(Applied, Remains), Refusal>
+        ensures ok { IfOk result (λ r. IsApplied found.report.task found.report.edition (plan_of found.report.tree) self.old self.new r.0) }
+        ensures err { OnErr result (self.new ≡ self.old) }
+        ensures why { IfErr result (λ e. IsNotApplied found.report.task (plan_of found.report.tree) self.old e) }
+        ensures full { IfErr result (λ e. e ≡ Refusal.CatalogueFull → HasOverTilings MAX_TILINGS self.old.design) }
+    {
+        let Found {
+            report,
+            atoms,
+            view,
+            leaves: _,
+        } = found;
+        let applied = apply_report(&mut self.parts, &report)?;
+        Ok((
+            applied,
+            Remains {
+                report,
+                atoms,
+                view,
+            },
+        ))
     }
 }
 
-// Applies what was found, without a check if the task has the atoms that were searched.
-fn apply_found(parts: &mut Parts, found: Found) -> Result<Applied, Refusal>
+// Applies the report of a search of these atoms, without a check if the task has them. The leaves are those of its tree.
+fn apply_found(
+    parts: &mut Parts,
+    report: &Report,
+    atoms: &[Atom],
+    leaves: Leaves,
+) -> Result<Applied, Refusal>
     requires keeps { Keeps parts.old }
-    requires view { arc_value found.view ≡ parts.old.scene }
+    requires found { IsFound parts.old.scene atoms.now (plan_of report.now.tree) leaves.tilings.items leaves.rests }
     ensures keeps { Keeps parts.new }
-    ensures ok { IfOk result (λ a. IsApplied found.report.task found.report.edition (plan_of found.report.tree) (state_of parts.old) (state_of parts.new) a) }
+    ensures ok { IfOk result (λ a. IsApplied report.now.task report.now.edition (plan_of report.now.tree) (state_of parts.old) (state_of parts.new) a) }
     ensures err { OnErr result (state_of parts.new ≡ state_of parts.old) }
-    ensures why { IfErr result (λ e. IsNotApplied found.report.task (plan_of found.report.tree) (state_of parts.old) e) }
+    ensures why { IfErr result (λ e. IsNotApplied report.now.task (plan_of report.now.tree) (state_of parts.old) e) }
 {
-    let Found {
-        report,
-        atoms,
-        view: _,
-        leaves,
-    } = found;
     let Some(at) = index_of(&parts.tasks, report.task) else {
         return Err(Refusal::Gone);
     };
-    if has_atoms(parts, at, report.task, &atoms) {
-        let sure = !hopeless(parts.scene.view(), &atoms);
+    if has_atoms(parts, at, report.task, atoms) {
+        let sure = !hopeless(parts.scene.view(), atoms);
         return apply_leaves(parts, at, report.edition, leaves, sure);
     }
-    apply_report(parts, &report)
+    apply_report(parts, report)
 }
 
 // If this is true, the task with this number has exactly these atoms. `at` is its index among the pending tasks.

@@ -3,12 +3,13 @@
 //! Whatever happens, each tiling of the design is listed once or belongs to exactly one pending task, and nothing else is
 //! listed. So the catalogue has all tilings if no task is pending.
 //!
-//! - [`Book`]: `begin`; `edit`, `undo`, `redo`; `next`, `take`, `hand_in`, `hand_in_found`; `quiet`, `settle`, `vouch`;
-//!   `whole`, whose contract states what holds of every book; and what a book holds: `numbers`, `design`, `catalogue`, `view`,
-//!   `steps`, `endings`.
+//! - [`Book`]: `begin`; `edit`, `undo`, `redo`; `next`, `take`, `hand_in`, `hand_in_found`, `hand_in_checked`; `quiet`,
+//!   `settle`, `vouch`; `whole`, whose contract states what holds of every book; and what a book holds: `numbers`, `design`,
+//!   `catalogue`, `view`, `steps`, `endings`.
 //! - [`Done`], [`Step`], [`Kind`]: a change that was made. [`Applied`]: a report that was applied. [`Ending`]: how a task
 //!   ended.
 //! - [`Which`]: which task to take. [`Job`]: a task to be worked on. [`Found`]: what a search found for it.
+//!   [`Remains`]: what is left of it after it was applied.
 //! - [`Quiet`]: all tilings of a design.
 //! - [`Numbers`]: how many changes, endings, listed tilings and pending tasks there are. [`Pending`], [`Own`]: a pending
 //!   task. [`Kept`], [`Shelf`], [`Frozen`]: what is kept for an undo or a
@@ -48,7 +49,7 @@ mod touching;
 mod vouch;
 
 pub use book::{Book, Numbers};
-pub use found::Found;
+pub use found::{Found, Remains};
 pub use prepare::{MAX_CHANGES, MAX_GUARDS, MAX_SHELF};
 pub use quiet::Quiet;
 pub use shelf::{Frozen, Kept, Shelf};

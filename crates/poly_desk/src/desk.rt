@@ -216,9 +216,12 @@ impl<C: Ledger, K: Ledger, O: Opening> Desk<C, K, O> {
         let mut floor = waiting::lock(rt, &self.floor, SELDOM);
         floor.whole();
         match floor.hand_in_found(pass, found) {
-            Ok(both) => {
+            Ok((applied, receipt, remains)) => {
                 floor.whole();
-                Ok(both)
+                // Freeing a large report takes long, so the desk is unlocked first.
+                drop(floor);
+                drop(remains);
+                Ok((applied, receipt))
             }
             Err(refusal) => Err(refusal),
         }

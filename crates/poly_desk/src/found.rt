@@ -12,19 +12,20 @@ use crate::floor::Floor;
 use crate::opening::Opening;
 use crate::pass::Pass;
 use crate::receipt::Receipt;
-use poly_book::{Applied, Book, Found};
+use poly_book::{Applied, Book, Found, Remains};
 use poly_grid::Refusal;
 use std::sync::ledger::Ledger;
 
 impl<C: Ledger, K: Ledger, O: Opening> Floor<C, K, O> {
     /// Like `hand_in`, for a report that a search made. A search of the opening edition, at which the desk began, must have
     /// used the opening view. If the search and the book are both at that edition, and the task still has the atoms that were
-    /// searched, the report's tree is applied without a check. Otherwise the tree is checked. Fails as `hand_in` does.
+    /// searched, the report's tree is applied without a check. Otherwise the tree is checked. Returns what is left of the
+    /// report, too. Fails as `hand_in` does.
     pub fn hand_in_found(
         &mut self,
         pass: &mut Pass<C, K, O>,
         found: Found,
-    ) -> Result<(Applied, Receipt), Refusal>
+    ) -> Result<(Applied, Receipt, Remains), Refusal>
         requires searched { IsViewAt O.steps O.view found.report.edition (arc_value found.view) }
         ensures noted { OnOk result (HasNoted self.old.book self.new.book pass.old pass.new 0 1) }
         ensures ok { IfOk result (λ r. IsApplied found.report.task found.report.edition (plan_of found.report.tree) self.old.book self.new.book r.0) }
@@ -36,23 +37,27 @@ impl<C: Ledger, K: Ledger, O: Opening> Floor<C, K, O> {
         note_numbers(&self.book, pass)?;
         make_room(&self.book, &mut self.marks)?;
         let task = found.report.task;
-        let applied = apply_found::<O>(&mut self.book, self.opened, found)?;
+        let (applied, remains) = apply_found::<O>(&mut self.book, self.opened, found)?;
         note_cut(&self.book, &mut self.poster, &mut self.totals, pass);
         let receipt = Receipt::Cut {
             place: applied.place,
             task,
         };
-        Ok((applied, receipt))
+        Ok((applied, receipt, remains))
     }
 }
 
 // Applies what was found. If the book and the search are both at the opening edition, their views are equal, as the book's
 // `hand_in_found` requires. Otherwise the tree is checked.
-fn apply_found<O: Opening>(book: &mut Book, opened: u64, found: Found) -> Result<Applied, Refusal>
+fn apply_found<O: Opening>(
+    book: &mut Book,
+    opened: u64,
+    found: Found,
+) -> Result<(Applied, Remains), Refusal>
     requires opened { opened ≡ length O.steps }
     requires view { IsViewAt O.steps O.view (length book.old.steps) book.old.view }
     requires searched { IsViewAt O.steps O.view found.report.edition (arc_value found.view) }
-    ensures ok { IfOk result (λ a. IsApplied found.report.task found.report.edition (plan_of found.report.tree) book.old book.new a) }
+    ensures ok { IfOk result (λ r. IsApplied found.report.task found.report.edition (plan_of found.report.tree) book.old book.new r.0) }
     ensures err { OnErr result (book.new ≡ book.old) }
     ensures why { IfErr result (λ e. IsNotApplied found.report.task (plan_of found.report.tree) book.old e) }
 {
@@ -60,5 +65,5 @@ fn apply_found<O: Opening>(book: &mut Book, opened: u64, found: Found) -> Result
     if edition == opened && found.report.edition == opened {
         return book.hand_in_found(found);
     }
-    book.hand_in(found.report)
+    book.hand_in_checked(found)
 }

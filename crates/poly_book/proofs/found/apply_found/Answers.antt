@@ -1,13 +1,11 @@
 use Rattle.std.proofs.Common.{None, Some, ap, false, inl, inr, refl, rules, subst, sym, ◌∙◌, ◌≡◌}
 use Rattle.std.proofs.lemmas.Result.{IfErr-weaker, IfOk-weaker}
-use Rattle.std.specs.Arc.{arc_value}
 use Rattle.std.specs.List.{position_from}
 use Rattle.std.specs.List.Sorted.{IsNonDecreasingBy}
 use Rattle.std.specs.Prelude.{◌==◌}
 use Rattle.poly_atom.specs.Hopeless.{hopeless}
 use Rattle.poly_report.specs.Shapes.{plan_of}
 use Rattle.poly_book.specs.declared.task.Pending.{Pending}
-use Rattle.poly_book.specs.Findings.{HasAtoms}
 use Rattle.poly_book.specs.Keeps.{state_of}
 use Rattle.poly_book.specs.Refused.{IsNotApplied}
 use Rattle.poly_book.specs.Reports.{AreLeaves, IsApplied}
@@ -24,34 +22,33 @@ index_of-requires c =
 pub returns-in_default-clause-why : goal.returns-in_default-clause-why
 returns-in_default-clause-why c =
     let none : c.index_of.result ≡ None = search rules in
-    let e : position_from (λ (p : Pending). p.number == c.args.found.report.task) 0 c.args.parts.now.tasks.items ≡ None = ap (λ ps. position_from (λ (p : Pending). p.number == c.args.found.report.task) 0 ps) (sym c.deref.ensures.value) ∙ sym c.index_of.ensures ∙ none in
-    inl (refl, nowhere c.args.found.report.task 0 c.args.parts.now.log c.args.parts.now.tasks.items e)
+    let e : position_from (λ (p : Pending). p.number == c.args.report.now.task) 0 c.args.parts.now.tasks.items ≡ None = ap (λ ps. position_from (λ (p : Pending). p.number == c.args.report.now.task) 0 ps) (sym c.deref.ensures.value) ∙ sym c.index_of.ensures ∙ none in
+    inl (refl, nowhere c.args.report.now.task 0 c.args.parts.now.log c.args.parts.now.tasks.items e)
 
 pub apply_leaves-requires-clause-sure : goal.apply_leaves-requires-clause-sure
 apply_leaves-requires-clause-sure c = λ yes.
-    let f = c.args.found in
     let w = c.args.parts.now.scene in
-    let fine : hopeless w f.atoms.items ≡ false = search rules in
-    found_hopeful (arc_value f.view) w f.atoms.items (plan_of f.report.tree) f.leaves.tilings.items f.leaves.rests c.requires.view f.right fine
+    let fine : hopeless w c.args.atoms.now ≡ false = search rules in
+    found_hopeful w w c.args.atoms.now (plan_of c.args.report.now.tree) c.args.leaves.tilings.items c.args.leaves.rests refl c.requires.found fine
 
 pub returns-then-has_atoms-clause-ok : goal.returns-then-has_atoms-clause-ok
 returns-then-has_atoms-clause-ok c =
     let a = c.args.parts.now in
-    let f = c.args.found in
-    let k = f.report.task in
-    let tree = plan_of f.report.tree in
+    let r = c.args.report.now in
+    let k = r.task in
+    let tree = plan_of r.tree in
+    let ls = c.args.leaves in
     let first : position_from (λ (p : Pending). p.number == k) 0 a.tasks.items ≡ Some c.in-Some.at = ap (λ ps. position_from (λ (p : Pending). p.number == k) 0 ps) (sym c.deref.ensures.value) ∙ sym c.index_of.ensures ∙ c.in-Some.is in
-    let has = subst (λ A. HasAtoms (state_of a).pending k A) c.deref-2.ensures.value (c.has_atoms.ensures.same c.if-has_atoms.true) in
-    let l : AreLeaves a k c.in-Some.at tree f.leaves.tilings.items f.leaves.rests = found_leaves a k c.in-Some.at (arc_value f.view) f.atoms.items tree f.leaves.tilings.items f.leaves.rests c.requires.view f.right first has in
-    IfOk-weaker c.apply_leaves.result _ (λ x. IsApplied k f.report.edition tree (state_of a) (state_of c.apply_leaves.new.parts) x) (λ x h. h k tree l) c.apply_leaves.ensures.ok
+    let l : AreLeaves a k c.in-Some.at tree ls.tilings.items ls.rests = found_leaves a k c.in-Some.at a.scene c.args.atoms.now tree ls.tilings.items ls.rests refl c.requires.found first (c.has_atoms.ensures.same c.if-has_atoms.true) in
+    IfOk-weaker c.apply_leaves.result _ (λ x. IsApplied k r.edition tree (state_of a) (state_of c.apply_leaves.new.parts) x) (λ x h. h k tree l) c.apply_leaves.ensures.ok
 
 pub returns-then-has_atoms-clause-why : goal.returns-then-has_atoms-clause-why
 returns-then-has_atoms-clause-why c =
     let a = c.args.parts.now in
-    let f = c.args.found in
-    let k = f.report.task in
-    let tree = plan_of f.report.tree in
+    let r = c.args.report.now in
+    let k = r.task in
+    let tree = plan_of r.tree in
+    let ls = c.args.leaves in
     let first : position_from (λ (p : Pending). p.number == k) 0 a.tasks.items ≡ Some c.in-Some.at = ap (λ ps. position_from (λ (p : Pending). p.number == k) 0 ps) (sym c.deref.ensures.value) ∙ sym c.index_of.ensures ∙ c.in-Some.is in
-    let has = subst (λ A. HasAtoms (state_of a).pending k A) c.deref-2.ensures.value (c.has_atoms.ensures.same c.if-has_atoms.true) in
-    let l : AreLeaves a k c.in-Some.at tree f.leaves.tilings.items f.leaves.rests = found_leaves a k c.in-Some.at (arc_value f.view) f.atoms.items tree f.leaves.tilings.items f.leaves.rests c.requires.view f.right first has in
+    let l : AreLeaves a k c.in-Some.at tree ls.tilings.items ls.rests = found_leaves a k c.in-Some.at a.scene c.args.atoms.now tree ls.tilings.items ls.rests refl c.requires.found first (c.has_atoms.ensures.same c.if-has_atoms.true) in
     IfErr-weaker c.apply_leaves.result _ (λ e. IsNotApplied k tree (state_of a) e) (λ e h. inr (inr (h k tree l))) c.apply_leaves.ensures.why
