@@ -40,3 +40,4 @@ pub mod Hoping
 pub mod Searched
 pub mod Forgetting
 pub mod Narrowing
+pub mod Judging

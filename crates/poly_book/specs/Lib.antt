@@ -31,3 +31,4 @@ pub mod AllTilings
 pub mod Nexts
 pub mod Vouched
 pub mod Needed
+pub mod Judged

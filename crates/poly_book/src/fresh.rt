@@ -6,6 +6,9 @@ ghost use Rattle.poly_atom.specs.Atoms.{AllSmall, IsSmall, negated};
 ghost use Rattle.poly_atom.specs.Hopeless.{hopeless};
 ghost use Rattle.poly_atom.specs.Logs.{IsStairOf, stair_of};
 ghost use Rattle.poly_atom.specs.Stairs.{stairs};
+ghost use Rattle.std.specs.List.{list_any};
+ghost use Rattle.poly_tiling.specs.Puzzle.{View as ViewOf};
+ghost use Rattle.poly_book.specs.Judged.{AreJudged};
 ghost use Rattle.poly_book.specs.Opens.{Opening, Opens};
 ghost use Rattle.poly_book.specs.Meaning.{AreFrozen, IsFrozen, IsHeld, IsOwn, frozen_of, own_of, stored_of};
 ghost use Rattle.poly_book.specs.Shelves.{crossed, openings};
@@ -187,34 +190,71 @@ fn opened_crossed(
         return Ok(tasks);
     }
     let mut atoms = Vec::new(alloc);
+    let mut flags = Vec::new(alloc);
     let mut number = next;
     for task in frozen {
-        let (lists, at) = frozen_list(alloc, log, task, &mut atoms)?;
-        number = add_crossed(
-            view, &lists, at, &mut atoms, guards, number, edition, &mut tasks,
-        )?;
+        read_frozen(log, task, &mut atoms)?;
+        if !judge_stairs(view, &mut atoms, guards, &mut flags)? {
+            continue;
+        }
+        let (lists, at) = frozen_list(alloc, log, task, &atoms)?;
+        number = add_crossed(&lists, at, &flags, number, edition, &mut tasks)?;
     }
     Ok(tasks)
 }
 
-// Lists and an index, at which they have the atoms of the frozen task. Only what the task's own list lacks is stored. The atoms
-// are written to the buffer, too, in place of what it had.
-fn frozen_list(
-    alloc: Global,
-    log: &GuardLog,
-    frozen: &Frozen,
-    atoms: &mut Vec<Atom>,
-) -> Result<(SharedLists, usize), Refusal>
+// Writes the atoms of the frozen task to the buffer, in place of what it had.
+fn read_frozen(log: &GuardLog, frozen: &Frozen, atoms: &mut Vec<Atom>) -> Result<(), Refusal>
     requires { IsFrozen log.now frozen.now }
-    ensures at { IfOk result (λ r. r.1 < length r.0) }
-    ensures list { IfOk result (λ r. slice_index_or r.0 r.1 [] ≡ frozen_of log.now frozen.now) }
     ensures atoms { OnOk result (atoms.new.items ≡ frozen_of log.now frozen.now) }
     ensures why { IfErr result (λ e. e ≡ Refusal.Memory) }
 {
     let since = log.since(frozen.made);
-    let laid = &since[..frozen.count];
     read_own(log, &frozen.own, atoms)?;
-    atoms.extend_from_slice(laid)?;
+    atoms.extend_from_slice(&since[..frozen.count])?;
+    Ok(())
+}
+
+// Judges which stairs of the guards aren't hopeless after the atoms. The flags come in place of those that were there. If none
+// is true, returns `false`.
+fn judge_stairs(
+    view: &View,
+    atoms: &mut Vec<Atom>,
+    guards: &[Atom],
+    flags: &mut Vec<bool>,
+) -> Result<bool, Refusal>
+    requires small { AllSmall guards.now }
+    ensures atoms { OnOk result (atoms.new.items ≡ atoms.old.items) }
+    ensures flags { OnOk result (AreJudged view.now atoms.old.items (stairs guards.now) flags.new.items) }
+    ensures any { IfOk result (λ yes. yes ≡ list_any (λ f. f) flags.new.items) }
+    ensures why { IfErr result (λ e. e ≡ Refusal.Memory) }
+{
+    let count = atoms.len();
+    flags.clear();
+    for index in 0..guards.len() {
+        let ends = next_stair(view, atoms, &guards[index])?;
+        flags.push(!ends)?;
+    }
+    atoms.truncate(count);
+    Ok(flags.contains(&true))
+}
+
+// Lists and an index, at which they have these atoms, which are those of the frozen task. Only what the task's own list lacks
+// is stored.
+fn frozen_list(
+    alloc: Global,
+    log: &GuardLog,
+    frozen: &Frozen,
+    atoms: &[Atom],
+) -> Result<(SharedLists, usize), Refusal>
+    requires frozen { IsFrozen log.now frozen.now }
+    requires atoms { atoms.now ≡ frozen_of log.now frozen.now }
+    ensures at { IfOk result (λ r. r.1 < length r.0) }
+    ensures list { IfOk result (λ r. slice_index_or r.0 r.1 [] ≡ atoms.now) }
+    ensures why { IfErr result (λ e. e ≡ Refusal.Memory) }
+{
+    let since = log.since(frozen.made);
+    let laid = &since[..frozen.count];
     match &frozen.own {
         Own::Listed(lists, index) => list_after(alloc, lists, *index, laid),
         Own::Stair(_) => list_alone(alloc, atoms),
@@ -265,32 +305,27 @@ fn stair_after(bases: &SharedLists, index: usize, stair: Stair) -> Result<Own, R
     Ok(Own::Crossed(shared, index, stair))
 }
 
-// Appends a base followed by each stair of the guards, as tasks with the numbers from `start` on. The base is the list at the
-// index and stands in the buffer, which then gets the guards too. A hopeless list gets no task. Returns the number after that
-// of the last task.
+// Appends a base followed by each stair that is flagged, as tasks with the numbers from `start` on. The base is the list at the
+// index. Returns the number after that of the last task.
 fn add_crossed(
-    view: &View,
     bases: &SharedLists,
     at: usize,
-    atoms: &mut Vec<Atom>,
-    guards: &[Atom],
+    flags: &[bool],
     start: u64,
     edition: u64,
     tasks: &mut Vec<Pending>,
 ) -> Result<u64, Refusal>
     requires at { at < length bases.now }
-    requires base { atoms.old.items ≡ slice_index_or bases.now at [] }
     requires start { start ≤ 4294967296 }
     requires edition { edition ≤ MAX_CHANGES }
-    requires small { AllSmall guards.now }
-    ensures ok { IfOk result (λ n. (log : List (List AtomOf)) (next : ℕ) (all rest : List (List AtomOf)) → length log ≡ edition → Opening (log ++ guards.now ∷ []) next start view.now all (map (λ B. atoms.old.items ++ B) (stairs guards.now) ++ rest) tasks.old.items → Opening (log ++ guards.now ∷ []) next n view.now all rest tasks.new.items) }
+    ensures ok { IfOk result (λ n. (w : ViewOf) (g : List AtomOf) (log : List (List AtomOf)) (next : ℕ) (all rest : List (List AtomOf)) → length log ≡ edition → AreJudged w (slice_index_or bases.now at []) (stairs g) flags.now → Opening (log ++ g ∷ []) next start w all (map (λ B. slice_index_or bases.now at [] ++ B) (stairs g) ++ rest) tasks.old.items → Opening (log ++ g ∷ []) next n w all rest tasks.new.items) }
     ensures count { IfOk result (λ n. start + length tasks.new.items ≡ n + length tasks.old.items) }
     ensures few { IfOk result (λ n. n ≤ 4294967296) }
-    ensures why { IfErr result (λ e. ((e ≡ Refusal.Spent) × ((log : List (List AtomOf)) (next : ℕ) (all rest : List (List AtomOf)) → length log ≡ edition → next + length tasks.old.items ≡ start → Opening (log ++ guards.now ∷ []) next start view.now all (map (λ B. atoms.old.items ++ B) (stairs guards.now) ++ rest) tasks.old.items → 4294967296 < next + length (hopeful view.now all))) ⊎ (e ≡ Refusal.Memory)) }
+    ensures why { IfErr result (λ e. ((e ≡ Refusal.Spent) × ((w : ViewOf) (g : List AtomOf) (log : List (List AtomOf)) (next : ℕ) (all rest : List (List AtomOf)) → length log ≡ edition → AreJudged w (slice_index_or bases.now at []) (stairs g) flags.now → next + length tasks.old.items ≡ start → Opening (log ++ g ∷ []) next start w all (map (λ B. slice_index_or bases.now at [] ++ B) (stairs g) ++ rest) tasks.old.items → 4294967296 < next + length (hopeful w all))) ⊎ (e ≡ Refusal.Memory)) }
 {
     let mut number = start;
-    for index in 0..guards.len() {
-        if next_stair(view, atoms, &guards[index])? {
+    for index in 0..flags.len() {
+        if !flags[index] {
             continue;
         }
         if number > LAST {

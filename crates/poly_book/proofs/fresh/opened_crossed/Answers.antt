@@ -1,14 +1,20 @@
-use Rattle.std.proofs.Common.{[], arith, drop, inl, inr, length, map, rules, subst, sym, ◌++◌, ◌+◌, ◌∷◌, ◌≡◌}
+use Rattle.std.proofs.Common.{[], ap, arith, drop, get_or, inl, inr, length, map, not, rules, subst, sym, ◌++◌, ◌+◌, ◌∙◌, ◌∷◌, ◌≡◌}
 use Rattle.std.proofs.lemmas.Result.{err_from_is_err_and}
+use Rattle.poly_atom.specs.Hopeless.{hopeless}
 use Rattle.poly_atom.specs.Stairs.{stairs}
 use Rattle.poly_book.specs.Meaning.{IsFrozen, frozen_of}
+use Rattle.poly_book.specs.Judged.{AreJudged}
 use Rattle.poly_book.specs.Opens.{Opening}
 use Rattle.poly_book.specs.Shelves.{crossed}
 use Rattle.poly_book.proofs.Holding.{frozen_at, frozen_head, opens_none}
+use Rattle.poly_book.proofs.Judging.{none_judged, opening_none}
 use Rattle.poly_book.proofs.fresh.opened_crossed.Goals as goal
 
-pub frozen_list-requires : goal.frozen_list-requires
-frozen_list-requires c = subst (λ f. IsFrozen c.args.log.now f) (sym c.task-item.is) (frozen_at c.args.log.now c.args.frozen.now c.loop-task.task-index c.task-item.result c.requires.frozen c.loop-task-test.true)
+pub read_frozen-requires : goal.read_frozen-requires
+read_frozen-requires c = subst (λ f. IsFrozen c.args.log.now f) (sym c.task-item.is) (frozen_at c.args.log.now c.args.frozen.now c.loop-task.task-index c.task-item.result c.requires.frozen c.loop-task-test.true)
+
+pub frozen_list-requires-clause-frozen : goal.frozen_list-requires-clause-frozen
+frozen_list-requires-clause-frozen c = subst (λ f. IsFrozen c.args.log.now f) (sym c.task-item.is) (frozen_at c.args.log.now c.args.frozen.now c.loop-task.task-index c.task-item.result c.requires.frozen c.loop-task-test.true)
 
 pub returns-then-is_empty-clause-ok : goal.returns-then-is_empty-clause-ok
 returns-then-is_empty-clause-ok c =
@@ -16,6 +22,27 @@ returns-then-is_empty-clause-ok c =
     let g = c.args.guards.now in
     let none : length g ≡ 0 = search rules in
     rw c.new-tasks.ensures.items (opens_none (log ++ g ∷ []) c.args.next c.args.view.now (map (λ f. frozen_of log f) c.args.frozen.now) g none)
+
+pub loop-task-preserved-then-not-branch : goal.loop-task-preserved-then-not-branch
+loop-task-preserved-then-not-branch c =
+    let log = c.args.log.now in
+    let g = c.args.guards.now in
+    let w = c.args.view.now in
+    let fs = c.args.frozen.now in
+    let L = map (λ f. frozen_of log f) fs in
+    let S = stairs g in
+    let i = c.loop-task.task-index in
+    let rest = crossed (drop (i + 1) L) S in
+    let base = c.read_frozen.new.atoms.items in
+    let is : base ≡ frozen_of log c.task-item.result = c.in_ok-read_frozen.ensures.atoms in
+    let head = frozen_head log S fs i c.task-item.result base c.loop-task-test.true c.task-item.is is in
+    record {
+      same = opening_none (log ++ g ∷ []) c.args.next c.loop-task.number w (crossed L S) (map (λ B. base ++ B) S) rest c.loop-task.tasks.items
+          (none_judged w base S c.judge_stairs.new.flags.items c.in_ok-judge_stairs.ensures.flags (sym c.in_ok-judge_stairs.ensures.any ∙ c.if-not-branch.true))
+          (subst (λ r. Opening (log ++ g ∷ []) c.args.next c.loop-task.number w (crossed L S) r c.loop-task.tasks.items) head c.loop-task.invariant.same);
+      number = c.loop-task.invariant.number;
+      few = c.loop-task.invariant.few;
+    }
 
 pub loop-task-preserved : goal.loop-task-preserved
 loop-task-preserved c =
@@ -27,11 +54,13 @@ loop-task-preserved c =
     let S = stairs g in
     let i = c.loop-task.task-index in
     let rest = crossed (drop (i + 1) L) S in
-    let base = c.frozen_list.new.atoms.items in
-    let is : base ≡ frozen_of log c.task-item.result = c.in_ok-lists.ensures.atoms in
+    let base = get_or c.in_ok-lists.lists c.in_ok-lists.at [] in
+    let here : base ≡ c.read_frozen.new.atoms.items = c.in_ok-lists.ensures.list ∙ c.deref.ensures.value ∙ c.in_ok-judge_stairs.ensures.atoms in
+    let is : base ≡ frozen_of log c.task-item.result = here ∙ c.in_ok-read_frozen.ensures.atoms in
+    let judged : AreJudged w base S c.deref-in-loop-task.result.now = c.deref-in-loop-task.ensures.value ∙ c.in_ok-judge_stairs.ensures.flags ∙ ap (λ b. map (λ A. not (hopeless w (b ++ A))) S) (sym here) in
     let head = frozen_head log S fs i c.task-item.result base c.loop-task-test.true c.task-item.is is in
     record {
-      same = c.in_ok-number.ensures.ok log c.args.next (crossed L S) rest c.requires.log
+      same = c.in_ok-number.ensures.ok w g log c.args.next (crossed L S) rest c.requires.log judged
           (subst (λ r. Opening (log ++ g ∷ []) c.args.next c.loop-task.number w (crossed L S) r c.loop-task.tasks.items) head c.loop-task.invariant.same);
       number = let a = c.loop-task.invariant.number in let b = c.in_ok-number.ensures.count in omega (arith, a, b);
       few = c.in_ok-number.ensures.few;
@@ -48,13 +77,15 @@ returns-in_err-number-clause-why c =
     let S = stairs g in
     let i = c.loop-task.task-index in
     let rest = crossed (drop (i + 1) L) S in
-    let base = c.frozen_list.new.atoms.items in
-    let is : base ≡ frozen_of log c.task-item.result = c.in_ok-lists.ensures.atoms in
+    let base = get_or c.in_ok-lists.lists c.in_ok-lists.at [] in
+    let here : base ≡ c.read_frozen.new.atoms.items = c.in_ok-lists.ensures.list ∙ c.deref.ensures.value ∙ c.in_ok-judge_stairs.ensures.atoms in
+    let is : base ≡ frozen_of log c.task-item.result = here ∙ c.in_ok-read_frozen.ensures.atoms in
+    let judged : AreJudged w base S c.deref-in-loop-task.result.now = c.deref-in-loop-task.ensures.value ∙ c.in_ok-judge_stairs.ensures.flags ∙ ap (λ b. map (λ A. not (hopeless w (b ++ A))) S) (sym here) in
     let head = frozen_head log S fs i c.task-item.result base c.loop-task-test.true c.task-item.is is in
     rw (p.1, p.2) (elim c.in_err-number.ensures.why [
       | inl m ↦ inl (
         m.0,
-        m.1 log c.args.next (crossed L S) rest c.requires.log c.loop-task.invariant.number (subst (λ r. Opening (log ++ g ∷ []) c.args.next c.loop-task.number w (crossed L S) r c.loop-task.tasks.items) head c.loop-task.invariant.same),
+        m.1 w g log c.args.next (crossed L S) rest c.requires.log judged c.loop-task.invariant.number (subst (λ r. Opening (log ++ g ∷ []) c.args.next c.loop-task.number w (crossed L S) r c.loop-task.tasks.items) head c.loop-task.invariant.same),
       )
       | inr m ↦ inr m
     ])
