@@ -2,11 +2,11 @@
 //!
 //! If something is refused, `begun` and `edit_by` return the refusal. The others end the test.
 
+use crate::designs;
 use crate::designs::design_of;
 use poly_book::Book;
 use poly_design::Edit;
 use poly_grid::Refusal;
-use poly_text::{Command, asked};
 use std::alloc::Global;
 use std::process::Abort;
 
@@ -18,11 +18,7 @@ pub(crate) fn begun(alloc: Global, puzzle: &[u8]) -> Result<Book, Refusal> {
 
 /// The edit that the command line asks for. A line that asks for no edit is a `BadCommand`.
 pub(crate) fn edit_by(alloc: Global, book: &Book, line: &[u8]) -> Result<Edit, Refusal> {
-    let command = asked(alloc, book.design().grid(), line)?;
-    match &command {
-        Some(Command::Edit(edit)) => Ok(*edit),
-        _ => Err(Refusal::BadCommand),
-    }
+    designs::edit_by(alloc, book.design().grid(), line)
 }
 
 /// The opening book of the design of the puzzle line.
@@ -44,7 +40,8 @@ pub(crate) fn fail<T>(rt: &impl Abort, why: &str) -> T {
 /// Makes the edit that the command line asks for.
 pub(crate) fn edit(rt: &impl Abort, alloc: Global, book: &mut Book, line: &[u8]) {
     let edit = edit_of(rt, alloc, book, line);
-    let _ = book.edit(edit).expect(rt, "an edit that is accepted");
+    let refusal = book.edit(edit).err();
+    assert!(rt; refusal.is_none());
 }
 
 /// Asserts the edition and the numbers of listed tilings and pending tasks.

@@ -2,11 +2,11 @@
 
 use crate::books::begun;
 use crate::designs::DOMINOES;
+use poly_book::Book;
 use poly_grid::{Cell, Refusal};
 use poly_report::{Arm, Report, Tree};
 use poly_tiling::Item;
 use std::alloc::Global;
-use std::test::Fail;
 
 // How many Branches the tree has, one below the other, with a Split below each. To drop the tree by recursion would need more
 // stack than a thread has.
@@ -38,14 +38,25 @@ fn deep_tree(alloc: Global) -> Result<Tree, Refusal> {
     Ok(tree)
 }
 
-#[test]
-fn a_report_of_any_depth_is_refused_and_dropped(rt: HostRuntime) -> Result<(), Fail> {
-    let mut book = begun(rt.alloc(), DOMINOES)?;
+// Hands the tree in, and returns the refusal.
+fn refusal_of(book: &mut Book, tree: Tree) -> Option<Refusal> {
     let report = Report {
         task: 1,
         edition: 0,
-        tree: deep_tree(rt.alloc())?,
+        tree,
     };
-    assert!(rt; matches!(book.hand_in(report), Err(Refusal::TooLarge)));
-    Ok(())
+    book.hand_in(report).err()
+}
+
+// The refusal of the deep tree by an opening book.
+fn refusal_by_a_book(alloc: Global) -> Result<Option<Refusal>, Refusal> {
+    let tree = deep_tree(alloc)?;
+    let mut book = begun(alloc, DOMINOES)?;
+    Ok(refusal_of(&mut book, tree))
+}
+
+#[test]
+fn a_report_of_any_depth_is_refused_and_dropped(rt: HostRuntime) {
+    let refusal = refusal_by_a_book(rt.alloc()).expect(&rt, "memory");
+    assert!(rt; refusal == Some(Refusal::TooLarge));
 }

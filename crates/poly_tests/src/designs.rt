@@ -11,8 +11,8 @@ ghost use Rattle.std.specs.Prelude.{IfOk};
 ghost use Rattle.poly_design.specs.Changes.{HasBefore, changed};
 ghost use Rattle.poly_design.specs.Limits.{IsDesign};
 
-use poly_design::{Change, Design};
-use poly_grid::Refusal;
+use poly_design::{Change, Design, Edit};
+use poly_grid::{Grid, Refusal};
 use poly_text::{Command, asked, puzzle_of};
 use std::alloc::{AllocGlobal, Global};
 use std::process::Abort;
@@ -31,19 +31,24 @@ pub(crate) fn edited(rt: &(impl AllocGlobal + Abort), line: &[u8], edits: &[&[u8
     design_of(rt.alloc(), line, edits).expect(rt, "a puzzle line and edits")
 }
 
+/// The edit that the command line asks for on the grid. A line that asks for no edit is a `BadCommand`.
+pub(crate) fn edit_by(alloc: Global, grid: Grid, line: &[u8]) -> Result<Edit, Refusal> {
+    let command = asked(alloc, grid, line)?;
+    match &command {
+        Some(Command::Edit(edit)) => Ok(*edit),
+        _ => Err(Refusal::BadCommand),
+    }
+}
+
 /// The change that the command line asks for on the design, or the refusal. A line that asks for no edit is a `BadCommand`.
 pub(crate) fn change_of(alloc: Global, design: &Design, line: &[u8]) -> Result<Change, Refusal>
     ensures stands { IfOk result (λ change. HasBefore design.now change) }
     ensures limits { IfOk result (λ change. IsDesign (changed design.now change)) }
 {
-    let command = asked(alloc, design.grid(), line);
-    match &command {
-        Ok(Some(Command::Edit(edit))) => match design.check(edit) {
-            Ok(change) => Ok(change),
-            Err(refusal) => Err(refusal),
-        },
-        Ok(_) => Err(Refusal::BadCommand),
-        Err(refusal) => Err(*refusal),
+    let edit = edit_by(alloc, design.grid(), line)?;
+    match design.check(&edit) {
+        Ok(change) => Ok(change),
+        Err(refusal) => Err(refusal),
     }
 }
 
