@@ -5,6 +5,7 @@ ghost use Rattle.poly_desk.specs.Changes.{cut_count};
 use crate::books::{book_of, edit, edit_of, expect_status, fail};
 use crate::designs::{DOMINOES, edited};
 use crate::desks::{FORBID, count, work};
+use crate::shared_out::settled;
 use poly_board::Posted;
 use poly_book::{Book, Quiet, Which};
 use poly_design::Edit;
@@ -12,7 +13,7 @@ use poly_desk::{Desk, NotSettled, Opening, PARTS, Pass, Receipt};
 use poly_grid::{Cell, Refusal};
 use poly_report::{Arm, Report, Tree};
 use poly_tiling::Item;
-use std::alloc::Global;
+use std::alloc::{AllocGlobal, Global};
 use std::marker::Brand;
 use std::process::Abort;
 use std::sync::Wait;
@@ -86,6 +87,50 @@ fn expect_refused<C: Ledger, K: Ledger, O: Opening>(
     back
 }
 
+// Two receipts of the same cut.
+fn same_cut_twice(alloc: Global) -> Result<Vec<Vec<Receipt>>, Refusal> {
+    let mut lists = Vec::new(alloc);
+    for _ in 0..2u8 {
+        lists.push(vec![in alloc; Receipt::Cut { place: 1, task: 1 }]?)?;
+    }
+    Ok(lists)
+}
+
+// A list of lists with one receipt.
+fn only(alloc: Global, receipt: Receipt) -> Result<Vec<Vec<Receipt>>, Refusal> {
+    let list = vec![in alloc; receipt]?;
+    Ok(vec![in alloc; list]?)
+}
+
+// Asserts that settling up is refused with a pass missing.
+fn expect_refused_without_second<C: Ledger, K: Ledger, O: Opening>(
+    rt: &impl Abort,
+    alloc: Global,
+    desk: Desk<C, K, O>,
+    first: Pass<C, K, O>,
+    receipts: Vec<Vec<Receipt>>,
+) -> NotSettled<C, K, O> {
+    let passes = vec![in alloc; first].expect(rt, "memory");
+    let why = Refusal::Unsettled { seen: 0, found: 3 };
+    expect_refused(rt, desk, passes, receipts, why)
+}
+
+// Asserts that settling up is refused with a receipt given twice, and with a receipt of another desk.
+fn expect_refused_with_wrong_receipts<C: Ledger, K: Ledger, O: Opening>(
+    rt: &impl Abort,
+    alloc: Global,
+    desk: Desk<C, K, O>,
+    passes: Vec<Pass<C, K, O>>,
+    strange: Receipt,
+) -> NotSettled<C, K, O> {
+    let twice = same_cut_twice(alloc).expect(rt, "memory");
+    let why = Refusal::Unsettled { seen: 1, found: 2 };
+    let back = expect_refused(rt, desk, passes, twice, why);
+    let lists = only(alloc, strange).expect(rt, "memory");
+    let why = Refusal::Unsettled { seen: 4, found: 3 };
+    expect_refused(rt, back.desk, back.passes, lists, why)
+}
+
 // Asserts that settling up is refused with a pass missing, with a receipt given twice, and with a receipt of another desk.
 // Then settles up with both passes and the right receipts.
 fn settle<C: Ledger, K: Ledger, O: Opening>(
@@ -96,29 +141,98 @@ fn settle<C: Ledger, K: Ledger, O: Opening>(
     receipts: Vec<Vec<Receipt>>,
     strange: Receipt,
 ) -> Book {
-    let passes = vec![in alloc; first].expect(rt, "memory");
-    let why = Refusal::Unsettled { seen: 0, found: 3 };
     let NotSettled {
         desk,
         mut passes,
         receipts,
         ..
-    } = expect_refused(rt, desk, passes, receipts, why);
+    } = expect_refused_without_second(rt, alloc, desk, first, receipts);
     passes.push(second).expect(rt, "memory");
-    let one = vec![in alloc; Receipt::Cut { place: 1, task: 1 }].expect(rt, "memory");
-    let same = vec![in alloc; Receipt::Cut { place: 1, task: 1 }].expect(rt, "memory");
-    let twice = vec![in alloc; one, same].expect(rt, "memory");
-    let why = Refusal::Unsettled { seen: 1, found: 2 };
-    let NotSettled { desk, passes, .. } = expect_refused(rt, desk, passes, twice, why);
-    let list = vec![in alloc; strange].expect(rt, "memory");
-    let lists = vec![in alloc; list].expect(rt, "memory");
-    let why = Refusal::Unsettled { seen: 4, found: 3 };
-    let NotSettled { desk, passes, .. } = expect_refused(rt, desk, passes, lists, why);
-    let settled = desk.settle_up(passes, receipts);
+    let back = expect_refused_with_wrong_receipts(rt, alloc, desk, passes, strange);
+    let settled = back.desk.settle_up(back.passes, receipts);
     settled.ok().expect(rt, "it is settled up")
 }
 
-// The day: a report by one pass, changes by the other, work until the desk is quiet, and settling up.
+// The first report, which opens four tasks. Returns the receipt of its cut.
+fn cut_first<C: Ledger, K: Ledger, O: Opening, R: Wait + Abort>(
+    rt: &R,
+    alloc: Global,
+    desk: &Desk<C, K, O>,
+    pass: &mut Pass<C, K, O>,
+) -> Receipt {
+    let handed_in = desk.hand_in(rt, pass, full_report(rt, alloc));
+    let (applied, cut) = handed_in.expect(rt, "a report that holds");
+    assert!(rt; (applied.place, applied.listed, applied.late) == (1, 0, false));
+    assert!(rt; (applied.opened, applied.first) == (4, 2));
+    assert!(rt; desk.next(rt, pass, 1) == Ok(Some(2)));
+    cut
+}
+
+// Asserts what the desk shows after the changes, by both passes.
+fn expect_busy<C: Ledger, K: Ledger, O: Opening, R: Wait + Abort>(
+    rt: &R,
+    desk: &Desk<C, K, O>,
+    p: &mut Pass<C, K, O>,
+    q: &mut Pass<C, K, O>,
+) {
+    let numbers = Posted {
+        edition: 3,
+        endings: 3,
+    };
+    assert!(rt; desk.look(p) == numbers);
+    assert!(rt; desk.look(q) == numbers);
+    let busy = desk.quiet(rt, p).err();
+    assert!(rt; busy == Some(Refusal::Busy { pending: 3 }));
+}
+
+// Works until the desk is quiet. Returns the receipts, the given one first, and all tilings.
+fn work_on<C: Ledger, K: Ledger, O: Opening, R: Wait + Abort>(
+    rt: &R,
+    alloc: Global,
+    desk: &Desk<C, K, O>,
+    pass: &mut Pass<C, K, O>,
+    cut: Receipt,
+) -> (Vec<Receipt>, Quiet) {
+    let mut done = vec![in alloc; cut].expect(rt, "memory");
+    let quiet = work_until_quiet(rt, alloc, desk, pass, &mut done);
+    assert!(rt; count(rt, alloc, desk, pass) == Ok(3));
+    (done, quiet)
+}
+
+// A report by one pass, changes by the other, and work until the desk is quiet. Returns the receipts and all tilings.
+fn work_day<C: Ledger, K: Ledger, O: Opening, R: Wait + Abort>(
+    rt: &R,
+    alloc: Global,
+    desk: &Desk<C, K, O>,
+    p: &mut Pass<C, K, O>,
+    q: &mut Pass<C, K, O>,
+    forbid: &Edit,
+) -> (Vec<Vec<Receipt>>, Quiet) {
+    let cut = cut_first(rt, alloc, desk, p);
+    let changed = change(rt, alloc, desk, q, forbid);
+    expect_busy(rt, desk, p, q);
+    let (done, quiet) = work_on(rt, alloc, desk, p, cut);
+    let receipts = vec![in alloc; done, changed].expect(rt, "memory");
+    (receipts, quiet)
+}
+
+// A day at the desk, and settling up.
+fn day_at<C: Ledger, K: Ledger, O: Opening, R: Wait + Abort>(
+    rt: &R,
+    alloc: Global,
+    desk: Desk<C, K, O>,
+    first: Pass<C, K, O>,
+    forbid: &Edit,
+    strange: Receipt,
+) -> (Book, Quiet) {
+    let mut p = first;
+    let mut q = desk.pass(rt, alloc, &mut p).expect(rt, "a second pass");
+    let (receipts, quiet) = work_day(rt, alloc, &desk, &mut p, &mut q, forbid);
+    let book = settle(rt, alloc, desk, (p, q), receipts, strange);
+    (book, quiet)
+}
+
+// A day at a desk of the book, from its beginning to settling up.
 fn day<C: Ledger, K: Ledger, O: Opening, R: Wait + Abort>(
     rt: &R,
     alloc: Global,
@@ -136,28 +250,8 @@ fn day<C: Ledger, K: Ledger, O: Opening, R: Wait + Abort>(
     requires endings { cut_count book.endings ≡ O.cuts }
 {
     let begun = Desk::<C, K, O>::begin(alloc, changes, cuts, book);
-    let (desk, mut p) = begun.ok().expect(rt, "a desk");
-    let mut q = desk.pass(rt, alloc, &mut p).expect(rt, "a second pass");
-    let handed_in = desk.hand_in(rt, &mut p, full_report(rt, alloc));
-    let (applied, cut) = handed_in.expect(rt, "a report that holds");
-    assert!(rt; (applied.place, applied.listed, applied.late) == (1, 0, false));
-    assert!(rt; (applied.opened, applied.first) == (4, 2));
-    assert!(rt; desk.next(rt, &mut p, 1) == Ok(Some(2)));
-    let changed = change(rt, alloc, &desk, &mut q, forbid);
-    let numbers = Posted {
-        edition: 3,
-        endings: 3,
-    };
-    assert!(rt; desk.look(&mut p) == numbers);
-    assert!(rt; desk.look(&mut q) == numbers);
-    let busy = desk.quiet(rt, &mut p).err();
-    assert!(rt; busy == Some(Refusal::Busy { pending: 3 }));
-    let mut done = vec![in alloc; cut].expect(rt, "memory");
-    let quiet = work_until_quiet(rt, alloc, &desk, &mut p, &mut done);
-    assert!(rt; count(rt, alloc, &desk, &mut p) == Ok(3));
-    let receipts = vec![in alloc; done, changed].expect(rt, "memory");
-    let book = settle(rt, alloc, desk, (p, q), receipts, strange);
-    (book, quiet)
+    let (desk, first) = begun.ok().expect(rt, "a desk");
+    day_at(rt, alloc, desk, first, forbid, strange)
 }
 
 // The receipt of a desk's fourth change.
@@ -178,8 +272,18 @@ fn fourth<C: Ledger, K: Ledger, O: Opening, R: Wait + Abort>(
 {
     let begun = Desk::<C, K, O>::begin(alloc, changes, cuts, book);
     let (desk, mut pass) = begun.ok().expect(rt, "a desk");
-    let _ = change(rt, alloc, &desk, &mut pass, forbid);
-    desk.undo(rt, &mut pass).expect(rt, "a step to undo")
+    change_and_undo(rt, alloc, &desk, &mut pass, forbid)
+}
+
+fn change_and_undo<C: Ledger, K: Ledger, O: Opening, R: Wait + Abort>(
+    rt: &R,
+    alloc: Global,
+    desk: &Desk<C, K, O>,
+    pass: &mut Pass<C, K, O>,
+    forbid: &Edit,
+) -> Receipt {
+    let _ = change(rt, alloc, desk, pass, forbid);
+    desk.undo(rt, pass).expect(rt, "a step to undo")
 }
 
 // The receipt of the fourth change at another desk.
@@ -204,22 +308,26 @@ fn whole_day<R: Wait + Abort>(rt: &R, alloc: Global) -> (Book, Quiet) {
 fn quiet_of_another(rt: &impl Abort, alloc: Global) -> Quiet {
     let mut other = book_of(rt, alloc, DOMINOES);
     edit(rt, alloc, &mut other, b"cell 2,0 optional");
-    let _ = other.settle(1000, 256).expect(rt, "it settles");
-    other.quiet().expect(rt, "nothing is pending")
+    settled(&mut other).expect(rt, "it settles")
 }
 
 // Asserts that the book vouches for its own tilings, and not for those of another book.
 fn expect_vouched(rt: &impl Abort, alloc: Global, book: &Book, quiet: &Quiet) {
-    assert!(rt; book.vouch(quiet).expect(rt, "memory"));
+    assert!(rt; book.vouch(quiet) == Ok(true));
     let unknown = quiet_of_another(rt, alloc);
-    assert!(rt; !book.vouch(&unknown).expect(rt, "memory"));
+    assert!(rt; book.vouch(&unknown) == Ok(false));
+}
+
+// Asserts that these are the three tilings of the design in which a placement is forbidden.
+fn expect_three(rt: &(impl AllocGlobal + Abort), quiet: &Quiet) {
+    assert!(rt; (quiet.edition(), quiet.tilings().len()) == (3, 3));
+    assert!(rt; quiet.design().is_same(&edited(rt, DOMINOES, &[FORBID])));
 }
 
 #[test]
 fn a_day_at_the_desk(rt: HostRuntime) {
     let (book, quiet) = whole_day(&rt, rt.alloc());
     expect_status(&rt, &book, (3, 3, 0));
-    assert!(rt; (quiet.edition(), quiet.tilings().len()) == (3, 3));
-    assert!(rt; quiet.design().is_same(&edited(&rt, DOMINOES, &[FORBID])));
+    expect_three(&rt, &quiet);
     expect_vouched(&rt, rt.alloc(), &book, &quiet);
 }

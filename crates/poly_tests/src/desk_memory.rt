@@ -2,7 +2,7 @@
 //!
 //! With ample memory this test says little. tests/refused_calls.sh runs it again with each allocation refused in turn: then
 //! one call fails with `Memory`, has to leave the desk as it was, and has to succeed when it is made again.
-ghost use Rattle.std.specs.Prelude.{◌≡◌};
+ghost use Rattle.std.specs.Prelude.{◌≡◌, ◌≤◌, vec_capacity, vec_len};
 ghost use Rattle.poly_desk.specs.Changes.{cut_count};
 
 use crate::books::{begun, edit_by, expect_status};
@@ -10,7 +10,7 @@ use crate::designs::{DOMINOES, design_of};
 use crate::desks::{FORBID, shown, work};
 use crate::shared_out::is_shared_out;
 use poly_book::{Book, Quiet, Which};
-use poly_design::Edit;
+use poly_design::{Design, Edit};
 use poly_desk::{Desk, NotBegun, Opening, PARTS, Pass};
 use poly_grid::Refusal;
 use std::alloc::Global;
@@ -98,6 +98,67 @@ fn second_pass<C: Ledger, K: Ledger, O: Opening, R: Wait + Abort>(
     }
 }
 
+// Work by one pass and changes by the other, until no task is pending. Returns all tilings.
+fn work_day<C: Ledger, K: Ledger, O: Opening, R: Wait + Abort>(
+    rt: &R,
+    alloc: Global,
+    desk: &Desk<C, K, O>,
+    p: &mut Pass<C, K, O>,
+    q: &mut Pass<C, K, O>,
+    forbid: &Edit,
+) -> Quiet {
+    let _ = make(rt, alloc, desk, p, &Asked::Work);
+    let _ = make(rt, alloc, desk, q, &Asked::Edit(*forbid));
+    let _ = make(rt, alloc, desk, q, &Asked::Undo);
+    let _ = make(rt, alloc, desk, q, &Asked::Redo);
+    work_on(rt, alloc, desk, p);
+    let answer = make(rt, alloc, desk, p, &Asked::Quiet);
+    assert!(rt; shown(rt, alloc, desk, q).2 == 3);
+    answer.expect(rt, "a Quiet")
+}
+
+// An empty list with room for two passes, with a second try if memory was refused.
+fn room_for_two<C: Ledger, K: Ledger, O: Opening>(
+    rt: &impl Abort,
+    alloc: Global,
+) -> Vec<Pass<C, K, O>>
+    ensures { (vec_len result ≡ 0) × (2 ≤ vec_capacity result) }
+{
+    match Vec::with_capacity(alloc, 2) {
+        Ok(passes) => passes,
+        Err(_) => Vec::with_capacity(alloc, 2).expect(rt, "memory"),
+    }
+}
+
+// Settles up with both passes.
+fn settle<C: Ledger, K: Ledger, O: Opening>(
+    rt: &impl Abort,
+    alloc: Global,
+    desk: Desk<C, K, O>,
+    p: Pass<C, K, O>,
+    q: Pass<C, K, O>,
+) -> Book {
+    let mut passes = room_for_two(rt, alloc);
+    passes.push_reserved(p);
+    passes.push_reserved(q);
+    let settled = desk.settle_up(passes, Vec::new(alloc));
+    settled.ok().expect(rt, "it is settled up")
+}
+
+// A day at the desk, and settling up.
+fn day_at<C: Ledger, K: Ledger, O: Opening, R: Wait + Abort>(
+    rt: &R,
+    alloc: Global,
+    desk: Desk<C, K, O>,
+    first: Pass<C, K, O>,
+    forbid: &Edit,
+) -> (Book, Quiet) {
+    let mut p = first;
+    let mut q = second_pass(rt, alloc, &desk, &mut p);
+    let quiet = work_day(rt, alloc, &desk, &mut p, &mut q, forbid);
+    (settle(rt, alloc, desk, p, q), quiet)
+}
+
 fn day<C: Ledger, K: Ledger, O: Opening, R: Wait + Abort>(
     rt: &R,
     alloc: Global,
@@ -113,27 +174,10 @@ fn day<C: Ledger, K: Ledger, O: Opening, R: Wait + Abort>(
     requires steps { book.steps ≡ O.steps }
     requires endings { cut_count book.endings ≡ O.cuts }
 {
-    let (desk, mut p) = match Desk::<C, K, O>::begin(alloc, changes, cuts, book) {
-        Ok(both) => both,
-        Err(not_begun) => return Err(not_begun),
-    };
-    let mut q = second_pass(rt, alloc, &desk, &mut p);
-    let _ = make(rt, alloc, &desk, &mut p, &Asked::Work);
-    let _ = make(rt, alloc, &desk, &mut q, &Asked::Edit(*forbid));
-    let _ = make(rt, alloc, &desk, &mut q, &Asked::Undo);
-    let _ = make(rt, alloc, &desk, &mut q, &Asked::Redo);
-    work_on(rt, alloc, &desk, &mut p);
-    let answer = make(rt, alloc, &desk, &mut p, &Asked::Quiet);
-    let quiet = answer.expect(rt, "a Quiet");
-    assert!(rt; shown(rt, alloc, &desk, &mut q).2 == 3);
-    let mut passes = match Vec::with_capacity(alloc, 2) {
-        Ok(passes) => passes,
-        Err(_) => Vec::with_capacity(alloc, 2).expect(rt, "memory"),
-    };
-    passes.push(p).expect(rt, "room");
-    passes.push(q).expect(rt, "room");
-    let settled = desk.settle_up(passes, Vec::new(alloc));
-    Ok((settled.ok().expect(rt, "it is settled up"), quiet))
+    match Desk::<C, K, O>::begin(alloc, changes, cuts, book) {
+        Ok((desk, first)) => Ok(day_at(rt, alloc, desk, first, forbid)),
+        Err(not_begun) => Err(not_begun),
+    }
 }
 
 // Asserts that the book and its Quiet are at edition 3 and have three tilings, that one placement is forbidden in their
@@ -141,16 +185,21 @@ fn day<C: Ledger, K: Ledger, O: Opening, R: Wait + Abort>(
 fn expect_whole(rt: &impl Abort, alloc: Global, book: &Book, quiet: &Quiet) {
     expect_status(rt, book, (3, 3, 0));
     assert!(rt; (quiet.edition(), quiet.tilings().len()) == (3, 3));
-    let design = match design_of(alloc, DOMINOES, &[FORBID]) {
-        Ok(design) => design,
-        Err(_) => design_of(alloc, DOMINOES, &[FORBID]).expect(rt, "memory"),
-    };
+    let design = design_after(rt, alloc);
     assert!(rt; quiet.design().is_same(&design) && book.design().is_same(&design));
     let shared_out = match is_shared_out(alloc, book) {
         Ok(shared_out) => shared_out,
         Err(_) => is_shared_out(alloc, book).expect(rt, "memory"),
     };
     assert!(rt; shared_out);
+}
+
+// The design in which a placement is forbidden, with a second try if memory was refused.
+fn design_after(rt: &impl Abort, alloc: Global) -> Design {
+    match design_of(alloc, DOMINOES, &[FORBID]) {
+        Ok(design) => design,
+        Err(_) => design_of(alloc, DOMINOES, &[FORBID]).expect(rt, "memory"),
+    }
 }
 
 // An opening book, and the edit that forbids a placement.
@@ -172,20 +221,29 @@ fn whole_day<R: Wait + Abort>(
     day::<Brand, Brand, Brand, R>(rt, alloc, changes, cuts, book, forbid)
 }
 
-#[test]
-fn a_day_without_memory(rt: HostRuntime) {
-    let alloc = rt.alloc();
-    let (book, forbid) = match opening(alloc) {
+// `opening`, with a second try if memory was refused.
+fn opened(rt: &impl Abort, alloc: Global) -> (Book, Edit) {
+    match opening(alloc) {
         Ok(both) => both,
-        Err(_) => opening(alloc).expect(&rt, "memory"),
-    };
-    let (after, quiet) = match whole_day(&rt, alloc, book, &forbid) {
+        Err(_) => opening(alloc).expect(rt, "memory"),
+    }
+}
+
+// A day of an opening book. If there is no memory for its desk, asserts that, and begins once more.
+fn lived<R: Wait + Abort>(rt: &R, alloc: Global) -> (Book, Quiet) {
+    let (book, forbid) = opened(rt, alloc);
+    match whole_day(rt, alloc, book, &forbid) {
         Ok(both) => both,
         Err(not_begun) => {
             assert!(rt; not_begun.why == Refusal::Memory);
-            let second = whole_day(&rt, alloc, not_begun.book, &forbid);
-            second.ok().expect(&rt, "memory")
+            let second = whole_day(rt, alloc, not_begun.book, &forbid);
+            second.ok().expect(rt, "memory")
         }
-    };
-    expect_whole(&rt, alloc, &after, &quiet);
+    }
+}
+
+#[test]
+fn a_day_without_memory(rt: HostRuntime) {
+    let (after, quiet) = lived(&rt, rt.alloc());
+    expect_whole(&rt, rt.alloc(), &after, &quiet);
 }

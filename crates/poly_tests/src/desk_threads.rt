@@ -75,6 +75,70 @@ fn has(receipts: &[Receipt], place: u64) -> bool {
     receipts.iter().any(|receipt| receipt.place() == place)
 }
 
+// Two hands at the desk, for the first and the last cell of the square.
+fn hands<C: Ledger, K: Ledger, O: Opening, R: Wait + Abort>(
+    rt: &R,
+    alloc: Global,
+    desk: &Desk<C, K, O>,
+    first: Pass<C, K, O>,
+) -> (Hand<C, K, O>, Hand<C, K, O>) {
+    let mut pass = first;
+    let other = desk.pass(rt, alloc, &mut pass).expect(rt, "a second pass");
+    let last = Cell::new(1, 1).expect(rt, "a coordinate below 64");
+    (
+        hand_for(alloc, pass, Cell::ORIGIN),
+        hand_for(alloc, other, last),
+    )
+}
+
+fn hand_for<C: Ledger, K: Ledger, O: Opening>(
+    alloc: Global,
+    pass: Pass<C, K, O>,
+    cell: Cell,
+) -> Hand<C, K, O> {
+    Hand {
+        pass,
+        cell,
+        receipts: Vec::new(alloc),
+    }
+}
+
+// Asserts that each list has 50 receipts, and that each place is in exactly one list.
+fn expect_all(rt: &impl Abort, one: &[Receipt], two: &[Receipt]) {
+    assert!(rt; (one.len(), two.len()) == (50, 50));
+    for place in 1..101u64 {
+        assert!(rt; has(one, place) != has(two, place));
+    }
+}
+
+// Settles up with what both hands have.
+fn settle<C: Ledger, K: Ledger, O: Opening>(
+    rt: &impl Abort,
+    alloc: Global,
+    desk: Desk<C, K, O>,
+    one: Hand<C, K, O>,
+    two: Hand<C, K, O>,
+) -> Book {
+    let passes = vec![in alloc; one.pass, two.pass].expect(rt, "memory");
+    let receipts = vec![in alloc; one.receipts, two.receipts].expect(rt, "memory");
+    let settled = desk.settle_up(passes, receipts);
+    settled.ok().expect(rt, "it is settled up")
+}
+
+// Lets both hands edit at the same time, and settles up.
+fn edit_with<
+    C: Ledger + Send + Sync,
+    K: Ledger + Send + Sync,
+    O: Opening + Send + Sync,
+    R: Threads + Wait + Sync + Abort,
+>(rt: &R, alloc: Global, desk: Desk<C, K, O>, first: Hand<C, K, O>, second: Hand<C, K, O>) -> Book {
+    let mut one = first;
+    let mut two = second;
+    edit_at_once(rt, &desk, &mut one, &mut two);
+    expect_all(rt, &one.receipts, &two.receipts);
+    settle(rt, alloc, desk, one, two)
+}
+
 fn edit_together<
     C: Ledger + Send + Sync,
     K: Ledger + Send + Sync,
@@ -89,27 +153,9 @@ fn edit_together<
     requires endings { cut_count book.endings ≡ O.cuts }
 {
     let begun = Desk::<C, K, O>::begin(alloc, changes, cuts, book);
-    let (desk, mut pass) = begun.ok().expect(rt, "a desk");
-    let other = desk.pass(rt, alloc, &mut pass).expect(rt, "a second pass");
-    let mut one = Hand {
-        pass,
-        cell: Cell::new(0, 0).expect(rt, "a coordinate below 64"),
-        receipts: Vec::new(alloc),
-    };
-    let mut two = Hand {
-        pass: other,
-        cell: Cell::new(1, 1).expect(rt, "a coordinate below 64"),
-        receipts: Vec::new(alloc),
-    };
-    edit_at_once(rt, &desk, &mut one, &mut two);
-    assert!(rt; (one.receipts.len(), two.receipts.len()) == (50, 50));
-    for place in 1..101u64 {
-        assert!(rt; has(&one.receipts, place) != has(&two.receipts, place));
-    }
-    let passes = vec![in alloc; one.pass, two.pass].expect(rt, "memory");
-    let receipts = vec![in alloc; one.receipts, two.receipts].expect(rt, "memory");
-    let settled = desk.settle_up(passes, receipts);
-    settled.ok().expect(rt, "it is settled up")
+    let (desk, pass) = begun.ok().expect(rt, "a desk");
+    let (one, two) = hands(rt, alloc, &desk, pass);
+    edit_with(rt, alloc, desk, one, two)
 }
 
 // The book after the edits of two threads.
