@@ -92,8 +92,7 @@ may_refuse_report o ss k p q e task tree h = may_refuse o ss k p q e (λ b. IsNo
 
 right_at : (task made : ℕ) (tree : Plan) (s t : State) (a : Applied) → IsApplied task made tree s t a → IsRightReceipt t (receipt.Cut a.place task)
 right_at task made tree s t a h =
-    let c = applied_one task made tree s t a h in
-    (
+    let c = applied_one task made tree s t a h in (
       length s.endings,
       omega (arith, c.place, ap length c.endings, length-append s.endings (ending.Cut task ∷ [])),
       subst (λ es. slice_get es (length s.endings) ≡ Some (ending.Cut task)) (sym c.endings) (subst (λ n. slice_get (s.endings ++ ending.Cut task ∷ []) n ≡ Some (ending.Cut task)) (omega arith) (slice_get_back s.endings (ending.Cut task ∷ []) 0)),
