@@ -190,38 +190,6 @@ stairs_more log g next n w j e d A ps le l is h o =
 abbrev pub crossed_from : List Atom → List Atom → ℕ → List (List Atom) → List (List Atom)
 crossed_from base gs j rest = map (λ B. base ++ B) (stairs_from gs j) ++ rest
 
-pub crossed_next : (base gs : List Atom) (j : ℕ) (d : Atom) (A : List Atom) (rest : List (List Atom)) → j < length gs → A ≡ (base ++ take j gs) ++ negated (get_or gs j d) ∷ [] → crossed_from base gs j rest ≡ A ∷ crossed_from base gs (j + 1) rest
-crossed_next base gs j d A rest l is =
-    let e : base ++ (take j gs ++ negated (get_or gs j d) ∷ []) ≡ A = sym (is ∙ append_assoc base (take j gs) (negated (get_or gs j d) ∷ [])) in
-    ap (λ S. map (λ B. base ++ B) S ++ rest) (stairs_next gs j d l) ∙ ap (λ B. B ∷ crossed_from base gs (j + 1) rest) e
-
-pub crossed_end : (base gs : List Atom) (j : ℕ) (rest : List (List Atom)) → length gs ≤ j → crossed_from base gs j rest ≡ rest
-crossed_end base gs j rest l = ap (λ S. map (λ B. base ++ B) S ++ rest) (stairs_end gs j l)
-
-pub crossed_skip : (log : List (List Atom)) (g : List Atom) (next n : ℕ) (w : View) (base : List Atom) (all rest : List (List Atom)) (j : ℕ) (d : Atom) (A : List Atom) (ps : List Pending) → j < length g → A ≡ (base ++ take j g) ++ negated (get_or g j d) ∷ [] → hopeless w A ≡ true →
-    Opening (log ++ g ∷ []) next n w all (crossed_from base g j rest) ps → Opening (log ++ g ∷ []) next n w all (crossed_from base g (j + 1) rest) ps
-crossed_skip log g next n w base all rest j d A ps l is h o =
-    opening_skip (log ++ g ∷ []) next n w all (crossed_from base g (j + 1) rest) A ps h
-    (subst (λ r. Opening (log ++ g ∷ []) next n w all r ps) (crossed_next base g j d A rest l is) o)
-
--- `own` is the base followed by the stair at the index
-pub crossed_more : (log : List (List Atom)) (g : List Atom) (next n : ℕ) (w : View) (base : List Atom) (all rest : List (List Atom)) (j e : ℕ) (d : Atom) (A : List Atom) (own : Own) (ps : List Pending) → length log ≡ e → j < length g → A ≡ (base ++ take j g) ++ negated (get_or g j d) ∷ [] → hopeless w A ≡ false →
-    ((L : List (List Atom)) → own_of L own ≡ base ++ stair_of L (record { edition = e; index = j })) → ((L : List (List Atom)) → IsStairOf L (record { edition = e; index = j }) → IsOwn L own) →
-    Opening (log ++ g ∷ []) next n w all (crossed_from base g j rest) ps →
-    Opening (log ++ g ∷ []) next (n + 1) w all (crossed_from base g (j + 1) rest) (ps ++ record { number = n; own = own; made = e + 1 } ∷ [])
-crossed_more log g next n w base all rest j e d A own ps le l is h reads stands o =
-    let s : Stair = record { edition = e; index = j } in
-    let last = log_last log g e le in
-    let p : Pending = record { number = n; own = own; made = e + 1 } in
-    let stair : stair_of (log ++ g ∷ []) s ≡ take j g ++ negated (get_or g j d) ∷ [] = ap (λ x. get_or (stairs x) j []) last ∙ stairs_at g j d l in
-    let mine : own_of (log ++ g ∷ []) own ≡ A = reads (log ++ g ∷ []) ∙ ap (λ B. base ++ B) stair ∙ sym (is ∙ append_assoc base (take j g) (negated (get_or g j d) ∷ [])) in
-    let there : IsStairOf (log ++ g ∷ []) s = record {
-      edition_in = omega (arith, length_push log g, le);
-      index_in = subst (λ x. j < length x) (sym last) l;
-    } in
-    opening_more (log ++ g ∷ []) next n w all (crossed_from base g (j + 1) rest) A ps p h refl mine (stands (log ++ g ∷ []) there) (omega (arith, length_push log g, le))
-    (subst (λ r. Opening (log ++ g ∷ []) next n w all r ps) (crossed_next base g j d A rest l is) o)
-
 endings_cons : (w : View) (e : ℕ) (u : Task) (ts rs : List Task) (xs : List Ending) (b : Bool) → hopeless w u.own ≡ b → hopeless_endings w e ts ≡ hopeless_endings w e rs ++ xs → hopeless_endings w e (u ∷ ts) ≡ hopeless_endings w e (u ∷ rs) ++ xs
 endings_cons w e u ts rs xs true h ih = let f : Bool → List Task → List Ending = λ b vs. map (λ t. Hopeless t.number e) (cond b (u ∷ filter (λ t. hopeless w t.own) vs) (filter (λ t. hopeless w t.own) vs)) in ap (λ b. f b ts) h ∙ ap (λ L. Hopeless u.number e ∷ L) ih ∙ ap (λ b. f b rs ++ xs) (sym h)
 endings_cons w e u ts rs xs false h ih = let f : Bool → List Task → List Ending = λ b vs. map (λ t. Hopeless t.number e) (cond b (u ∷ filter (λ t. hopeless w t.own) vs) (filter (λ t. hopeless w t.own) vs)) in ap (λ b. f b ts) h ∙ ih ∙ ap (λ b. f b rs ++ xs) (sym h)

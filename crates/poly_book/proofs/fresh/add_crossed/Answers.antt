@@ -1,8 +1,6 @@
-use Rattle.std.proofs.Common.{[], ap, arith, false, get_or, inl, length, not, refl, subst, sym, true, ◌++◌, ◌+◌, ◌<◌, ◌∙◌, ◌∷◌, ◌≡◌}
+use Rattle.std.proofs.Common.{[], arith, false, get_or, inl, length, refl, subst, sym, true, ◌++◌, ◌+◌, ◌<◌, ◌∙◌, ◌∷◌, ◌≡◌}
 use Rattle.std.proofs.lemmas.Bool.{not-false, not-true}
-use Rattle.poly_atom.specs.declared.stair.Stair.{Stair}
 use Rattle.poly_atom.specs.Hopeless.{hopeless}
-use Rattle.poly_atom.specs.Logs.{stair_of}
 use Rattle.poly_atom.specs.Stairs.{stairs}
 use Rattle.poly_book.specs.Opens.{Opening}
 use Rattle.poly_book.proofs.Held.{crossed_from, opening_over}
