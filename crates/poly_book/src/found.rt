@@ -103,6 +103,9 @@ impl Book {
     pub fn hand_in_found(&mut self, found: Found) -> Result<(Applied, Remains), Refusal>
         requires view { arc_value found.view ≡ self.old.view }
         ensures ok { IfOk result (λ r. IsApplied found.report.task found.report.edition (plan_of found.report.tree) self.old self.new r.0) }
+        ensures report { IfOk result (λ r. r.1.report ≡ found.report) }
+        ensures atoms { IfOk result (λ r. r.1.atoms.items ≡ found.atoms.items) }
+        ensures left { IfOk result (λ r. arc_value r.1.view ≡ arc_value found.view) }
         ensures err { OnErr result (self.new ≡ self.old) }
         ensures why { IfErr result (λ e. IsNotApplied found.report.task (plan_of found.report.tree) self.old e) }
         ensures full { IfErr result (λ e. e ≡ Refusal.CatalogueFull → HasOverTilings MAX_TILINGS self.old.design) }
@@ -127,6 +130,9 @@ impl Book {
     /// `hand_in_found` for a report that a search made in any view. The tree is checked.
     pub fn hand_in_checked(&mut self, found: Found) -> Result<(Applied, Remains), Refusal>
         ensures ok { IfOk result (λ r. IsApplied found.report.task found.report.edition (plan_of found.report.tree) self.old self.new r.0) }
+        ensures report { IfOk result (λ r. r.1.report ≡ found.report) }
+        ensures atoms { IfOk result (λ r. r.1.atoms.items ≡ found.atoms.items) }
+        ensures left { IfOk result (λ r. arc_value r.1.view ≡ arc_value found.view) }
         ensures err { OnErr result (self.new ≡ self.old) }
         ensures why { IfErr result (λ e. IsNotApplied found.report.task (plan_of found.report.tree) self.old e) }
         ensures full { IfErr result (λ e. e ≡ Refusal.CatalogueFull → HasOverTilings MAX_TILINGS self.old.design) }

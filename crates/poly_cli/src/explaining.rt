@@ -42,9 +42,9 @@ const ANSWERED: [Refusal; 25] = [
 #[derive(Drop)]
 pub struct Explained<W, T> {
     /// Takes the replies.
-    pub(crate) replies: W,
+    pub replies: W,
     /// Takes the explanations.
-    pub(crate) errors: T,
+    pub errors: T,
     /// The refusal that isn't flushed yet.
     refusal: Option<Refusal>,
 }

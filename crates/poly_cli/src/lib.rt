@@ -16,8 +16,6 @@ mod sessions;
 mod solo;
 mod team;
 mod teamwork;
-#[cfg(test)]
-mod tests;
 mod watching;
 mod writing;
 

@@ -24,7 +24,7 @@ pub struct Watched<'a, E, C, T> {
     /// Tells the time.
     clock: &'a C,
     /// Takes the reports.
-    pub(crate) errors: T,
+    pub errors: T,
     ghost few: { turns ≤ MOST_TURNS },
 }
 

@@ -7,12 +7,13 @@ use crate::thief::Thief;
 use poly_book::{Applied, Which};
 use poly_grid::Refusal;
 use std::alloc::Global;
+use std::thread;
 
 /// How many hints a worker holds on its lane for thieves, as long as it has as many that it doesn't need at once.
 const OFFERED: usize = 4;
 
 /// How often a worker goes round the other lanes before it takes any task.
-const ROUNDS: usize = 2;
+const ROUNDS: usize = 3;
 
 /// The tasks with the numbers from `next` on, below `end`.
 #[derive(Clone, Copy)]
@@ -104,13 +105,24 @@ impl Hints {
     }
 }
 
-// Steals a hint. A thief that meets another worker at the same hint comes back without one, so there are several rounds.
+// Steals a hint. A thief that meets another worker at the same hint comes back without one, so there are several rounds. After
+// each that finds nothing, the thread yields its processor: if there are more workers than processors, another worker then gets
+// to offer tasks. Without a hint the worker would search a task that another one is searching.
 fn steal(thieves: &mut [Thief]) -> Option<u32> {
     for _ in 0..ROUNDS {
-        for thief in thieves.iter_mut() {
-            if let Some(task) = thief.steal() {
-                return Some(task);
-            }
+        if let Some(task) = steal_once(thieves) {
+            return Some(task);
+        }
+        thread::yield_now();
+    }
+    None
+}
+
+// Steals a hint from the first lane that has one for this worker.
+fn steal_once(thieves: &mut [Thief]) -> Option<u32> {
+    for thief in thieves.iter_mut() {
+        if let Some(task) = thief.steal() {
+            return Some(task);
         }
     }
     None

@@ -1,7 +1,7 @@
 -- The book of a desk, which contracts can't name once the lock is released.
 use Rattle.std.specs.Prelude.{List, ℕ, ◌≡◌, ◌⊎◌}
 use Rattle.poly_grid.specs.declared.refusal.Refusal.{Refusal}
-use Rattle.poly_grid.specs.declared.refusal.Refusal.TheVariants.{Memory, Spent}
+use Rattle.poly_grid.specs.declared.refusal.Refusal.TheVariants.{Memory}
 use Rattle.poly_design.specs.Layout.{Layout}
 use Rattle.poly_report.specs.Trees.{Plan}
 use Rattle.poly_book.specs.Refused.{IsNotApplied}

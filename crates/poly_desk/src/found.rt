@@ -30,6 +30,9 @@ impl<C: Ledger, K: Ledger, O: Opening> Floor<C, K, O> {
         ensures noted { OnOk result (HasNoted self.old.book self.new.book pass.old pass.new 0 1) }
         ensures ok { IfOk result (λ r. IsApplied found.report.task found.report.edition (plan_of found.report.tree) self.old.book self.new.book r.0) }
         ensures receipt { IfOk result (λ r. r.1 ≡ Receipt.Cut r.0.place found.report.task) }
+        ensures report { IfOk result (λ r. r.2.report ≡ found.report) }
+        ensures atoms { IfOk result (λ r. r.2.atoms.items ≡ found.atoms.items) }
+        ensures left { IfOk result (λ r. arc_value r.2.view ≡ arc_value found.view) }
         ensures passes { self.new.passes ≡ self.old.passes }
         ensures stays { OnErr result (self.new ≡ self.old) }
         ensures why { IfErr result (λ e. IsRefused self.old.book pass.old pass.new e (IsNotApplied found.report.task (plan_of found.report.tree) self.old.book e)) }
@@ -58,6 +61,9 @@ fn apply_found<O: Opening>(
     requires view { IsViewAt O.steps O.view (length book.old.steps) book.old.view }
     requires searched { IsViewAt O.steps O.view found.report.edition (arc_value found.view) }
     ensures ok { IfOk result (λ r. IsApplied found.report.task found.report.edition (plan_of found.report.tree) book.old book.new r.0) }
+    ensures report { IfOk result (λ r. r.1.report ≡ found.report) }
+    ensures atoms { IfOk result (λ r. r.1.atoms.items ≡ found.atoms.items) }
+    ensures left { IfOk result (λ r. arc_value r.1.view ≡ arc_value found.view) }
     ensures err { OnErr result (book.new ≡ book.old) }
     ensures why { IfErr result (λ e. IsNotApplied found.report.task (plan_of found.report.tree) book.old e) }
 {

@@ -1,6 +1,6 @@
 //! Tests that need only public calls, and that no script of the player can be (docs/PLAYER.md): of plain functions and of parts
-//! that a book doesn't show, such as frames and tables; enumerations; threads and whole days at a desk; and runs with each
-//! allocation refused.
+//! that a book doesn't show, such as frames and tables; enumerations; threads and whole days at a desk; sessions over
+//! readers and writers of their own; and runs with each allocation refused.
 //!
 //! They share some test kits: `designs` (designs from puzzle lines), `books`, `desks`, and `shared_out`, which compares a book
 //! with the plain lister. The crate exports nothing.
@@ -35,9 +35,13 @@ mod memory;
 #[cfg(test)]
 mod numbers;
 #[cfg(test)]
+mod options;
+#[cfg(test)]
 mod parts;
 #[cfg(test)]
 mod refusals;
+#[cfg(test)]
+mod sessions;
 #[cfg(test)]
 mod shapes;
 #[cfg(test)]

@@ -3,7 +3,7 @@
 
 ghost use Rattle.std.specs.Prelude.{◌≤◌};
 
-use crate::{End, Engine, Explained, Fault, Solo, Team, Watched, session};
+use poly_cli::{End, Engine, Explained, Fault, Solo, Team, Watched, session};
 use poly_grid::Refusal;
 use std::alloc::{AllocGlobal, Global};
 use std::cell::Cell;
