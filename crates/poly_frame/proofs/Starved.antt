@@ -1,14 +1,14 @@
 -- What the rows say about an item that is starved once a placement is taken.
 use Rattle.std.proofs.Common.{◌≡◌, ℕ, ◌+◌, ◌-◌, ◌*◌, ◌/◌, ◌%◌, ◌<◌, ◌≤◌, Bool, true, false, not, ◌&&◌, ◌||◌, eqb, leb, List, [], ◌∷◌, ◌++◌, inl, inr, refl, sym, ap, subst, ◌∙◌, arith, length, get_or, take}
 use Rattle.std.specs.Int.{bit_at}
-use Rattle.std.specs.List.{list_any}
-use Rattle.std.proofs.lemmas.Bool.{and_from, and_parts, both_ways, false_from_ne_true, le-leb, leb-true, lt-ltb, ne_eqb, not_from_false, not-true}
+use Rattle.std.specs.List.{list_all, list_any}
+use Rattle.std.proofs.lemmas.Bool.{and_from, and_parts, both_ways, false_from_ne_true, le-leb, leb-true, lt-ltb, ne_eqb, not_from_false, not-true, true≢false}
 use Rattle.std.proofs.lemmas.List.{take_more}
 use Rattle.poly_tiling.specs.Lists.{mem, one, put, tally}
 use Rattle.poly_tiling.specs.declared.item.Item.{Item}
 use Rattle.poly_tiling.specs.Puzzle.{View, count, has_item, items}
 use Rattle.poly_tiling.proofs.Ascending.{in_put_self, put_in}
-use Rattle.poly_tiling.proofs.Lists.{In, any_append, any_from, any_in, in_mem, mem_in}
+use Rattle.poly_tiling.proofs.Lists.{In, all_in, any_append, any_from, any_in, in_mem, mem_in}
 use Rattle.poly_atom.specs.declared.atom.Atom.{Atom}
 use Rattle.poly_atom.specs.declared.atom.Atom.TheVariants.{Has}
 use Rattle.poly_atom.specs.Hopeless.{base}
@@ -17,7 +17,7 @@ use Rattle.poly_frame.specs.Bits.{has_bit}
 use Rattle.poly_frame.specs.FrameItems.{Noted, item_of}
 use Rattle.poly_frame.specs.FrameTable.{limit_at}
 use Rattle.poly_frame.specs.FrameSteps.{Kept}
-use Rattle.poly_frame.specs.Matrices.{column_items}
+use Rattle.poly_frame.specs.Matrices.{bit_index, column_items}
 use Rattle.poly_frame.proofs.Matrices.{column_shows}
 use Rattle.poly_frame.specs.declared.frame.matrix.Matrix.{Matrix}
 use Rattle.poly_frame.specs.declared.frame.steps.Mark.{Mark}
@@ -39,6 +39,33 @@ pub left_more : (f : ℕ → Bool) (a l r : Bool) (xs : List ℕ) (k : ℕ) → 
 left_more f a l r xs k h e s =
     s ∙ ap (λ b. b && not (f (get_or xs k 0))) e ∙ left_at a (list_any f (take k xs)) (f (get_or xs k 0))
     ∙ ap (λ b. a && not b) (sym (ap (λ ys. list_any f ys) (take_more xs k 0 h) ∙ any_append f (take k xs) (get_or xs k 0 ∷ [])))
+
+right_of : (p q : Bool) → p ≡ true → (p && not q) ≡ false → q ≡ true
+right_of true true h e = refl
+right_of true false h e = absurd (true≢false e)
+right_of false q h e = absurd (true≢false (sym h))
+
+-- `left` has the open numbers that have none of the items at the indices, and none of these has the item at b: so each open
+-- number that has the item at b has one of the items at the indices
+pub shut_without : (live left rows limits have indices : List ℕ) (w at b : ℕ) → ((x : ℕ) → x < 64 * w → has_bit left x ≡ (has_bit live (64 * at + x) && not (list_any (λ c. has_bit rows (bit_index w c x)) indices))) →
+    ((k t : ℕ) → k < length left → t < 64 → eqb (bit_at (get_or left k 0) t) 1 ≡ true → eqb (bit_at (get_or rows (w * b + k) 0) t) 1 ≡ false) → length left ≡ w → list_all (λ c. leb (get_or limits c 0 - 1) (get_or have c 0)) indices ≡ true →
+    (k u : ℕ) → k < w → u < 64 → eqb (bit_at (get_or live (at + k) 0) u) 1 ≡ true → eqb (bit_at (get_or rows (w * b + k) 0) u) 1 ≡ true →
+    list_any (λ c. leb (get_or limits c 0 - 1) (get_or have c 0) && eqb (bit_at (get_or rows (w * c + k) 0) u) 1) indices ≡ true
+shut_without live left rows limits have indices w at b without none len last k u m l up row =
+    let x = 64 * k + u in
+    let word : x / 64 ≡ k = omega arith in
+    let bit : x % 64 ≡ u = omega arith in
+    let told : (ws : List ℕ) (from : ℕ) → has_bit ws (64 * from + x) ≡ eqb (bit_at (get_or ws (from + k) 0) u) 1 =
+    λ ws from. in_word ws from x ∙ ap (λ n. eqb (bit_at (get_or ws (from + n) 0) (x % 64)) 1) word ∙ ap (λ n. eqb (bit_at (get_or ws (from + k) 0) n) 1) bit in
+    let first : 64 * 0 + x ≡ x = omega arith in
+    let zero : 0 + k ≡ k = omega arith in
+    let gone : has_bit left x ≡ false =
+    ap (λ n. has_bit left n) (sym first) ∙ told left 0 ∙ ap (λ n. eqb (bit_at (get_or left n 0) u) 1) zero
+    ∙ false_from_ne_true _ (λ z. both_ways (eqb (bit_at (get_or rows (w * b + k) 0) u) 1) (none k u (omega (arith, m, len)) l z) row) in
+    let some = right_of (has_bit live (64 * at + x)) (list_any (λ c. has_bit rows (bit_index w c x)) indices) (told live at ∙ up) (sym (without x (omega (arith, m, l))) ∙ gone) in
+    let r = any_in (λ c. has_bit rows (bit_index w c x)) indices some in
+    any_from (λ c. leb (get_or limits c 0 - 1) (get_or have c 0) && eqb (bit_at (get_or rows (w * c + k) 0) u) 1) indices r.0 r.1
+    (and_from _ _ (all_in (λ c. leb (get_or limits c 0 - 1) (get_or have c 0)) indices last r.0 r.1) (sym (told rows (w * r.0)) ∙ r.2))
 
 none_pass : (f : ℕ → Bool) (xs : List ℕ) → ((q : ℕ) → In q xs → f q ≡ false) → tally f xs ≡ 0
 none_pass f [] h = refl

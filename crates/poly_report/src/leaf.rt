@@ -45,13 +45,6 @@ impl Rests {
         Rests { stem, paths }
     }
 
-    /// No rests.
-    pub fn none(alloc: Global) -> Rests
-        ensures { result ≡ [] }
-    {
-        Rests::new(Vec::new(alloc), AtomLists::new(alloc))
-    }
-
     /// How many rests there are.
     pub fn len(&self) -> usize
         ensures { result ≡ length self.now }

@@ -12,7 +12,7 @@ use Rattle.poly_tiling.specs.Puzzle.{View, is_tiling, has_item, same_item, count
 use Rattle.poly_atom.specs.Atoms.{meets_all, in_family}
 use Rattle.poly_atom.specs.Hopeless.{base}
 use Rattle.poly_report.specs.Trees.{Finds, Branches, NoArms}
-use Rattle.poly_frame.specs.Open.{least_at, open_in}
+use Rattle.poly_frame.specs.Open.{arms_fit, least_at, open_in}
 use Rattle.poly_report.specs.Leaves.{tilings}
 use Rattle.poly_frame.specs.Walk.{open_count, is_due}
 use Rattle.poly_tiling.proofs.Lists.{all_in, all_append, tally_append, in_mem, in_append_right}
@@ -62,6 +62,14 @@ swept_rest v A found found' rests rests' ef er = record {
   shared = λ T i. omega (arith, ap (λ x. times v T x rests') ef, ap (λ x. times v T found x) er, times_left v T found rests A);
   only = λ h. subst (all_tilings v) (sym ef) h;
   less = omega (arith, ap (weights v) er, weights_append v rests (A ∷ []));
+}
+
+-- a family that leaves no arm to a Branch on some item has no tilings, so there is nothing to sweep
+pub starved_swept : (v : View) (A : List Atom) (i : Item) (found : List (List ℕ)) (rests : List (List Atom)) → arms_fit v A i [] ≡ true → Swept v A found found rests rests
+starved_swept v A i found rests fit = record {
+  shared = λ T h. omega (arith, trees_share_out_lem v A (Branches i NoArms) T h (and_from _ _ fit refl));
+  only = λ h. h;
+  less = omega arith;
 }
 
 -- the tilings with the placement were swept; those without it are still to be swept
@@ -180,14 +188,7 @@ item_swept v A i ps found rests d due m =
     let short = subst (λ n. nat_lt (count v (base v B) i) n ≡ true) (sym (least_behind v A ps i)) (subst (λ xs. nat_lt (count v xs i) (least_at v A i) ≡ true) (sym (base_behind v A ps)) due) in
     let none = λ (p : ℕ). no_more (mem v.live p) (open_in v A p) (has_item v p i) (mem ps p) (m p) ∙ ap (λ b. mem v.live p && (b && has_item v p i)) (sym (open_behind v A ps p)) in
     let fit = options_fit v B i [] d refl none short in
-    let z = one-le-pow (open_count v B) 3 (omega arith) in (
-      record {
-        shared = λ T t. let law = trees_share_out_lem v B (Branches i NoArms) T t (and_from _ _ fit refl) in omega arith;
-        only = λ h. h;
-        less = omega arith;
-      },
-      omega arith,
-    )
+    let z = one-le-pow (open_count v B) 3 (omega arith) in (starved_swept v B i found rests fit, omega arith)
 
 not_before : (ps : List ℕ) (j : ℕ) → distinct ps ≡ true → j < length ps → mem (take j ps) (get_or ps j 0) ≡ false
 not_before ps zero d h = refl

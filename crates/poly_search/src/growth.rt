@@ -20,6 +20,7 @@ ghost use Rattle.poly_frame.specs.Walk.{is_due, is_open, is_option};
 ghost use Rattle.poly_search.specs.Chains.{chain};
 ghost use Rattle.poly_search.specs.Walked.{Walked, left_over};
 ghost use Rattle.poly_frame.specs.declared.frame.TheConstants.{STEPS};
+ghost use Rattle.poly_atom.specs.declared.atom.Atom.TheVariants.{Has};
 
 use poly_grid::Refusal;
 use poly_report::{Arm, Frame, Gathered, Tree};
@@ -199,6 +200,44 @@ fn child(
     Ok(tree)
 }
 
+// The tree of an arm: what `child` grows once the placement is taken. If it is known before that some item would have too few
+// placements left, the tree is a dead end, and the placement isn't taken.
+#[cycle(grow)]
+fn arm(
+    alloc: Global,
+    frame: &mut Frame<'_>,
+    growth: &mut Growth,
+    kept: u32,
+    depth: u32,
+    placement: u32,
+) -> Result<Tree, Refusal>
+    requires room { kept < growth.old.nodes }
+    requires low { 1 ≤ depth }
+    requires steps { length frame.old.atoms + growth.old.nodes + 1 ≤ frame.old.given + STEPS + kept }
+    requires begun { frame.old.given ≤ length frame.old.atoms }
+    requires once { distinct frame.old.scene.live ≡ true }
+    ensures same { OnOk result (frame.new ≡ frame.old) }
+    ensures grown { IfOk result (λ t. Grown frame.old.scene (frame.old.atoms ++ Has placement ∷ []) depth (plan_of t)) }
+    ensures opened { IfOk result (λ t. opened frame.old.scene (frame.old.atoms ++ Has placement ∷ []) (plan_of t) ≡ true) }
+    ensures nodes { IfOk result (λ t. growth.new.nodes + total (plan_of t) ≡ growth.old.nodes) }
+    ensures inner { IfOk result (λ t. growth.new.inner + inner (plan_of t) ≤ growth.old.inner) }
+    ensures tilings { IfOk result (λ t. growth.new.gathered.tilings.items ≡ growth.old.gathered.tilings.items ++ tilings frame.old.scene (frame.old.atoms ++ Has placement ∷ []) (plan_of t)) }
+    ensures paths { IfOk result (λ t. growth.new.gathered.paths ≡ growth.old.gathered.paths ++ paths frame.old.given frame.old.scene (frame.old.atoms ++ Has placement ∷ []) (plan_of t)) }
+    ensures kept { OnOk result (kept ≤ growth.new.nodes) }
+    ensures why { IfErr result (λ e. e ≡ Refusal.Memory) }
+{
+    if growth.inner > 0 && depth > 1 {
+        if let Some(item) = frame.starved_by(placement) {
+            return Ok(dead_end(alloc, growth, item));
+        }
+    }
+    let level = frame.level();
+    frame.pick(placement);
+    let tree = child(alloc, frame, growth, kept, depth)?;
+    frame.backtrack_to(level);
+    Ok(tree)
+}
+
 // The arms that were walked, and how many nodes are held back for a chain over them.
 #[derive(Debug, Drop)]
 struct Arms {
@@ -259,10 +298,7 @@ fn walk_arms(
         } else {
             depth - 1
         };
-        let level = frame.level();
-        frame.pick(placement);
-        let tree = child(alloc, frame, growth, kept + after, deeper)?;
-        frame.backtrack_to(level);
+        let tree = arm(alloc, frame, growth, kept + after, deeper, placement)?;
         if after > 0 {
             frame.leave(placement);
         }

@@ -5,7 +5,9 @@
 //! No tree is built. A sweep ends early if the steps of its frame or the depth run out, or if more than 1,000,000 tilings
 //! are listed already. What is left at each node on the path is then added to the rests, as atoms. A rest can be swept later.
 ghost use Rattle.std.specs.Prelude.{◌≡◌, ◌&&◌, ◌+◌, ◌≤◌, ◌<◌, ◌++◌, ◌∷◌, [], ℕ, drop, false, true, length, IfOk, IfErr, OnOk};
-ghost use Rattle.poly_atom.specs.declared.atom.Atom.TheVariants.{Lacks};
+ghost use Rattle.poly_atom.specs.declared.atom.Atom.TheVariants.{Has, Lacks};
+ghost use Rattle.poly_tiling.specs.declared.item.Item.{Item as ItemOf};
+ghost use Rattle.poly_frame.specs.Open.{arms_fit};
 ghost use Rattle.poly_tiling.specs.Lists.{distinct, mem};
 ghost use Rattle.poly_report.specs.Trees.{Finds};
 ghost use Rattle.poly_report.specs.Leaves.{tilings};
@@ -201,8 +203,26 @@ fn sweep_open(
     Ok(true)
 }
 
+// Whether it is known that no tiling of the family has the placement, and the frame would have room for one more step after
+// taking it. The frame stays as it was.
+fn leads_nowhere(frame: &mut Frame<'_>, end: usize, placement: u32) -> bool
+    requires { length frame.old.atoms < end }
+    ensures same { frame.new ≡ frame.old }
+    ensures room { result ≡ true → length frame.old.atoms + 1 < end }
+    ensures starved { result ≡ true → (i : ItemOf) × (arms_fit frame.old.scene (frame.old.atoms ++ Has placement ∷ []) i [] ≡ true) }
+{
+    if frame.level() + 1 >= end {
+        return false;
+    }
+    match frame.starved_by(placement) {
+        None => false,
+        Some(_) => true,
+    }
+}
+
 // Sweeps the tilings that have the open placement. If this sweep ends early, the tilings without the placement are added as
-// a rest too. If the call isn't refused, the frame stays as it was.
+// a rest too. If it is known that there is no tiling with the placement, the placement isn't taken. If the call isn't refused,
+// the frame stays as it was.
 #[cycle(sweep)]
 fn sweep_arm(
     alloc: Global,
@@ -228,6 +248,9 @@ fn sweep_arm(
     ensures options { OnOk result (list.new.options.items ≡ list.old.options.items) }
     ensures why { IfErr result (λ e. e ≡ Refusal.Memory) }
 {
+    if leads_nowhere(frame, end, placement) {
+        return Ok(true);
+    }
     frame.pick(placement);
     let whole = sweep_below(alloc, frame, list, end, depth)?;
     frame.back();

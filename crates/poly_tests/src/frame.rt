@@ -96,6 +96,17 @@ fn expect_starved(rt: &impl Abort, view: &View, frame: &mut Frame<'_>, placement
     assert!(rt; frame.starves(placement, cell) == want);
 }
 
+// Asserts whether a look ahead sees that taking the placement leaves too few options for some item.
+fn expect_starved_by(rt: &impl Abort, frame: &mut Frame<'_>, placement: u32, want: bool)
+    requires { length frame.old.atoms < frame.old.given + STEPS }
+    ensures { frame.new ≡ frame.old }
+{
+    match frame.starved_by(placement) {
+        None => assert!(rt; !want),
+        Some(item) => assert!(rt; want && frame.starves(placement, item)),
+    }
+}
+
 #[test]
 fn a_placement_starves_a_cell_that_it_leaves_without_options(rt: HostRuntime) {
     let view = view_of(rt.alloc(), DOMINOES).expect(&rt, "a view");
@@ -104,6 +115,8 @@ fn a_placement_starves_a_cell_that_it_leaves_without_options(rt: HostRuntime) {
     expect_starved(&rt, &view, &mut frame, 7, false);
     frame.leave(7);
     expect_starved(&rt, &view, &mut frame, 0, true);
+    expect_starved_by(&rt, &mut frame, 0, true);
+    expect_starved_by(&rt, &mut frame, 1, false);
     expect_counts(&rt, &view, &mut frame, &[4, 4, 3, 3, 4, 3]);
 }
 

@@ -34,7 +34,7 @@ pub struct Matrix {
     /// The placement of each column.
     pub(crate) numbers: Vec<u32>,
     /// The column of each placement that has one, by the number of the placement. The entries of other numbers mean nothing.
-    pub(crate) stands: Vec<usize>,
+    pub(crate) stands: Vec<u32>,
     /// The indices of the items of each column, and of other columns: the matrices that were made from one matrix share its
     /// lists. `None` only if there are no columns.
     pub(crate) lists: Option<Arc<Lists>>,
@@ -163,7 +163,7 @@ impl Matrix {
     {
         let p = number as usize;
         if p < self.stands.len() {
-            let j = self.stands[p];
+            let j = self.stands[p] as usize;
             if j < self.numbers.len() && self.numbers[j] == number {
                 return Some(j);
             }
@@ -368,7 +368,7 @@ fn homes_of(whole: &Matrix, numbers: &[u32], spare: Vec<usize>) -> Result<Vec<us
     homes.clear();
     homes.reserve(numbers.len())?;
     for p in numbers {
-        homes.push_reserved(whole.homes[whole.stands[*p as usize]]);
+        homes.push_reserved(whole.homes[whole.stands[*p as usize] as usize]);
     }
     Ok(homes)
 }
@@ -386,7 +386,7 @@ fn size_for(numbers: &[u32]) -> usize
 }
 
 // The list, made as long as `size` if it is shorter.
-fn lengthened(list: Vec<usize>, size: usize) -> Result<Vec<usize>, Refusal>
+fn lengthened(list: Vec<u32>, size: usize) -> Result<Vec<u32>, Refusal>
     ensures len { IfOk result (λ l. size ≤ length l.items) }
     ensures why { IfErr result (λ e. e ≡ Refusal.Memory) }
 {
@@ -397,16 +397,20 @@ fn lengthened(list: Vec<usize>, size: usize) -> Result<Vec<usize>, Refusal>
     Ok(list)
 }
 
-// The column of each number. Overwrites `spare`, whose other entries stay, since they mean nothing.
-fn stands_of(numbers: &[u32], spare: Vec<usize>) -> Result<Vec<usize>, Refusal>
+// The column of each number. Overwrites `spare`, whose other entries stay, since they mean nothing. More columns than a u32
+// can count would be more than fit into memory.
+fn stands_of(numbers: &[u32], spare: Vec<u32>) -> Result<Vec<u32>, Refusal>
     requires { distinct numbers.now ≡ true }
     ensures value { IfOk result (λ s. StandsShow numbers.now s.items) }
     ensures why { IfErr result (λ e. e ≡ Refusal.Memory) }
 {
+    let Ok(count) = u32::try_from(numbers.len()) else {
+        return Err(Refusal::Memory);
+    };
     let size = size_for(numbers);
     let mut stands = lengthened(spare, size)?;
-    for j in 0..numbers.len() {
-        let p = numbers[j] as usize;
+    for j in 0..count {
+        let p = numbers[j as usize] as usize;
         stands[p] = j;
     }
     Ok(stands)

@@ -61,6 +61,15 @@ pub(crate) fn occupied_rows(
     Ok(all)
 }
 
+/// Whether no bit of the words is set.
+pub(crate) fn is_empty(row: &[u64]) -> bool {
+    let mut all = 0u64;
+    for word in row {
+        all |= *word;
+    }
+    all == 0
+}
+
 /// How many bits of the words are set.
 pub(crate) fn count_bits(row: &[u64]) -> usize {
     let mut all = 0usize;

@@ -1,12 +1,14 @@
 //! Whether taking a placement starves an item that is due and that no member has: no placement that has the item stays open.
 //! The rows tell this without a step, so checking a placement that leads nowhere costs little.
-ghost use Rattle.std.specs.Prelude.{[], length, nat_le, nat_lt, not, slice_index, true, ℕ, ◌&&◌, ◌*◌, ◌++◌, ◌+◌, ◌-◌, ◌<◌, ◌==◌, ◌∷◌, ◌≡◌, ◌≤◌};
+ghost use Rattle.std.specs.Prelude.{[], length, nat_le, nat_lt, not, slice_index, false, true, ℕ, ◌&&◌, ◌*◌, ◌++◌, ◌+◌, ◌-◌, ◌<◌, ◌==◌, ◌∷◌, ◌≡◌, ◌≤◌};
 ghost use Rattle.std.specs.List.{list_all, list_any};
 ghost use Rattle.std.specs.Int.{bit_at};
 ghost use Rattle.poly_atom.specs.declared.atom.Atom.TheVariants.{Has};
 ghost use Rattle.poly_frame.specs.Open.{arms_fit};
 ghost use Rattle.poly_frame.specs.FrameItems.{item_of};
+ghost use Rattle.poly_frame.specs.Bits.{has_bit};
 ghost use Rattle.poly_frame.specs.FrameSteps.{IsAt};
+ghost use Rattle.poly_frame.specs.Matrices.{bit_index, column_items};
 
 use crate::bits;
 use crate::frame::items::{guess_item, index_of};
@@ -104,6 +106,61 @@ fn is_starved_at(node: &Node<'_>, steps: &Steps, b: usize, j: usize) -> bool
         at,
         from,
     )
+}
+
+// Whether no number is both in the row `left` and in the matrix's row at word `from`.
+fn has_none(left: &[u64], rows: &[u64], from: usize) -> bool
+    requires { from + length left.now ≤ length rows.now }
+    ensures { result ≡ true → (k t : ℕ) → k < length left.now → t < 64 → (bit_at (slice_index left.now k) t == 1) ≡ true → (bit_at (slice_index rows.now (from + k)) t == 1) ≡ false }
+{
+    for k in 0..left.len() {
+        if bits::both(left[k], rows[from + k]) != 0 {
+            return false;
+        }
+    }
+    true
+}
+
+// Whether one more member with the items at the indices shuts each other number that has one of them.
+fn are_last(limits: &[u8], have: &[u64], indices: &[usize]) -> bool
+    requires low { list_all (λ b. nat_lt b (length have.now)) indices.now ≡ true }
+    requires limits { length limits.now ≡ length have.now }
+    ensures { result ≡ true → list_all (λ b. nat_le (slice_index limits.now b - 1) (slice_index have.now b)) indices.now ≡ true }
+{
+    for b in indices {
+        if have[*b] < u64::from(limits[*b].saturating_sub(1)) {
+            return false;
+        }
+    }
+    true
+}
+
+/// Does what `is_starved_at` does, in less time. `left` has the open numbers without those that share an item with the number
+/// at `j`.
+pub(crate) fn is_starved_after(
+    node: &Node<'_>,
+    steps: &Steps,
+    b: usize,
+    j: usize,
+    left: &[u64],
+) -> bool
+    requires kept { IsAt node.now steps.now }
+    requires row { b < length steps.now.have.items }
+    requires number { j < length node.now.matrix.now.numbers.items }
+    requires len { length left.now ≡ node.now.matrix.now.width }
+    requires left { (x : ℕ) → x < 64 * node.now.matrix.now.width → has_bit left.now x ≡ (has_bit steps.now.live.items (64 * (length steps.now.live.items - node.now.matrix.now.width) + x) && not (list_any (λ c. has_bit node.now.matrix.now.rows.items (bit_index node.now.matrix.now.width c x)) (column_items node.now.matrix.now.lists node.now.matrix.now.homes.items j))) }
+    ensures { result ≡ true → arms_fit node.now.view.now (node.now.trail.now ++ Has (slice_index node.now.matrix.now.numbers.items j) ∷ []) (item_of node.now.view.now b) [] ≡ true }
+{
+    let at = steps.live.len() - node.matrix.width;
+    let from = node.matrix.width * b;
+    if steps.have[b] > 0 || node.table.leasts[b] == 0 {
+        return false;
+    }
+    if !bits::has(&steps.live, at, j) || bits::has(&node.matrix.rows, from, j) {
+        return false;
+    }
+    has_none(left, &node.matrix.rows, from)
+        && are_last(&node.table.limits, &steps.have, node.matrix.items_of(j))
 }
 
 /// Whether it is known that some member must have the item, that no member of the base has it, and that no placement that has

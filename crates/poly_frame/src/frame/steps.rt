@@ -174,8 +174,8 @@ fn is_at_limit(limits: &[u8], have: &[u64], b: usize) -> bool
     u64::from(limits[b]) <= have[b]
 }
 
-// The row of the item at `b`.
-fn item_row<'a>(rows: &'a [u64], width: usize, b: usize) -> &'a [u64]
+/// The row of the item at `b`.
+pub(crate) fn item_row<'a>(rows: &'a [u64], width: usize, b: usize) -> &'a [u64]
     requires { width * (b + 1) ≤ length rows.now }
     ensures len { length result.now ≡ width }
     ensures bits { (j : ℕ) → j < 64 * width → has_bit result.now j ≡ has_bit rows.now (bit_index width b j) }

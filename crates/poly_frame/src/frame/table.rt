@@ -28,6 +28,8 @@ pub(crate) struct Table {
     pub(crate) leasts_end: usize,
     /// Whether no entry of `leasts` is over 1. If this is wrong, only the choice of a due item is worse.
     pub(crate) single: bool,
+    /// Whether no entry of `limits` is over 1. If this is wrong, only the choice of a due item is worse.
+    pub(crate) alone: bool,
 }
 
 impl Table {
@@ -39,6 +41,7 @@ impl Table {
             listed: false,
             leasts_end: 0,
             single: false,
+            alone: false,
         }
     }
 }
@@ -154,12 +157,14 @@ pub(crate) fn table_of(
     let listed = all_listed(bounds, atoms);
     let leasts_end = end_of(&leasts);
     let single = leasts.iter().all(|n| *n <= 1);
+    let alone = limits.iter().all(|n| *n <= 1);
     Ok(Table {
         limits,
         leasts,
         listed,
         leasts_end,
         single,
+        alone,
     })
 }
 
@@ -198,5 +203,6 @@ pub(crate) fn table_again(
         listed,
         leasts_end: table.leasts_end,
         single: table.single,
+        alone: table.alone,
     })
 }

@@ -84,16 +84,16 @@ walk_arms-loop-j-preserved t c =
       | walk_arms-then-chained-2 k ↦ omega (arith, k.deeper-is)
       | walk_arms-else-chained-2 k ↦ omega (arith, k.deeper-is)
     ] in
-    let back = back_is c.loop-j.frame c.pick.new.self c.child.new.frame c.backtrack_to-in-loop-j.new.self (Has p) c.level-level.result c.level-level.ensures c.pick.ensures c.in_ok-tree.ensures.same c.backtrack_to-in-loop-j.ensures in
+    let taken : Walk = record c.loop-j.frame { atoms = c.loop-j.frame.atoms ++ Has p ∷ [] } in
     let here = i.path lt in
-    let still = back ∙ here in
+    let still = c.in_ok-tree.ensures.same ∙ here in
     let more : c.push.new.self.items ≡ c.loop-j.arms.items ++ a ∷ [] = c.in_ok-push.ensures.items in
     let tn = total_next c.loop-j.arms.items c.push.new.self.items a more in
     let un = inner_next c.loop-j.arms.items c.push.new.self.items a more in
     let g = c.in_ok-tree.ensures in
     let some = total_some (plan_of a.tree) in
     let o = option_at w c.args.item.now ps j lt r.members in
-    let under = arm_path w c.loop-j.frame c.pick.new.self (take j ps) (heads (arms_list c.loop-j.arms.items)) p here c.pick.ensures i.names in
+    let under = arm_path w c.loop-j.frame taken (take j ps) (heads (arms_list c.loop-j.arms.items)) p here refl i.names in
     let same : c.if-chained.growth.gathered ≡ c.loop-j.growth.gathered = elim c.if-chained.branch [
       | walk_arms-then-chained+then-j-gt0+then-growth-gt1 k ↦ ap (λ (b : Growth). b.gathered) k.growth-is
       | walk_arms-then-chained+then-j-gt0+else-growth-gt1+else-options-j-gt1 k ↦ ap (λ (b : Growth). b.gathered) k.growth-is
@@ -101,30 +101,30 @@ walk_arms-loop-j-preserved t c =
     ] in
     record {
       path = λ h. elim c.if-after-gt0.branch [
-        | walk_arms-then-after-gt0 k ↦ k.frame-is ∙ past_next w c.backtrack_to-in-loop-j.new.self k.leave.new.self ps j lt still k.leave.ensures
+        | walk_arms-then-after-gt0 k ↦ k.frame-is ∙ past_next w c.arm.new.frame k.leave.new.self ps j lt still k.leave.ensures
         | walk_arms-else-after-gt0 k ↦ absurd (omega (arith, k.if-after-gt0.false))
       ];
       front = elim c.if-after-gt0.branch [
-        | walk_arms-then-after-gt0 k ↦ past_back w c.if-after-gt0.frame (take (j + 1) ps) (k.frame-is ∙ past_next w c.backtrack_to-in-loop-j.new.self k.leave.new.self ps j lt still k.leave.ensures)
+        | walk_arms-then-after-gt0 k ↦ past_back w c.if-after-gt0.frame (take (j + 1) ps) (k.frame-is ∙ past_next w c.arm.new.frame k.leave.new.self ps j lt still k.leave.ensures)
         | walk_arms-else-after-gt0 k ↦ past_back w c.if-after-gt0.frame (take j ps) (k.frame-is ∙ still)
       ];
       many = omega (arith, ap length more, length-append c.loop-j.arms.items (a ∷ []), i.many);
       names = names_next c.loop-j.arms.items c.push.new.self.items a ps j lt more refl i.names;
       nodes = omega (arith, tn, g.nodes, i.nodes, spent.0);
       inner = omega (arith, un, g.inner, i.inner, spent.1);
-      tilings = tilings_next w c.pick.new.self c.loop-j.arms.items c.push.new.self.items a p o.0 o.1 under more refl _ c.loop-j.growth.gathered.tilings.items _ i.tilings (g.tilings ∙ ap (λ (l : Gathered). l.tilings.items ++ tilings c.pick.new.self.scene c.pick.new.self.atoms (plan_of a.tree)) same);
-      paths = paths_next w c.pick.new.self c.loop-j.arms.items c.push.new.self.items a p o.0 o.1 under more refl _ c.loop-j.growth.gathered.paths _ i.paths (g.paths ∙ ap (λ (l : Gathered). l.paths ++ paths c.pick.new.self.given c.pick.new.self.scene c.pick.new.self.atoms (plan_of a.tree)) same);
+      tilings = tilings_next w taken c.loop-j.arms.items c.push.new.self.items a p o.0 o.1 under more refl _ c.loop-j.growth.gathered.tilings.items _ i.tilings (g.tilings ∙ ap (λ (l : Gathered). l.tilings.items ++ tilings taken.scene taken.atoms (plan_of a.tree)) same);
+      paths = paths_next w taken c.loop-j.arms.items c.push.new.self.items a p o.0 o.1 under more refl _ c.loop-j.growth.gathered.paths _ i.paths (g.paths ∙ ap (λ (l : Gathered). l.paths ++ paths taken.given taken.scene taken.atoms (plan_of a.tree)) same);
       counted = omega (arith, tn, some, i.counted);
       room = omega (arith, g.kept, i.room);
-      grown = grown_next w c.loop-j.frame c.pick.new.self _ c.args.item.now c.loop-j.arms.items c.push.new.self.items a ps j lt r.once r.members here c.pick.ensures i.names more refl i.grown (grown_deeper _ _ _ _ _ shallow g.grown);
-      opened = opened_next w c.pick.new.self c.args.item.now c.loop-j.arms.items c.push.new.self.items a ps j lt r.each_once r.members under i.names more refl i.opened g.opened;
+      grown = grown_next w c.loop-j.frame taken _ c.args.item.now c.loop-j.arms.items c.push.new.self.items a ps j lt r.once r.members here refl i.names more refl i.grown (grown_deeper _ _ _ _ _ shallow g.grown);
+      opened = opened_next w taken c.args.item.now c.loop-j.arms.items c.push.new.self.items a ps j lt r.each_once r.members under i.names more refl i.opened g.opened;
       linked = λ h.
           let at : c.if-chained-2.deeper ≡ c.args.depth - 1 - j = elim c.if-chained-2.branch [
             | walk_arms-then-chained-2 k ↦ k.deeper-is
             | walk_arms-else-chained-2 k ↦ absurd (true≢false (sym h ∙ k.if-chained-2.false))
           ] in
-          linked_next w c.loop-j.frame c.pick.new.self c.args.depth c.args.item.now c.loop-j.arms.items c.push.new.self.items a ps j lt r.once r.members here c.pick.ensures i.names i.many more refl
-          (omega (arith, i.short h)) (i.linked h) (subst (λ d. Grown c.pick.new.self.scene c.pick.new.self.atoms d (plan_of a.tree)) at g.grown);
+          linked_next w c.loop-j.frame taken c.args.depth c.args.item.now c.loop-j.arms.items c.push.new.self.items a ps j lt r.once r.members here refl i.names i.many more refl
+          (omega (arith, i.short h)) (i.linked h) (subst (λ d. Grown taken.scene taken.atoms d (plan_of a.tree)) at g.grown);
       short = i.short;
       held = omega (arith, spent.2, i.held);
     }

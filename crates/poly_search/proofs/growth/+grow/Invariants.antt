@@ -11,19 +11,22 @@ use Rattle.poly_search.specs.Chains.{Chains}
 use Rattle.poly_search.proofs.growth.+grow.Given as goal
 
 abbrev pub decreases-grow : goal.decreases-grow
-decreases-grow l = 4 * l.depth + 2
+decreases-grow l = 5 * l.depth + 2
 
 abbrev pub decreases-child : goal.decreases-child
-decreases-child l = 4 * l.depth + 3
+decreases-child l = 5 * l.depth + 3
+
+abbrev pub decreases-arm : goal.decreases-arm
+decreases-arm l = 5 * l.depth + 4
 
 abbrev pub decreases-branch : goal.decreases-branch
-decreases-branch l = 4 * l.depth + 1
+decreases-branch l = 5 * l.depth + 1
 
 abbrev pub decreases-walk_arms : goal.decreases-walk_arms
-decreases-walk_arms l = 4 * l.depth
+decreases-walk_arms l = 5 * l.depth
 
 abbrev pub decreases-split : goal.decreases-split
-decreases-split l = 4 * l.depth
+decreases-split l = 5 * l.depth
 
 -- the options before `j` were walked, and this says what their arms are and what they cost; if there is an option at `j`, the
 -- frame leaves out the options before it

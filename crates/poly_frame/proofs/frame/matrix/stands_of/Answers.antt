@@ -1,4 +1,5 @@
-use Rattle.std.proofs.Common.{arith, get_or, length, ◌<◌}
+use Rattle.std.specs.Result.{OkIff}
+use Rattle.std.proofs.Common.{subst, arith, get_or, length, ◌<◌}
 use Rattle.std.proofs.lemmas.List.{length-set}
 use Rattle.poly_frame.proofs.FrameOpen.{above_at, stands_step}
 use Rattle.poly_frame.proofs.frame.matrix.stands_of.Goals as goal
@@ -7,8 +8,10 @@ pub loop-j-preserved : goal.loop-j-preserved
 loop-j-preserved c =
     let ns = c.args.numbers.now in
     let inv = c.loop-j.invariant in
-    let low : get_or ns c.loop-j.j 0 < length c.loop-j.stands.items = omega (arith, inv.len, above_at ns c.size_for-size.result c.loop-j.j c.size_for-size.ensures.above c.loop-j-test.true) in
+    let told = subst (λ r. OkIff r (length ns < 4294967296) (length ns)) c.in-Ok.is c.try_from.ensures in
+    let lt : c.loop-j.j < length ns = omega (arith, c.loop-j-test.true, told.1) in
+    let low : get_or ns c.loop-j.j 0 < length c.loop-j.stands.items = omega (arith, inv.len, above_at ns c.size_for-size.result c.loop-j.j c.size_for-size.ensures.above lt) in
     record {
       len = omega (arith, length-set c.loop-j.stands.items (get_or ns c.loop-j.j 0) c.loop-j.j, inv.len);
-      done = stands_step ns c.loop-j.stands.items c.loop-j.j c.requires c.loop-j-test.true low inv.done;
+      done = stands_step ns c.loop-j.stands.items c.loop-j.j c.requires lt low inv.done;
     }

@@ -1,0 +1,38 @@
+use Rattle.std.proofs.Common.{List, ap, arith, eqb, false, get_or, leb, length, not, subst, sym, true, ℕ, ◌&&◌, ◌*◌, ◌+◌, ◌-◌, ◌<◌, ◌∙◌, ◌≡◌}
+use Rattle.std.proofs.lemmas.List.{get_or_read}
+use Rattle.std.specs.Int.{bit_at}
+use Rattle.std.specs.List.{list_all, list_any}
+use Rattle.poly_frame.specs.Bits.{has_bit}
+use Rattle.poly_frame.specs.Matrices.{bit_index, column_items}
+use Rattle.poly_frame.proofs.Starved.{shut_without, starved_fits}
+use Rattle.poly_frame.proofs.frame.starved.is_starved_after.Goals as goal
+
+pub returns-then-has_none : goal.returns-then-has_none
+returns-then-has_none c = λ y.
+    let v = c.args.node.now.view.now in
+    let A = c.args.node.now.trail.now in
+    let first = c.args.node.now.base in
+    let K = c.requires.kept in
+    let s = c.args.steps.now in
+    let matrix = c.args.node.now.matrix.now in
+    let t = c.args.node.now.table.now in
+    let b = c.args.b in
+    let j = c.args.j in
+    let at = c.len.result - matrix.width in
+    let have = get_or_read s.have.items b c.index.result.now c.requires.row c.index.ensures 0 in
+    let none : get_or s.have.items b 0 ≡ 0 = omega (arith, have, c.if-index-gt0.false) in
+    let low : b < length t.leasts.items = omega (arith, c.requires.row, K.have_len, K.table.leasts_len) in
+    let least_there = get_or_read t.leasts.items b c.index-else-index-gt0.result.now low c.index-else-index-gt0.ensures 0 in
+    let some : 0 < get_or t.leasts.items b 0 = omega (arith, least_there, c.if-index-eq0.false) in
+    let opened : has_bit s.live.items (64 * at + j) ≡ true = ap (λ ws. has_bit ws (64 * at + j)) (sym c.deref.ensures.value) ∙ sym c.has.ensures ∙ c.if-not-has.false in
+    let without : has_bit matrix.rows.items (64 * (matrix.width * b) + j) ≡ false = ap (λ ws. has_bit ws (64 * (matrix.width * b) + j)) (sym c.deref-else-not-has.ensures.value) ∙ sym c.has-else-not-has.ensures ∙ c.if-has.false in
+    let shares = λ (x : ℕ). list_any (λ c. has_bit matrix.rows.items (bit_index matrix.width c x)) (column_items matrix.lists matrix.homes.items j) in
+    let left = λ (x : ℕ) (h : x < 64 * matrix.width). c.requires.left x h ∙ ap (λ n. has_bit s.live.items (64 * (n - matrix.width) + x) && not (shares x)) (sym (c.len.ensures ∙ s.live.ok.0)) in
+    let indices = c.items_of.result.now in
+    let last = subst (λ (xs : List ℕ). list_all (λ c. leb (get_or t.limits.items c 0 - 1) (get_or s.have.items c 0)) xs ≡ true) c.items_of.ensures
+    (subst (λ (hs : List ℕ). list_all (λ c. leb (get_or t.limits.items c 0 - 1) (get_or hs c 0)) indices ≡ true) c.deref-then-has_none-2.ensures.value
+    (subst (λ (ls : List ℕ). list_all (λ b. leb (get_or ls b 0 - 1) (get_or c.deref-then-has_none-2.result.now b 0)) indices ≡ true) c.deref-then-has_none.ensures.value (c.are_last.ensures y))) in
+    starved_fits v A first matrix t s.live.items s.have.items s.raised.items s.marks.items K b j at (ap (λ n. n - matrix.width) (c.len.ensures ∙ s.live.ok.0)) (omega (arith, c.requires.row, K.have_len)) c.requires.number opened without none
+    (shut_without s.live.items c.args.left.now matrix.rows.items t.limits.items s.have.items (column_items matrix.lists matrix.homes.items j) matrix.width at b left
+    (λ k u m l z. ap (λ ws. eqb (bit_at (get_or ws (matrix.width * b + k) 0) u) 1) (sym c.deref-2.ensures.value) ∙ c.has_none.ensures c.if-has_none.true k u m l z) c.requires.len last)
+    some
