@@ -115,9 +115,24 @@ fn a_placement_starves_a_cell_that_it_leaves_without_options(rt: HostRuntime) {
     expect_starved(&rt, &view, &mut frame, 7, false);
     frame.leave(7);
     expect_starved(&rt, &view, &mut frame, 0, true);
-    expect_starved_by(&rt, &mut frame, 0, true);
-    expect_starved_by(&rt, &mut frame, 1, false);
     expect_counts(&rt, &view, &mut frame, &[4, 4, 3, 3, 4, 3]);
+}
+
+// Placement 1 of `STRIP` is A on the left column. Placements 11 and 13 are those of B on the cell at the lower right, and 18 and
+// 20 are those of C there. Without these four, A is needed for that cell.
+#[test]
+fn a_look_ahead_sees_a_cell_without_options(rt: HostRuntime) {
+    let view = view_of(rt.alloc(), STRIP).expect(&rt, "a view");
+    let mut frame = Frame::new(rt.alloc(), &view, &[]).expect(&rt, "memory");
+    expect_starved_by(&rt, &mut frame, 1, false);
+    let atoms = [
+        Atom::Lacks(11),
+        Atom::Lacks(13),
+        Atom::Lacks(18),
+        Atom::Lacks(20),
+    ];
+    let mut needed = Frame::new(rt.alloc(), &view, &atoms).expect(&rt, "memory");
+    expect_starved_by(&rt, &mut needed, 1, true);
 }
 
 #[test]
