@@ -1,7 +1,7 @@
 -- The table of a frame.
-use Rattle.std.proofs.Common.{◌≡◌, ℕ, zero, suc, ◌+◌, ◌<◌, ◌≤◌, Bool, true, false, cond, List, [], ◌∷◌, inl, inr, refl, sym, ap, subst, ◌∙◌, arith, map, length, get_or, take, drop}
+use Rattle.std.proofs.Common.{◌≡◌, ℕ, zero, suc, ◌+◌, ◌<◌, ◌≤◌, Bool, true, false, cond, List, [], ◌∷◌, inl, inr, refl, sym, ap, subst, ◌∙◌, arith, leb, leb-true, map, length, get_or, take, drop}
 use Rattle.std.proofs.Math.ListN.{set}
-use Rattle.std.specs.List.{filter}
+use Rattle.std.specs.List.{filter, list_all}
 use Rattle.std.proofs.lemmas.Bool.{and_parts, both_ways, false_from_ne_true, cases_Bool, cases_eq, cond-false}
 use Rattle.std.proofs.lemmas.List.{take_more, get_or-set_other, get_or-set_same}
 use Rattle.poly_tiling.specs.declared.bound.Bound.{Bound}
@@ -110,3 +110,8 @@ length_take_le (suc k) (x ∷ xs) = omega (arith, length_take_le k xs)
 pub filter_len : (f : ℕ → Bool) (xs : List ℕ) → length (filter f xs) ≤ length xs
 filter_len f [] = omega arith
 filter_len f (x ∷ xs) = let r = filter_len f xs in elim (f x) as (λ b. length (cond b (x ∷ filter f xs) (filter f xs)) ≤ length (x ∷ xs)) [ true ↦ omega arith | false ↦ omega arith ]
+
+pub each_one : (xs : List ℕ) (b : ℕ) → list_all (λ n. leb n 1) xs ≡ true → b < length xs → get_or xs b 0 ≤ 1
+each_one [] b h l = absurd (omega arith)
+each_one (x ∷ xs) zero h l = leb-true x 1 (and_parts (leb x 1) (list_all (λ n. leb n 1) xs) h).0
+each_one (x ∷ xs) (suc b) h l = each_one xs b (and_parts (leb x 1) (list_all (λ n. leb n 1) xs) h).1 (omega arith)

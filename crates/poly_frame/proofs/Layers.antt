@@ -54,8 +54,8 @@ all_parts f (suc n) (a ∷ A) h g = let two = and_parts (f a) (list_all f (take 
 
 -- what the table of a layer says holds for the atoms of each of its steps, since no step changes what is asked for
 pub table_here : (v : View) (A : List Atom) (first : ℕ) (matrix m2 : Matrix) (t t2 : Table) (live have raised : List ℕ) (marks : List Mark) (bs : List Bound) (later : List Atom) → Kept v A first matrix t live have raised marks → IsMatrix v m2 → HasOpen v A m2 → length (base v A) < 2 ^ 63 →
-    bs ≡ v.bounds → later ≡ take (length A - first) (drop first A) → t2.limits.items ≡ t.limits.items → t2.leasts.items ≡ t.leasts.items → t2.listed ≡ (t.listed && list_all (of_asked (λ i. list_any (λ b. same_item b.item i) bs)) later) → t2.leasts_end ≡ t.leasts_end → TableShows v A m2 t2
-table_here v A first matrix m2 t t2 live have raised marks bs later K M O few eb ed el ea es ee =
+    bs ≡ v.bounds → later ≡ take (length A - first) (drop first A) → t2.limits.items ≡ t.limits.items → t2.leasts.items ≡ t.leasts.items → t2.listed ≡ (t.listed && list_all (of_asked (λ i. list_any (λ b. same_item b.item i) bs)) later) → t2.leasts_end ≡ t.leasts_end → t2.alone ≡ t.alone → TableShows v A m2 t2
+table_here v A first matrix m2 t t2 live have raised marks bs later K M O few eb ed el ea es ee eo =
     let T = K.table in
     let L = top_level v A first matrix t live have raised marks K in
     record {
@@ -71,5 +71,6 @@ table_here v A first matrix m2 t t2 live have raised marks bs later K M O few eb
           let rest = ap (λ (xs : List Bound). list_all (of_asked (λ i. list_any (λ b. same_item b.item i) xs)) (drop first A)) (sym eb) ∙ ap (λ (B : List Atom). list_all (of_asked (λ i. list_any (λ b. same_item b.item i) bs)) B) (sym whole) ∙ two.1 in
           all_parts (of_asked (λ i. list_any (λ b. same_item b.item i) v.bounds)) first A (T.listed two.0) rest;
       quiet = λ b l h. ap (λ xs. get_or xs b 0) ea ∙ T.quiet b (omega (arith, l, ee)) h;
+      alone = λ y b h. omega (arith, ap (λ xs. get_or xs b 0) el, T.alone (sym eo ∙ y) b h);
       small = λ i. omega (arith, count_le v (base v A) i, few);
     }

@@ -19,3 +19,4 @@ pub mod FrameConsistent
 pub mod Starved
 pub mod Layers
 pub mod Stepped
+pub mod Ahead

@@ -46,4 +46,5 @@ pub record TableShows (v : View) (A : List Atom) (m : Matrix) (t : Table) : Type
   pub leasts_len : length t.leasts.items ≡ length v.bounds
   pub listed : t.listed ≡ true → list_all (of_asked (λ i. list_any (λ b. same_item b.item i) v.bounds)) A ≡ true
   pub quiet : (b : ℕ) → t.leasts_end ≤ b → b < length v.bounds → slice_index t.leasts.items b ≡ 0
+  pub alone : t.alone ≡ true → (b : ℕ) → b < length v.bounds → slice_index t.limits.items b ≤ 1
   pub small : (i : Item) → count v (base v A) i < 2 ^ 63

@@ -12,3 +12,4 @@ pub mod FrameMembers
 pub mod FrameConsistent
 pub mod FrameSteps
 pub mod Layers
+pub mod Ahead

@@ -33,7 +33,7 @@ mod steps;
 mod table;
 mod wanted;
 
-use crate::frame::ahead::Guess;
+use crate::frame::ahead::{Attempt, Guesses};
 use crate::frame::layers::{Layer, narrow_layer, widen};
 use crate::frame::levels::{Levels, levels_of};
 use crate::frame::lists::{Lists, lists_of};
@@ -71,8 +71,8 @@ pub struct Frame<'a> {
     options: Vec<u32>,
     /// What each step changes.
     steps: Steps,
-    /// What a look ahead told about the next due item.
-    guess: Guess,
+    /// What is guessed of the due items.
+    guesses: Guesses,
     /// The wider matrices that it read before, the widest first, with what it kept of them.
     under: Vec<Layer<'a>>,
     /// Layers that were dropped. A new layer takes the memory of one of these.
@@ -240,7 +240,7 @@ impl<'a> Frame<'a> {
             consistent,
             options,
             steps,
-            guess: Guess::None,
+            guesses: Guesses::none(),
             under: Vec::new(alloc),
             spare: Vec::new(alloc),
         })
@@ -278,7 +278,7 @@ impl<'a> Frame<'a> {
         steps::pick(&node, &self.members, &mut self.steps, placement, opened);
         members::pick(&node, &mut self.members, &mut self.sizes, placement);
         self.consistent = consistent::step(&node, self.consistent, placement, opened);
-        self.guess = self.guess.taken(placement);
+        self.guesses.scarcest = None;
         self.trail.push_reserved(Atom::Has(placement));
     }
 
@@ -293,7 +293,7 @@ impl<'a> Frame<'a> {
         steps::leave(&node, &mut self.steps, placement);
         members::leave(&node, &self.members, &mut self.sizes, placement);
         self.consistent = consistent::step(&node, self.consistent, placement, opened);
-        self.guess = Guess::None;
+        self.guesses.scarcest = None;
         self.trail.push_reserved(Atom::Lacks(placement));
     }
 
@@ -315,7 +315,7 @@ impl<'a> Frame<'a> {
         steps::back(&node, &mut self.steps);
         members::back(&node, &mut self.members, &mut self.sizes);
         self.consistent = consistent::back(&node, self.consistent);
-        self.guess = Guess::None;
+        self.guesses.scarcest = None;
         self.trail.truncate(level);
     }
 
@@ -367,7 +367,7 @@ impl<'a> Frame<'a> {
         ensures { MatchOption result ((i : Item) → is_due self.now i ≡ false) (λ i. is_due self.now i ≡ true) }
     {
         let node = self.stand.node(&self.trail);
-        queries::next_due(&node, &self.steps, &self.members, self.guess)
+        queries::next_due(&node, &self.steps, &self.members, self.guesses)
     }
 
     /// Whether the placement is dead: it isn't a placement of the design now, or an atom leaves it out.
@@ -435,15 +435,25 @@ impl<'a> Frame<'a> {
         few
     }
 
-    /// An item of which too few placements are left once the placement is taken, so that no tiling that meets the atoms has the
-    /// placement. `None` if a quick look found no such item; there may still be one. The frame stays as it was, but `next_due`
-    /// takes less time if this placement is taken next.
-    pub fn starved_by(&mut self, placement: u32) -> Option<Item>
-        ensures same { self.new ≡ self.old }
-        ensures value { IfSome result (λ i. arms_fit self.old.scene (self.old.atoms ++ Atom.Has placement ∷ []) i [] ≡ true) }
+    /// Takes the placement and returns `None`, unless a quick look finds an item of which too few placements would be left, so
+    /// that no tiling that meets the atoms has the placement: then it returns this item, and the frame stays as it was. Requires
+    /// that the frame has fewer than [`STEPS`] steps.
+    #[tactic(auto, using(crate::proofs::Layers::pile_more, crate::proofs::Layers::pile_low))]
+    pub fn pick_unless_starved(&mut self, placement: u32) -> Option<Item>
+        requires { length self.old.atoms < self.old.given + STEPS }
+        ensures { MatchOption result (self.new ≡ with_step self.old (Atom.Has placement)) (λ i. (self.new ≡ self.old) × (arms_fit self.old.scene (self.old.atoms ++ Atom.Has placement ∷ []) i [] ≡ true)) }
     {
         let node = self.stand.node(&self.trail);
-        ahead::starved_by(&node, &self.steps, placement, &mut self.guess)
+        match ahead::try_pick(&node, &mut self.steps, placement, &mut self.guesses) {
+            Attempt::Starved(item) => return Some(item),
+            Attempt::Unknown => self.pick(placement),
+            Attempt::Taken => {
+                members::pick(&node, &mut self.members, &mut self.sizes, placement);
+                self.consistent = consistent::step(&node, self.consistent, placement, true);
+                self.trail.push_reserved(Atom::Has(placement));
+            }
+        }
+        None
     }
 
     /// The base, ascending, if it is a tiling that meets the atoms, otherwise `None`. If no placement is open, no other tiling

@@ -8,6 +8,9 @@
 //! become a chain of Splits. The chain ends in one Rest, for the tilings that have none of the placements of these arms. A
 //! Branch holds nothing back and doesn't become a chain if it has too many options for the remaining depth, or if it used the
 //! last node of the budget. A small subtree that has a Rest is replaced by a single Rest.
+//!
+//! Most placements leave some item with too few options. The frame sees this of most of them before it takes them, and such an
+//! arm is a Branch without arms on that item.
 ghost use Rattle.std.specs.Prelude.{◌≡◌, ◌&&◌, ◌^◌, ◌++◌, [], ◌∷◌, ℕ, true, false, ◌+◌, ◌-◌, ◌≤◌, ◌<◌, IfOk, IfErr, OnOk, drop, length, if◌then◌else◌};
 ghost use Rattle.poly_tiling.specs.Lists.{distinct, mem};
 ghost use Rattle.poly_report.specs.Trees.{Branches, NoArms, Rests};
@@ -200,8 +203,8 @@ fn child(
     Ok(tree)
 }
 
-// The tree of an arm: what `child` grows once the placement is taken. If it is known before that some item would have too few
-// placements left, the tree is a dead end, and the placement isn't taken.
+// The tree of an arm: what `child` grows once the placement is taken, or a dead end if the frame sees an item that would have too
+// few placements left.
 #[cycle(grow)]
 fn arm(
     alloc: Global,
@@ -226,13 +229,12 @@ fn arm(
     ensures kept { OnOk result (kept ≤ growth.new.nodes) }
     ensures why { IfErr result (λ e. e ≡ Refusal.Memory) }
 {
-    if growth.inner > 0 && depth > 1 {
-        if let Some(item) = frame.starved_by(placement) {
-            return Ok(dead_end(alloc, growth, item));
-        }
-    }
     let level = frame.level();
-    frame.pick(placement);
+    if growth.inner == 0 || depth < 2 {
+        frame.pick(placement);
+    } else if let Some(item) = frame.pick_unless_starved(placement) {
+        return Ok(dead_end(alloc, growth, item));
+    }
     let tree = child(alloc, frame, growth, kept, depth)?;
     frame.backtrack_to(level);
     Ok(tree)

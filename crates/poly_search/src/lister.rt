@@ -13,7 +13,7 @@ ghost use Rattle.poly_report.specs.Trees.{Finds};
 ghost use Rattle.poly_report.specs.Leaves.{tilings};
 ghost use Rattle.poly_report.specs.Gather.{lists};
 ghost use Rattle.poly_frame.specs.declared.frame.TheConstants.{STEPS};
-ghost use Rattle.poly_frame.specs.Walk.{is_due, is_open, is_option};
+ghost use Rattle.poly_frame.specs.Walk.{is_due, is_open, is_option, with_step};
 ghost use Rattle.poly_search.specs.Sweeps.{IsLighter, Partly, Swept};
 
 use poly_atom::Atom;
@@ -203,20 +203,23 @@ fn sweep_open(
     Ok(true)
 }
 
-// Whether it is known that no tiling of the family has the placement, and the frame would have room for one more step after
-// taking it. The frame stays as it was.
-fn leads_nowhere(frame: &mut Frame<'_>, end: usize, placement: u32) -> bool
-    requires { length frame.old.atoms < end }
-    ensures same { frame.new ≡ frame.old }
-    ensures room { result ≡ true → length frame.old.atoms + 1 < end }
-    ensures starved { result ≡ true → (i : ItemOf) × (arms_fit frame.old.scene (frame.old.atoms ++ Has placement ∷ []) i [] ≡ true) }
+// Takes the placement, unless it is known that no tiling of the family has it, and the frame would have room for one more step
+// after taking it. Returns whether the placement was taken. If not, the frame stays as it was.
+fn leads_on(frame: &mut Frame<'_>, end: usize, placement: u32) -> bool
+    requires room { length frame.old.atoms < end }
+    requires end { end ≤ frame.old.given + STEPS }
+    ensures taken { result ≡ true → frame.new ≡ with_step frame.old (Has placement) }
+    ensures same { result ≡ false → frame.new ≡ frame.old }
+    ensures room { result ≡ false → length frame.old.atoms + 1 < end }
+    ensures starved { result ≡ false → (i : ItemOf) × (arms_fit frame.old.scene (frame.old.atoms ++ Has placement ∷ []) i [] ≡ true) }
 {
     if frame.level() + 1 >= end {
-        return false;
+        frame.pick(placement);
+        return true;
     }
-    match frame.starved_by(placement) {
-        None => false,
-        Some(_) => true,
+    match frame.pick_unless_starved(placement) {
+        None => true,
+        Some(_) => false,
     }
 }
 
@@ -248,10 +251,9 @@ fn sweep_arm(
     ensures options { OnOk result (list.new.options.items ≡ list.old.options.items) }
     ensures why { IfErr result (λ e. e ≡ Refusal.Memory) }
 {
-    if leads_nowhere(frame, end, placement) {
+    if !leads_on(frame, end, placement) {
         return Ok(true);
     }
-    frame.pick(placement);
     let whole = sweep_below(alloc, frame, list, end, depth)?;
     frame.back();
     if !whole {

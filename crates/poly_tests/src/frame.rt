@@ -96,14 +96,14 @@ fn expect_starved(rt: &impl Abort, view: &View, frame: &mut Frame<'_>, placement
     assert!(rt; frame.starves(placement, cell) == want);
 }
 
-// Asserts whether a look ahead sees that taking the placement leaves too few options for some item.
-fn expect_starved_by(rt: &impl Abort, frame: &mut Frame<'_>, placement: u32, want: bool)
+// Asserts whether the frame sees that taking the placement leaves too few options for some item, and so doesn't take it.
+fn expect_refused(rt: &impl Abort, frame: &mut Frame<'_>, placement: u32, want: bool)
     requires { length frame.old.atoms < frame.old.given + STEPS }
-    ensures { frame.new ≡ frame.old }
 {
-    match frame.starved_by(placement) {
-        None => assert!(rt; !want),
-        Some(item) => assert!(rt; want && frame.starves(placement, item)),
+    let level = frame.level();
+    match frame.pick_unless_starved(placement) {
+        None => assert!(rt; !want && frame.level() == level + 1),
+        Some(item) => assert!(rt; want && frame.level() == level && frame.starves(placement, item)),
     }
 }
 
@@ -124,7 +124,7 @@ fn a_placement_starves_a_cell_that_it_leaves_without_options(rt: HostRuntime) {
 fn a_look_ahead_sees_a_cell_without_options(rt: HostRuntime) {
     let view = view_of(rt.alloc(), STRIP).expect(&rt, "a view");
     let mut frame = Frame::new(rt.alloc(), &view, &[]).expect(&rt, "memory");
-    expect_starved_by(&rt, &mut frame, 1, false);
+    expect_refused(&rt, &mut frame, 1, false);
     let atoms = [
         Atom::Lacks(11),
         Atom::Lacks(13),
@@ -132,7 +132,7 @@ fn a_look_ahead_sees_a_cell_without_options(rt: HostRuntime) {
         Atom::Lacks(20),
     ];
     let mut needed = Frame::new(rt.alloc(), &view, &atoms).expect(&rt, "memory");
-    expect_starved_by(&rt, &mut needed, 1, true);
+    expect_refused(&rt, &mut needed, 1, true);
 }
 
 #[test]

@@ -1,21 +1,26 @@
-//! Looks one step ahead. Most of the placements that a search takes leave some due item without options. Such a placement is
-//! found here from the rows alone, so that the frame doesn't have to take it and to undo the step.
+//! Looks one step ahead. Most of the placements that a search is about to take leave some due item without options. Such a
+//! placement is found here from the rows alone, so that the frame doesn't have to take it and to undo the step. If nothing is
+//! found, the step takes over the row that was made for the look.
 //!
 //! What the look finds is a guess. That an item has too few placements left is tested before the caller is told.
-ghost use Rattle.std.specs.Prelude.{IfSome, [], slice_index, nat_lt, not, length, true, ℕ, ◌&&◌, ◌*◌, ◌+◌, ◌-◌, ◌++◌, ◌<◌, ◌∷◌, ◌≡◌};
+ghost use Rattle.std.specs.Prelude.{IfSome, MatchOption, [], slice_index, nat_lt, not, length, true, ℕ, ◌&&◌, ◌*◌, ◌+◌, ◌-◌, ◌++◌, ◌<◌, ◌∷◌, ◌≡◌};
 ghost use Rattle.std.specs.List.{list_all, list_any};
+ghost use Rattle.poly_tiling.specs.Lists.{mem};
 ghost use Rattle.poly_atom.specs.declared.atom.Atom.TheVariants.{Has};
-ghost use Rattle.poly_frame.specs.Open.{arms_fit};
+ghost use Rattle.poly_frame.specs.Ahead.{AttemptShows, RowWithout};
+ghost use Rattle.poly_frame.specs.Open.{arms_fit, open_in};
 ghost use Rattle.poly_frame.specs.Bits.{has_bit};
-ghost use Rattle.poly_frame.specs.FrameSteps.{IsAt};
-ghost use Rattle.poly_frame.specs.Matrices.{bit_index, column_items};
+ghost use Rattle.poly_frame.specs.FrameSteps.{HasRoom, IsAt, StepsKeep};
+ghost use Rattle.poly_frame.specs.Matrices.{bit_index};
 
 use crate::bits;
+use crate::frame::STEPS;
 use crate::frame::node::Node;
 use crate::frame::occupied::is_empty;
+use crate::frame::queries::stands_open;
 use crate::frame::scarce::{Needs, Rows, Scarce, scarcest};
 use crate::frame::starved::is_starved_after;
-use crate::frame::steps::{Steps, item_row};
+use crate::frame::steps::{Steps, item_row, pick_open};
 use poly_tiling::Item;
 
 // The most words of a row that is copied: a bit for each of 2,560 columns. Few frames have more.
@@ -24,90 +29,170 @@ const WORDS: usize = 40;
 // The most words of notes that are copied: a note for each of 512 items. A design has at most 320.
 const NOTED: usize = 8;
 
-/// What a frame knows of the scarcest due item before it is asked for it. A wrong guess is only a worse choice.
+/// What a frame knows of the due items before it is asked for them. A wrong guess only costs time, or is a worse choice.
 #[derive(Clone, Copy)]
-pub(crate) enum Guess {
-    /// Nothing.
-    None,
-    /// The item at the index will be the scarcest once the placement is taken.
-    After(u32, usize),
-    /// The item at the index is the scarcest.
-    Now(usize),
+pub(crate) struct Guesses {
+    /// The index of the scarcest item, if it is known.
+    pub(crate) scarcest: Option<usize>,
+    /// The index of the item that starved last. The next placement often starves it as well, so it is looked at first.
+    pub(crate) starved: usize,
 }
 
-impl Guess {
-    /// What is known after the placement was taken.
-    pub(crate) fn taken(self, placement: u32) -> Guess {
-        match self {
-            Guess::After(number, index) if number == placement => Guess::Now(index),
-            _ => Guess::None,
+impl Guesses {
+    /// Nothing is known.
+    pub(crate) fn none() -> Guesses {
+        Guesses {
+            scarcest: None,
+            starved: 0,
         }
     }
 }
 
-/// An item of which it is known that too few placements that have it are left once the number's placement is taken; `None` if
-/// no such item was found. Guesses the scarcest item after the step. Finds nothing if the rows are too wide, if no placement
-/// would be open, or if some item may have several members.
-pub(crate) fn starved_by(
-    node: &Node<'_>,
-    steps: &Steps,
-    number: u32,
-    guess: &mut Guess,
-) -> Option<Item>
-    requires kept { IsAt node.now steps.now }
-    ensures { IfSome result (λ i. arms_fit node.now.view.now (node.now.trail.now ++ Has number ∷ []) i [] ≡ true) }
-{
-    *guess = Guess::None;
-    let Some(j) = node.matrix.column_of(number) else {
-        return None;
-    };
-    let width = node.matrix.width;
-    let noted = steps.due.len();
-    if WORDS < width || NOTED < noted || !node.table.alone {
-        return None;
-    }
-    let mut row = [0u64; WORDS];
-    let mut due = [0u64; NOTED];
-    look(node, steps, j, &mut row[..width], &mut due[..noted], guess)
+/// What became of a placement that was to be taken.
+pub(crate) enum Attempt {
+    /// It was not taken, and nothing is known of it.
+    Unknown,
+    /// It was not taken: too few placements that have the item would be left.
+    Starved(Item),
+    /// It was taken.
+    Taken,
 }
 
-// Does what `starved_by` does, for the number at `j`. `row` becomes the row after the step, if the step closes all other numbers
-// that share an item with this one. `due` becomes the notes after the step.
+/// Takes the placement, unless an item is found of which it is known that too few placements that have it would be left then.
+/// Does nothing if the rows are too wide, if the placement isn't open, or if some item may have several members.
+pub(crate) fn try_pick(
+    node: &Node<'_>,
+    steps: &mut Steps,
+    number: u32,
+    guesses: &mut Guesses,
+) -> Attempt
+    requires kept { IsAt node.now steps.old }
+    requires room { HasRoom node.now.matrix.now steps.old }
+    requires few { length node.now.trail.now < node.now.base + STEPS }
+    ensures { AttemptShows node.now number steps.old steps.new result }
+{
+    guesses.scarcest = None;
+    let width = node.matrix.width;
+    let noted = steps.due.len();
+    if !node.table.alone || WORDS < width || NOTED < noted {
+        return Attempt::Unknown;
+    }
+    let Some(j) = open_at(node, steps, number) else {
+        return Attempt::Unknown;
+    };
+    let mut row = [0u64; WORDS];
+    let mut due = [0u64; NOTED];
+    match pick_or_starve(
+        node,
+        steps,
+        j,
+        &mut row[..width],
+        &mut due[..noted],
+        guesses,
+    ) {
+        Some(item) => Attempt::Starved(item),
+        None => Attempt::Taken,
+    }
+}
+
+// The column of the number, if its placement is open.
+fn open_at(node: &Node<'_>, steps: &Steps, number: u32) -> Option<usize>
+    requires kept { IsAt node.now steps.now }
+    ensures column { IfSome result (λ j. (j < length node.now.matrix.now.numbers.items) × (slice_index node.now.matrix.now.numbers.items j ≡ number)) }
+    ensures open { IfSome result (λ j. (mem node.now.view.now.live number ≡ true) × (open_in node.now.view.now node.now.trail.now number ≡ true)) }
+{
+    if !stands_open(node, steps, number) {
+        return None;
+    }
+    node.matrix.column_of(number)
+}
+
+// Takes the placement of column `j`, unless an item is found that starves then. `row` and `due` are overwritten.
+fn pick_or_starve(
+    node: &Node<'_>,
+    steps: &mut Steps,
+    j: usize,
+    row: &mut [u64],
+    due: &mut [u64],
+    guesses: &mut Guesses,
+) -> Option<Item>
+    requires kept { IsAt node.now steps.old }
+    requires room { HasRoom node.now.matrix.now steps.old }
+    requires few { length node.now.trail.now < node.now.base + STEPS }
+    requires alone { node.now.table.now.alone ≡ true }
+    requires number { j < length node.now.matrix.now.numbers.items }
+    requires open { open_in node.now.view.now node.now.trail.now (slice_index node.now.matrix.now.numbers.items j) ≡ true }
+    requires row { length row.old ≡ node.now.matrix.now.width }
+    requires due { length due.old ≡ length steps.old.due.items }
+    ensures taken { MatchOption result (StepsKeep node.now.view.now (node.now.trail.now ++ Has (slice_index node.now.matrix.now.numbers.items j) ∷ []) node.now.base node.now.matrix.now node.now.table.now steps.new) (λ _. steps.new ≡ steps.old) }
+    ensures room { HasRoom node.now.matrix.now steps.new }
+    ensures starved { IfSome result (λ i. arms_fit node.now.view.now (node.now.trail.now ++ Has (slice_index node.now.matrix.now.numbers.items j) ∷ []) i [] ≡ true) }
+{
+    let starved = look(node, steps, j, row, due, guesses);
+    if starved.is_none() {
+        pick_open(node, steps, j, row);
+    }
+    starved
+}
+
+// An item of which it is known that too few placements that have it are left once the number at `j` is taken; `None` if no such
+// item was found. `row` becomes the row after the step, and `due` the notes after it. Guesses the scarcest item after the step.
 fn look(
     node: &Node<'_>,
     steps: &Steps,
     j: usize,
     row: &mut [u64],
     due: &mut [u64],
-    guess: &mut Guess,
+    guesses: &mut Guesses,
 ) -> Option<Item>
     requires kept { IsAt node.now steps.now }
+    requires alone { node.now.table.now.alone ≡ true }
     requires number { j < length node.now.matrix.now.numbers.items }
     requires row { length row.old ≡ node.now.matrix.now.width }
     requires due { length due.old ≡ length steps.now.due.items }
-    ensures { IfSome result (λ i. arms_fit node.now.view.now (node.now.trail.now ++ Has (slice_index node.now.matrix.now.numbers.items j) ∷ []) i [] ≡ true) }
+    ensures len { length row.new ≡ node.now.matrix.now.width }
+    ensures row { RowWithout node.now.matrix.now steps.now.live.items j row.new }
+    ensures starved { IfSome result (λ i. arms_fit node.now.view.now (node.now.trail.now ++ Has (slice_index node.now.matrix.now.numbers.items j) ∷ []) i [] ≡ true) }
 {
-    let indices = node.matrix.items_of(j);
     due.copy_from_slice(&steps.due);
-    leave_out(indices, due);
-    let at = steps.live.len() - row.len();
-    row.copy_from_slice(&steps.live[at..]);
-    close_all(&node.matrix.rows, steps.have.len(), indices, row);
+    leave_out(node.matrix.items_of(j), due);
+    leave_open(node, steps, j, row);
     if is_empty(row) {
         return None;
     }
-    let best = scarcest_in(node, steps, row, due);
+    let best = scarcest_in(node, steps, row, due, guesses.starved);
     if best.spare > 0 {
-        if best.spare < usize::MAX {
-            *guess = Guess::After(node.matrix.numbers[j], best.index);
-        }
+        guesses.scarcest = if best.spare < usize::MAX {
+            Some(best.index)
+        } else {
+            None
+        };
         return None;
     }
+    guesses.starved = best.index;
     starved_item(node, steps, best.index, j, row)
 }
 
+// Makes `row` the last row without the columns that share an item with column `j`.
+fn leave_open(node: &Node<'_>, steps: &Steps, j: usize, row: &mut [u64])
+    requires kept { IsAt node.now steps.now }
+    requires number { j < length node.now.matrix.now.numbers.items }
+    requires len { length row.old ≡ node.now.matrix.now.width }
+    ensures len { length row.new ≡ node.now.matrix.now.width }
+    ensures row { RowWithout node.now.matrix.now steps.now.live.items j row.new }
+{
+    let at = steps.live.len() - row.len();
+    row.copy_from_slice(&steps.live[at..]);
+    close_all(
+        &node.matrix.rows,
+        steps.have.len(),
+        node.matrix.items_of(j),
+        row,
+    );
+}
+
 // The scarcest of the items that are noted as due, if these numbers are open.
-fn scarcest_in(node: &Node<'_>, steps: &Steps, row: &[u64], due: &[u64]) -> Scarce
+fn scarcest_in(node: &Node<'_>, steps: &Steps, row: &[u64], due: &[u64], first: usize) -> Scarce
     requires kept { IsAt node.now steps.now }
     requires row { length row.now ≡ node.now.matrix.now.width }
 {
@@ -121,7 +206,7 @@ fn scarcest_in(node: &Node<'_>, steps: &Steps, row: &[u64], due: &[u64]) -> Scar
         leasts: &node.table.leasts,
         single: node.table.single,
     };
-    scarcest(row, &rows, &needs, due)
+    scarcest(row, &rows, &needs, due, first)
 }
 
 // The item at `b`, if it is known that too few placements that have it are left once the number at `j` is taken. `row` has the
@@ -130,7 +215,8 @@ fn starved_item(node: &Node<'_>, steps: &Steps, b: usize, j: usize, row: &[u64])
     requires kept { IsAt node.now steps.now }
     requires number { j < length node.now.matrix.now.numbers.items }
     requires len { length row.now ≡ node.now.matrix.now.width }
-    requires row { (x : ℕ) → x < 64 * node.now.matrix.now.width → has_bit row.now x ≡ (has_bit steps.now.live.items (64 * (length steps.now.live.items - node.now.matrix.now.width) + x) && not (list_any (λ c. has_bit node.now.matrix.now.rows.items (bit_index node.now.matrix.now.width c x)) (column_items node.now.matrix.now.lists node.now.matrix.now.homes.items j))) }
+    requires row { RowWithout node.now.matrix.now steps.now.live.items j row.now }
+    requires alone { node.now.table.now.alone ≡ true }
     ensures { IfSome result (λ i. arms_fit node.now.view.now (node.now.trail.now ++ Has (slice_index node.now.matrix.now.numbers.items j) ∷ []) i [] ≡ true) }
 {
     if b < steps.have.len() && is_starved_after(node, steps, b, j, row) {

@@ -5,7 +5,7 @@ use poly_grid::Refusal;
 use std::alloc::Global;
 
 // The most words of a narrow row.
-const NARROW: usize = 16;
+const NARROW: usize = 24;
 
 /// A bit for each word of a row. A design has at most 20,000 placements, so a row has at most 313 words.
 #[derive(Clone, Copy)]

@@ -15,7 +15,7 @@ ghost use Rattle.poly_frame.specs.FrameSteps.{IsAt};
 ghost use Rattle.poly_frame.specs.FrameTable.{HasOpen};
 ghost use Rattle.poly_frame.specs.Matrices.{IsMatrix};
 
-use crate::frame::ahead::Guess;
+use crate::frame::ahead::Guesses;
 use crate::frame::items::{guess_item, index_of};
 use crate::frame::matrix::{Matrix, narrowed};
 use crate::frame::node::Node;
@@ -234,7 +234,7 @@ fn is_due_at(node: &Node<'_>, steps: &Steps, b: usize) -> bool
 
 // The index of an item that is due and noted as due; `None` if there is none, or if a note is wrong. An item that has too few
 // options comes first, then one with the fewest options beyond what it still needs.
-fn next_noted(node: &Node<'_>, steps: &Steps) -> Option<usize>
+fn next_noted(node: &Node<'_>, steps: &Steps, first: usize) -> Option<usize>
     requires kept { IsAt node.now steps.now }
     ensures { IfSome result (λ b. (b < length steps.now.have.items) × (nat_lt (slice_index steps.now.have.items b) (slice_index node.now.table.now.leasts.items b) ≡ true)) }
 {
@@ -250,7 +250,7 @@ fn next_noted(node: &Node<'_>, steps: &Steps) -> Option<usize>
         leasts: &node.table.leasts,
         single: node.table.single,
     };
-    let best = scarcest(live, &rows, &needs, &steps.due);
+    let best = scarcest(live, &rows, &needs, &steps.due, first);
     if best.spare < usize::MAX && is_due_at(node, steps, best.index) {
         Some(best.index)
     } else {
@@ -259,22 +259,22 @@ fn next_noted(node: &Node<'_>, steps: &Steps) -> Option<usize>
 }
 
 // What `next_noted` finds, or what was guessed before, if that is due.
-fn next_guessed(node: &Node<'_>, steps: &Steps, guess: Guess) -> Option<usize>
+fn next_guessed(node: &Node<'_>, steps: &Steps, guesses: Guesses) -> Option<usize>
     requires kept { IsAt node.now steps.now }
     ensures { IfSome result (λ b. (b < length steps.now.have.items) × (nat_lt (slice_index steps.now.have.items b) (slice_index node.now.table.now.leasts.items b) ≡ true)) }
 {
-    match guess {
-        Guess::Now(b) if is_due_at(node, steps, b) => Some(b),
-        _ => next_noted(node, steps),
+    match guesses.scarcest {
+        Some(b) if is_due_at(node, steps, b) => Some(b),
+        _ => next_noted(node, steps, guesses.starved),
     }
 }
 
 // The index of an item of the view that is due; `None` if there is none. An item that was guessed or is noted as due comes first.
-fn next_listed(node: &Node<'_>, steps: &Steps, guess: Guess) -> Option<usize>
+fn next_listed(node: &Node<'_>, steps: &Steps, guesses: Guesses) -> Option<usize>
     requires kept { IsAt node.now steps.now }
     ensures { MatchOption result ((b : ℕ) → b < length node.now.view.now.bounds → nat_lt (count node.now.view.now (base node.now.view.now node.now.trail.now) (item_of node.now.view.now b)) (least_at node.now.view.now node.now.trail.now (item_of node.now.view.now b)) ≡ false) (λ b. (b < length node.now.view.now.bounds) × (nat_lt (count node.now.view.now (base node.now.view.now node.now.trail.now) (item_of node.now.view.now b)) (least_at node.now.view.now node.now.trail.now (item_of node.now.view.now b)) ≡ true)) }
 {
-    match next_guessed(node, steps, guess) {
+    match next_guessed(node, steps, guesses) {
         Some(b) => Some(b),
         None => next_unnoted(node, steps),
     }
@@ -305,11 +305,11 @@ fn next_unnoted(node: &Node<'_>, steps: &Steps) -> Option<usize>
 }
 
 // An item of the view that is due, as `next_listed` finds it; `None` if there is none.
-fn listed_due(node: &Node<'_>, steps: &Steps, guess: Guess) -> Option<Item>
+fn listed_due(node: &Node<'_>, steps: &Steps, guesses: Guesses) -> Option<Item>
     requires kept { IsAt node.now steps.now }
     ensures { MatchOption result ((b : ℕ) → b < length node.now.view.now.bounds → nat_lt (count node.now.view.now (base node.now.view.now node.now.trail.now) (item_of node.now.view.now b)) (least_at node.now.view.now node.now.trail.now (item_of node.now.view.now b)) ≡ false) (λ i. nat_lt (count node.now.view.now (base node.now.view.now node.now.trail.now) i) (least_at node.now.view.now node.now.trail.now i) ≡ true) }
 {
-    match next_listed(node, steps, guess) {
+    match next_listed(node, steps, guesses) {
         Some(b) => Some(node.view.items()[b].item),
         None => None,
     }
@@ -320,17 +320,17 @@ pub(crate) fn next_due(
     node: &Node<'_>,
     steps: &Steps,
     members: &[u32],
-    guess: Guess,
+    guesses: Guesses,
 ) -> Option<Item>
     requires kept { IsAt node.now steps.now }
     requires members { members.now ≡ base node.now.view.now node.now.trail.now }
     ensures { MatchOption result ((i : Item) → nat_lt (count node.now.view.now (base node.now.view.now node.now.trail.now) i) (least_at node.now.view.now node.now.trail.now i) ≡ false) (λ i. nat_lt (count node.now.view.now (base node.now.view.now node.now.trail.now) i) (least_at node.now.view.now node.now.trail.now i) ≡ true) }
 {
     if node.table.listed {
-        return listed_due(node, steps, guess);
+        return listed_due(node, steps, guesses);
     }
     if let Some(item) = plain::due_elsewhere(node.view, node.trail, members) {
         return Some(item);
     }
-    listed_due(node, steps, guess)
+    listed_due(node, steps, guesses)
 }

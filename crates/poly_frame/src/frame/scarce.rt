@@ -73,59 +73,88 @@ fn none_found() -> Scarce {
     }
 }
 
-/// The item with the fewest options to spare among those whose bit is set in `due`. `live` is the row of the open columns.
-/// Stops at an item that has too few options.
-pub(crate) fn scarcest(live: &[u64], rows: &Rows<'_>, needs: &Needs<'_>, due: &[u64]) -> Scarce
+// What the item at `first` alone tells, if its bit is set in `due`: that it has no options to spare, or that the scarcest item
+// has at most as many as it has. One more is given as its spare options, so that an item before it that has as many comes first.
+fn bound_by(live: &[u64], rows: &Rows<'_>, needs: &Needs<'_>, due: &[u64], first: usize) -> Scarce
     requires { length rows.now.words.now ≡ length live.now * rows.now.items }
 {
-    if !is_narrow(live) {
-        all_wide(live, rows, needs, due)
-    } else if needs.single {
-        all_narrow(live, rows, None, due)
-    } else {
-        all_narrow(live, rows, Some(needs), due)
+    let k = first / 64;
+    if first >= rows.items || k >= due.len() || (due[k] >> (first % 64)) & 1 == 0 {
+        return none_found();
+    }
+    let row = row_at(rows.words, live.len(), rows.items, first);
+    let spare = count_common(live, row, usize::MAX).saturating_sub(further(needs, first));
+    Scarce {
+        index: first,
+        spare: if spare == 0 {
+            0
+        } else {
+            spare.saturating_add(1)
+        },
     }
 }
 
-// Does what `scarcest` does, for narrow rows. Inlined, as `scarcest_narrow` is.
-#[inline(always)]
-fn all_narrow(live: &[u64], rows: &Rows<'_>, needs: Option<&Needs<'_>>, due: &[u64]) -> Scarce
+/// The item with the fewest options to spare among those whose bit is set in `due`. `live` is the row of the open columns.
+/// Stops at an item that has too few options, and looks at the item at `first` before the others.
+pub(crate) fn scarcest(
+    live: &[u64],
+    rows: &Rows<'_>,
+    needs: &Needs<'_>,
+    due: &[u64],
+    first: usize,
+) -> Scarce
     requires { length rows.now.words.now ≡ length live.now * rows.now.items }
 {
-    let mut best = none_found();
+    let best = bound_by(live, rows, needs, due, first);
+    if !is_narrow(live) {
+        all_wide(live, rows, needs, due, best)
+    } else if needs.single {
+        all_single(live, rows, due, best)
+    } else {
+        all_narrow(live, rows, needs, due, best)
+    }
+}
+
+// Does what `scarcest` does, for narrow rows, if at most one member with each item is asked for. `best` is what is known before.
+fn all_single(live: &[u64], rows: &Rows<'_>, due: &[u64], best: Scarce) -> Scarce
+    requires { length rows.now.words.now ≡ length live.now * rows.now.items }
+{
+    let mut best = best;
     for k in 0..due.len().min(NOTED) {
         if best.spare == 0 {
             return best;
         }
+        best = scarcest_single(live, rows, 64 * k, due[k], best);
+    }
+    best
+}
+
+// Does what `scarcest` does, for narrow rows.
+fn all_narrow(live: &[u64], rows: &Rows<'_>, needs: &Needs<'_>, due: &[u64], best: Scarce) -> Scarce
+    requires { length rows.now.words.now ≡ length live.now * rows.now.items }
+{
+    let mut best = best;
+    for k in 0..due.len().min(NOTED) {
         best = scarcest_narrow(live, rows, needs, 64 * k, due[k], best);
     }
     best
 }
 
 // Does what `scarcest` does, for rows that aren't narrow.
-fn all_wide(live: &[u64], rows: &Rows<'_>, needs: &Needs<'_>, due: &[u64]) -> Scarce
+fn all_wide(live: &[u64], rows: &Rows<'_>, needs: &Needs<'_>, due: &[u64], best: Scarce) -> Scarce
     requires { length rows.now.words.now ≡ length live.now * rows.now.items }
 {
     let occupied = occupied_words(live);
-    let mut best = none_found();
+    let mut best = best;
     for k in 0..due.len().min(NOTED) {
         best = scarcest_wide(live, &occupied, rows, needs, 64 * k, due[k], best);
     }
     best
 }
 
-// The scarcest of `best` and the items whose bits are set in the word. Bit 0 is that of the item at `first`. No `needs` say
-// that at most one member with each item is asked for. Inlined, so that this frequent case has a loop of its own. The
-// caller stops once `best` has no options to spare.
-#[inline(always)]
-fn scarcest_narrow(
-    live: &[u64],
-    rows: &Rows<'_>,
-    needs: Option<&Needs<'_>>,
-    first: usize,
-    word: u64,
-    best: Scarce,
-) -> Scarce
+// The scarcest of `best` and the items whose bits are set in the word. Bit 0 is that of the item at `first`. The caller stops
+// once `best` has no options to spare.
+fn scarcest_single(live: &[u64], rows: &Rows<'_>, first: usize, word: u64, best: Scarce) -> Scarce
     requires words { length rows.now.words.now ≡ length live.now * rows.now.items }
     requires small { first < 64 * NOTED }
 {
@@ -135,18 +164,46 @@ fn scarcest_narrow(
         let b = first + left.trailing_zeros() as usize;
         left &= left - 1;
         if b < rows.items {
-            let further = match needs {
-                Some(needs) => further(needs, b),
-                None => 0,
-            };
             let row = row_at(rows.words, live.len(), rows.items, b);
-            let most = best.spare.saturating_add(further);
-            let spare = count_common(live, row, most).saturating_sub(further);
+            let spare = count_common(live, row, best.spare);
             if spare < best.spare {
                 best = Scarce { index: b, spare };
                 if spare == 0 {
                     return best;
                 }
+            }
+        }
+    }
+    best
+}
+
+// Does what `scarcest_single` does, if more than one member with an item may be asked for.
+fn scarcest_narrow(
+    live: &[u64],
+    rows: &Rows<'_>,
+    needs: &Needs<'_>,
+    first: usize,
+    word: u64,
+    best: Scarce,
+) -> Scarce
+    requires words { length rows.now.words.now ≡ length live.now * rows.now.items }
+    requires small { first < 64 * NOTED }
+{
+    let mut best = best;
+    let mut left = word;
+    for _turn in 0..64u32 {
+        if left == 0 || best.spare == 0 {
+            return best;
+        }
+        let b = first + left.trailing_zeros() as usize;
+        left &= left - 1;
+        if b < rows.items {
+            let further = further(needs, b);
+            let row = row_at(rows.words, live.len(), rows.items, b);
+            let most = best.spare.saturating_add(further);
+            let spare = count_common(live, row, most).saturating_sub(further);
+            if spare < best.spare {
+                best = Scarce { index: b, spare };
             }
         }
     }

@@ -4,6 +4,7 @@ ghost use Rattle.std.specs.Prelude.{[], length, nat_le, nat_lt, not, slice_index
 ghost use Rattle.std.specs.List.{list_all, list_any};
 ghost use Rattle.std.specs.Int.{bit_at};
 ghost use Rattle.poly_atom.specs.declared.atom.Atom.TheVariants.{Has};
+ghost use Rattle.poly_frame.specs.Ahead.{RowWithout};
 ghost use Rattle.poly_frame.specs.Open.{arms_fit};
 ghost use Rattle.poly_frame.specs.FrameItems.{item_of};
 ghost use Rattle.poly_frame.specs.Bits.{has_bit};
@@ -121,22 +122,8 @@ fn has_none(left: &[u64], rows: &[u64], from: usize) -> bool
     true
 }
 
-// Whether one more member with the items at the indices shuts each other number that has one of them.
-fn are_last(limits: &[u8], have: &[u64], indices: &[usize]) -> bool
-    requires low { list_all (λ b. nat_lt b (length have.now)) indices.now ≡ true }
-    requires limits { length limits.now ≡ length have.now }
-    ensures { result ≡ true → list_all (λ b. nat_le (slice_index limits.now b - 1) (slice_index have.now b)) indices.now ≡ true }
-{
-    for b in indices {
-        if have[*b] < u64::from(limits[*b].saturating_sub(1)) {
-            return false;
-        }
-    }
-    true
-}
-
-/// Does what `is_starved_at` does, in less time. `left` has the open numbers without those that share an item with the number
-/// at `j`.
+/// Does what `is_starved_at` does, in less time, if no item may have several members. `left` has the open numbers without those
+/// that share an item with the number at `j`.
 pub(crate) fn is_starved_after(
     node: &Node<'_>,
     steps: &Steps,
@@ -148,7 +135,8 @@ pub(crate) fn is_starved_after(
     requires row { b < length steps.now.have.items }
     requires number { j < length node.now.matrix.now.numbers.items }
     requires len { length left.now ≡ node.now.matrix.now.width }
-    requires left { (x : ℕ) → x < 64 * node.now.matrix.now.width → has_bit left.now x ≡ (has_bit steps.now.live.items (64 * (length steps.now.live.items - node.now.matrix.now.width) + x) && not (list_any (λ c. has_bit node.now.matrix.now.rows.items (bit_index node.now.matrix.now.width c x)) (column_items node.now.matrix.now.lists node.now.matrix.now.homes.items j))) }
+    requires left { RowWithout node.now.matrix.now steps.now.live.items j left.now }
+    requires alone { node.now.table.now.alone ≡ true }
     ensures { result ≡ true → arms_fit node.now.view.now (node.now.trail.now ++ Has (slice_index node.now.matrix.now.numbers.items j) ∷ []) (item_of node.now.view.now b) [] ≡ true }
 {
     let at = steps.live.len() - node.matrix.width;
@@ -160,7 +148,6 @@ pub(crate) fn is_starved_after(
         return false;
     }
     has_none(left, &node.matrix.rows, from)
-        && are_last(&node.table.limits, &steps.have, node.matrix.items_of(j))
 }
 
 /// Whether it is known that some member must have the item, that no member of the base has it, and that no placement that has

@@ -63,6 +63,7 @@ impl Steps {
 
 ghost use Rattle.poly_frame.specs.Matrices.{IsMatrix, RowOf, StandsShow, bit_index};
 ghost use Rattle.poly_frame.specs.FrameTable.{HaveShows, TableShows};
+ghost use Rattle.poly_frame.specs.Ahead.{RowWithout};
 ghost use Rattle.poly_frame.specs.FrameSteps.{HasRoom, IsAt, StepsKeep};
 ghost use Rattle.poly_frame.specs.declared.frame.items.TheConstants.{PLACEMENT_ITEMS};
 
@@ -246,6 +247,42 @@ pub(crate) fn pick(node: &Node<'_>, members: &[u32], steps: &mut Steps, number: 
     if let Some(j) = column {
         bits::take_out(&mut steps.live, at, j);
     }
+}
+
+// Appends a row, for which there is room.
+fn push_row(live: &mut Vec<u64>, row: &[u64])
+    requires room { vec_len live.old + length row.now ≤ vec_capacity live.old }
+    ensures capacity { vec_capacity live.old ≤ vec_capacity live.new }
+    ensures items { live.new.items ≡ live.old.items ++ row.now }
+{
+    let _ = live.extend_from_slice(row);
+}
+
+/// Does what `pick` does for the placement of column `j`, which is open, if no item may have several members. `row` is the last
+/// row without the columns that share an item with this one.
+pub(crate) fn pick_open(node: &Node<'_>, steps: &mut Steps, j: usize, row: &[u64])
+    requires kept { IsAt node.now steps.old }
+    requires room { HasRoom node.now.matrix.now steps.old }
+    requires few { length node.now.trail.now < node.now.base + STEPS }
+    requires alone { node.now.table.now.alone ≡ true }
+    requires number { j < length node.now.matrix.now.numbers.items }
+    requires open { open_in node.now.view.now node.now.trail.now (slice_index node.now.matrix.now.numbers.items j) ≡ true }
+    requires len { length row.now ≡ node.now.matrix.now.width }
+    requires row { RowWithout node.now.matrix.now steps.old.live.items j row.now }
+    ensures kept { StepsKeep node.now.view.now (node.now.trail.now ++ Atom.Has (slice_index node.now.matrix.now.numbers.items j) ∷ []) node.now.base node.now.matrix.now node.now.table.now steps.new }
+    ensures room { HasRoom node.now.matrix.now steps.new }
+{
+    let at = steps.live.len();
+    push_row(&mut steps.live, row);
+    steps.marks.push_reserved(Mark {
+        raised: steps.raised.len(),
+        row: at - node.matrix.width,
+        cleared: None,
+    });
+    let indices = node.matrix.items_of(j);
+    note_list(indices, &mut steps.raised);
+    raise_and_note(&mut steps.have, &mut steps.due, &node.table.leasts, indices);
+    bits::take_out(&mut steps.live, at, j);
 }
 
 // The column of the number, if its bit is set in the row at word `at`.

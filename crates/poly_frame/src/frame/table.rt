@@ -1,5 +1,5 @@
 //! What stays the same while a frame moves, and the first count of the members that have each item.
-ghost use Rattle.std.specs.Prelude.{IfErr, IfOk, length, slice_index, vec_capacity, ℕ, ◌&&◌, ◌<◌, ◌^◌, ◌≡◌, ◌≤◌};
+ghost use Rattle.std.specs.Prelude.{IfErr, IfOk, length, nat_le, slice_index, vec_capacity, ℕ, ◌&&◌, ◌<◌, ◌^◌, ◌≡◌, ◌≤◌};
 ghost use Rattle.std.specs.List.{list_all, list_any};
 ghost use Rattle.poly_tiling.specs.Puzzle.{same_item};
 ghost use Rattle.poly_atom.specs.Hopeless.{base};
@@ -28,7 +28,7 @@ pub(crate) struct Table {
     pub(crate) leasts_end: usize,
     /// Whether no entry of `leasts` is over 1. If this is wrong, only the choice of a due item is worse.
     pub(crate) single: bool,
-    /// Whether no entry of `limits` is over 1. If this is wrong, only the choice of a due item is worse.
+    /// Whether it is known that no entry of `limits` is over 1.
     pub(crate) alone: bool,
 }
 
@@ -133,6 +133,13 @@ fn end_of(leasts: &[u8]) -> usize
     0
 }
 
+// Whether no limit is over 1.
+fn are_alone(limits: &[u8]) -> bool
+    ensures { result ≡ list_all (λ n. nat_le n 1) limits.now }
+{
+    limits.iter().all(|n| *n <= 1)
+}
+
 /// The table of the atoms, for a matrix with a column for each placement that is open at them.
 pub(crate) fn table_of(
     alloc: Global,
@@ -157,7 +164,7 @@ pub(crate) fn table_of(
     let listed = all_listed(bounds, atoms);
     let leasts_end = end_of(&leasts);
     let single = leasts.iter().all(|n| *n <= 1);
-    let alone = limits.iter().all(|n| *n <= 1);
+    let alone = are_alone(&limits);
     Ok(Table {
         limits,
         leasts,
@@ -191,6 +198,7 @@ pub(crate) fn table_again(
     ensures leasts { IfOk result (λ t. t.leasts.items ≡ table.now.leasts.items) }
     ensures listed { IfOk result (λ t. t.listed ≡ (table.now.listed && list_all (of_asked (λ i. list_any (λ b. same_item b.item i) bounds.now)) later.now)) }
     ensures end { IfOk result (λ t. t.leasts_end ≡ table.now.leasts_end) }
+    ensures alone { IfOk result (λ t. t.alone ≡ table.now.alone) }
     ensures why { IfErr result (λ e. e ≡ Refusal.Memory) }
 {
     let Table { limits, leasts, .. } = spare;

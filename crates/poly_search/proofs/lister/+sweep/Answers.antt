@@ -16,8 +16,8 @@ kept t c =
     let w = c.args.frame.now in
     let p = c.args.placement in
     let r = c.requires in
-    let picked = c.pick.ensures ∙ ap (λ (x : Walk). with_step x (Has p)) c.leads_nowhere.ensures.same in
-    let left = left_is w c.pick.new.self c.sweep_below.new.frame c.back.new.self c.leave.new.self p picked c.in_ok-whole.ensures.same c.back.ensures c.leave.ensures in
+    let picked = c.leads_on.ensures.taken c.if-not-leads_on.false in
+    let left = left_is w c.leads_on.new.frame c.sweep_below.new.frame c.back.new.self c.leave.new.self p picked c.in_ok-whole.ensures.same c.back.ensures c.leave.ensures in
     let below = subst (λ (x : Walk). Swept x.scene x.atoms c.args.list.now.found.items c.sweep_below.new.list.found.items (lists c.args.list.now.rests.items) (lists c.sweep_below.new.list.rests.items)) picked c.in_ok-whole.ensures.swept in
     let rests = c.in_ok-push_rest.ensures.rests ∙ ap (λ (x : Walk). lists c.sweep_below.new.list.rests.items ++ x.atoms ∷ []) left in
     arm_swept w.scene w.atoms p _ _ _ _ _ _ r.once r.place r.open below c.in_ok-push_rest.ensures.found rests
@@ -28,18 +28,18 @@ sweep_arm-returns-in_ok-push_rest-clause-swept t c = λ _. (kept t c).0
 pub sweep_arm-returns-in_ok-push_rest-clause-lighter : goal.sweep_arm-returns-in_ok-push_rest-clause-lighter
 sweep_arm-returns-in_ok-push_rest-clause-lighter t c = λ _. (kept t c).1
 
-pub sweep_arm-returns-then-leads_nowhere-clause-more : goal.sweep_arm-returns-then-leads_nowhere-clause-more
-sweep_arm-returns-then-leads_nowhere-clause-more t c =
+pub sweep_arm-returns-then-not-leads_on-clause-more : goal.sweep_arm-returns-then-not-leads_on-clause-more
+sweep_arm-returns-then-not-leads_on-clause-more t c =
     let w = c.args.frame.now in
     let r = c.requires in
-    let s = c.leads_nowhere.ensures.starved c.if-leads_nowhere.true in
+    let s = c.leads_on.ensures.starved c.if-not-leads_on.true in
     λ _. arm_partly w.scene w.atoms c.args.placement _ _ _ _ r.once r.place r.open (starved_swept w.scene (w.atoms ++ Has c.args.placement ∷ []) s.0 _ _ s.1)
 
 pub sweep_arm-returns-else-not-whole-clause-more : goal.sweep_arm-returns-else-not-whole-clause-more
 sweep_arm-returns-else-not-whole-clause-more t c =
     let w = c.args.frame.now in
     let r = c.requires in
-    let picked = c.pick.ensures ∙ ap (λ (x : Walk). with_step x (Has c.args.placement)) c.leads_nowhere.ensures.same in
+    let picked = c.leads_on.ensures.taken c.if-not-leads_on.false in
     let below = subst (λ (x : Walk). Swept x.scene x.atoms c.args.list.now.found.items c.sweep_below.new.list.found.items (lists c.args.list.now.rests.items) (lists c.sweep_below.new.list.rests.items)) picked c.in_ok-whole.ensures.swept in
     λ _. arm_partly w.scene w.atoms c.args.placement _ _ _ _ r.once r.place r.open below
 

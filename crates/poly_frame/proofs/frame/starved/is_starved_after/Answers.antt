@@ -1,14 +1,15 @@
-use Rattle.std.proofs.Common.{List, ap, arith, eqb, false, get_or, leb, length, not, subst, sym, true, ℕ, ◌&&◌, ◌*◌, ◌+◌, ◌-◌, ◌<◌, ◌∙◌, ◌≡◌}
+use Rattle.std.proofs.Common.{ap, arith, eqb, false, get_or, length, not, sym, true, ℕ, ◌&&◌, ◌*◌, ◌+◌, ◌-◌, ◌<◌, ◌∙◌, ◌≡◌}
 use Rattle.std.proofs.lemmas.List.{get_or_read}
 use Rattle.std.specs.Int.{bit_at}
-use Rattle.std.specs.List.{list_all, list_any}
+use Rattle.std.specs.List.{list_any}
 use Rattle.poly_frame.specs.Bits.{has_bit}
 use Rattle.poly_frame.specs.Matrices.{bit_index, column_items}
+use Rattle.poly_frame.proofs.Ahead.{last_each, noted_column}
 use Rattle.poly_frame.proofs.Starved.{shut_without, starved_fits}
 use Rattle.poly_frame.proofs.frame.starved.is_starved_after.Goals as goal
 
-pub returns-then-has_none : goal.returns-then-has_none
-returns-then-has_none c = λ y.
+pub returns : goal.returns
+returns c = λ y.
     let v = c.args.node.now.view.now in
     let A = c.args.node.now.trail.now in
     let first = c.args.node.now.base in
@@ -28,11 +29,9 @@ returns-then-has_none c = λ y.
     let without : has_bit matrix.rows.items (64 * (matrix.width * b) + j) ≡ false = ap (λ ws. has_bit ws (64 * (matrix.width * b) + j)) (sym c.deref-else-not-has.ensures.value) ∙ sym c.has-else-not-has.ensures ∙ c.if-has.false in
     let shares = λ (x : ℕ). list_any (λ c. has_bit matrix.rows.items (bit_index matrix.width c x)) (column_items matrix.lists matrix.homes.items j) in
     let left = λ (x : ℕ) (h : x < 64 * matrix.width). c.requires.left x h ∙ ap (λ n. has_bit s.live.items (64 * (n - matrix.width) + x) && not (shares x)) (sym (c.len.ensures ∙ s.live.ok.0)) in
-    let indices = c.items_of.result.now in
-    let last = subst (λ (xs : List ℕ). list_all (λ c. leb (get_or t.limits.items c 0 - 1) (get_or s.have.items c 0)) xs ≡ true) c.items_of.ensures
-    (subst (λ (hs : List ℕ). list_all (λ c. leb (get_or t.limits.items c 0 - 1) (get_or hs c 0)) indices ≡ true) c.deref-then-has_none-2.ensures.value
-    (subst (λ (ls : List ℕ). list_all (λ b. leb (get_or ls b 0 - 1) (get_or c.deref-then-has_none-2.result.now b 0)) indices ≡ true) c.deref-then-has_none.ensures.value (c.are_last.ensures y))) in
+    let noted = noted_column v A first matrix t s.live.items s.have.items s.raised.items s.marks.items K c.requires.alone j c.requires.number in
+    let last = last_each t.limits.items s.have.items (column_items matrix.lists matrix.homes.items j) (length v.bounds) (K.table.alone c.requires.alone) noted.low in
     starved_fits v A first matrix t s.live.items s.have.items s.raised.items s.marks.items K b j at (ap (λ n. n - matrix.width) (c.len.ensures ∙ s.live.ok.0)) (omega (arith, c.requires.row, K.have_len)) c.requires.number opened without none
     (shut_without s.live.items c.args.left.now matrix.rows.items t.limits.items s.have.items (column_items matrix.lists matrix.homes.items j) matrix.width at b left
-    (λ k u m l z. ap (λ ws. eqb (bit_at (get_or ws (matrix.width * b + k) 0) u) 1) (sym c.deref-2.ensures.value) ∙ c.has_none.ensures c.if-has_none.true k u m l z) c.requires.len last)
+    (λ k u m l z. ap (λ ws. eqb (bit_at (get_or ws (matrix.width * b + k) 0) u) 1) (sym c.deref-2.ensures.value) ∙ c.has_none.ensures y k u m l z) c.requires.len last)
     some
