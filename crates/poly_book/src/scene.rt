@@ -4,10 +4,10 @@ ghost use Rattle.std.specs.Arc.{arc_value};
 ghost use Rattle.poly_frame.specs.Matrices.{IsWhole};
 ghost use Rattle.poly_report.specs.Gather.{IsCutUp};
 ghost use Rattle.poly_report.specs.Holds.{holds};
-ghost use Rattle.poly_report.specs.Leaves.{rests, tilings};
-ghost use Rattle.poly_report.specs.Opened.{opened};
 ghost use Rattle.poly_report.specs.Shapes.{plan_of};
-ghost use Rattle.poly_report.specs.Sizes.{all_fewer, fits, inner, is_rest};
+ghost use Rattle.poly_report.specs.Sizes.{fits};
+ghost use Rattle.poly_report.specs.Trees.{Plan};
+ghost use Rattle.poly_search.specs.Searches.{IsExplored};
 ghost use Rattle.poly_book.specs.Scenes.{AreNarrowed, IsMatrixOf};
 ghost use Rattle.poly_report.specs.declared.size.TheConstants.{NODES};
 
@@ -15,7 +15,7 @@ use crate::narrowed::{Narrowed, drop_others, keep, nearest};
 use poly_atom::Atom;
 use poly_grid::Refusal;
 use poly_report::{Leaves, Matrix, Tree, cut_up_over};
-use poly_search::{Explored, explore_within};
+use poly_search::leaves_within;
 use poly_tiling::View;
 use std::alloc::Global;
 use std::marker::Model;
@@ -71,27 +71,15 @@ impl Scene {
         &self.view
     }
 
-    /// What `poly_search::explore_with_leaves` answers.
-    pub fn explore(
-        &mut self,
-        alloc: Global,
-        atoms: &[Atom],
-        nodes: u32,
-    ) -> Result<Explored, Refusal>
+    /// The leaves that `poly_search::leaves_within` gathers.
+    pub fn leaves(&mut self, alloc: Global, atoms: &[Atom], nodes: u32) -> Result<Leaves, Refusal>
         requires some { 1 ≤ nodes }
         requires few { nodes ≤ NODES }
         ensures stays { self.new ≡ self.old }
-        ensures fits { IfOk result (λ e. fits (plan_of e.tree) ≡ true) }
-        ensures holds { IfOk result (λ e. holds self.old atoms.now (plan_of e.tree) ≡ true) }
-        ensures opened { IfOk result (λ e. opened self.old atoms.now (plan_of e.tree) ≡ true) }
-        ensures inner { IfOk result (λ e. inner (plan_of e.tree) ≤ nodes) }
-        ensures root { IfOk result (λ e. is_rest (plan_of e.tree) ≡ false) }
-        ensures smaller { IfOk result (λ e. all_fewer self.old atoms.now (rests self.old atoms.now (plan_of e.tree)) ≡ true) }
-        ensures tilings { IfOk result (λ e. e.leaves.tilings.items ≡ tilings self.old atoms.now (plan_of e.tree)) }
-        ensures rests { IfOk result (λ e. e.leaves.rests ≡ rests self.old atoms.now (plan_of e.tree)) }
+        ensures tree { IfOk result (λ l. (t : Plan) × IsExplored self.old atoms.now nodes t l.tilings.items l.rests) }
         ensures why { IfErr result (λ e. e ≡ Refusal.Memory) }
     {
-        explore_from(
+        leaves_from(
             alloc,
             &self.view,
             &mut self.matrix,
@@ -117,43 +105,36 @@ impl Scene {
     }
 }
 
-// Explores the atoms with the last of the narrower matrices that serves them, or else with the matrix in the slot, which is
+// Searches the atoms with the last of the narrower matrices that serves them, or else with the matrix in the slot, which is
 // made if the slot is empty. Adds the matrix of the atoms to the list if there are rests, whose atoms go on from these.
-fn explore_from(
+fn leaves_from(
     alloc: Global,
     view: &View,
     slot: &mut Option<Matrix>,
     narrower: &mut Vec<Narrowed>,
     atoms: &[Atom],
     nodes: u32,
-) -> Result<Explored, Refusal>
+) -> Result<Leaves, Refusal>
     requires matrix { IsMatrixOf view.now slot.old }
     requires narrower { AreNarrowed view.now narrower.old.items }
     requires some { 1 ≤ nodes }
     requires few { nodes ≤ NODES }
     ensures matrix { IsMatrixOf view.now slot.new }
     ensures narrower { AreNarrowed view.now narrower.new.items }
-    ensures fits { IfOk result (λ e. fits (plan_of e.tree) ≡ true) }
-    ensures holds { IfOk result (λ e. holds view.now atoms.now (plan_of e.tree) ≡ true) }
-    ensures opened { IfOk result (λ e. opened view.now atoms.now (plan_of e.tree) ≡ true) }
-    ensures inner { IfOk result (λ e. inner (plan_of e.tree) ≤ nodes) }
-    ensures root { IfOk result (λ e. is_rest (plan_of e.tree) ≡ false) }
-    ensures smaller { IfOk result (λ e. all_fewer view.now atoms.now (rests view.now atoms.now (plan_of e.tree)) ≡ true) }
-    ensures tilings { IfOk result (λ e. e.leaves.tilings.items ≡ tilings view.now atoms.now (plan_of e.tree)) }
-    ensures rests { IfOk result (λ e. e.leaves.rests ≡ rests view.now atoms.now (plan_of e.tree)) }
+    ensures tree { IfOk result (λ l. (t : Plan) × IsExplored view.now atoms.now nodes t l.tilings.items l.rests) }
     ensures why { IfErr result (λ e. e ≡ Refusal.Memory) }
 {
     let whole = take_matrix(alloc, view, slot)?;
     drop_others(narrower, atoms);
     let part = nearest(&whole, narrower, atoms);
-    let found = explore_within(alloc, view, &whole, part, atoms, nodes);
+    let found = leaves_within(alloc, view, &whole, part, atoms, nodes);
     *slot = Some(whole);
-    let (explored, own) = found?;
-    if explored.leaves.rests.is_empty() {
-        return Ok(explored);
+    let (leaves, own) = found?;
+    if leaves.rests.is_empty() {
+        return Ok(leaves);
     }
     keep(alloc, narrower, atoms, own)?;
-    Ok(explored)
+    Ok(leaves)
 }
 
 // The leaves of the tree, if it holds, and `None` if it doesn't. Uses the matrix in the slot, which is made if the slot is

@@ -18,8 +18,8 @@ use poly_grid::Refusal;
 use poly_report::Leaves;
 
 impl Book {
-    /// Takes tasks, grows a tree for each with at most `nodes` nodes that aren't Rest, and hands the result in, until nothing
-    /// is pending. Returns how many reports were applied. The design and the steps stay. `nodes` is from 1 to 4,096.
+    /// Takes tasks, searches each over at most `nodes` nodes that aren't Rest, and applies what is found like a report, until
+    /// nothing is pending. Returns how many reports were applied. The design and the steps stay. `nodes` is from 1 to 4,096.
     ///
     /// Refused with `Unfinished` if `turns` reports were applied and a task is still pending. May be refused earlier as
     /// `hand_in` is for a report that holds: with `Spent`, `CatalogueFull` or `Memory`. Reports that were applied before a
@@ -62,9 +62,9 @@ fn settle_all(parts: &mut Parts, turns: u64, nodes: u32) -> Result<u64, Refusal>
     Err(Refusal::Unfinished)
 }
 
-// Does one turn, and returns whether there was a task. The tree that is found holds, so this isn't checked again. Only the
-// first `unsure` tasks may be hopeless. So no rest of a later task is hopeless, and this isn't checked either. The task's atoms
-// are read into the buffer, in place of what it had.
+// Does one turn, and returns whether there was a task. The leaves that are found are those of a tree that holds. A report needs
+// no more of its tree, so none is made. Only the first `unsure` tasks may be hopeless. So no rest of a later task is hopeless, and
+// this isn't checked. The task's atoms are read into the buffer, in place of what it had.
 fn settle_one(
     parts: &mut Parts,
     nodes: u32,
@@ -115,6 +115,6 @@ fn explored_leaves(
     ensures why { IfErr result (λ e. e ≡ Refusal.Memory) }
 {
     read_all(&parts.log, &parts.tasks[at], buffer)?;
-    let found = parts.scene.explore(parts.alloc, buffer, nodes)?;
-    Ok(found.leaves)
+    let leaves = parts.scene.leaves(parts.alloc, buffer, nodes)?;
+    Ok(leaves)
 }

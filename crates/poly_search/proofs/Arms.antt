@@ -12,6 +12,7 @@ use Rattle.poly_frame.specs.Open.{open_in}
 use Rattle.poly_report.specs.Leaves.{tilings}
 use Rattle.poly_frame.specs.Walk.{Walk, with_step, step_back, is_due, is_open, is_option}
 use Rattle.poly_frame.proofs.Back.{step_undone}
+use Rattle.poly_search.specs.Walked.{past}
 use Rattle.poly_search.specs.Sweeps.{Swept, IsLighter, Partly}
 use Rattle.poly_search.proofs.Swept.{partly_swept, partly_lighter, found_swept, item_swept, option_behind, behind_more, behind}
 
@@ -23,16 +24,13 @@ left_is w wp wq wb wl p ep eq eb el = el ∙ ap (λ x. with_step x (Lacks p)) (e
 abbrev pub Options : Walk → Item → List ℕ → Type 0
 Options w i ps = (distinct ps ≡ true) × ((p : ℕ) → mem ps p ≡ (mem w.scene.live p && is_option w i p))
 
-abbrev pub passed : Walk → List ℕ → Walk
-passed w ps = record w { atoms = behind w.atoms ps }
-
 pub option_is : (xs ys : List ℕ) (from at p : ℕ) → from ≤ at → at < length xs → ys ≡ xs → p ≡ get_or ys at p → p ≡ get_or (drop from xs) (at - from) 0
 option_is xs ys from at p low lt same e =
     let place : at ≡ from + (at - from) = omega arith in
     e ∙ ap (λ zs. get_or zs at p) same ∙ get_or_default_zero xs at p lt ∙ ap (λ n. get_or xs n 0) place ∙ sym (get_or-drop from xs (at - from) 0)
 
 -- the next option is a placement that is open after the options before it are left out
-pub option_opens : (w wl : Walk) (i : Item) (xs ys : List ℕ) (from at p : ℕ) → from ≤ at → at < length xs → ys ≡ xs → p ≡ get_or ys at p → Options w i (drop from xs) → wl ≡ passed w (take (at - from) (drop from xs)) →
+pub option_opens : (w wl : Walk) (i : Item) (xs ys : List ℕ) (from at p : ℕ) → from ≤ at → at < length xs → ys ≡ xs → p ≡ get_or ys at p → Options w i (drop from xs) → wl ≡ past w (take (at - from) (drop from xs)) →
     (mem wl.scene.live p ≡ true) × (is_open wl p ≡ true)
 option_opens w wl i xs ys from at p low lt same e opts path =
     let ps = drop from xs in
@@ -45,21 +43,21 @@ option_opens w wl i xs ys from at p low lt same e opts path =
     )
 
 -- one more option is left out
-pub passed_more : (w wl wn : Walk) (xs ys : List ℕ) (from at p : ℕ) → from ≤ at → at < length xs → ys ≡ xs → p ≡ get_or ys at p → wl ≡ passed w (take (at - from) (drop from xs)) → wn ≡ with_step wl (Lacks p) → wn ≡ passed w (take (at + 1 - from) (drop from xs))
+pub passed_more : (w wl wn : Walk) (xs ys : List ℕ) (from at p : ℕ) → from ≤ at → at < length xs → ys ≡ xs → p ≡ get_or ys at p → wl ≡ past w (take (at - from) (drop from xs)) → wn ≡ with_step wl (Lacks p) → wn ≡ past w (take (at + 1 - from) (drop from xs))
 passed_more w wl wn xs ys from at p low lt same e path step =
     let ps = drop from xs in
     let j = at - from in
     let here : j < length ps = omega (arith, length-drop from xs) in
     let next : j + 1 ≡ at + 1 - from = omega arith in
-    step ∙ ap (λ x. with_step x (Lacks p)) path ∙ ap (λ n. with_step (passed w (take j ps)) (Lacks n)) (option_is xs ys from at p low lt same e)
-    ∙ ap (λ B. record w { atoms = B }) (sym (behind_more w.atoms ps j here)) ∙ ap (λ n. passed w (take n ps)) next
+    step ∙ ap (λ x. with_step x (Lacks p)) path ∙ ap (λ n. with_step (past w (take j ps)) (Lacks n)) (option_is xs ys from at p low lt same e)
+    ∙ ap (λ B. record w { atoms = B }) (sym (behind_more w.atoms ps j here)) ∙ ap (λ n. past w (take n ps)) next
 
 -- the tilings with one more option were swept
-pub option_partly : (w wl : Walk) (xs ys : List ℕ) (from at p : ℕ) (found found1 : List (List ℕ)) (rests rests1 : List (List Atom)) → from ≤ at → at < length xs → ys ≡ xs → p ≡ get_or ys at p → wl ≡ passed w (take (at - from) (drop from xs)) →
+pub option_partly : (w wl : Walk) (xs ys : List ℕ) (from at p : ℕ) (found found1 : List (List ℕ)) (rests rests1 : List (List Atom)) → from ≤ at → at < length xs → ys ≡ xs → p ≡ get_or ys at p → wl ≡ past w (take (at - from) (drop from xs)) →
     Partly wl.scene wl.atoms (wl.atoms ++ Lacks p ∷ []) found found1 rests rests1 →
     Partly w.scene (behind w.atoms (take (at - from) (drop from xs))) (behind w.atoms (take (at + 1 - from) (drop from xs))) found found1 rests rests1
 option_partly w wl xs ys from at p found found1 rests rests1 low lt same e path part =
-    let before = passed w (take (at - from) (drop from xs)) in
+    let before = past w (take (at - from) (drop from xs)) in
     let here = subst (λ (x : Walk). Partly x.scene x.atoms (x.atoms ++ Lacks p ∷ []) found found1 rests rests1) path part in
     subst (λ (x : Walk). Partly w.scene before.atoms x.atoms found found1 rests rests1) (passed_more w before (with_step before (Lacks p)) xs ys from at p low lt same e refl refl) here
 
@@ -92,5 +90,5 @@ open_end w wl found found1 found2 rests rests1 rests2 path none ef er part =
 pub front_kept : (A B C : List Atom) (a : Atom) → take (length A) B ≡ A → length A ≤ length B → C ≡ B ++ a ∷ [] → take (length A) C ≡ A
 front_kept A B C a h l e = ap (take (length A)) e ∙ take-append-le (length A) B (a ∷ []) l ∙ h
 
-pub passed_begun : (w wl : Walk) (ps : List ℕ) → wl ≡ passed w ps → w.given ≤ length w.atoms → wl.given ≤ length wl.atoms
+pub passed_begun : (w wl : Walk) (ps : List ℕ) → wl ≡ past w ps → w.given ≤ length w.atoms → wl.given ≤ length wl.atoms
 passed_begun w wl ps e h = omega (arith, ap (λ (x : Walk). x.given) e, ap (λ (x : Walk). length x.atoms) e, length-append w.atoms (map (λ q. Lacks q) ps))

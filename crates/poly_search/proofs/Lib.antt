@@ -5,4 +5,5 @@ pub mod Swept
 pub mod Arms
 pub mod Families
 pub mod Gathered
+pub mod Growing
 pub mod Paths

@@ -1,5 +1,5 @@
 -- A chain of Splits over arms, one arm after another.
-use Rattle.std.proofs.Common.{◌≡◌, ℕ, ◌+◌, ◌-◌, ◌<◌, ◌≤◌, true, false, cond, ◌&&◌, List, [], ◌∷◌, ◌++◌, inl, refl, sym, ap, subst, ◌∙◌, arith, map, append_assoc, length, take, get_or, zero, suc}
+use Rattle.std.proofs.Common.{◌≡◌, ℕ, ◌+◌, ◌-◌, ◌<◌, ◌≤◌, true, false, cond, List, [], ◌∷◌, ◌++◌, inl, refl, sym, ap, subst, ◌∙◌, arith, map, append_assoc, length, take, get_or, zero, suc}
 use Rattle.std.specs.Prelude.{nat_lt}
 use Rattle.std.proofs.lemmas.List.{append-nil, map-append}
 use Rattle.std.proofs.lemmas.Bool.{and_from, or_right, lt-ltb}
@@ -15,10 +15,12 @@ use Rattle.poly_frame.specs.Open.{dead, open_in}
 use Rattle.poly_report.specs.Holds.{holds, arm_atoms}
 use Rattle.poly_report.specs.Leaves.{rests}
 use Rattle.poly_report.specs.Sizes.{total, arms_total, inner, arms_inner, deep, is_rest, all_fewer, Grown}
-use Rattle.poly_frame.specs.Walk.{Walk, with_step, is_option, open_count}
+use Rattle.poly_frame.specs.Walk.{Walk, open_count}
 use Rattle.poly_tiling.specs.declared.item.Item.{Item}
 use Rattle.poly_search.specs.Chains.{chain, Serves, Ends, Chains}
-use Rattle.poly_search.proofs.Nodes.{snoc, list_snoc, heads_snoc, both, cut, child_at, option_at}
+use Rattle.poly_search.specs.Grows.{snoc}
+use Rattle.poly_search.proofs.Arms.{Options}
+use Rattle.poly_search.proofs.Nodes.{list_snoc, heads_snoc, both, cut, child_at, option_at}
 use Rattle.poly_search.proofs.Opens.{fewer_has, fewer_lacks}
 
 pub chain_snoc : (arms : Arms) (p : ℕ) (t end : Plan) → chain (snoc arms p t) end ≡ chain arms (Splits p t end)
@@ -89,45 +91,26 @@ in_front [] n a b = absurd (omega arith)
 in_front (q ∷ qs) zero a b = absurd (omega arith)
 in_front (q ∷ qs) (suc n) a b = inl refl
 
-pub heads_length : (arms : List Arm) → length (heads (arms_list arms)) ≡ length arms
-heads_length [] = refl
-heads_length (a ∷ arms) = omega (arith, heads_length arms)
-
--- a chain over the options that were walked, with Rest for the others, is grown for the atoms
-pub chain_grown : (w : Walk) (d : ℕ) (i : Item) (arms : List Arm) (ps : List ℕ) → distinct w.scene.live ≡ true → ((p : ℕ) → mem ps p ≡ (mem w.scene.live p && is_option w i p)) →
-    heads (arms_list arms) ≡ take (length arms) ps → length arms ≤ length ps → 1 ≤ length arms → length arms < d → Chains w.scene w.atoms d (arms_list arms) →
-    Grown w.scene w.atoms d (chain (arms_list arms) Rests)
-chain_grown w d i arms ps dis m names few some deep links =
-    let o = option_at w i ps 0 (omega arith) m in
-    let here = subst (λ xs. In (get_or ps 0 0) xs) (sym names) (in_front ps (length arms) some few) in
-    let s = links Rests (rest_ends w.scene w.atoms d (heads (arms_list arms)) (get_or ps 0 0) here dis o.0 o.1 (omega (arith, heads_length arms))) in
-    record { right = s.right; low = s.low; less = or_right (is_rest (chain (arms_list arms) Rests)) _ s.less }
-
-pub chain_total : (arms : List Arm) (t : Plan) → t ≡ chain (arms_list arms) Rests → total t ≡ arms_total (arms_list arms) + length arms + 1
-chain_total arms t e = omega (arith, ap total e, total_chain (arms_list arms) Rests, heads_length arms)
-
-pub chain_inner : (arms : List Arm) (t : Plan) → t ≡ chain (arms_list arms) Rests → inner t ≡ arms_inner (arms_list arms) + length arms
-chain_inner arms t e = omega (arith, ap inner e, inner_chain (arms_list arms) Rests, heads_length arms)
-
-pub chain_no_rest : (arms : List Arm) (t : Plan) → t ≡ chain (arms_list arms) Rests → 1 ≤ length arms → is_rest t ≡ false
-chain_no_rest [] t e h = absurd (omega arith)
-chain_no_rest (a ∷ arms) t e h = ap is_rest e
-
--- a walk that may become a chain still may after its next arm
-pub linked_next : (w wl wp : Walk) (d : ℕ) (i : Item) (arms next : List Arm) (a : Arm) (ps : List ℕ) (j : ℕ) → j < length ps → distinct w.scene.live ≡ true →
-    ((p : ℕ) → mem ps p ≡ (mem w.scene.live p && is_option w i p)) → wl ≡ record w { atoms = w.atoms ++ map (λ q. Lacks q) (take j ps) } → wp ≡ with_step wl (Has (get_or ps j 0)) →
-    heads (arms_list arms) ≡ take j ps → length arms ≡ j → next ≡ arms ++ a ∷ [] → a.placement ≡ get_or ps j 0 → j < d →
-    Chains w.scene w.atoms d (arms_list arms) → Grown wp.scene wp.atoms (d - 1 - j) (plan_of a.tree) → Chains w.scene w.atoms d (arms_list next)
-linked_next w wl wp d i arms next a ps j h dis m el ep hs len en ea deep links gt =
-    let p = get_or ps j 0 in
-    let o = option_at w i ps j h m in
-    let n : length (heads (arms_list arms)) ≡ j = omega (arith, heads_length arms, len) in
-    let path : wp ≡ record w { atoms = w.atoms ++ arm_atoms (heads (arms_list arms)) p } =
-    ep ∙ ap (λ x. with_step x (Has p)) el ∙ ap (λ xs. record w { atoms = xs }) (append_assoc w.atoms (map (λ q. Lacks q) (take j ps)) (Has p ∷ []) ∙ ap (λ xs. w.atoms ++ arm_atoms xs p) (sym hs)) in
-    let g = subst (λ k. Grown w.scene (w.atoms ++ arm_atoms (heads (arms_list arms)) p) (d - 1 - k) (plan_of a.tree)) (sym n)
-    (subst (λ x. Grown x.scene x.atoms (d - 1 - j) (plan_of a.tree)) path gt) in
-    let more = more_chain w.scene w.atoms d (arms_list arms) p (plan_of a.tree) dis o.0 o.1 links g (omega arith) in
-    subst (λ x. Chains w.scene w.atoms d x) (sym (ap arms_list en ∙ list_snoc arms a ∙ ap (λ x. snoc (arms_list arms) x (plan_of a.tree)) ea)) more
-
 pub grown_deeper : (v : View) (A : List Atom) (d e : ℕ) (t : Plan) → d ≤ e → Grown v A d t → Grown v A e t
 grown_deeper v A d e t h g = record { right = g.right; low = let l = g.low in omega arith; less = g.less }
+
+-- a chain over the options that were walked, with Rest for the others, is grown for the atoms
+pub chain_grown : (w : Walk) (d n : ℕ) (i : Item) (arms : Arms) (ps : List ℕ) → distinct w.scene.live ≡ true → Options w i ps → heads arms ≡ take n ps → length (heads arms) ≡ n → n ≤ length ps → 1 ≤ n → n < d → Chains w.scene w.atoms d arms →
+    Grown w.scene w.atoms d (chain arms Rests)
+chain_grown w d n i arms ps dis opts names len few some deep links =
+    let o = option_at w i ps 0 (omega arith) opts.1 in
+    let here = subst (λ xs. In (get_or ps 0 0) xs) (sym names) (in_front ps n some few) in
+    let s = links Rests (rest_ends w.scene w.atoms d (heads arms) (get_or ps 0 0) here dis o.0 o.1 (omega (arith, len))) in
+    record { right = s.right; low = s.low; less = or_right (is_rest (chain arms Rests)) _ s.less }
+
+pub chain_no_rest : (arms : Arms) → 1 ≤ length (heads arms) → is_rest (chain arms Rests) ≡ false
+chain_no_rest NoArms h = absurd (omega arith)
+chain_no_rest (OneArm p t arms) h = refl
+
+-- a walk that may become a chain still may after its next arm
+pub linked_next : (w : Walk) (d j : ℕ) (i : Item) (arms : Arms) (t : Plan) (ps : List ℕ) → j < length ps → distinct w.scene.live ≡ true → Options w i ps → length (heads arms) ≡ j → j < d →
+    Chains w.scene w.atoms d arms → Grown w.scene (w.atoms ++ arm_atoms (heads arms) (get_or ps j 0)) (d - 1 - j) t → Chains w.scene w.atoms d (snoc arms (get_or ps j 0) t)
+linked_next w d j i arms t ps h dis opts len deep links g =
+    let o = option_at w i ps j h opts.1 in
+    let at : Grown w.scene (w.atoms ++ arm_atoms (heads arms) (get_or ps j 0)) (d - 1 - length (heads arms)) t = subst (λ k. Grown w.scene (w.atoms ++ arm_atoms (heads arms) (get_or ps j 0)) (d - 1 - k) t) (sym len) g in
+    more_chain w.scene w.atoms d arms (get_or ps j 0) t dis o.0 o.1 links at (omega (arith, len))

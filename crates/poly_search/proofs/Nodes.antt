@@ -1,5 +1,5 @@
 -- How a tree that holds is grown, node by node.
-use Rattle.std.proofs.Common.{◌≡◌, ℕ, ◌<◌, ◌≤◌, ◌+◌, Bool, true, false, cond, not, ◌&&◌, ◌||◌, List, [], ◌∷◌, ◌++◌, inl, inr, refl, sym, ap, subst, ◌∙◌, arith, nat_lt, map, append_assoc, length, take, get_or, ◌-◌, zero, suc}
+use Rattle.std.proofs.Common.{◌≡◌, ℕ, ◌<◌, ◌≤◌, ◌+◌, Bool, true, false, cond, ◌&&◌, ◌||◌, List, [], ◌∷◌, ◌++◌, inl, inr, refl, sym, ap, subst, ◌∙◌, arith, nat_lt, map, append_assoc, length, take, get_or, zero, suc}
 use Rattle.std.specs.List.{list_all}
 use Rattle.std.proofs.lemmas.List.{append-nil, take_at, take_more, map-append}
 use Rattle.std.proofs.lemmas.Bool.{and_parts, and_from, or_right, lt-ltb, ltb-true}
@@ -12,17 +12,14 @@ use Rattle.poly_report.specs.Trees.{Plan, Rests, Finds, Branches, Splits, Arms, 
 use Rattle.poly_frame.specs.Open.{open_in, dead, arms_fit}
 use Rattle.poly_report.specs.Holds.{arm_atoms, holds, arms_hold}
 use Rattle.poly_report.specs.Leaves.{rests, arms_rests}
-use Rattle.poly_frame.specs.Walk.{Walk, with_step, backtrack_to, is_open, is_option, is_due, open_count}
+use Rattle.poly_frame.specs.Walk.{Walk, with_step, backtrack_to, is_open, is_option, open_count}
 use Rattle.poly_tiling.proofs.Lists.{In, all_in, all_from, all_append, in_append_right, in_mem}
 use Rattle.poly_report.specs.declared.tree.Arm.{Arm}
 use Rattle.poly_report.specs.Shapes.{plan_of, arms_list}
 use Rattle.poly_report.specs.Sizes.{total, arms_total, inner, arms_inner, deep, arms_deep, is_rest, all_fewer, Grown, ArmsGrown}
-use Rattle.poly_search.proofs.Opens.{fewer_has, fewer_lacks, options_fit}
-
--- one more arm at the end
-abbrev pub snoc : Arms → ℕ → Plan → Arms
-snoc NoArms p t = OneArm p t NoArms
-snoc (OneArm q u arms) p t = OneArm q u (snoc arms p t)
+use Rattle.poly_search.specs.Grows.{snoc}
+use Rattle.poly_search.specs.Walked.{past}
+use Rattle.poly_search.proofs.Opens.{fewer_has, fewer_lacks}
 
 pub list_snoc : (xs : List Arm) (a : Arm) → arms_list (xs ++ a ∷ []) ≡ snoc (arms_list xs) a.placement (plan_of a.tree)
 list_snoc [] a = refl
@@ -75,12 +72,6 @@ child_at v A B Finds l h = refl
 child_at v A B (Branches i arms) l h = all_from (λ C. nat_lt (open_count v C) (open_count v A)) (rests v B (Branches i arms)) (λ C k. let a = ltb-true _ _ (all_in (λ C. nat_lt (open_count v C) (open_count v B)) (rests v B (Branches i arms)) h C k) in lt-ltb (open_count v C) (open_count v A) (omega arith))
 child_at v A B (Splits q u w) l h = all_from (λ C. nat_lt (open_count v C) (open_count v A)) (rests v B (Splits q u w)) (λ C k. let a = ltb-true _ _ (all_in (λ C. nat_lt (open_count v C) (open_count v B)) (rests v B (Splits q u w)) h C k) in lt-ltb (open_count v C) (open_count v A) (omega arith))
 
-pub rest_grown : (v : View) (A : List Atom) (d : ℕ) → 1 ≤ d → Grown v A d Rests
-rest_grown v A d h = record { right = refl; low = h; less = refl }
-
-pub found_grown : (v : View) (A : List Atom) (d : ℕ) → 1 ≤ d → list_all (λ p. not (open_in v A p)) v.live ≡ true → Grown v A d Finds
-found_grown v A d h k = record { right = k; low = h; less = refl }
-
 pub split_grown : (v : View) (A : List Atom) (d : ℕ) (q : ℕ) (t u : Plan) → distinct v.live ≡ true → mem v.live q ≡ true → open_in v A q ≡ true →
     Grown v (A ++ Has q ∷ []) d t → Grown v (A ++ Lacks q ∷ []) d u → Grown v A (d + 1) (Splits q t u)
 split_grown v A d q t u dis m o gt gu = record {
@@ -114,17 +105,6 @@ back_is w wp wq wb a m e p q b =
     let t = take_at w.atoms (a ∷ []) m (sym e) in
     b ∙ ap (λ x. backtrack_to x m) (q ∙ p) ∙ ap (λ xs. record w { atoms = xs }) t
 
-pub split_of : (w wp wl : Walk) (d : ℕ) (q : ℕ) (t u : Plan) → 2 ≤ d → distinct w.scene.live ≡ true → mem w.scene.live q ≡ true → is_open w q ≡ true →
-    wp ≡ with_step w (Has q) → wl ≡ with_step w (Lacks q) → Grown wp.scene wp.atoms (d - 1) t → Grown wl.scene wl.atoms (d - 1) u → Grown w.scene w.atoms d (Splits q t u)
-split_of w wp wl d q t u h dis m o ep el gt gu =
-    let e : (d - 1) + 1 ≡ d = omega arith in
-    subst (λ k. Grown w.scene w.atoms k (Splits q t u)) e
-    (split_grown w.scene w.atoms (d - 1) q t u dis m o (subst (λ x. Grown x.scene x.atoms (d - 1) t) ep gt) (subst (λ x. Grown x.scene x.atoms (d - 1) u) el gu))
-
--- the walk after some placements are left out
-abbrev pub past : Walk → List ℕ → Walk
-past w ps = record w { atoms = w.atoms ++ map (λ q. Lacks q) ps }
-
 pub past_next : (w wl wn : Walk) (ps : List ℕ) (j : ℕ) → j < length ps → wl ≡ past w (take j ps) → wn ≡ with_step wl (Lacks (get_or ps j 0)) → wn ≡ past w (take (j + 1) ps)
 past_next w wl wn ps j h e n =
     let p = get_or ps j 0 in
@@ -133,15 +113,6 @@ past_next w wl wn ps j h e n =
 -- undoing these steps leads back to the walk
 pub past_back : (w wl : Walk) (ps : List ℕ) → wl ≡ past w ps → backtrack_to wl (length w.atoms) ≡ w
 past_back w wl ps e = ap (λ x. backtrack_to x (length w.atoms)) e ∙ ap (λ xs. record w { atoms = xs }) (take_at w.atoms (map (λ q. Lacks q) ps) (length w.atoms) refl)
-
-pub names_next : (arms next : List Arm) (a : Arm) (ps : List ℕ) (j : ℕ) → j < length ps → next ≡ arms ++ a ∷ [] → a.placement ≡ get_or ps j 0 → heads (arms_list arms) ≡ take j ps → heads (arms_list next) ≡ take (j + 1) ps
-names_next arms next a ps j h e p n = ap (λ xs. heads (arms_list xs)) e ∙ ap heads (list_snoc arms a) ∙ heads_snoc (arms_list arms) a.placement (plan_of a.tree) ∙ ap (λ xs. xs ++ a.placement ∷ []) n ∙ ap (λ x. take j ps ++ x ∷ []) p ∙ sym (take_more ps j 0 h)
-
-pub total_next : (arms next : List Arm) (a : Arm) → next ≡ arms ++ a ∷ [] → arms_total (arms_list next) ≡ arms_total (arms_list arms) + total (plan_of a.tree)
-total_next arms next a e = ap (λ xs. arms_total (arms_list xs)) e ∙ ap arms_total (list_snoc arms a) ∙ total_snoc (arms_list arms) a.placement (plan_of a.tree)
-
-pub inner_next : (arms next : List Arm) (a : Arm) → next ≡ arms ++ a ∷ [] → arms_inner (arms_list next) ≡ arms_inner (arms_list arms) + inner (plan_of a.tree)
-inner_next arms next a e = ap (λ xs. arms_inner (arms_list xs)) e ∙ ap arms_inner (list_snoc arms a) ∙ inner_snoc (arms_list arms) a.placement (plan_of a.tree)
 
 pub in_at : (xs : List ℕ) (j : ℕ) → j < length xs → In (get_or xs j 0) xs
 in_at [] j h = absurd (omega arith)
@@ -155,49 +126,8 @@ option_at w i ps j h m =
     let e = and_parts (mem w.scene.live p) (is_option w i p) (sym (m p) ∙ in_mem ps p (in_at ps j h)) in
     (e.0, (and_parts (is_open w p) (has_item w.scene p i) e.1).0)
 
-pub grown_next : (w wl wp : Walk) (d : ℕ) (i : Item) (arms next : List Arm) (a : Arm) (ps : List ℕ) (j : ℕ) → j < length ps → distinct w.scene.live ≡ true → ((p : ℕ) → mem ps p ≡ (mem w.scene.live p && is_option w i p)) →
-    wl ≡ past w (take j ps) → wp ≡ with_step wl (Has (get_or ps j 0)) → heads (arms_list arms) ≡ take j ps → next ≡ arms ++ a ∷ [] → a.placement ≡ get_or ps j 0 →
-    ArmsGrown w.scene w.atoms d (arms_list arms) → Grown wp.scene wp.atoms d (plan_of a.tree) → ArmsGrown w.scene w.atoms d (arms_list next)
-grown_next w wl wp d i arms next a ps j h dis m el ep hs en ea ga gt =
-    let p = get_or ps j 0 in
-    let o = option_at w i ps j h m in
-    let path : wp ≡ record w { atoms = w.atoms ++ arm_atoms (heads (arms_list arms)) p } =
-    ep ∙ ap (λ x. with_step x (Has p)) el ∙ ap (λ xs. record w { atoms = xs }) (append_assoc w.atoms (map (λ q. Lacks q) (take j ps)) (Has p ∷ []) ∙ ap (λ xs. w.atoms ++ arm_atoms xs p) (sym hs)) in
-    let more = arm_grown w.scene w.atoms d (arms_list arms) p (plan_of a.tree) dis o.0 o.1 ga (subst (λ x. Grown x.scene x.atoms d (plan_of a.tree)) path gt) in
-    subst (λ x. ArmsGrown w.scene w.atoms d x) (sym (ap arms_list en ∙ list_snoc arms a ∙ ap (λ x. snoc (arms_list arms) x (plan_of a.tree)) ea)) more
-
--- a Branch on an item that is due, with an arm for each option, is grown for the atoms
-pub branch_of : (w : Walk) (d : ℕ) (i : Item) (arms : List Arm) (ps : List ℕ) (t : Plan) → 2 ≤ d → distinct w.scene.live ≡ true → distinct ps ≡ true →
-    ((p : ℕ) → mem ps p ≡ (mem w.scene.live p && is_option w i p)) → is_due w i ≡ true → heads (arms_list arms) ≡ ps → ArmsGrown w.scene w.atoms (d - 1) (arms_list arms) → t ≡ Branches i (arms_list arms) → Grown w.scene w.atoms d t
-branch_of w d i arms ps t h dis dps m due hs g et =
-    let e : (d - 1) + 1 ≡ d = omega arith in
-    let fit = subst (λ xs. arms_fit w.scene w.atoms i xs ≡ true) (sym hs) (options_fit w.scene w.atoms i ps dis dps m due) in
-    subst (λ x. Grown w.scene w.atoms d x) (sym et) (subst (λ k. Grown w.scene w.atoms k (Branches i (arms_list arms))) e (branch_grown w.scene w.atoms (d - 1) i (arms_list arms) fit g))
-
--- a Branch without arms, on an item that is due and has no options
-pub dead_end_grown : (w : Walk) (d : ℕ) (i : Item) (ps : List ℕ) (t : Plan) → 2 ≤ d → distinct w.scene.live ≡ true → ((p : ℕ) → mem ps p ≡ (mem w.scene.live p && is_option w i p)) → is_due w i ≡ true → length ps ≡ 0 →
-    t ≡ Branches i NoArms → Grown w.scene w.atoms d t
-dead_end_grown w d i [] t h dis m due none et = branch_of w d i [] [] t h dis refl m due refl (no_arms_grown w.scene w.atoms (d - 1)) et
-dead_end_grown w d i (p ∷ ps) t h dis m due none et = absurd (omega (arith, none))
-
 pub total_some : (t : Plan) → 1 ≤ total t
 total_some Rests = omega arith
 total_some Finds = omega arith
 total_some (Branches i arms) = omega arith
 total_some (Splits q t u) = omega arith
-
-pub take_whole : (xs : List ℕ) (n : ℕ) → length xs ≤ n → take n xs ≡ xs
-take_whole [] zero h = refl
-take_whole [] (suc n) h = refl
-take_whole (x ∷ xs) zero h = absurd (omega arith)
-take_whole (x ∷ xs) (suc n) h = ap (λ ys. x ∷ ys) (take_whole xs n (omega arith))
-
-pub heads_map : (xs : List Arm) → heads (arms_list xs) ≡ map (λ a. a.placement) xs
-heads_map [] = refl
-heads_map (x ∷ xs) = ap (λ ps. x.placement ∷ ps) (heads_map xs)
-
-pub walk_no : (v : View) (A : List Atom) (i : Item) (arms : Arms) (t : Plan) (ps : List ℕ) (fit : Bool) → t ≡ Branches i arms → heads arms ≡ ps → fit ≡ arms_fit v A i ps → fit ≡ false → false ≡ holds v A t
-walk_no v A i arms t ps fit et eh ef ey = sym (ap (holds v A) et ∙ ap (λ xs. arms_fit v A i xs && arms_hold v A [] arms) eh ∙ ap (λ b. b && arms_hold v A [] arms) (sym ef ∙ ey))
-
-pub walk_yes : (v : View) (A : List Atom) (i : Item) (arms : Arms) (t : Plan) (ps : List ℕ) (fit : Bool) → t ≡ Branches i arms → heads arms ≡ ps → fit ≡ arms_fit v A i ps → fit ≡ true → holds v A t ≡ arms_hold v A [] arms
-walk_yes v A i arms t ps fit et eh ef ey = ap (holds v A) et ∙ ap (λ xs. arms_fit v A i xs && arms_hold v A [] arms) eh ∙ ap (λ b. b && arms_hold v A [] arms) (sym ef ∙ ey)

@@ -11,17 +11,18 @@
 //!
 //! Most placements leave some item with too few options. The frame sees this of most of them before it takes them, and such an
 //! arm is a Branch without arms on that item.
-ghost use Rattle.std.specs.Prelude.{◌≡◌, ◌&&◌, ◌^◌, ◌++◌, [], ◌∷◌, ℕ, true, false, ◌+◌, ◌-◌, ◌≤◌, ◌<◌, IfOk, IfErr, OnOk, drop, length, if◌then◌else◌};
+//!
+//! A caller that wants only the leaves does without the tree: the same nodes are visited and counted, but no memory is taken for
+//! them. The contracts then speak of a plan, which is the tree that would have been returned.
+ghost use Rattle.std.specs.Prelude.{◌≡◌, ◌&&◌, ◌++◌, [], ◌∷◌, ℕ, true, false, ◌+◌, ◌≤◌, ◌<◌, IfOk, IfErr, OnOk, drop, length};
 ghost use Rattle.poly_tiling.specs.Lists.{distinct, mem};
-ghost use Rattle.poly_report.specs.Trees.{Branches, NoArms, Rests};
+ghost use Rattle.poly_report.specs.Trees.{Arms as ArmsOf, Branches, NoArms, Plan, Rests, Splits};
 ghost use Rattle.poly_report.specs.Shapes.{plan_of, arms_list};
-ghost use Rattle.poly_report.specs.Leaves.{arms_tilings, tilings};
-ghost use Rattle.poly_report.specs.Paths.{arms_paths, paths};
-ghost use Rattle.poly_report.specs.Opened.{arms_opened, opened};
-ghost use Rattle.poly_report.specs.Sizes.{total, arms_total, inner, arms_inner, is_rest, Grown};
-ghost use Rattle.poly_frame.specs.Walk.{is_due, is_open, is_option};
+ghost use Rattle.poly_report.specs.Sizes.{is_rest};
+ghost use Rattle.poly_frame.specs.Walk.{is_due, is_open, is_option, with_step};
 ghost use Rattle.poly_search.specs.Chains.{chain};
-ghost use Rattle.poly_search.specs.Walked.{Walked, left_over};
+ghost use Rattle.poly_search.specs.Grows.{Grows, snoc, stand_of};
+ghost use Rattle.poly_search.specs.Walked.{Walked};
 ghost use Rattle.poly_frame.specs.declared.frame.TheConstants.{STEPS};
 ghost use Rattle.poly_atom.specs.declared.atom.Atom.TheVariants.{Has};
 
@@ -43,6 +44,8 @@ pub struct Growth {
     pub gathered: Gathered,
     /// Lists of options that have been walked. The next Branch reuses one of them instead of making its own list.
     pub spare: Vec<Vec<u32>>,
+    /// Whether the tree is kept. If not, no Branch gets its arms, and a Rest stands in the place of each Split.
+    pub keep: bool,
 }
 
 // The options of the item, written into a spare list if there is one. An item without options uses up no spare list. The
@@ -77,6 +80,7 @@ fn dead_end(alloc: Global, growth: &mut Growth, item: Item) -> Tree
     ensures nodes { growth.new.nodes + 1 ≡ growth.old.nodes }
     ensures inner { growth.new.inner + 1 ≡ growth.old.inner }
     ensures gathered { growth.new.gathered ≡ growth.old.gathered }
+    ensures keep { growth.new.keep ≡ growth.old.keep }
 {
     growth.nodes -= 1;
     growth.inner -= 1;
@@ -88,11 +92,9 @@ fn dead_end(alloc: Global, growth: &mut Growth, item: Item) -> Tree
 
 fn rest(frame: &Frame<'_>, growth: &mut Growth) -> Result<Tree, Refusal>
     requires { 1 ≤ growth.old.nodes }
-    ensures tree { IfOk result (λ t. plan_of t ≡ Rests) }
+    ensures grows { IfOk result (λ t. (plan_of t ≡ Rests) × ((d : ℕ) → 1 ≤ d → Grows frame.now d (stand_of growth.old) (stand_of growth.new) Rests)) }
     ensures nodes { OnOk result (growth.new.nodes + 1 ≡ growth.old.nodes) }
-    ensures inner { OnOk result (growth.new.inner ≡ growth.old.inner) }
-    ensures tilings { OnOk result (growth.new.gathered.tilings.items ≡ growth.old.gathered.tilings.items) }
-    ensures paths { OnOk result (growth.new.gathered.paths ≡ growth.old.gathered.paths ++ drop frame.now.given frame.now.atoms ∷ []) }
+    ensures keep { OnOk result (growth.new.keep ≡ growth.old.keep) }
     ensures why { IfErr result (λ e. e ≡ Refusal.Memory) }
 {
     growth.nodes -= 1;
@@ -101,8 +103,8 @@ fn rest(frame: &Frame<'_>, growth: &mut Growth) -> Result<Tree, Refusal>
 }
 
 /// Grows a tree for the frame's atoms, no deeper than `depth`, and leaves at least `kept` of the nodes unused. If `root` is
-/// set, the tree isn't Rest, provided that the depth and the budget allow a Split. If the call isn't refused, the frame stays
-/// as it was. The only refusal is `Memory`.
+/// set, the tree isn't Rest, provided that the depth and the budget allow a Split. If the tree isn't kept, what is returned only
+/// stands for it. If the call isn't refused, the frame stays as it was. The only refusal is `Memory`.
 #[cycle(grow)]
 pub fn grow(
     alloc: Global,
@@ -118,14 +120,9 @@ pub fn grow(
     requires begun { frame.old.given ≤ length frame.old.atoms }
     requires once { distinct frame.old.scene.live ≡ true }
     ensures same { OnOk result (frame.new ≡ frame.old) }
-    ensures grown { IfOk result (λ t. Grown frame.old.scene frame.old.atoms depth (plan_of t)) }
-    ensures opened { IfOk result (λ t. opened frame.old.scene frame.old.atoms (plan_of t) ≡ true) }
-    ensures nodes { IfOk result (λ t. growth.new.nodes + total (plan_of t) ≡ growth.old.nodes) }
-    ensures inner { IfOk result (λ t. growth.new.inner + inner (plan_of t) ≤ growth.old.inner) }
-    ensures tilings { IfOk result (λ t. growth.new.gathered.tilings.items ≡ growth.old.gathered.tilings.items ++ tilings frame.old.scene frame.old.atoms (plan_of t)) }
-    ensures paths { IfOk result (λ t. growth.new.gathered.paths ≡ growth.old.gathered.paths ++ paths frame.old.given frame.old.scene frame.old.atoms (plan_of t)) }
+    ensures grows { IfOk result (λ t. (p : Plan) × (growth.old.keep ≡ true → plan_of t ≡ p) × Grows frame.old depth (stand_of growth.old) (stand_of growth.new) p × (root ≡ true → kept + 3 ≤ growth.old.nodes → 1 ≤ growth.old.inner → 2 ≤ depth → is_rest p ≡ false)) }
     ensures kept { OnOk result (kept ≤ growth.new.nodes) }
-    ensures root { IfOk result (λ t. root ≡ true → kept + 3 ≤ growth.old.nodes → 1 ≤ growth.old.inner → 2 ≤ depth → is_rest (plan_of t) ≡ false) }
+    ensures keep { OnOk result (growth.new.keep ≡ growth.old.keep) }
     ensures why { IfErr result (λ e. e ≡ Refusal.Memory) }
 {
     if growth.inner == 0 {
@@ -179,13 +176,9 @@ fn child(
     requires begun { frame.old.given ≤ length frame.old.atoms }
     requires once { distinct frame.old.scene.live ≡ true }
     ensures same { OnOk result (frame.new ≡ frame.old) }
-    ensures grown { IfOk result (λ t. Grown frame.old.scene frame.old.atoms depth (plan_of t)) }
-    ensures opened { IfOk result (λ t. opened frame.old.scene frame.old.atoms (plan_of t) ≡ true) }
-    ensures nodes { IfOk result (λ t. growth.new.nodes + total (plan_of t) ≡ growth.old.nodes) }
-    ensures inner { IfOk result (λ t. growth.new.inner + inner (plan_of t) ≤ growth.old.inner) }
-    ensures tilings { IfOk result (λ t. growth.new.gathered.tilings.items ≡ growth.old.gathered.tilings.items ++ tilings frame.old.scene frame.old.atoms (plan_of t)) }
-    ensures paths { IfOk result (λ t. growth.new.gathered.paths ≡ growth.old.gathered.paths ++ paths frame.old.given frame.old.scene frame.old.atoms (plan_of t)) }
+    ensures grows { IfOk result (λ t. (p : Plan) × (growth.old.keep ≡ true → plan_of t ≡ p) × Grows frame.old depth (stand_of growth.old) (stand_of growth.new) p) }
     ensures kept { OnOk result (kept ≤ growth.new.nodes) }
+    ensures keep { OnOk result (growth.new.keep ≡ growth.old.keep) }
     ensures why { IfErr result (λ e. e ≡ Refusal.Memory) }
 {
     let nodes = growth.nodes;
@@ -220,13 +213,9 @@ fn arm(
     requires begun { frame.old.given ≤ length frame.old.atoms }
     requires once { distinct frame.old.scene.live ≡ true }
     ensures same { OnOk result (frame.new ≡ frame.old) }
-    ensures grown { IfOk result (λ t. Grown frame.old.scene (frame.old.atoms ++ Has placement ∷ []) depth (plan_of t)) }
-    ensures opened { IfOk result (λ t. opened frame.old.scene (frame.old.atoms ++ Has placement ∷ []) (plan_of t) ≡ true) }
-    ensures nodes { IfOk result (λ t. growth.new.nodes + total (plan_of t) ≡ growth.old.nodes) }
-    ensures inner { IfOk result (λ t. growth.new.inner + inner (plan_of t) ≤ growth.old.inner) }
-    ensures tilings { IfOk result (λ t. growth.new.gathered.tilings.items ≡ growth.old.gathered.tilings.items ++ tilings frame.old.scene (frame.old.atoms ++ Has placement ∷ []) (plan_of t)) }
-    ensures paths { IfOk result (λ t. growth.new.gathered.paths ≡ growth.old.gathered.paths ++ paths frame.old.given frame.old.scene (frame.old.atoms ++ Has placement ∷ []) (plan_of t)) }
+    ensures grows { IfOk result (λ t. (p : Plan) × (growth.old.keep ≡ true → plan_of t ≡ p) × Grows (with_step frame.old (Has placement)) depth (stand_of growth.old) (stand_of growth.new) p) }
     ensures kept { OnOk result (kept ≤ growth.new.nodes) }
+    ensures keep { OnOk result (growth.new.keep ≡ growth.old.keep) }
     ensures why { IfErr result (λ e. e ≡ Refusal.Memory) }
 {
     let level = frame.level();
@@ -240,10 +229,12 @@ fn arm(
     Ok(tree)
 }
 
-// The arms that were walked, and how many nodes are held back for a chain over them.
+// The arms of the options that were walked, if the tree is kept, how many options these are, and how many nodes are held back
+// for a chain over the arms.
 #[derive(Debug, Drop)]
 struct Arms {
     arms: Vec<Arm>,
+    walked: usize,
     held: u32,
 }
 
@@ -267,17 +258,14 @@ fn walk_arms(
     requires each_once { distinct options.now ≡ true }
     requires members { (p : ℕ) → mem options.now p ≡ (mem frame.old.scene.live p && is_option frame.old item.now p) }
     ensures same { OnOk result (frame.new ≡ frame.old) }
-    ensures walked { IfOk result (λ a. Walked frame.old depth kept options.now growth.new.nodes a.held a.arms.items) }
-    ensures opened { IfOk result (λ a. arms_opened frame.old.scene frame.old.atoms [] (arms_list a.arms.items) ≡ true) }
-    ensures nodes { IfOk result (λ a. growth.new.nodes + arms_total (arms_list a.arms.items) ≡ growth.old.nodes) }
-    ensures inner { IfOk result (λ a. growth.new.inner + arms_inner (arms_list a.arms.items) + a.held ≤ growth.old.inner) }
-    ensures tilings { IfOk result (λ a. growth.new.gathered.tilings.items ≡ growth.old.gathered.tilings.items ++ arms_tilings frame.old.scene frame.old.atoms [] (arms_list a.arms.items)) }
-    ensures paths { IfOk result (λ a. growth.new.gathered.paths ≡ growth.old.gathered.paths ++ (arms_paths frame.old.given frame.old.scene frame.old.atoms [] (arms_list a.arms.items) ++ left_over frame.old.given frame.old.atoms (length options.now) a.arms.items)) }
+    ensures walked { IfOk result (λ a. (arms : ArmsOf) × (growth.old.keep ≡ true → arms_list a.arms.items ≡ arms) × Walked frame.old depth kept options.now (stand_of growth.old) (stand_of growth.new) a.held a.walked arms) }
+    ensures keep { OnOk result (growth.new.keep ≡ growth.old.keep) }
     ensures why { IfErr result (λ e. e ≡ Refusal.Memory) }
 {
     let start = frame.level();
     let chained = growth.inner > 0 && options.len() < (depth / 2) as usize;
-    let mut arms = Vec::with_capacity(alloc, options.len())?;
+    let room = if growth.keep { options.len() } else { 0 };
+    let mut arms = Vec::with_capacity(alloc, room)?;
     let mut held: u32 = 0;
     for j in 0..options.len() {
         if chained && j > 0 {
@@ -290,7 +278,11 @@ fn walk_arms(
             {
                 growth.gathered.push_rest(frame)?;
                 frame.backtrack_to(start);
-                return Ok(Arms { arms, held });
+                return Ok(Arms {
+                    arms,
+                    walked: j,
+                    held,
+                });
             }
         }
         let placement = options[j];
@@ -304,10 +296,25 @@ fn walk_arms(
         if after > 0 {
             frame.leave(placement);
         }
-        arms.push(Arm { placement, tree })?;
+        push_arm(&mut arms, growth.keep, placement, tree)?;
     }
     frame.backtrack_to(start);
-    Ok(Arms { arms, held })
+    Ok(Arms {
+        arms,
+        walked: options.len(),
+        held,
+    })
+}
+
+// Adds an arm, if the tree is kept.
+fn push_arm(arms: &mut Vec<Arm>, keep: bool, placement: u32, tree: Tree) -> Result<(), Refusal>
+    ensures arms { OnOk result (keep ≡ true → arms_list arms.new.items ≡ snoc (arms_list arms.old.items) placement (plan_of tree)) }
+    ensures why { IfErr result (λ e. e ≡ Refusal.Memory) }
+{
+    if keep {
+        arms.push(Arm { placement, tree })?;
+    }
+    Ok(())
 }
 
 // Grows a Branch on an item that is due, with an arm for each option; or, if the walk stops early, a chain over the arms that
@@ -332,27 +339,22 @@ fn branch(
     requires each_once { distinct options.now ≡ true }
     requires members { (p : ℕ) → mem options.now p ≡ (mem frame.old.scene.live p && is_option frame.old item.now p) }
     ensures same { OnOk result (frame.new ≡ frame.old) }
-    ensures grown { IfOk result (λ t. Grown frame.old.scene frame.old.atoms depth (plan_of t)) }
-    ensures opened { IfOk result (λ t. opened frame.old.scene frame.old.atoms (plan_of t) ≡ true) }
-    ensures nodes { IfOk result (λ t. growth.new.nodes + total (plan_of t) ≡ growth.old.nodes) }
-    ensures inner { IfOk result (λ t. growth.new.inner + inner (plan_of t) ≤ growth.old.inner) }
-    ensures tilings { IfOk result (λ t. growth.new.gathered.tilings.items ≡ growth.old.gathered.tilings.items ++ tilings frame.old.scene frame.old.atoms (plan_of t)) }
-    ensures paths { IfOk result (λ t. growth.new.gathered.paths ≡ growth.old.gathered.paths ++ paths frame.old.given frame.old.scene frame.old.atoms (plan_of t)) }
+    ensures grows { IfOk result (λ t. (p : Plan) × (growth.old.keep ≡ true → plan_of t ≡ p) × Grows frame.old depth (stand_of growth.old) (stand_of growth.new) p × (is_rest p ≡ false)) }
     ensures kept { OnOk result (kept ≤ growth.new.nodes) }
-    ensures root { IfOk result (λ t. is_rest (plan_of t) ≡ false) }
+    ensures keep { OnOk result (growth.new.keep ≡ growth.old.keep) }
     ensures why { IfErr result (λ e. e ≡ Refusal.Memory) }
 {
     growth.nodes -= 1;
     growth.inner -= 1;
     let walked = walk_arms(alloc, frame, growth, kept, depth, item, options)?;
-    let Arms { arms, held } = walked;
-    if arms.len() == options.len() {
-        growth.inner += held;
-        return Ok(Tree::Branch { item: *item, arms });
+    let Arms { arms, walked, held } = walked;
+    if walked < options.len() {
+        growth.nodes -= walked as u32;
+        let tree = link(alloc, arms)?;
+        return Ok(tree);
     }
-    growth.nodes -= arms.len() as u32;
-    let tree = link(alloc, arms)?;
-    Ok(tree)
+    growth.inner += held;
+    Ok(Tree::Branch { item: *item, arms })
 }
 
 // The chain of Splits over the arms, with Rest at its end.
@@ -397,14 +399,9 @@ fn split(
     requires place { mem frame.old.scene.live placement ≡ true }
     requires open { is_open frame.old placement ≡ true }
     ensures same { OnOk result (frame.new ≡ frame.old) }
-    ensures grown { IfOk result (λ t. Grown frame.old.scene frame.old.atoms depth (plan_of t)) }
-    ensures opened { IfOk result (λ t. opened frame.old.scene frame.old.atoms (plan_of t) ≡ true) }
-    ensures nodes { IfOk result (λ t. growth.new.nodes + total (plan_of t) ≡ growth.old.nodes) }
-    ensures inner { IfOk result (λ t. growth.new.inner + inner (plan_of t) ≤ growth.old.inner) }
-    ensures tilings { IfOk result (λ t. growth.new.gathered.tilings.items ≡ growth.old.gathered.tilings.items ++ tilings frame.old.scene frame.old.atoms (plan_of t)) }
-    ensures paths { IfOk result (λ t. growth.new.gathered.paths ≡ growth.old.gathered.paths ++ paths frame.old.given frame.old.scene frame.old.atoms (plan_of t)) }
+    ensures grows { IfOk result (λ t. (p : Plan) × (growth.old.keep ≡ true → plan_of t ≡ p) × Grows frame.old depth (stand_of growth.old) (stand_of growth.new) p × (is_rest p ≡ false)) }
     ensures kept { OnOk result (kept ≤ growth.new.nodes) }
-    ensures root { IfOk result (λ t. is_rest (plan_of t) ≡ false) }
+    ensures keep { OnOk result (growth.new.keep ≡ growth.old.keep) }
     ensures why { IfErr result (λ e. e ≡ Refusal.Memory) }
 {
     growth.nodes -= 1;
@@ -416,6 +413,24 @@ fn split(
     frame.leave(placement);
     let left = child(alloc, frame, growth, kept, depth - 1)?;
     frame.backtrack_to(level);
+    let tree = over_both(alloc, growth.keep, placement, taken, left)?;
+    Ok(tree)
+}
+
+// The Split over both trees, if the tree is kept. If not, a Rest stands for it.
+fn over_both(
+    alloc: Global,
+    keep: bool,
+    placement: u32,
+    taken: Tree,
+    left: Tree,
+) -> Result<Tree, Refusal>
+    ensures tree { IfOk result (λ t. keep ≡ true → plan_of t ≡ Splits placement (plan_of taken) (plan_of left)) }
+    ensures why { IfErr result (λ e. e ≡ Refusal.Memory) }
+{
+    if !keep {
+        return Ok(Tree::Rest);
+    }
     let taken = Box::new(alloc, taken)?;
     let left = Box::new(alloc, left)?;
     Ok(Tree::Split {

@@ -7,6 +7,8 @@ ghost use Rattle.poly_report.specs.Leaves.{rests, tilings};
 ghost use Rattle.poly_report.specs.Opened.{opened};
 ghost use Rattle.poly_report.specs.Shapes.{plan_of};
 ghost use Rattle.poly_report.specs.Sizes.{all_fewer, fits, inner, is_rest};
+ghost use Rattle.poly_report.specs.Trees.{Plan};
+ghost use Rattle.poly_search.specs.Searches.{IsExplored};
 
 use crate::growth::{Growth, grow};
 use poly_atom::Atom;
@@ -72,35 +74,70 @@ pub fn explore_over(
     ensures rests { IfOk result (λ e. e.leaves.rests ≡ rests view.now atoms.now (plan_of e.tree)) }
     ensures why { IfErr result (λ e. e ≡ Refusal.Memory) }
 {
-    let (explored, _) = explore_within(alloc, view, whole, whole, atoms, nodes)?;
+    let explored = explore_kept(alloc, view, whole, atoms, nodes)?;
     Ok(explored)
 }
 
-/// Does what `explore_over` does, but begins with `part`, which takes less time the fewer columns `part` has. Requires that
-/// `part` is a matrix of the view with a column for each placement that is open at the atoms. Also returns the matrix that the
-/// search made for the atoms, if it made one. That matrix can be the `part` of each task whose atoms go on from these. The only
-/// refusal is `Memory`.
-pub fn explore_within(
+// What `explore_over` answers, in one clause.
+fn explore_kept(
+    alloc: Global,
+    view: &View,
+    whole: &Matrix,
+    atoms: &[Atom],
+    nodes: u32,
+) -> Result<Explored, Refusal>
+    requires whole { IsWhole view.now whole.now }
+    requires some { 1 ≤ nodes }
+    requires few { nodes ≤ NODES }
+    ensures tree { IfOk result (λ e. IsExplored view.now atoms.now nodes (plan_of e.tree) e.leaves.tilings.items e.leaves.rests) }
+    ensures why { IfErr result (λ e. e ≡ Refusal.Memory) }
+{
+    let (explored, _) = explore_within(alloc, view, whole, whole, atoms, nodes, true)?;
+    Ok(explored)
+}
+
+/// The leaves that `explore_over` gathers, without the tree, which takes less time. Begins with `part`, which takes less time the
+/// fewer columns `part` has. Requires that `part` is a matrix of the view with a column for each placement that is open at the
+/// atoms. Also returns the matrix that the search made for the atoms, if it made one. That matrix can be the `part` of each task
+/// whose atoms go on from these. The only refusal is `Memory`.
+pub fn leaves_within(
     alloc: Global,
     view: &View,
     whole: &Matrix,
     part: &Matrix,
     atoms: &[Atom],
     nodes: u32,
+) -> Result<(Leaves, Option<Matrix>), Refusal>
+    requires whole { IsWhole view.now whole.now }
+    requires part { IsMatrix view.now part.now }
+    requires all { HasOpen view.now atoms.now part.now }
+    requires some { 1 ≤ nodes }
+    requires few { nodes ≤ NODES }
+    ensures tree { IfOk result (λ r. (t : Plan) × IsExplored view.now atoms.now nodes t r.0.tilings.items r.0.rests) }
+    ensures own { IfOk result (λ r. IfSome r.1 (λ m. IsMatrix view.now m × HasOpen view.now atoms.now m)) }
+    ensures why { IfErr result (λ e. e ≡ Refusal.Memory) }
+{
+    let (explored, own) = explore_within(alloc, view, whole, part, atoms, nodes, false)?;
+    let Explored { leaves, tree: _ } = explored;
+    Ok((leaves, own))
+}
+
+// Searches the atoms, and keeps the tree if `keep` is set. If not, the tree that is returned says nothing.
+fn explore_within(
+    alloc: Global,
+    view: &View,
+    whole: &Matrix,
+    part: &Matrix,
+    atoms: &[Atom],
+    nodes: u32,
+    keep: bool,
 ) -> Result<(Explored, Option<Matrix>), Refusal>
     requires whole { IsWhole view.now whole.now }
     requires part { IsMatrix view.now part.now }
     requires all { HasOpen view.now atoms.now part.now }
     requires some { 1 ≤ nodes }
     requires few { nodes ≤ NODES }
-    ensures fits { IfOk result (λ r. fits (plan_of r.0.tree) ≡ true) }
-    ensures holds { IfOk result (λ r. holds view.now atoms.now (plan_of r.0.tree) ≡ true) }
-    ensures opened { IfOk result (λ r. opened view.now atoms.now (plan_of r.0.tree) ≡ true) }
-    ensures inner { IfOk result (λ r. inner (plan_of r.0.tree) ≤ nodes) }
-    ensures root { IfOk result (λ r. is_rest (plan_of r.0.tree) ≡ false) }
-    ensures smaller { IfOk result (λ r. all_fewer view.now atoms.now (rests view.now atoms.now (plan_of r.0.tree)) ≡ true) }
-    ensures tilings { IfOk result (λ r. r.0.leaves.tilings.items ≡ tilings view.now atoms.now (plan_of r.0.tree)) }
-    ensures rests { IfOk result (λ r. r.0.leaves.rests ≡ rests view.now atoms.now (plan_of r.0.tree)) }
+    ensures tree { IfOk result (λ r. (t : Plan) × (keep ≡ true → plan_of r.0.tree ≡ t) × IsExplored view.now atoms.now nodes t r.0.leaves.tilings.items r.0.leaves.rests) }
     ensures own { IfOk result (λ r. IfSome r.1 (λ m. IsMatrix view.now m × HasOpen view.now atoms.now m)) }
     ensures why { IfErr result (λ e. e ≡ Refusal.Memory) }
 {
@@ -111,6 +148,7 @@ pub fn explore_within(
         whole: nodes,
         gathered: Gathered::new(alloc),
         spare: Vec::new(alloc),
+        keep,
     };
     let tree = grow(alloc, &mut frame, &mut growth, 0, DEPTH, true)?;
     let Growth { gathered, .. } = growth;

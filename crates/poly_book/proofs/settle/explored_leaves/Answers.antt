@@ -1,9 +1,5 @@
-use Rattle.std.proofs.Common.{ap, get_or, rules, subst, sym, true, ◌∙◌, ◌≡◌}
-use Rattle.poly_report.specs.Holds.{holds}
-use Rattle.poly_report.specs.Leaves.{rests, tilings}
-use Rattle.poly_report.specs.Opened.{opened}
-use Rattle.poly_report.specs.Shapes.{plan_of}
-use Rattle.poly_report.specs.Sizes.{all_fewer}
+use Rattle.std.proofs.Common.{get_or, rules, subst, sym, ◌∙◌, ◌≡◌}
+use Rattle.poly_search.specs.Searches.{IsExplored}
 use Rattle.poly_book.specs.Meaning.{IsTask, task_of}
 use Rattle.poly_book.specs.Tasks.{AreHopeful, atoms_of}
 use Rattle.poly_book.proofs.Held.{task_at}
@@ -22,31 +18,22 @@ pub returns-clause-leaves : goal.returns-clause-leaves
 returns-clause-leaves c =
     let a = c.args.parts.now in
     let ps = a.tasks.items in
-    let v = a.scene in
     let x = c.index.result.now in
-    let u = task_of a.log x in
-    let tree = plan_of c.in_ok-found.found.tree in
+    let l = c.in_ok-leaves.leaves in
+    let t = c.in_ok-leaves.ensures.tree in
     let is : x ≡ get_or ps c.args.at x = search rules in
-    let atoms : c.deref.result.now ≡ atoms_of u = c.deref.ensures.value ∙ c.in_ok-read_all.ensures.ok in
-    let right : holds v (atoms_of u) tree ≡ true = sym (ap (λ A. holds v A tree) atoms) ∙ c.in_ok-found.ensures.holds in
-    let found : c.in_ok-found.found.leaves.tilings.items ≡ tilings v (atoms_of u) tree = c.in_ok-found.ensures.tilings ∙ ap (λ A. tilings v A tree) atoms in
-    let left : c.in_ok-found.found.leaves.rests ≡ rests v (atoms_of u) tree = c.in_ok-found.ensures.rests ∙ ap (λ A. rests v A tree) atoms in
-    let fewer : all_fewer v (atoms_of u) (rests v (atoms_of u) tree) ≡ true = sym (ap (λ A. all_fewer v A (rests v A tree)) atoms) ∙ c.in_ok-found.ensures.smaller in (
-      x.number,
-      tree,
-      found_leaves_at c.args.nodes a x c.args.at tree c.in_ok-found.found.leaves.tilings.items c.in_ok-found.found.leaves.rests c.requires.keeps c.requires.index is c.in_ok-found.ensures.fits right found left c.in_ok-found.ensures.inner c.in_ok-found.ensures.root fewer,
-    )
+    let atoms : c.deref.result.now ≡ atoms_of (task_of a.log x) = c.deref.ensures.value ∙ c.in_ok-read_all.ensures.ok in
+    let e = subst (λ A. IsExplored a.scene A c.args.nodes t.0 l.tilings.items l.rests) atoms t.1 in
+    (x.number, t.0, found_leaves_at c.args.nodes a x c.args.at t.0 l.tilings.items l.rests c.requires.keeps c.requires.index is e.fits e.holds e.tilings e.rests e.inner e.root e.smaller)
 
 pub returns-clause-sure : goal.returns-clause-sure
 returns-clause-sure c =
     let a = c.args.parts.now in
-    let ps = a.tasks.items in
-    let v = a.scene in
     let x = c.index.result.now in
     let u = task_of a.log x in
-    let tree = plan_of c.in_ok-found.found.tree in
-    let is : x ≡ get_or ps c.args.at x = search rules in
+    let l = c.in_ok-leaves.leaves in
+    let t = c.in_ok-leaves.ensures.tree in
+    let is : x ≡ get_or a.tasks.items c.args.at x = search rules in
     let atoms : c.deref.result.now ≡ atoms_of u = c.deref.ensures.value ∙ c.in_ok-read_all.ensures.ok in
-    let free : opened v (atoms_of u) tree ≡ true = sym (ap (λ A. opened v A tree) atoms) ∙ c.in_ok-found.ensures.opened in
-    let left : c.in_ok-found.found.leaves.rests ≡ rests v (atoms_of u) tree = c.in_ok-found.ensures.rests ∙ ap (λ A. rests v A tree) atoms in
-    λ n low from. subst (λ L. AreHopeful v L) (sym left) (rests_hopeful v (atoms_of u) tree free (hopeful_at a x c.args.at n low c.requires.index is from))
+    let e = subst (λ A. IsExplored a.scene A c.args.nodes t.0 l.tilings.items l.rests) atoms t.1 in
+    λ n low from. subst (λ L. AreHopeful a.scene L) (sym e.rests) (rests_hopeful a.scene (atoms_of u) t.0 e.opened (hopeful_at a x c.args.at n low c.requires.index is from))
