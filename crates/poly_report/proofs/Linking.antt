@@ -1,12 +1,22 @@
 -- What more links change, and what a link says.
-use Rattle.std.proofs.Common.{Bool, None, Option, Some, [], All, List, ap, arith, cond, false, get_or, length, option_to_list, refl, reverse, subst, suc, sym, true, zero, ℕ, ◌++◌, ◌+◌, ◌-◌, ◌<◌, ◌∙◌, ◌∷◌, ◌≡◌, ◌≤◌}
+use Rattle.std.proofs.Common.{Bool, None, Option, Some, [], All, List, ap, arith, cond, false, get_or, inl, inr, length, option_to_list, refl, reverse, subst, suc, sym, true, zero, ℕ, ◌++◌, ◌+◌, ◌-◌, ◌<◌, ◌⊎◌, ◌∙◌, ◌∷◌, ◌≡◌, ◌≤◌}
 use Rattle.std.proofs.lemmas.List.{append-nil, append_assoc, append_cancel_right, get_or_append_left, get_or_default, get_or_push, length_push, map_push, reverse-append, same_from_push}
 use Rattle.std.proofs.lemmas.List.Elements.{All-push, filter-append}
 use Rattle.std.specs.List.{filter}
 use Rattle.poly_atom.specs.declared.atom.Atom.{Atom}
 use Rattle.poly_report.specs.Linked.{AreEarlier, AreLinked, Extends, at_node, ended, nodes, with_links}
-use Rattle.poly_report.specs.Words.{Reads, kept}
+use Rattle.poly_report.specs.Jumps.{AreRight, IsJump}
+use Rattle.poly_report.specs.Words.{Reads, is_other}
 use Rattle.poly_report.specs.declared.nodes.Link.{Link}
+
+pub below_push : (i n : ℕ) → i < n + 1 → (i < n) ⊎ (n ≡ i)
+below_push zero zero h = inr (omega arith)
+below_push zero (suc n) h = inl (omega arith)
+below_push (suc i) zero h = absurd (omega (arith, h))
+below_push (suc i) (suc n) h = elim (below_push i n (omega (arith, h))) [
+  | inl m ↦ inl (omega (arith, m))
+  | inr e ↦ inr (omega (arith, e))
+]
 
 pub count_nodes : (X : List (List Atom)) (ls : List Link) → length (with_links X ls) ≡ length X + length ls
 count_nodes X [] = omega arith
@@ -163,11 +173,13 @@ turned : (f : Atom → Bool) (o : Option Atom) → reverse (filter f (option_to_
 turned f None = refl
 turned f (Some a) = turned_by (f a) a
 
--- a step back from a node, whose atom is read if it is kept
-pub read_on : (others : Bool) (ls : List Link) (left before : ℕ) (old new : List Atom) → AreEarlier 0 ls → 0 < left → left ≤ length ls → Reads others ls (left - 1) before old new →
-    (before < left) × (new ++ reverse (filter (kept others) (at_node ls before)) ≡ old ++ reverse (filter (kept others) (at_node ls left)))
-read_on others ls left before old new h some m r =
-    let f = kept others in
+turned_whole : (o : Option Atom) → reverse (option_to_list o) ≡ option_to_list o
+turned_whole None = refl
+turned_whole (Some a) = refl
+
+-- a step back from a node, whose atom is read
+pub read_on : (ls : List Link) (left before : ℕ) (old new : List Atom) → AreEarlier 0 ls → 0 < left → left ≤ length ls → Reads ls (left - 1) before old new → (before < left) × (new ++ reverse (at_node ls before) ≡ old ++ reverse (at_node ls left))
+read_on ls left before old new h some m r =
     let d : Link = record { before = 0; atom = None } in
     let l = get_or ls (left - 1) d in
     let within : left - 1 < length ls = omega (arith, some, m) in
@@ -175,9 +187,52 @@ read_on others ls left before old new h some m r =
     let last = option_to_list l.atom in
     let leads : l.before ≡ before = r.leads d in
     let here : at_node ls left ≡ at_node ls before ++ last = adds ls left l h some m g ∙ ap (λ n. at_node ls n ++ last) leads in
-    let first = filter f (at_node ls before) in
-    let split : filter f (at_node ls left) ≡ first ++ filter f last = ap (filter f) here ∙ filter-append f (at_node ls before) last in
-    let back : reverse (filter f (at_node ls left)) ≡ filter f last ++ reverse first = ap reverse split ∙ reverse-append first (filter f last) ∙ ap (λ B. B ++ reverse first) (turned f l.atom) in (
+    let first = at_node ls before in
+    let back : reverse (at_node ls left) ≡ last ++ reverse first = ap reverse here ∙ reverse-append first last ∙ ap (λ B. B ++ reverse first) (turned_whole l.atom) in (
       omega (arith, (link_at ls (left - 1) l h within g).1, leads, some),
-      ap (λ B. B ++ reverse first) (r.adds d) ∙ append_assoc old (filter f last) (reverse first) ∙ ap (λ B. old ++ B) (sym back),
+      ap (λ B. B ++ reverse first) (r.adds d) ∙ append_assoc old last (reverse first) ∙ ap (λ B. old ++ B) (sym back),
     )
+
+-- a step back from a node, whose atom is read if it is no `Lacks`, and a jump from the node before
+pub jump_on : (ls : List Link) (left jump : ℕ) (l : Link) (old new : List Atom) → AreEarlier 0 ls → 0 < left → left ≤ length ls → get_or ls (left - 1) l ≡ l → IsJump ls l.before jump → new ≡ old ++ filter is_other (option_to_list l.atom) →
+    (jump < left) × (new ++ reverse (filter is_other (at_node ls jump)) ≡ old ++ reverse (filter is_other (at_node ls left)))
+jump_on ls left jump l old new h some m g j is =
+    let f = is_other in
+    let within : left - 1 < length ls = omega (arith, some, m) in
+    let last = filter f (option_to_list l.atom) in
+    let first = filter f (at_node ls jump) in
+    let split : filter f (at_node ls left) ≡ first ++ last = ap (filter f) (adds ls left l h some m g) ∙ filter-append f (at_node ls l.before) (option_to_list l.atom) ∙ ap (λ B. B ++ last) (sym j.same) in
+    let back : reverse (filter f (at_node ls left)) ≡ last ++ reverse first = ap reverse split ∙ reverse-append first last ∙ ap (λ B. B ++ reverse first) (turned f l.atom) in (
+      omega (arith, (link_at ls (left - 1) l h within g).1, j.back, some),
+      ap (λ B. B ++ reverse first) is ∙ append_assoc old last (reverse first) ∙ ap (λ B. old ++ B) (sym back),
+    )
+
+-- the jump of a node without an atom but a `Lacks` is that of the node before
+pub jump_over : (ls : List Link) (node jump : ℕ) (l : Link) → AreEarlier 0 ls → 0 < node → node ≤ length ls → get_or ls (node - 1) l ≡ l → IsJump ls l.before jump → filter is_other (option_to_list l.atom) ≡ [] → IsJump ls node jump
+jump_over ls node jump l h some m g j none =
+    let f = is_other in
+    let within : node - 1 < length ls = omega (arith, some, m) in
+    record {
+      back = omega (arith, (link_at ls (node - 1) l h within g).1, j.back, some);
+      same = j.same ∙ sym (ap (filter f) (adds ls node l h some m g) ∙ filter-append f (at_node ls l.before) (option_to_list l.atom) ∙ ap (λ B. filter f (at_node ls l.before) ++ B) none ∙ append-nil (filter f (at_node ls l.before)));
+    }
+
+-- one jump more
+pub jumps_push : (ls : List Link) (jumps new : List ℕ) (jump : ℕ) → new ≡ jumps ++ jump ∷ [] → AreRight ls jumps → IsJump ls (length jumps) jump → AreRight ls new
+jumps_push ls jumps new jump is right one = λ n h.
+    let longer : length new ≡ length jumps + 1 = omega (arith, ap length is, length_push jumps jump) in
+    elim (below_push n (length jumps) (omega (arith, h, longer))) [
+      | inl m ↦ subst (IsJump ls n) (sym (ap (λ l. get_or l n 0) is ∙ get_or_append_left jumps (jump ∷ []) 0 n m)) (right n m)
+      | inr e ↦ subst (IsJump ls n) (sym (ap (λ l. get_or l n 0) is ∙ get_or_push jumps jump 0 n e)) (subst (λ k. IsJump ls k jump) e one)
+    ]
+
+-- the jump of a node to itself
+pub jump_self : (ls : List Link) (node jump : ℕ) → jump ≡ node → IsJump ls node jump
+jump_self ls node jump e = record { back = omega (arith, e); same = ap (λ n. filter is_other (at_node ls n)) e }
+
+-- the jump of node 0 alone
+pub first_jump : (ls : List Link) (none new : List ℕ) → none ≡ [] → new ≡ none ++ 0 ∷ [] → (length new ≡ 1) × AreRight ls new
+first_jump ls none new empty is = (
+  omega (arith, ap length is, length_push none 0, ap length empty),
+  jumps_push ls none new 0 is (λ n h. absurd (omega (arith, h, ap length empty))) (jump_self ls (length none) 0 (omega (arith, ap length empty))),
+)

@@ -1,5 +1,5 @@
 -- The lists of a trie, by their index.
-use Rattle.std.proofs.Common.{Bool, List, [], ap, arith, false, get_or, length, map, refl, reverse, sym, true, ℕ, ◌++◌, ◌<◌, ◌∙◌, ◌∷◌, ◌≡◌}
+use Rattle.std.proofs.Common.{Bool, List, [], ap, arith, get_or, length, map, reverse, sym, true, ℕ, ◌++◌, ◌<◌, ◌∙◌, ◌≡◌}
 use Rattle.std.proofs.lemmas.List.{append_assoc, append_cancel_right, get_or-map, length-map, nil_from_length, reverse-append, reverse-reverse}
 use Rattle.std.proofs.lemmas.List.Elements.{filter-append}
 use Rattle.std.proofs.lemmas.Bool.{eq-eqb, eqb-true}
@@ -7,7 +7,7 @@ use Rattle.std.specs.Bool.{◌==◌}
 use Rattle.std.specs.List.{filter}
 use Rattle.poly_atom.specs.declared.atom.Atom.{Atom}
 use Rattle.poly_report.specs.Linked.{at_node, ended}
-use Rattle.poly_report.specs.Words.{kept}
+use Rattle.poly_report.specs.Words.{is_other}
 use Rattle.poly_report.specs.declared.nodes.Link.{Link}
 
 pub count_lists : (stem : List Atom) (ls : List Link) (ends : List ℕ) → length (map (λ B. stem ++ B) (ended ls ends)) ≡ length ends
@@ -20,22 +20,20 @@ list_at stem ls ends lists i e is h found =
     ap (λ l. get_or l i []) (sym is) ∙ get_or-map (λ B. stem ++ B) (ended ls ends) i [] [] ends_there ∙ ap (λ B. stem ++ B) (get_or-map (λ e. at_node ls e) ends i e [] h ∙ ap (at_node ls) (sym found))
 
 -- a list is read from its end, and the stem after the rest of it
-pub read_over : (f : Atom → Bool) (stem rest whole old middle new : List Atom) → whole ≡ stem ++ rest → middle ≡ old ++ reverse (filter f rest) → new ≡ middle ++ reverse (filter f stem) → new ≡ old ++ reverse (filter f whole)
-read_over f stem rest whole old middle new is begun done =
-    let both : reverse (filter f whole) ≡ reverse (filter f rest) ++ reverse (filter f stem) = ap (λ B. reverse (filter f B)) is ∙ ap reverse (filter-append f stem rest) ∙ reverse-append (filter f stem) (filter f rest) in
-    done ∙ ap (λ B. B ++ reverse (filter f stem)) begun ∙ append_assoc old (reverse (filter f rest)) (reverse (filter f stem)) ∙ ap (λ B. old ++ B) (sym both)
+pub read_over : (stem rest whole old middle new : List Atom) → whole ≡ stem ++ rest → middle ≡ old ++ reverse rest → new ≡ middle ++ reverse stem → new ≡ old ++ reverse whole
+read_over stem rest whole old middle new is begun done =
+    let both : reverse whole ≡ reverse rest ++ reverse stem = ap reverse is ∙ reverse-append stem rest in
+    done ∙ ap (λ B. B ++ reverse stem) begun ∙ append_assoc old (reverse rest) (reverse stem) ∙ ap (λ B. old ++ B) (sym both)
+
+pub others_over : (stem rest whole old middle new : List Atom) → whole ≡ stem ++ rest → middle ≡ old ++ reverse (filter is_other rest) → new ≡ middle ++ reverse (filter is_other stem) → new ≡ old ++ reverse (filter is_other whole)
+others_over stem rest whole old middle new is begun done = read_over (filter is_other stem) (filter is_other rest) (filter is_other whole) old middle new (ap (filter is_other) is ∙ filter-append is_other stem rest) begun done
 
 pub ended_at : (ls : List Link) (ends : List ℕ) (lists : List (List Atom)) (i e : ℕ) → ended ls ends ≡ lists → i < length ends → e ≡ get_or ends i e → get_or lists i [] ≡ at_node ls e
 ended_at ls ends lists i e is h found = ap (λ l. get_or l i []) (sym is) ∙ get_or-map (λ n. at_node ls n) ends i e [] h ∙ ap (at_node ls) (sym found)
 
--- all atoms are kept
-pub all_kept : (B : List Atom) → filter (kept false) B ≡ B
-all_kept [] = refl
-all_kept (a ∷ B) = ap (λ C. a ∷ C) (all_kept B)
-
 -- what was read from its end is turned round
-pub read_forward : (f : Atom → Bool) (whole none middle new : List Atom) → none ≡ [] → middle ≡ none ++ reverse (filter f whole) → new ≡ reverse middle → new ≡ filter f whole
-read_forward f whole none middle new empty begun done = done ∙ ap reverse (begun ∙ ap (λ l. l ++ reverse (filter f whole)) empty) ∙ reverse-reverse (filter f whole)
+pub read_forward : (whole none middle new : List Atom) → none ≡ [] → middle ≡ none ++ reverse whole → new ≡ reverse middle → new ≡ whole
+read_forward whole none middle new empty begun done = done ∙ ap reverse (begun ∙ ap (λ l. l ++ reverse whole) empty) ∙ reverse-reverse whole
 
 pub count_ended : (ls : List Link) (ends : List ℕ) → length (ended ls ends) ≡ length ends
 count_ended ls ends = length-map ends (λ e. at_node ls e)

@@ -1,13 +1,11 @@
 -- What one more word changes, and what a word says.
-use Rattle.std.specs.List.{filter, slice_get}
-use Rattle.std.proofs.Common.{Bool, Option, Some, [], All, List, ap, arith, false, get_or, length, option_to_list, refl, subst, suc, sym, true, zero, ℕ, ◌++◌, ◌+◌, ◌<◌, ◌∙◌, ◌∷◌, ◌≡◌}
-use Rattle.std.proofs.lemmas.List.{append-nil, get_or_default, length-append}
+use Rattle.std.specs.List.{slice_get}
+use Rattle.std.proofs.Common.{Option, Some, [], All, List, ap, arith, get_or, length, option_to_list, refl, subst, suc, sym, zero, ℕ, ◌++◌, ◌+◌, ◌<◌, ◌∙◌, ◌∷◌, ◌≡◌}
+use Rattle.std.proofs.lemmas.List.{get_or_default, length-append}
 use Rattle.std.proofs.lemmas.List.Elements.{All-head, All-tail, All-weaker}
 use Rattle.poly_atom.specs.declared.atom.Atom.{Atom}
-use Rattle.poly_atom.specs.declared.atom.Atom.TheVariants.{Has as HasAtom, Lacks as LacksAtom}
-use Rattle.std.proofs.lemmas.Bool.{true≢false}
 use Rattle.std.proofs.lemmas.Option.{slice_get_read}
-use Rattle.poly_report.specs.Words.{IsBeginning, IsStored, Reads, Stores, kept, link_of, links_of}
+use Rattle.poly_report.specs.Words.{IsBeginning, IsStored, Reads, Stores, link_of, links_of}
 use Rattle.poly_report.specs.declared.nodes.Link.{Link}
 use Rattle.poly_report.specs.declared.nodes.Word.{Word}
 use Rattle.poly_report.specs.declared.nodes.Word.TheVariants.{Back, Has, Lacks, Other}
@@ -80,22 +78,8 @@ other_found os ws i j a h e stored is = λ d.
     let atom = slice_get_read os (length os) j a (omega arith) within is in
     word_found os ws i (Other j) h e d ∙ (λ k. record { before = i; atom = atom k })
 
-pub reads_link : (others : Bool) (ls : List Link) (i before : ℕ) (o : Option Atom) (old new : List Atom) → ((d : Link) → get_or ls i d ≡ record { before = before; atom = o }) → new ≡ old ++ filter (kept others) (option_to_list o) → Reads others ls i before old new
-reads_link others ls i before o old new found is = record {
+pub reads_link : (ls : List Link) (i before : ℕ) (o : Option Atom) (old new : List Atom) → ((d : Link) → get_or ls i d ≡ record { before = before; atom = o }) → new ≡ old ++ option_to_list o → Reads ls i before old new
+reads_link ls i before o old new found is = record {
   leads = λ d. ap (λ l. l.before) (found d);
-  adds = λ d. is ∙ ap (λ l. old ++ filter (kept others) (option_to_list l.atom)) (sym (found d));
+  adds = λ d. is ∙ ap (λ l. old ++ option_to_list l.atom) (sym (found d));
 }
-
--- a `Has` is kept
-pub has_kept : (others : Bool) (p : ℕ) (old : List Atom) → old ++ HasAtom p ∷ [] ≡ old ++ filter (kept others) (HasAtom p ∷ [])
-has_kept true p old = refl
-has_kept false p old = refl
-
--- a `Lacks` is kept exactly if not only others are
-pub lacks_kept : (others : Bool) (p : ℕ) (old : List Atom) → others ≡ false → old ++ LacksAtom p ∷ [] ≡ old ++ filter (kept others) (LacksAtom p ∷ [])
-lacks_kept true p old h = absurd (true≢false h)
-lacks_kept false p old h = refl
-
-pub lacks_left_out : (others : Bool) (p : ℕ) (old : List Atom) → others ≡ true → old ≡ old ++ filter (kept others) (LacksAtom p ∷ [])
-lacks_left_out true p old h = sym (append-nil old)
-lacks_left_out false p old h = absurd (true≢false (sym h))

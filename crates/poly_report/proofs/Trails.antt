@@ -1,11 +1,11 @@
 -- What more nodes and more atoms change of a trail.
-use Rattle.std.proofs.Common.{Some, [], List, ap, arith, get_or, inl, inr, length, sym, take, zero, suc, ℕ, ◌++◌, ◌+◌, ◌<◌, ◌⊎◌, ◌∙◌, ◌∷◌, ◌≡◌, ◌≤◌}
+use Rattle.std.proofs.Common.{Some, [], List, ap, arith, get_or, inl, inr, length, sym, take, zero, suc, ℕ, ◌++◌, ◌+◌, ◌<◌, ◌∙◌, ◌∷◌, ◌≡◌, ◌≤◌}
 use Rattle.std.proofs.lemmas.List.{get_or-take, get_or_append_left, get_or_push, length-take-le, length_push, take-append-le, take-take, take_all}
 use Rattle.poly_atom.specs.declared.atom.Atom.{Atom}
 use Rattle.poly_report.specs.Linked.{AreEarlier, Extends, at_node}
 use Rattle.poly_report.specs.Trails.{IsAt, IsTrail}
 use Rattle.poly_report.specs.declared.nodes.Link.{Link}
-use Rattle.poly_report.proofs.Linking.{at_push, extends_self, no_node, step_grows}
+use Rattle.poly_report.proofs.Linking.{at_push, below_push, extends_self, no_node, step_grows}
 
 -- more nodes
 pub trail_over : (old new : List Link) (trail : List ℕ) (last : List Atom) → Extends old new → IsTrail old trail last → IsTrail new trail last
@@ -22,15 +22,6 @@ trail_longer ls trail last new a is t = record {
   inside = t.inside;
   begin = λ i h. t.begin i h ∙ sym (ap (λ l. take (i + 1) l) is ∙ take-append-le (i + 1) last (a ∷ []) (omega (arith, t.few, h)));
 }
-
-below_push : (i n : ℕ) → i < n + 1 → (i < n) ⊎ (n ≡ i)
-below_push zero zero h = inr (omega arith)
-below_push zero (suc n) h = inl (omega arith)
-below_push (suc i) zero h = absurd (omega (arith, h))
-below_push (suc i) (suc n) h = elim (below_push i n (omega (arith, h))) [
-  | inl m ↦ inl (omega (arith, m))
-  | inr e ↦ inr (omega (arith, e))
-]
 
 -- one node more
 pub trail_push : (ls : List Link) (trail new : List ℕ) (last : List Atom) (n : ℕ) → new ≡ trail ++ n ∷ [] → IsTrail ls trail last → length trail + 1 ≡ length last → n ≤ length ls → at_node ls n ≡ last → IsTrail ls new last

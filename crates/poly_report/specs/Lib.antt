@@ -9,6 +9,7 @@ pub mod Opened
 pub mod Laws
 pub mod Linked
 pub mod Words
+pub mod Jumps
 pub mod Tries
 pub mod Stems
 pub mod Trails

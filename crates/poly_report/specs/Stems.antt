@@ -2,6 +2,7 @@
 use Rattle.std.specs.Arc.{arc_value}
 use Rattle.std.specs.Prelude.{List, [], length, slice_index_or, ⊤, ℕ, ◌<◌}
 use Rattle.poly_atom.specs.declared.atom.Atom.{Atom}
+use Rattle.poly_report.specs.Jumps.{AreJumps}
 use Rattle.poly_report.specs.Linked.{AreLinked}
 use Rattle.poly_report.specs.declared.nodes.Link.{Link}
 use Rattle.poly_report.specs.declared.shared_lists.Stem.{Stem}
@@ -17,7 +18,8 @@ abbrev pub IsStem : Stem → ℕ → Type 0
 IsStem Empty depth = ⊤
 IsStem (Listed trie index) depth = (index < length (arc_value trie).lists) × ((arc_value trie).depth < depth)
 
--- the nodes of a trie are linked, and its stem is less deep
-pub record HasStem (stem : Stem) (depth : ℕ) (links : List Link) (ends : List ℕ) : Type 0 where
+-- the nodes of a trie are linked and have jumps, and its stem is less deep
+pub record HasStem (stem : Stem) (depth : ℕ) (links : List Link) (jumps ends : List ℕ) : Type 0 where
   pub linked : AreLinked links ends
+  pub jumping : AreJumps links jumps
   pub below : IsStem stem depth

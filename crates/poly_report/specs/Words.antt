@@ -1,6 +1,6 @@
 -- Links as words, each of which follows the one before it unless it leads back to an earlier node.
-use Rattle.std.specs.List.{filter, slice_get}
-use Rattle.std.specs.Prelude.{Bool, List, None, Some, [], false, length, not, option_to_list, slice_index_or, suc, true, ◌++◌, ◌<◌, ◌||◌, ◌≡◌, ◌∷◌, ℕ}
+use Rattle.std.specs.List.{slice_get}
+use Rattle.std.specs.Prelude.{Bool, List, None, Some, [], false, length, option_to_list, slice_index_or, suc, true, ◌++◌, ◌<◌, ◌≡◌, ◌∷◌, ℕ}
 use Rattle.poly_atom.specs.declared.atom.Atom.{Atom}
 use Rattle.poly_atom.specs.declared.atom.Atom.TheVariants.{AtLeast, AtMost, Has as HasAtom, Lacks as LacksAtom}
 use Rattle.poly_report.specs.declared.nodes.Link.{Link}
@@ -43,11 +43,7 @@ is_other (LacksAtom p) = false
 is_other (AtLeast i n) = true
 is_other (AtMost i n) = true
 
--- the atom is kept if only others are
-abbrev pub kept : Bool → Atom → Bool
-kept others a = not others || is_other a
-
--- the link at the index leads to the node before, and its atom, if there is one, is added to a list if it is kept
-pub record Reads (others : Bool) (links : List Link) (i before : ℕ) (old new : List Atom) : Type 0 where
+-- the link at the index leads to the node before, and its atom, if there is one, is added to a list
+pub record Reads (links : List Link) (i before : ℕ) (old new : List Atom) : Type 0 where
   pub leads : (d : Link) → (slice_index_or links i d).before ≡ before
-  pub adds : (d : Link) → new ≡ old ++ filter (kept others) (option_to_list (slice_index_or links i d).atom)
+  pub adds : (d : Link) → new ≡ old ++ option_to_list (slice_index_or links i d).atom

@@ -110,7 +110,7 @@ impl AtomLists {
         ensures why { IfErr result (λ e. e ≡ Refusal.Memory) }
     {
         buffer.clear();
-        read_back(self.nodes.nodes(), self.ends[index] as usize, false, buffer)?;
+        read_back(self.nodes.nodes(), self.ends[index] as usize, buffer)?;
         buffer.reverse();
         Ok(())
     }

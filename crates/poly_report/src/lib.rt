@@ -25,6 +25,7 @@ mod growing;
 mod laws;
 mod leaf;
 mod nodes;
+mod others;
 mod shared_lists;
 mod size;
 mod tree;

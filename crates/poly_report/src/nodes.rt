@@ -5,8 +5,7 @@
 //! a link is stored as one word: the atom that follows the list of the node right before. If a list goes on from another node,
 //! a word between them leads back to that node.
 ghost use Rattle.std.specs.Prelude.{◌≡◌, ◌++◌, ◌∷◌, ◌<◌, [], All, IfErr, IfOk, None, OnErr, OnOk, Some, length, slice_index_or};
-ghost use Rattle.std.specs.List.{filter};
-ghost use Rattle.poly_report.specs.Words.{IsBeginning, IsStored, Reads, Stores, is_other, kept, links_of};
+ghost use Rattle.poly_report.specs.Words.{IsBeginning, IsStored, Reads, Stores, links_of};
 
 use poly_atom::Atom;
 use poly_grid::Refusal;
@@ -86,18 +85,13 @@ impl Nodes {
     }
 
     /// Appends the atom of the node with the number `index + 1` to the buffer, if its link has one, and returns the node
-    /// before. If `others`, a `Lacks` is left out. Requires that there is such a node. The only refusal is `Memory`.
-    pub fn read_last(
-        &self,
-        index: usize,
-        others: bool,
-        buffer: &mut Vec<Atom>,
-    ) -> Result<usize, Refusal>
+    /// before. Requires that there is such a node. The only refusal is `Memory`.
+    pub fn read_last(&self, index: usize, buffer: &mut Vec<Atom>) -> Result<usize, Refusal>
         requires { index < length self.now }
-        ensures ok { IfOk result (λ before. Reads others self.now index before buffer.old.items buffer.new.items) }
+        ensures ok { IfOk result (λ before. Reads self.now index before buffer.old.items buffer.new.items) }
         ensures why { IfErr result (λ e. e ≡ Refusal.Memory) }
     {
-        read_at(&self.words, &self.others, index, others, buffer)
+        read_at(&self.words, &self.others, index, buffer)
     }
 
     /// Adds a node: the list of the last node, followed by the atom. The only refusal is `Memory`, and it leaves the nodes as
@@ -170,18 +164,16 @@ fn link_at(words: &[Word], others: &[Atom], index: usize) -> Link
     }
 }
 
-// Appends the atom of the word at the index, if it is one for an atom, and returns the node before. If `others`, a `Lacks` is
-// left out.
+// Appends the atom of the word at the index, if it is one for an atom, and returns the node before.
 fn read_at(
     words: &[Word],
-    rest: &[Atom],
+    others: &[Atom],
     index: usize,
-    others: bool,
     buffer: &mut Vec<Atom>,
 ) -> Result<usize, Refusal>
     requires index { index < length words.now }
-    requires stored { All (λ w. IsStored (length rest.now) w) words.now }
-    ensures ok { IfOk result (λ before. Reads others (links_of rest.now 0 words.now) index before buffer.old.items buffer.new.items) }
+    requires stored { All (λ w. IsStored (length others.now) w) words.now }
+    ensures ok { IfOk result (λ before. Reads (links_of others.now 0 words.now) index before buffer.old.items buffer.new.items) }
     ensures why { IfErr result (λ e. e ≡ Refusal.Memory) }
 {
     match words[index] {
@@ -190,42 +182,15 @@ fn read_at(
             Ok(index)
         }
         Word::Lacks(placement) => {
-            if others {
-                return Ok(index);
-            }
             buffer.push(Atom::Lacks(placement))?;
             Ok(index)
         }
         Word::Other(other) => {
-            push_kept(buffer, rest[other as usize], others)?;
+            buffer.extend_from_slice(&[others[other as usize]])?;
             Ok(index)
         }
         Word::Back(node) => Ok(node as usize),
     }
-}
-
-// Appends the atom. If `others`, a `Lacks` is left out.
-fn push_kept(buffer: &mut Vec<Atom>, atom: Atom, others: bool) -> Result<(), Refusal>
-    ensures ok { OnOk result (buffer.new.items ≡ buffer.old.items ++ filter (kept others) (atom ∷ [])) }
-    ensures why { IfErr result (λ e. e ≡ Refusal.Memory) }
-{
-    if others {
-        return push_other(buffer, atom);
-    }
-    buffer.extend_from_slice(&[atom])?;
-    Ok(())
-}
-
-// Appends the atom unless it is a `Lacks`.
-fn push_other(buffer: &mut Vec<Atom>, atom: Atom) -> Result<(), Refusal>
-    ensures ok { OnOk result (buffer.new.items ≡ buffer.old.items ++ filter is_other (atom ∷ [])) }
-    ensures why { IfErr result (λ e. e ≡ Refusal.Memory) }
-{
-    if let Atom::Lacks(_) = atom {
-        return Ok(());
-    }
-    buffer.extend_from_slice(&[atom])?;
-    Ok(())
 }
 
 // The word for the atom, which is stored among the others if it is no `Has` and no `Lacks`.

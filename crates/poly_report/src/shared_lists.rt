@@ -8,11 +8,12 @@ ghost use Rattle.std.specs.List.{filter};
 ghost use Rattle.std.specs.Prelude.{◌≡◌, ◌++◌, ◌∷◌, ◌<◌, ◌≤◌, ◌↔◌, [], IfErr, IfOk, IsTrue, MatchOption, OnOk, length, map, reverse, slice_index_or, ⊤};
 ghost use Rattle.poly_report.specs.Linked.{AreEarlier, AreLinked, at_node, ended};
 ghost use Rattle.poly_report.specs.Stems.{IsStem, stem_of};
-ghost use Rattle.poly_report.specs.Words.{is_other, kept};
+ghost use Rattle.poly_report.specs.Words.{is_other};
 ghost use Rattle.poly_report.specs.declared.shared_lists.TheConstants.{DEEPEST};
 
 use crate::growing::common;
 use crate::nodes::{Nodes, short};
+use crate::others::{jumps_of, others_back};
 use crate::walk::{read_back, without_list};
 use poly_atom::Atom;
 use poly_grid::Refusal;
@@ -49,6 +50,8 @@ pub(crate) struct Trie {
     depth: u32,
     /// The nodes of the atoms after the stem.
     nodes: Nodes,
+    /// Where each node jumps to.
+    jumps: Vec<u32>,
     /// The node of each list.
     ends: Vec<u32>,
 }
@@ -74,7 +77,7 @@ impl Model for Trie {
 
     ghost view = { λ r. lists_of r.depth (map (λ B. stem_of r.stem ++ B) (ended r.nodes r.ends.items)) };
 
-    ghost invariant = { λ r. HasStem r.stem r.depth r.nodes r.ends.items };
+    ghost invariant = { λ r. HasStem r.stem r.depth r.nodes r.jumps.items r.ends.items };
 
     ghost size = { λ t. t.depth };
 
@@ -98,17 +101,33 @@ impl Trie {
         self.depth
     }
 
-    // Appends the atoms of the list at the index to the buffer, the last one first. If `others`, each `Lacks` is left out.
-    fn read_back(&self, index: usize, others: bool, buffer: &mut Vec<Atom>) -> Result<(), Refusal>
+    // Appends the atoms of the list at the index to the buffer, the last one first.
+    fn read_back(&self, index: usize, buffer: &mut Vec<Atom>) -> Result<(), Refusal>
         requires { index < length self.now.lists }
-        ensures ok { OnOk result (buffer.new.items ≡ buffer.old.items ++ reverse (filter (kept others) (slice_index_or self.now.lists index []))) }
+        ensures ok { OnOk result (buffer.new.items ≡ buffer.old.items ++ reverse (slice_index_or self.now.lists index [])) }
         ensures why { IfErr result (λ e. e ≡ Refusal.Memory) }
     {
-        read_back(&self.nodes, self.ends[index] as usize, others, buffer)?;
+        read_back(&self.nodes, self.ends[index] as usize, buffer)?;
         match &self.stem {
             Stem::Empty => Ok(()),
             Stem::Listed(trie, at) => {
-                trie.read_back(*at, others, buffer)?;
+                trie.read_back(*at, buffer)?;
+                Ok(())
+            }
+        }
+    }
+
+    // Does what `read_back` does, but leaves each `Lacks` out.
+    fn others_back(&self, index: usize, buffer: &mut Vec<Atom>) -> Result<(), Refusal>
+        requires { index < length self.now.lists }
+        ensures ok { OnOk result (buffer.new.items ≡ buffer.old.items ++ reverse (filter is_other (slice_index_or self.now.lists index []))) }
+        ensures why { IfErr result (λ e. e ≡ Refusal.Memory) }
+    {
+        others_back(&self.nodes, &self.jumps, self.ends[index] as usize, buffer)?;
+        match &self.stem {
+            Stem::Empty => Ok(()),
+            Stem::Listed(trie, at) => {
+                trie.others_back(*at, buffer)?;
                 Ok(())
             }
         }
@@ -147,7 +166,7 @@ impl SharedLists {
         ensures why { IfErr result (λ e. e ≡ Refusal.Memory) }
     {
         let stored = stem_for(alloc, stem, base)?;
-        let trie = trie_over(stored, nodes, ends);
+        let trie = trie_over(alloc, stored, nodes, ends)?;
         Ok(SharedLists {
             trie: Arc::new(alloc, trie)?,
         })
@@ -192,7 +211,7 @@ impl SharedLists {
         ensures why { IfErr result (λ e. e ≡ Refusal.Memory) }
     {
         buffer.clear();
-        self.trie.read_back(index, false, buffer)?;
+        self.trie.read_back(index, buffer)?;
         buffer.reverse();
         Ok(())
     }
@@ -204,7 +223,7 @@ impl SharedLists {
         ensures why { IfErr result (λ e. e ≡ Refusal.Memory) }
     {
         buffer.clear();
-        self.trie.read_back(index, true, buffer)?;
+        self.trie.others_back(index, buffer)?;
         buffer.reverse();
         Ok(())
     }
@@ -234,22 +253,25 @@ struct Stored {
 }
 
 // The lists of these nodes, each after the stem.
-fn trie_over(stored: Stored, nodes: Nodes, ends: Vec<u32>) -> Trie
+fn trie_over(alloc: Global, stored: Stored, nodes: Nodes, ends: Vec<u32>) -> Result<Trie, Refusal>
     requires linked { AreLinked nodes ends.items }
     requires stem { IsStem stored.stem stored.depth }
-    ensures { result.lists ≡ map (λ B. stem_of stored.stem ++ B) (ended nodes ends.items) }
+    ensures ok { IfOk result (λ trie. trie.lists ≡ map (λ B. stem_of stored.stem ++ B) (ended nodes ends.items)) }
+    ensures why { IfErr result (λ e. e ≡ Refusal.Memory) }
 {
     let Stored { stem, depth } = stored;
     let mut nodes = nodes;
     nodes.shrink();
     let mut ends = ends;
     ends.shrink_to_fit();
-    Trie {
+    let jumps = jumps_of(alloc, &nodes)?;
+    Ok(Trie {
         stem,
         depth,
         nodes,
+        jumps,
         ends,
-    }
+    })
 }
 
 // The list as a stem. If it begins with the base's list at the index, only the atoms after that one are stored, unless the base
@@ -353,7 +375,7 @@ fn list_of(alloc: Global, trie: &Trie, index: usize) -> Result<Vec<Atom>, Refusa
     ensures why { IfErr result (λ e. e ≡ Refusal.Memory) }
 {
     let mut list = Vec::new(alloc);
-    trie.read_back(index, false, &mut list)?;
+    trie.read_back(index, &mut list)?;
     list.reverse();
     Ok(list)
 }
@@ -383,12 +405,14 @@ fn trie_of_one(alloc: Global, stem: Stem, depth: u32, more: &[Atom]) -> Result<T
     ensures why { IfErr result (λ e. e ≡ Refusal.Memory) }
 {
     let nodes = chain(alloc, more)?;
+    let jumps = jumps_of(alloc, &nodes)?;
     let mut ends = Vec::with_capacity(alloc, 1)?;
     ends.push(short(nodes.len())?)?;
     Ok(Trie {
         stem,
         depth,
         nodes,
+        jumps,
         ends,
     })
 }

@@ -1,30 +1,22 @@
 //! Walks from a node back to node 0, which read the node's list from its end.
 ghost use Rattle.std.specs.Prelude.{◌≡◌, ◌++◌, ◌∷◌, ◌≤◌, [], IfErr, List, MatchOption, OnOk, length, option_to_list, reverse};
 ghost use Rattle.poly_atom.specs.declared.atom.Atom.{Atom as AtomOf};
-ghost use Rattle.std.specs.List.{filter};
 ghost use Rattle.poly_report.specs.Linked.{AreEarlier, at_node};
-ghost use Rattle.poly_report.specs.Words.{kept};
 
 use crate::nodes::Nodes;
 use poly_atom::Atom;
 use poly_grid::Refusal;
 
-/// Appends the atoms of the node's list to the buffer, the last one first. If `others`, each `Lacks` is left out. The only
-/// refusal is `Memory`.
-pub(crate) fn read_back(
-    nodes: &Nodes,
-    node: usize,
-    others: bool,
-    buffer: &mut Vec<Atom>,
-) -> Result<(), Refusal>
+/// Appends the atoms of the node's list to the buffer, the last one first. The only refusal is `Memory`.
+pub(crate) fn read_back(nodes: &Nodes, node: usize, buffer: &mut Vec<Atom>) -> Result<(), Refusal>
     requires linked { AreEarlier 0 nodes.now }
     requires node { node ≤ length nodes.now }
-    ensures ok { OnOk result (buffer.new.items ≡ buffer.old.items ++ reverse (filter (kept others) (at_node nodes.now node))) }
+    ensures ok { OnOk result (buffer.new.items ≡ buffer.old.items ++ reverse (at_node nodes.now node)) }
     ensures why { IfErr result (λ e. e ≡ Refusal.Memory) }
 {
     let mut left = node;
     while left > 0 {
-        left = nodes.read_last(left - 1, others, buffer)?;
+        left = nodes.read_last(left - 1, buffer)?;
     }
     Ok(())
 }

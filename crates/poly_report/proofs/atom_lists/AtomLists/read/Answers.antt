@@ -1,7 +1,6 @@
-use Rattle.std.proofs.Common.{ap, arith, false, length, sym, ◌∙◌}
+use Rattle.std.proofs.Common.{ap, arith, length, sym, ◌∙◌}
 use Rattle.poly_report.specs.Linked.{at_node}
-use Rattle.poly_report.specs.Words.{kept}
-use Rattle.poly_report.proofs.Stems.{all_kept, count_ended, ended_at, read_forward}
+use Rattle.poly_report.proofs.Stems.{count_ended, ended_at, read_forward}
 use Rattle.poly_report.proofs.atom_lists.AtomLists.read.Goals as goal
 
 pub returns-clause-ok : goal.returns-clause-ok
@@ -11,4 +10,4 @@ returns-clause-ok c =
     let e = c.index.result.now in
     let whole = at_node c.nodes.result.now e in
     let list = ended_at ls ends c.args.self.now c.args.index e c.self.view_is (omega (arith, c.requires, ap length c.self.view_is, count_ended ls ends)) c.index.ensures in
-    read_forward (kept false) whole c.clear.new.self.items c.read_back.new.buffer.items c.reverse.new.self.items c.clear.ensures.items c.in_ok-read_back.ensures.ok c.reverse.ensures.items ∙ all_kept whole ∙ ap (λ l. at_node l e) c.nodes.ensures ∙ sym list
+    read_forward whole c.clear.new.self.items c.read_back.new.buffer.items c.reverse.new.self.items c.clear.ensures.items c.in_ok-read_back.ensures.ok c.reverse.ensures.items ∙ ap (λ l. at_node l e) c.nodes.ensures ∙ sym list
