@@ -1,21 +1,28 @@
 -- Which stairs of a change are opened after a base.
-use Rattle.std.proofs.Common.{Bool, List, [], ap, append_assoc, arith, cond, false, get_or, length, map, not, refl, subst, sym, take, true, ℕ, ◌++◌, ◌+◌, ◌<◌, ◌≤◌, ◌∙◌, ◌∷◌, ◌≡◌, ◌||◌}
+use Rattle.std.proofs.Common.{Bool, List, [], ap, append_assoc, arith, cond, drop, false, get_or, inl, inr, length, map, not, refl, subst, sym, take, true, ℕ, ◌++◌, ◌+◌, ◌<◌, ◌≤◌, ◌∙◌, ◌∷◌, ◌≡◌, ◌||◌}
+use Rattle.std.proofs.lemmas.Bool.{not-false}
 use Rattle.std.proofs.lemmas.List.{drop_more, get_or_push, get_or-map, length-map, length_push, map-append, take_all, take_more}
 use Rattle.std.proofs.lemmas.List.Elements.{filter-append}
-use Rattle.std.specs.List.{list_any}
+use Rattle.std.specs.List.{filter, list_any}
 use Rattle.std.proofs.Math.Bool.{beq}
 use Rattle.poly_tiling.specs.Puzzle.{View}
+use Rattle.poly_tiling.proofs.Grown.{grown_self}
+use Rattle.poly_tiling.proofs.Lists.{In, filter_in, in_append_cases, in_append_left, in_append_right}
 use Rattle.poly_atom.specs.declared.atom.Atom.{Atom}
 use Rattle.poly_atom.specs.Atoms.{negated}
 use Rattle.poly_atom.specs.Hopeless.{hopeless}
 use Rattle.poly_atom.specs.declared.stair.Stair.{Stair}
-use Rattle.poly_atom.specs.Logs.{IsStairOf, stair_of}
+use Rattle.poly_atom.specs.Logs.{IsStairOf, flat, stair_of}
 use Rattle.poly_atom.specs.Stairs.{stairs}
+use Rattle.poly_atom.proofs.Stays.{hopeless_more}
 use Rattle.poly_atom.proofs.Walks.{length-stairs, stairs_at}
+use Rattle.poly_report.specs.Words.{is_other}
+use Rattle.poly_book.specs.declared.shelf.Frozen.{Frozen}
 use Rattle.poly_book.specs.declared.task.Pending.{Pending}
 use Rattle.poly_book.specs.declared.task.Own.{Own}
-use Rattle.poly_book.specs.Meaning.{IsOwn, own_of, tasks_of}
-use Rattle.poly_book.specs.Judged.{AreJudged}
+use Rattle.poly_book.specs.declared.task.Own.TheVariants.{Crossed, Listed, Stair as OfStair}
+use Rattle.poly_book.specs.Meaning.{IsOwn, brief_of, frozen_brief, frozen_of, own_of, tasks_of}
+use Rattle.poly_book.specs.Judged.{AreJudged, AreRuledOut}
 use Rattle.poly_book.specs.Opens.{Opening}
 use Rattle.poly_book.specs.Tasks.{hopeful, tasks_from}
 use Rattle.poly_book.proofs.Held.{crossed_from, opening_more, opening_skip, stairs_end}
@@ -26,6 +33,10 @@ judged_length w base g fs e = ap length e ∙ length-map (stairs g) (λ A. not (
 pub judged_at : (w : View) (base g : List Atom) (fs : List Bool) (j : ℕ) (b : Bool) → AreJudged w base (stairs g) fs → j < length g → get_or fs j b ≡ not (hopeless w (base ++ get_or (stairs g) j []))
 judged_at w base g fs j b e l = ap (λ xs. get_or xs j b) e ∙ get_or-map (λ A. not (hopeless w (base ++ A))) (stairs g) j [] b (omega (arith, l, length-stairs g))
 
+-- the guards before the next stair, followed by its last atom
+pub stair_next : (base g : List Atom) (j : ℕ) (d : Atom) → j < length g → (base ++ take j g) ++ negated (get_or g j d) ∷ [] ≡ base ++ get_or (stairs g) j []
+stair_next base g j d l = append_assoc base (take j g) (negated (get_or g j d) ∷ []) ∙ ap (λ A. base ++ A) (sym (stairs_at g j d l))
+
 -- the flags so far and that of the next stair
 pub judged_more : (w : View) (base g : List Atom) (j : ℕ) (d : Atom) (fs : List Bool) (ends : Bool) → j < length g → AreJudged w base (take j (stairs g)) fs → ends ≡ hopeless w ((base ++ take j g) ++ negated (get_or g j d) ∷ []) →
     AreJudged w base (take (j + 1) (stairs g)) (fs ++ not ends ∷ [])
@@ -33,22 +44,53 @@ judged_more w base g j d fs ends l so e =
     let S = stairs g in
     let F : List Atom → Bool = λ A. not (hopeless w (base ++ A)) in
     let B = get_or S j [] in
-    let is : (base ++ take j g) ++ negated (get_or g j d) ∷ [] ≡ base ++ B = append_assoc base (take j g) (negated (get_or g j d) ∷ []) ∙ ap (λ A. base ++ A) (sym (stairs_at g j d l)) in
-    let one : not ends ≡ F B = ap not (e ∙ ap (λ A. hopeless w A) is) in
+    let one : not ends ≡ F B = ap not (e ∙ ap (λ A. hopeless w A) (stair_next base g j d l)) in
     let next : take (j + 1) S ≡ take j S ++ B ∷ [] = take_more S j [] (omega (arith, l, length-stairs g)) in
     (λ i. so i ++ one i ∷ []) ∙ sym (ap (λ As. map F As) next ∙ map-append F (take j S) (B ∷ []))
 
-none_step : (w : View) (A : List Atom) (As : List (List Atom)) (any b : Bool) → hopeless w A ≡ b → (not b || any) ≡ false → (any ≡ false → hopeful w As ≡ []) → hopeful w (A ∷ As) ≡ []
-none_step w A As any true e h rest = ap (λ b. cond (not b) (A ∷ hopeful w As) (hopeful w As)) e ∙ rest h
-none_step w A As any false e h rest = cc
+brief_in : (log : List (List Atom)) (o : Own) (a : Atom) → In a (brief_of log o) → In a (own_of log o)
+brief_in log (Listed v i) a h = (filter_in is_other (get_or v i []) a h).0
+brief_in log (OfStair s) a h = h
+brief_in log (Crossed v i s) a h = elim (in_append_cases a (filter is_other (get_or v i [])) (stair_of log s) h) [
+  | inl e ↦ in_append_left a (get_or v i []) (stair_of log s) (filter_in is_other (get_or v i []) a e).0
+  | inr e ↦ in_append_right a (get_or v i []) (stair_of log s) e
+]
 
-none_from : (w : View) (base : List Atom) (S : List (List Atom)) → list_any (λ f. f) (map (λ A. not (hopeless w (base ++ A))) S) ≡ false → hopeful w (map (λ B. base ++ B) S) ≡ []
-none_from w base [] h = refl
-none_from w base (A ∷ S) h = none_step w (base ++ A) (map (λ B. base ++ B) S) (list_any (λ f. f) (map (λ A. not (hopeless w (base ++ A))) S)) (hopeless w (base ++ A)) refl h (λ k. none_from w base S k)
+hopeless_within : (w : View) (A B : List Atom) → ((a : Atom) → In a A → In a B) → hopeless w A ≡ true → hopeless w B ≡ true
+hopeless_within w A B h e = hopeless_more w w A B (grown_self w) h e
 
--- if no flag is true, none of the lists goes on
-pub none_judged : (w : View) (base : List Atom) (S : List (List Atom)) (fs : List Bool) → AreJudged w base S fs → list_any (λ f. f) fs ≡ false → hopeful w (map (λ B. base ++ B) S) ≡ []
-none_judged w base S fs e h = none_from w base S (sym (ap (λ xs. list_any (λ f. f) xs) e) ∙ h)
+-- if the own atoms are hopeless without each `Lacks` of the list, they are hopeless
+pub brief_hopeless : (w : View) (log : List (List Atom)) (o : Own) → hopeless w (brief_of log o) ≡ true → hopeless w (own_of log o) ≡ true
+brief_hopeless w log o h = hopeless_within w (brief_of log o) (own_of log o) (brief_in log o) h
+
+in_both : (A B C : List Atom) → ((a : Atom) → In a A → In a B) → (a : Atom) → In a (A ++ C) → In a (B ++ C)
+in_both A B C h a i = elim (in_append_cases a A C i) [
+  | inl e ↦ in_append_left a B C (h a e)
+  | inr e ↦ in_append_right a B C e
+]
+
+-- a stair that is hopeless after a base is hopeless after one with more atoms
+pub ruled_out : (w : View) (base more g : List Atom) (fs : List Bool) → ((a : Atom) → In a base → In a more) → AreJudged w base (stairs g) fs → AreRuledOut w more (stairs g) fs
+ruled_out w base more g fs h judged i l e =
+    let A = get_or (stairs g) i [] in
+    let before : hopeless w (base ++ A) ≡ true = not-false (hopeless w (base ++ A)) (sym (judged_at w base g fs i true judged (omega (arith, l, judged_length w base g fs judged))) ∙ e) in
+    hopeless_within w (base ++ A) (more ++ A) (in_both base more A h) before
+
+pub frozen_in : (log : List (List Atom)) (f : Frozen) (a : Atom) → In a (frozen_brief log f) → In a (frozen_of log f)
+frozen_in log f a i = in_both (brief_of log f.own) (own_of log f.own) (take f.count (flat (drop f.made log))) (brief_in log f.own) a i
+
+none_step : (w : View) (A B : List Atom) (As : List (List Atom)) (any b : Bool) → hopeless w A ≡ b → (hopeless w A ≡ true → hopeless w B ≡ true) → (not b || any) ≡ false → (any ≡ false → hopeful w As ≡ []) → hopeful w (B ∷ As) ≡ []
+none_step w A B As any true e more h rest = ap (λ b. cond (not b) (B ∷ hopeful w As) (hopeful w As)) (more e) ∙ rest h
+none_step w A B As any false e more h rest = cc
+
+none_from : (w : View) (base more : List Atom) (S : List (List Atom)) → ((a : Atom) → In a base → In a more) → list_any (λ f. f) (map (λ A. not (hopeless w (base ++ A))) S) ≡ false → hopeful w (map (λ B. more ++ B) S) ≡ []
+none_from w base more [] i h = refl
+none_from w base more (A ∷ S) i h =
+    none_step w (base ++ A) (more ++ A) (map (λ B. more ++ B) S) (list_any (λ f. f) (map (λ A. not (hopeless w (base ++ A))) S)) (hopeless w (base ++ A)) refl (hopeless_within w (base ++ A) (more ++ A) (in_both base more A i)) h (λ k. none_from w base more S i k)
+
+-- if no flag is true, none of the lists goes on, also after a base with more atoms
+pub none_judged : (w : View) (base more : List Atom) (S : List (List Atom)) (fs : List Bool) → ((a : Atom) → In a base → In a more) → AreJudged w base S fs → list_any (λ f. f) fs ≡ false → hopeful w (map (λ B. more ++ B) S) ≡ []
+none_judged w base more S fs i e h = none_from w base more S i (sym (ap (λ xs. list_any (λ f. f) xs) e) ∙ h)
 
 -- lists of which none goes on open nothing
 pub opening_none : (log : List (List Atom)) (next n : ℕ) (w : View) (all As rest : List (List Atom)) (ps : List Pending) → hopeful w As ≡ [] → Opening log next n w all (As ++ rest) ps → Opening log next n w all rest ps

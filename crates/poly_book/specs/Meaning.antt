@@ -1,10 +1,12 @@
 -- What a book's fields mean.
+use Rattle.std.specs.List.{filter}
 use Rattle.std.specs.Prelude.{List, None, Option, Some, [], drop, length, map, reverse, slice_index_or, take, ℕ, ◌++◌, ◌<◌, ◌∷◌, ◌≡◌, ◌≤◌}
 use Rattle.poly_design.specs.Layout.{Layout}
 use Rattle.poly_design.specs.declared.change.Change.{Change}
 use Rattle.poly_tiling.specs.Puzzle.{View}
 use Rattle.poly_atom.specs.declared.atom.Atom.{Atom}
 use Rattle.poly_atom.specs.Logs.{IsStairOf, flat, stair_of}
+use Rattle.poly_report.specs.Words.{is_other}
 use Rattle.poly_undo.specs.declared.step.Step.{Step as Kept_step}
 use Rattle.poly_undo.specs.Steps.{Steps}
 use Rattle.poly_book.specs.declared.shelf.Frozen.{Frozen}
@@ -22,6 +24,12 @@ abbrev pub own_of : List (List Atom) → Own → List Atom
 own_of log (Listed v i) = slice_index_or v i []
 own_of log (OfStair s) = stair_of log s
 own_of log (Crossed v i s) = slice_index_or v i [] ++ stair_of log s
+
+-- the own atoms, but for each `Lacks` of the list
+abbrev pub brief_of : List (List Atom) → Own → List Atom
+brief_of log (Listed v i) = filter is_other (slice_index_or v i [])
+brief_of log (OfStair s) = stair_of log s
+brief_of log (Crossed v i s) = filter is_other (slice_index_or v i []) ++ stair_of log s
 
 -- the own atoms can be read: there is such a list, and the log has the stair that they are or end with
 abbrev pub IsOwn : List (List Atom) → Own → Type 0
@@ -53,6 +61,10 @@ AreFresh n (p ∷ ps) = (p.made ≡ n) × AreFresh n ps
 -- the frozen task's own atoms, and the first `f.count` guards that the log has since the task was made
 abbrev pub frozen_of : List (List Atom) → Frozen → List Atom
 frozen_of log f = own_of log f.own ++ take f.count (flat (drop f.made log))
+
+-- the frozen task's atoms, but for each `Lacks` of its list
+abbrev pub frozen_brief : List (List Atom) → Frozen → List Atom
+frozen_brief log f = brief_of log f.own ++ take f.count (flat (drop f.made log))
 
 -- the log has what the frozen task's atoms are read from
 pub record IsFrozen (log : List (List Atom)) (f : Frozen) : Type 0 where

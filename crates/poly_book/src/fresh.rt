@@ -8,15 +8,15 @@ ghost use Rattle.poly_atom.specs.Logs.{IsStairOf, stair_of};
 ghost use Rattle.poly_atom.specs.Stairs.{stairs};
 ghost use Rattle.std.specs.List.{list_any};
 ghost use Rattle.poly_tiling.specs.Puzzle.{View as ViewOf};
-ghost use Rattle.poly_book.specs.Judged.{AreJudged};
+ghost use Rattle.poly_book.specs.Judged.{AreJudged, AreRuledOut};
 ghost use Rattle.poly_book.specs.Opens.{Opening, Opens};
-ghost use Rattle.poly_book.specs.Meaning.{AreFrozen, IsFrozen, IsHeld, IsOwn, frozen_of, own_of, stored_of};
+ghost use Rattle.poly_book.specs.Meaning.{AreFrozen, IsFrozen, IsHeld, IsOwn, frozen_brief, frozen_of, own_of, stored_of};
 ghost use Rattle.poly_book.specs.Shelves.{crossed, openings};
 ghost use Rattle.poly_book.specs.Tasks.{AreHopeful, hopeful};
 ghost use Rattle.poly_book.specs.declared.prepare.TheConstants.{MAX_CHANGES};
 
 use crate::shelf::{Frozen, Shelf};
-use crate::task::{Own, Pending, read_own};
+use crate::task::{Own, Pending, read_brief, read_own};
 use poly_atom::{Atom, GuardLog, Stair, hopeless};
 use poly_grid::Refusal;
 use poly_report::{Rests, SharedLists};
@@ -108,7 +108,7 @@ pub(crate) fn opened_stairs(
     let mut number = next;
     let mut stair: Vec<Atom> = Vec::new(alloc);
     for index in 0..guards.len() {
-        if next_stair(view, &mut stair, &guards[index])? {
+        if next_stair(view, &mut stair, &guards[index], false)? {
             continue;
         }
         if number > LAST {
@@ -124,13 +124,24 @@ pub(crate) fn opened_stairs(
     Ok(tasks)
 }
 
-// Appends the guard to the atoms. Returns whether the atoms before it, followed by its negation, are hopeless.
-fn next_stair(view: &View, atoms: &mut Vec<Atom>, guard: &Atom) -> Result<bool, Refusal>
-    requires { IsSmall guard.now }
+// Appends the guard to the atoms. Returns whether the atoms before it, followed by its negation, are hopeless. If `known`,
+// this is known to be true, and nothing is judged.
+fn next_stair(
+    view: &View,
+    atoms: &mut Vec<Atom>,
+    guard: &Atom,
+    known: bool,
+) -> Result<bool, Refusal>
+    requires small { IsSmall guard.now }
+    requires known { known ≡ true → hopeless view.now (atoms.old.items ++ negated guard.now ∷ []) ≡ true }
     ensures ok { IfOk result (λ yes. yes ≡ hopeless view.now (atoms.old.items ++ negated guard.now ∷ [])) }
     ensures more { IfOk result (λ yes. atoms.new.items ≡ atoms.old.items ++ guard.now ∷ []) }
     ensures why { IfErr result (λ e. e ≡ Refusal.Memory) }
 {
+    if known {
+        atoms.push(*guard)?;
+        return Ok(true);
+    }
     let broken = guard.negated();
     atoms.push(broken)?;
     let yes = hopeless(view, atoms);
@@ -190,17 +201,57 @@ fn opened_crossed(
         return Ok(tasks);
     }
     let mut atoms = Vec::new(alloc);
+    let mut hopes = Vec::new(alloc);
     let mut flags = Vec::new(alloc);
     let mut number = next;
     for task in frozen {
-        read_frozen(log, task, &mut atoms)?;
-        if !judge_stairs(view, &mut atoms, guards, &mut flags)? {
+        if !judge_frozen(view, log, task, guards, &mut atoms, &mut hopes, &mut flags)? {
             continue;
         }
         let (lists, at) = frozen_list(alloc, log, task, &atoms)?;
         number = add_crossed(&lists, at, &flags, number, edition, &mut tasks)?;
     }
     Ok(tasks)
+}
+
+// Judges which stairs of the guards aren't hopeless after the atoms of the frozen task. Its atoms come into the buffer, and the
+// flags in place of those that were there. If none is true, returns `false`. Nearly all atoms of a list are `Lacks`, so the
+// stairs are judged without them first, and only those that remain are judged after all atoms.
+fn judge_frozen(
+    view: &View,
+    log: &GuardLog,
+    frozen: &Frozen,
+    guards: &[Atom],
+    atoms: &mut Vec<Atom>,
+    hopes: &mut Vec<bool>,
+    flags: &mut Vec<bool>,
+) -> Result<bool, Refusal>
+    requires small { AllSmall guards.now }
+    requires frozen { IsFrozen log.now frozen.now }
+    ensures none { IfOk result (λ yes. yes ≡ false → hopeful view.now (map (λ B. frozen_of log.now frozen.now ++ B) (stairs guards.now)) ≡ []) }
+    ensures atoms { IfOk result (λ yes. yes ≡ true → atoms.new.items ≡ frozen_of log.now frozen.now) }
+    ensures flags { IfOk result (λ yes. yes ≡ true → AreJudged view.now (frozen_of log.now frozen.now) (stairs guards.now) flags.new.items) }
+    ensures why { IfErr result (λ e. e ≡ Refusal.Memory) }
+{
+    read_frozen_brief(log, frozen, atoms)?;
+    if !judge_stairs(view, atoms, guards, &[], hopes)? {
+        return Ok(false);
+    }
+    read_frozen(log, frozen, atoms)?;
+    let any = judge_stairs(view, atoms, guards, hopes, flags)?;
+    Ok(any)
+}
+
+// Writes the atoms of the frozen task without each `Lacks` of its list to the buffer, in place of what it had.
+fn read_frozen_brief(log: &GuardLog, frozen: &Frozen, atoms: &mut Vec<Atom>) -> Result<(), Refusal>
+    requires { IsFrozen log.now frozen.now }
+    ensures atoms { OnOk result (atoms.new.items ≡ frozen_brief log.now frozen.now) }
+    ensures why { IfErr result (λ e. e ≡ Refusal.Memory) }
+{
+    let since = log.since(frozen.made);
+    read_brief(log, &frozen.own, atoms)?;
+    atoms.extend_from_slice(&since[..frozen.count])?;
+    Ok(())
 }
 
 // Writes the atoms of the frozen task to the buffer, in place of what it had.
@@ -215,15 +266,17 @@ fn read_frozen(log: &GuardLog, frozen: &Frozen, atoms: &mut Vec<Atom>) -> Result
     Ok(())
 }
 
-// Judges which stairs of the guards aren't hopeless after the atoms. The flags come in place of those that were there. If none
-// is true, returns `false`.
+// Judges which stairs of the guards aren't hopeless after the atoms. Those that `hopes` rules out are known to be hopeless. The
+// flags come in place of those that were there. If none is true, returns `false`.
 fn judge_stairs(
     view: &View,
     atoms: &mut Vec<Atom>,
     guards: &[Atom],
+    hopes: &[bool],
     flags: &mut Vec<bool>,
 ) -> Result<bool, Refusal>
     requires small { AllSmall guards.now }
+    requires hopes { AreRuledOut view.now atoms.old.items (stairs guards.now) hopes.now }
     ensures atoms { OnOk result (atoms.new.items ≡ atoms.old.items) }
     ensures flags { OnOk result (AreJudged view.now atoms.old.items (stairs guards.now) flags.new.items) }
     ensures any { IfOk result (λ yes. yes ≡ list_any (λ f. f) flags.new.items) }
@@ -232,11 +285,22 @@ fn judge_stairs(
     let count = atoms.len();
     flags.clear();
     for index in 0..guards.len() {
-        let ends = next_stair(view, atoms, &guards[index])?;
+        let known = is_ruled_out(hopes, index);
+        let ends = next_stair(view, atoms, &guards[index], known)?;
         flags.push(!ends)?;
     }
     atoms.truncate(count);
     Ok(flags.contains(&true))
+}
+
+// Whether there is a flag at the index, and it is false.
+fn is_ruled_out(hopes: &[bool], index: usize) -> bool
+    ensures { result ≡ true → (index < length hopes.now) × (slice_index_or hopes.now index true ≡ false) }
+{
+    if index >= hopes.len() {
+        return false;
+    }
+    !hopes[index]
 }
 
 // Lists and an index, at which they have these atoms, which are those of the frozen task. Only what the task's own list lacks

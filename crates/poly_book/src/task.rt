@@ -3,7 +3,7 @@ ghost use Rattle.std.specs.Prelude.{IfErr, IfOk, IsTrue, List, MatchOption, OnOk
 ghost use Rattle.poly_atom.specs.declared.atom.Atom.{Atom as AtomOf};
 ghost use Rattle.poly_atom.specs.Hopeless.{hopeless};
 ghost use Rattle.poly_atom.specs.Logs.{IsStairOf, stair_of};
-ghost use Rattle.poly_book.specs.Meaning.{IsFrozen, IsOwn, IsTask, frozen_of, own_of, task_of};
+ghost use Rattle.poly_book.specs.Meaning.{IsFrozen, IsOwn, IsTask, brief_of, frozen_of, own_of, task_of};
 ghost use Rattle.poly_book.specs.Tasks.{atoms_of};
 
 use crate::shelf::Frozen;
@@ -36,8 +36,9 @@ pub struct Pending {
     pub made: u64,
 }
 
-/// Whether a task's own atoms are hopeless. They are read into the buffer, in place of what it had. Fails only when out of
-/// memory.
+/// Whether a task's own atoms are hopeless. They are read into the buffer, in place of what it had. Nearly all atoms of a list
+/// are `Lacks`, and most lists that a change makes hopeless are hopeless without them, so the others are judged first. Fails
+/// only when out of memory.
 pub(crate) fn is_hopeless(
     view: &View,
     log: &GuardLog,
@@ -48,8 +49,36 @@ pub(crate) fn is_hopeless(
     ensures ok { IfOk result (λ yes. yes ≡ hopeless view.now (own_of log.now own.now)) }
     ensures why { IfErr result (λ e. e ≡ Refusal.Memory) }
 {
+    read_brief(log, own, buffer)?;
+    if hopeless(view, buffer) {
+        return Ok(true);
+    }
     read_own(log, own, buffer)?;
     Ok(hopeless(view, buffer))
+}
+
+/// Writes a task's own atoms without each `Lacks` of its list to the buffer, in place of what it had.
+pub(crate) fn read_brief(log: &GuardLog, own: &Own, buffer: &mut Vec<Atom>) -> Result<(), Refusal>
+    requires { IsOwn log.now own.now }
+    ensures ok { OnOk result (buffer.new.items ≡ brief_of log.now own.now) }
+    ensures why { IfErr result (λ e. e ≡ Refusal.Memory) }
+{
+    match own {
+        Own::Listed(lists, index) => {
+            lists.read_others(*index, buffer)?;
+            Ok(())
+        }
+        Own::Stair(stair) => {
+            buffer.clear();
+            stair.append_to(log, buffer)?;
+            Ok(())
+        }
+        Own::Crossed(lists, index, stair) => {
+            lists.read_others(*index, buffer)?;
+            stair.append_to(log, buffer)?;
+            Ok(())
+        }
+    }
 }
 
 /// Writes a task's own atoms to the buffer, in place of what it had.

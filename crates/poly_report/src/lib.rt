@@ -11,6 +11,7 @@
 //!   follows the atoms that the tree is for. `Gathered::into_leaves` puts these before the paths.
 //! - [`Rests`], [`SharedLists`]: the rests of a tree. Shared lists can begin in other shared lists, as the rests of a report do
 //!   in the lists of the task that it cuts up. `SharedLists::after` makes a list of one of them and the atoms that follow it.
+//!   `SharedLists::read_others` reads a list without its `Lacks`, and takes no time for them.
 //! - [`Frame`], [`Matrix`], [`STEPS`] come from `poly_frame`: `Gathered` reads a frame, and `cut_up_over` takes a matrix.
 //! - The laws give the limits of trees. They say that a tree that holds shares out its family, and that it keeps holding after
 //!   a change if the guards of the change are added; that the tilings of a tree belong to its family; and that if a tree takes

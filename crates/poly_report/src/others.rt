@@ -1,8 +1,7 @@
 //! Jumps to the atoms of a node's list that are no `Lacks`.
 //!
-//! On a wide board nearly all atoms of a list are `Lacks`, thousands of them beside a few others. So that reading the others
-//! takes no longer than they are many, each node of finished lists knows the node to jump to, over each `Lacks` on its way
-//! back.
+//! On a wide board nearly all atoms of a list are `Lacks`, thousands of them beside a few others. So each node of finished
+//! lists has a jump over the `Lacks` on its way back, and reading the others takes time in proportion to their number.
 ghost use Rattle.std.specs.Prelude.{◌≡◌, ◌++◌, ◌<◌, ◌≤◌, [], IfErr, IfOk, OnOk, false, length, option_to_list, reverse};
 ghost use Rattle.std.specs.List.{filter};
 ghost use Rattle.poly_report.specs.Jumps.{AreJumps, AreRight, IsJump};

@@ -216,7 +216,8 @@ impl SharedLists {
         Ok(())
     }
 
-    /// Does what `read` does, but leaves each `Lacks` out. On a wide board nearly all atoms of a list are of this kind.
+    /// Does what `read` does, but leaves each `Lacks` out. On a wide board nearly all atoms of a list are of this kind; they take
+    /// no time.
     pub fn read_others(&self, index: usize, buffer: &mut Vec<Atom>) -> Result<(), Refusal>
         requires { index < length self.now }
         ensures ok { OnOk result (buffer.new.items ≡ filter is_other (slice_index_or self.now index [])) }

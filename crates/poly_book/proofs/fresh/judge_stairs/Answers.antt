@@ -3,12 +3,25 @@ use Rattle.std.proofs.lemmas.List.{take_more}
 use Rattle.std.specs.List.{list_any}
 use Rattle.poly_atom.specs.Atoms.{IsSmall, negated}
 use Rattle.poly_atom.specs.Hopeless.{hopeless}
+use Rattle.poly_atom.specs.Stairs.{stairs}
 use Rattle.poly_atom.proofs.Walks.{small_at}
-use Rattle.poly_book.proofs.Judging.{any_true, judged_all, judged_more}
+use Rattle.poly_book.proofs.Judging.{any_true, judged_all, judged_more, stair_next}
 use Rattle.poly_book.proofs.fresh.judge_stairs.Goals as goal
 
-pub next_stair-requires : goal.next_stair-requires
-next_stair-requires c = subst IsSmall (sym c.index-guards-index.is) (small_at c.args.guards.now c.loop-index.index c.index-guards-index.result c.requires.small c.loop-index-test.true)
+pub next_stair-requires-clause-small : goal.next_stair-requires-clause-small
+next_stair-requires-clause-small c = subst IsSmall (sym c.index-guards-index.is) (small_at c.args.guards.now c.loop-index.index c.index-guards-index.result c.requires.small c.loop-index-test.true)
+
+pub next_stair-requires-clause-known : goal.next_stair-requires-clause-known
+next_stair-requires-clause-known c = λ yes.
+    let g = c.args.guards.now in
+    let base = c.args.atoms.now.items in
+    let w = c.args.view.now in
+    let j = c.loop-index.index in
+    let d = c.index-guards-index.result in
+    let low : j < length g = c.loop-index-test.true in
+    let out = c.is_ruled_out-known.ensures yes in
+    let is : c.loop-index.atoms.items ++ negated d ∷ [] ≡ base ++ get_or (stairs g) j [] = ap (λ s. s ++ negated d ∷ []) c.loop-index.invariant.atoms ∙ ap (λ a. (base ++ take j g) ++ negated a ∷ []) c.index-guards-index.is ∙ stair_next base g j d low in
+    ap (λ A. hopeless w A) is ∙ c.requires.hopes j out.0 out.1
 
 pub loop-index-preserved : goal.loop-index-preserved
 loop-index-preserved c =

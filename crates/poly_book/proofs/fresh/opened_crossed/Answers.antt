@@ -1,4 +1,4 @@
-use Rattle.std.proofs.Common.{[], ap, arith, drop, get_or, inl, inr, length, map, not, rules, subst, sym, ◌++◌, ◌+◌, ◌∙◌, ◌∷◌, ◌≡◌}
+use Rattle.std.proofs.Common.{[], ap, arith, drop, get_or, inl, inr, length, map, not, refl, rules, subst, sym, ◌++◌, ◌+◌, ◌∙◌, ◌∷◌, ◌≡◌}
 use Rattle.std.proofs.lemmas.Result.{err_from_is_err_and}
 use Rattle.poly_atom.specs.Hopeless.{hopeless}
 use Rattle.poly_atom.specs.Stairs.{stairs}
@@ -7,11 +7,11 @@ use Rattle.poly_book.specs.Judged.{AreJudged}
 use Rattle.poly_book.specs.Opens.{Opening}
 use Rattle.poly_book.specs.Shelves.{crossed}
 use Rattle.poly_book.proofs.Holding.{frozen_at, frozen_head, opens_none}
-use Rattle.poly_book.proofs.Judging.{none_judged, opening_none}
+use Rattle.poly_book.proofs.Judging.{opening_none}
 use Rattle.poly_book.proofs.fresh.opened_crossed.Goals as goal
 
-pub read_frozen-requires : goal.read_frozen-requires
-read_frozen-requires c = subst (λ f. IsFrozen c.args.log.now f) (sym c.task-item.is) (frozen_at c.args.log.now c.args.frozen.now c.loop-task.task-index c.task-item.result c.requires.frozen c.loop-task-test.true)
+pub judge_frozen-requires-clause-frozen : goal.judge_frozen-requires-clause-frozen
+judge_frozen-requires-clause-frozen c = subst (λ f. IsFrozen c.args.log.now f) (sym c.task-item.is) (frozen_at c.args.log.now c.args.frozen.now c.loop-task.task-index c.task-item.result c.requires.frozen c.loop-task-test.true)
 
 pub frozen_list-requires-clause-frozen : goal.frozen_list-requires-clause-frozen
 frozen_list-requires-clause-frozen c = subst (λ f. IsFrozen c.args.log.now f) (sym c.task-item.is) (frozen_at c.args.log.now c.args.frozen.now c.loop-task.task-index c.task-item.result c.requires.frozen c.loop-task-test.true)
@@ -33,12 +33,11 @@ loop-task-preserved-then-not-branch c =
     let S = stairs g in
     let i = c.loop-task.task-index in
     let rest = crossed (drop (i + 1) L) S in
-    let base = c.read_frozen.new.atoms.items in
-    let is : base ≡ frozen_of log c.task-item.result = c.in_ok-read_frozen.ensures.atoms in
-    let head = frozen_head log S fs i c.task-item.result base c.loop-task-test.true c.task-item.is is in
+    let base = frozen_of log c.task-item.result in
+    let head = frozen_head log S fs i c.task-item.result base c.loop-task-test.true c.task-item.is refl in
     record {
       same = opening_none (log ++ g ∷ []) c.args.next c.loop-task.number w (crossed L S) (map (λ B. base ++ B) S) rest c.loop-task.tasks.items
-          (none_judged w base S c.judge_stairs.new.flags.items c.in_ok-judge_stairs.ensures.flags (sym c.in_ok-judge_stairs.ensures.any ∙ c.if-not-branch.true))
+          (c.in_ok-judge_frozen.ensures.none c.if-not-branch.true)
           (subst (λ r. Opening (log ++ g ∷ []) c.args.next c.loop-task.number w (crossed L S) r c.loop-task.tasks.items) head c.loop-task.invariant.same);
       number = c.loop-task.invariant.number;
       few = c.loop-task.invariant.few;
@@ -55,9 +54,8 @@ loop-task-preserved c =
     let i = c.loop-task.task-index in
     let rest = crossed (drop (i + 1) L) S in
     let base = get_or c.in_ok-lists.lists c.in_ok-lists.at [] in
-    let here : base ≡ c.read_frozen.new.atoms.items = c.in_ok-lists.ensures.list ∙ c.deref.ensures.value ∙ c.in_ok-judge_stairs.ensures.atoms in
-    let is : base ≡ frozen_of log c.task-item.result = here ∙ c.in_ok-read_frozen.ensures.atoms in
-    let judged : AreJudged w base S c.deref-in-loop-task.result.now = c.deref-in-loop-task.ensures.value ∙ c.in_ok-judge_stairs.ensures.flags ∙ ap (λ b. map (λ A. not (hopeless w (b ++ A))) S) (sym here) in
+    let is : base ≡ frozen_of log c.task-item.result = c.in_ok-lists.ensures.list ∙ c.deref.ensures.value ∙ c.in_ok-judge_frozen.ensures.atoms c.if-not-branch.false in
+    let judged : AreJudged w base S c.deref-in-loop-task.result.now = c.deref-in-loop-task.ensures.value ∙ c.in_ok-judge_frozen.ensures.flags c.if-not-branch.false ∙ ap (λ b. map (λ A. not (hopeless w (b ++ A))) S) (sym is) in
     let head = frozen_head log S fs i c.task-item.result base c.loop-task-test.true c.task-item.is is in
     record {
       same = c.in_ok-number.ensures.ok w g log c.args.next (crossed L S) rest c.requires.log judged
@@ -78,9 +76,8 @@ returns-in_err-number-clause-why c =
     let i = c.loop-task.task-index in
     let rest = crossed (drop (i + 1) L) S in
     let base = get_or c.in_ok-lists.lists c.in_ok-lists.at [] in
-    let here : base ≡ c.read_frozen.new.atoms.items = c.in_ok-lists.ensures.list ∙ c.deref.ensures.value ∙ c.in_ok-judge_stairs.ensures.atoms in
-    let is : base ≡ frozen_of log c.task-item.result = here ∙ c.in_ok-read_frozen.ensures.atoms in
-    let judged : AreJudged w base S c.deref-in-loop-task.result.now = c.deref-in-loop-task.ensures.value ∙ c.in_ok-judge_stairs.ensures.flags ∙ ap (λ b. map (λ A. not (hopeless w (b ++ A))) S) (sym here) in
+    let is : base ≡ frozen_of log c.task-item.result = c.in_ok-lists.ensures.list ∙ c.deref.ensures.value ∙ c.in_ok-judge_frozen.ensures.atoms c.if-not-branch.false in
+    let judged : AreJudged w base S c.deref-in-loop-task.result.now = c.deref-in-loop-task.ensures.value ∙ c.in_ok-judge_frozen.ensures.flags c.if-not-branch.false ∙ ap (λ b. map (λ A. not (hopeless w (b ++ A))) S) (sym is) in
     let head = frozen_head log S fs i c.task-item.result base c.loop-task-test.true c.task-item.is is in
     rw (p.1, p.2) (elim c.in_err-number.ensures.why [
       | inl m ↦ inl (

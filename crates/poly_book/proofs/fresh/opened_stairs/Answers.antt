@@ -9,8 +9,8 @@ use Rattle.poly_book.specs.Opens.{Opening}
 use Rattle.poly_book.proofs.Held.{opening_end, opening_over, stairs_end, stairs_next, stairs_from, stairs_more, stairs_skip}
 use Rattle.poly_book.proofs.fresh.opened_stairs.Goals as goal
 
-pub next_stair-requires : goal.next_stair-requires
-next_stair-requires c = subst IsSmall (sym c.index-guards-index.is) (small_at c.args.guards.now c.loop-index.index c.index-guards-index.result c.requires.small c.loop-index-test.true)
+pub next_stair-requires-clause-small : goal.next_stair-requires-clause-small
+next_stair-requires-clause-small c = subst IsSmall (sym c.index-guards-index.is) (small_at c.args.guards.now c.loop-index.index c.index-guards-index.result c.requires.small c.loop-index-test.true)
 
 pub returns-clause-ok : goal.returns-clause-ok
 returns-clause-ok c = λ log le. opening_end (log ++ c.args.guards.now ∷ []) c.args.next c.loop-index.number c.args.view.now (stairs c.args.guards.now) (stairs_from c.args.guards.now c.loop-index.index) c.loop-index.tasks.items

@@ -1,4 +1,4 @@
-use Rattle.std.proofs.Common.{ap, refl, slice_index_or, subst, sym, true, ◌∙◌, ◌≡◌, [], Bool}
+use Rattle.std.proofs.Common.{ap, refl, slice_index_or, sym, true, ◌∙◌, ◌≡◌, [], Bool}
 use Rattle.std.specs.List.{filter, list_all}
 use Rattle.poly_atom.specs.declared.atom.Atom.{Atom}
 use Rattle.poly_report.specs.Words.{is_other}
