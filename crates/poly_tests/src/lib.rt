@@ -1,6 +1,6 @@
 //! Tests that need only public calls, and that no script of the player can be (docs/PLAYER.md): of plain functions and of parts
-//! that a book doesn't show, such as frames and tables; enumerations; threads and whole days at a desk; sessions over
-//! readers and writers of their own; the program's options; and runs with each allocation refused.
+//! that a book doesn't show, such as frames and tables; enumerations; threads and whole days at a desk; boards; sessions
+//! over readers and writers of their own; the program's options; and runs with each allocation refused.
 //!
 //! They share some test kits: `designs` (designs from puzzle lines), `books`, `desks`, and `shared_out`, which compares a book
 //! with the plain lister. The crate exports nothing.
@@ -8,6 +8,8 @@
 
 #[cfg(test)]
 mod answers;
+#[cfg(test)]
+mod boards;
 #[cfg(test)]
 mod books;
 #[cfg(test)]
