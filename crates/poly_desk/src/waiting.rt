@@ -1,5 +1,6 @@
 //! Waiting for a lock. The calls of workers usually take less time than waking a thread that sleeps. So a worker tries for a
-//! while to lock without waiting, before it sleeps.
+//! while to lock without waiting, before it sleeps. If there are more threads than processors, the lock may be held by a thread
+//! that has no processor at the moment. So after a few microseconds, which suffice for most calls, it yields between its tries.
 
 use std::hint::spin_loop;
 use std::sync::{Mutex, MutexGuard, Wait};
@@ -17,18 +18,18 @@ pub(crate) struct Tries {
 /// For a short call: taking a task. These tries are so close together that a worker that has just handed a report in usually
 /// gets the lock for its next task before the workers that wait with reports.
 pub(crate) const OFTEN: Tries = Tries {
-    count: 512,
+    count: 128,
     pauses: 20,
 };
 
 /// For a long call: handing a report in.
 pub(crate) const SELDOM: Tries = Tries {
-    count: 64,
+    count: 16,
     pauses: 250,
 };
 
 // How many times a thread yields before it sleeps.
-const YIELDS: u32 = 32;
+const YIELDS: u32 = 128;
 
 /// Locks the mutex.
 pub(crate) fn lock<'a, T, R: Wait>(rt: &R, mutex: &'a Mutex<T>, tries: Tries) -> MutexGuard<'a, T> {
