@@ -22,10 +22,16 @@ pub const MOST_WORKERS: usize = 16;
 /// The most turns that each worker of a crew may take.
 pub const MOST_TURNS: u64 = 1_000_000_000;
 
-/// Runs a worker for each pass, each in a thread of its own. A worker takes tasks of the bench, searches them and hands the
-/// results in, until no task is left to take, it has used up its `turns` turns, or a refusal ends it. A turn whose hint names
-/// a task that has ended, or whose report is refused with `Gone`, counts but doesn't end the worker. If memory for the workers
-/// runs out before they begin, none of them runs, and there are no lists of receipts. Otherwise there is a list for each pass.
+/// How many threads of a crew share a processor at most. With one thread for each, a processor would be idle while its thread
+/// waits for a lock. With many, a thread that is set aside with the lock in its hands makes all others wait.
+const SHARING: usize = 2;
+
+/// Runs a worker for each pass. Each has a thread of its own, unless there are more workers than processors: then there are at
+/// most two threads for each processor, and each runs one or more workers, one after another. A worker takes tasks of the bench,
+/// searches them and hands the results in, until no task is left to take, it has used up its `turns` turns, or a refusal ends
+/// it. A turn whose hint names a task that has ended, or whose report is refused with `Gone`, counts but doesn't end the worker.
+/// If memory for the workers runs out before they begin, none of them runs, and there are no lists of receipts. Otherwise there
+/// is a list for each pass.
 ///
 /// The crew ends with `Ok` only if the bench answered each worker that no task is pending, and otherwise as the first worker,
 /// in the order of the passes, that ended in another way.
@@ -93,7 +99,7 @@ where
     }
 }
 
-// Runs each worker in a thread of its own.
+// Runs each worker, in as many threads as `thread_count` says.
 fn run_all<R: Threads + Wait + Sync, B: Bench + Sync, G: Gate + Sync>(
     rt: &R,
     work: &Work<B, G>,
@@ -120,14 +126,26 @@ where
     ensures count { length workers.new ≡ length workers.old }
     ensures each { (k : ℕ) (d : _) → k < length workers.old → HasRun B.changes B.cuts B.gave B.found_none B.refused work.now.turns (slice_index_or workers.old k d) (slice_index_or workers.new k d) }
 {
-    let count = workers.len();
+    let threads = thread_count(rt, workers.len());
     thread::for_each_mut(
         rt,
         workers,
-        count,
+        threads,
         &|i, worker|
             requires { i < 4294967296 }
             ensures { HasRun B.changes B.cuts B.gave B.found_none B.refused work.entry.now.turns worker.entry.now worker.exit.now }
         { run(rt, work, i as u32, worker) },
     );
+}
+
+// In how many threads at most this many workers run. If the number of processors isn't known, each worker has a thread.
+fn thread_count<R: Threads>(rt: &R, workers: usize) -> usize
+    requires some { 1 ≤ workers }
+    requires few { workers ≤ MOST_WORKERS }
+    ensures { 1 ≤ result }
+{
+    match thread::available_parallelism(rt) {
+        Ok(processors) if processors.get() < workers => processors.get() * SHARING,
+        _ => workers,
+    }
 }

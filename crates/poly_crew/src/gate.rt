@@ -2,6 +2,9 @@
 
 /// A gate is told when a worker begins to search a task, and when the search has ended. It can hold the worker by
 /// not returning at once. Workers and their turns are counted from 0.
+///
+/// While one worker is held, another one of the crew works, if there is one. While more are held, it may be that none works, if
+/// there are more workers than processors.
 pub trait Gate {
     /// Called when the worker is about to search the task that it took in that turn.
     fn enter(&self, worker: u32, turn: u64);
