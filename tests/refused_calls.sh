@@ -12,7 +12,7 @@ tests='
 poly_tests memory::runs_without_memory
 poly_tests desk_memory::a_day_without_memory
 poly_tests exchange::a_tiling_lost_and_back
-poly_crew tests::desk::a_crew_without_memory
+poly_tests desk_crews::a_crew_without_memory
 '
 
 if ! cc -O1 -shared -fPIC -o "$room/refuse.so" tests/refuse_allocation.c -ldl; then

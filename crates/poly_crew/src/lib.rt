@@ -30,6 +30,3 @@ pub use gate::{Gate, OpenGate};
 pub use lane::Lane;
 pub use outcome::Crew;
 pub use thief::Thief;
-
-#[cfg(test)]
-mod tests;

@@ -1,9 +1,9 @@
 //! Tests that need only public calls, and that no script of the player can be (docs/PLAYER.md): of plain functions and of parts
-//! that a book doesn't show, such as frames and tables; enumerations; threads and whole days at a desk; boards; sessions
-//! over readers and writers of their own; the program's options; and runs with each allocation refused.
+//! that a book doesn't show, such as frames and tables; enumerations; threads and whole days at a desk; boards, crews and lanes;
+//! sessions over readers and writers of their own; the program's options; and runs with each allocation refused.
 //!
-//! They share some test kits: `designs` (designs from puzzle lines), `books`, `desks`, and `shared_out`, which compares a book
-//! with the plain lister. The crate exports nothing.
+//! They share some test kits: `designs` (designs from puzzle lines), `books`, `desks`, `gates`, and `shared_out`, which compares
+//! a book with the plain lister. The crate exports nothing.
 #![tactic(auto)]
 
 #[cfg(test)]
@@ -13,9 +13,13 @@ mod boards;
 #[cfg(test)]
 mod books;
 #[cfg(test)]
+mod crews;
+#[cfg(test)]
 mod deep_tree;
 #[cfg(test)]
 mod designs;
+#[cfg(test)]
+mod desk_crews;
 #[cfg(test)]
 mod desk_day;
 #[cfg(test)]
@@ -31,7 +35,11 @@ mod exchange;
 #[cfg(test)]
 mod frame;
 #[cfg(test)]
+mod gates;
+#[cfg(test)]
 mod grids;
+#[cfg(test)]
+mod lanes;
 #[cfg(test)]
 mod memory;
 #[cfg(test)]

@@ -1,5 +1,5 @@
 use Rattle.std.proofs.Common.{◌≡◌}
-use Rattle.poly_crew.proofs.lane.tests.steal_in.Given as goal
+use Rattle.poly_tests.proofs.lanes.steal_in.Given as goal
 
 abbrev pub invariant-loop : goal.invariant-loop
 invariant-loop l = l.thief.deque ≡ l.fn.thief.deque

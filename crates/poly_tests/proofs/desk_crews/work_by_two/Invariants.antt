@@ -1,5 +1,5 @@
 use Rattle.poly_desk.specs.Changes.{cut_count}
-use Rattle.poly_crew.proofs.tests.desk.work_by_two.Given as goal
+use Rattle.poly_tests.proofs.desk_crews.work_by_two.Given as goal
 
 abbrev pub ghosts-work_at_a_desk-C-Ledger : goal.ghosts-work_at_a_desk-C-Ledger
 ghosts-work_at_a_desk-C-Ledger g a = record { name = a.changes.name; parts = a.changes.parts }
