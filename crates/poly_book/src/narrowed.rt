@@ -10,7 +10,7 @@ ghost use Rattle.poly_tiling.specs.Puzzle.{View as ViewOf};
 use crate::task::is_same_list;
 use poly_atom::Atom;
 use poly_grid::Refusal;
-use poly_report::Matrix;
+use poly_report::{Matrix, Room};
 use std::alloc::Global;
 
 /// The most matrices that are kept. Each has less than three quarters of the columns of the one before it, so a few go far: the
@@ -45,6 +45,13 @@ pub(crate) fn drop_others(narrower: &mut Vec<Narrowed>, atoms: &[Atom])
 {
     if let Some(k) = narrower.iter().position(|n| !n.serves(atoms)) {
         narrower.truncate(k);
+    }
+}
+
+/// Lets the next search use the memory of the matrix, if there is one.
+pub(crate) fn reuse(own: Option<Matrix>, room: &mut Room) {
+    if let Some(matrix) = own {
+        room.reuse(matrix);
     }
 }
 

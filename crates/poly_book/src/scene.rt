@@ -11,10 +11,10 @@ ghost use Rattle.poly_search.specs.Searches.{IsExplored};
 ghost use Rattle.poly_book.specs.Scenes.{AreNarrowed, IsMatrixOf};
 ghost use Rattle.poly_report.specs.declared.size.TheConstants.{NODES};
 
-use crate::narrowed::{Narrowed, drop_others, keep, nearest};
+use crate::narrowed::{Narrowed, drop_others, keep, nearest, reuse};
 use poly_atom::Atom;
 use poly_grid::Refusal;
-use poly_report::{Leaves, Matrix, Tree, cut_up_over};
+use poly_report::{Leaves, Matrix, Room, Tree, cut_up_over};
 use poly_search::leaves_within;
 use poly_tiling::View;
 use std::alloc::Global;
@@ -71,8 +71,14 @@ impl Scene {
         &self.view
     }
 
-    /// The leaves that `poly_search::leaves_within` gathers.
-    pub fn leaves(&mut self, alloc: Global, atoms: &[Atom], nodes: u32) -> Result<Leaves, Refusal>
+    /// The leaves that `poly_search::leaves_within` gathers. The search uses the memory of `room`, and leaves it there.
+    pub fn leaves(
+        &mut self,
+        alloc: Global,
+        atoms: &[Atom],
+        nodes: u32,
+        room: &mut Room,
+    ) -> Result<Leaves, Refusal>
         requires some { 1 ≤ nodes }
         requires few { nodes ≤ NODES }
         ensures stays { self.new ≡ self.old }
@@ -86,6 +92,7 @@ impl Scene {
             &mut self.narrower,
             atoms,
             nodes,
+            room,
         )
     }
 
@@ -114,6 +121,7 @@ fn leaves_from(
     narrower: &mut Vec<Narrowed>,
     atoms: &[Atom],
     nodes: u32,
+    room: &mut Room,
 ) -> Result<Leaves, Refusal>
     requires matrix { IsMatrixOf view.now slot.old }
     requires narrower { AreNarrowed view.now narrower.old.items }
@@ -127,10 +135,11 @@ fn leaves_from(
     let whole = take_matrix(alloc, view, slot)?;
     drop_others(narrower, atoms);
     let part = nearest(&whole, narrower, atoms);
-    let found = leaves_within(alloc, view, &whole, part, atoms, nodes);
+    let found = leaves_within(alloc, view, &whole, part, atoms, nodes, room);
     *slot = Some(whole);
     let (leaves, own) = found?;
     if leaves.rests.is_empty() {
+        reuse(own, room);
         return Ok(leaves);
     }
     keep(alloc, narrower, atoms, own)?;

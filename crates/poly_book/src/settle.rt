@@ -15,7 +15,7 @@ use crate::parts::Parts;
 use crate::task::read_all;
 use poly_atom::Atom;
 use poly_grid::Refusal;
-use poly_report::Leaves;
+use poly_report::{Leaves, Room};
 
 impl Book {
     /// Takes tasks, searches each over at most `nodes` nodes that aren't Rest, and applies what is found like a report, until
@@ -49,8 +49,9 @@ fn settle_all(parts: &mut Parts, turns: u64, nodes: u32) -> Result<u64, Refusal>
 {
     let mut unsure = parts.tasks.len();
     let mut atoms = Vec::new(parts.alloc);
+    let mut room = Room::new(parts.alloc);
     for applied in 0..turns {
-        match settle_one(parts, nodes, &mut unsure, &mut atoms) {
+        match settle_one(parts, nodes, &mut unsure, &mut atoms, &mut room) {
             Ok(true) => {}
             Ok(false) => return Ok(applied),
             Err(refusal) => return Err(refusal),
@@ -70,6 +71,7 @@ fn settle_one(
     nodes: u32,
     unsure: &mut usize,
     buffer: &mut Vec<Atom>,
+    room: &mut Room,
 ) -> Result<bool, Refusal>
     requires some { 1 ≤ nodes }
     requires few { nodes ≤ NODES }
@@ -86,7 +88,7 @@ fn settle_one(
     }
     let at = parts.tasks.len() - 1;
     let sure = *unsure <= at;
-    let leaves = explored_leaves(parts, at, nodes, buffer)?;
+    let leaves = explored_leaves(parts, at, nodes, buffer, room)?;
     let edition = parts.log.len() as u64;
     match apply_leaves(parts, at, edition, leaves, sure) {
         Ok(_) => {
@@ -104,6 +106,7 @@ fn explored_leaves(
     at: usize,
     nodes: u32,
     buffer: &mut Vec<Atom>,
+    room: &mut Room,
 ) -> Result<Leaves, Refusal>
     requires some { 1 ≤ nodes }
     requires few { nodes ≤ NODES }
@@ -115,6 +118,6 @@ fn explored_leaves(
     ensures why { IfErr result (λ e. e ≡ Refusal.Memory) }
 {
     read_all(&parts.log, &parts.tasks[at], buffer)?;
-    let leaves = parts.scene.leaves(parts.alloc, buffer, nodes)?;
+    let leaves = parts.scene.leaves(parts.alloc, buffer, nodes, room)?;
     Ok(leaves)
 }

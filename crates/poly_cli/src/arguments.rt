@@ -39,7 +39,7 @@ Exit status: 0 the input ended, or help or the version was asked for; 1 the puzz
 
 The guide is docs/GUIDE.md of the repository; docs/FORMATS.md has each line in full.";
 
-const VERSION: &str = "1.6.0";
+const VERSION: &str = "1.7.0";
 
 const NAME: &str = "polybench";
 
@@ -57,7 +57,7 @@ pub const DEFAULT_TURNS: u64 = 1_000_000;
 pub struct Options {
     /// The most turns that settling may take each time, from 1 to `MOST_TURNS`; with workers, the most for each of them.
     pub turns: u64,
-    /// How many workers search at the same time, from 1 to `MOST_WORKERS`; `None` if one thread searches, without a crew.
+    /// How many workers share a search, from 1 to `MOST_WORKERS`; `None` if one thread searches, without a crew.
     pub workers: Option<u8>,
     /// Whether standard error explains refusals and reports how far a search is.
     pub verbose: bool,
@@ -96,7 +96,7 @@ fn command<'a>(alloc: Global) -> Result<Command<'a>, Error> {
         .value_parser(value_parser!(u64).range(1..=MOST_TURNS as i64));
     let workers = Arg::new(alloc, WORKERS)
         .long(WORKERS)
-        .help("How many workers search at the same time: 1 to 16; by default one thread searches")
+        .help("How many workers share a search: 1 to 16; by default one thread searches")
         .action(ArgAction::Set)
         .value_parser(value_parser!(u8).range(1..=MOST_WORKERS as i64));
     let verbose = Arg::new(alloc, VERBOSE)

@@ -1,4 +1,4 @@
-//! An engine with a crew: its workers search at the same time when all tilings are asked for.
+//! An engine with a crew: its workers share the search when all tilings are asked for.
 //!
 //! Between two commands the team keeps a book, as `Solo` does. If tasks are pending when all tilings are asked for, the book
 //! goes to a desk, the crew works there, and the book comes back. If the desk can't be settled up, the book is lost, and the

@@ -27,6 +27,7 @@ mod notes;
 mod occupied;
 mod opened;
 mod queries;
+mod room;
 mod scarce;
 mod starved;
 mod steps;
@@ -35,11 +36,12 @@ mod wanted;
 
 use crate::frame::ahead::{Attempt, Guesses};
 use crate::frame::layers::{Layer, narrow_layer, widen};
-use crate::frame::levels::{Levels, levels_of};
+use crate::frame::levels::{Levels, Spare, levels_of};
 use crate::frame::lists::{Lists, lists_of};
 use crate::frame::matrix::Columns;
 pub use crate::frame::matrix::Matrix;
 use crate::frame::node::Stand;
+pub use crate::frame::room::Room;
 use crate::frame::starved::is_starved;
 use crate::frame::steps::Steps;
 use crate::plain;
@@ -103,7 +105,8 @@ impl<'a> Frame<'a> {
         ensures once { distinct view.now.live ≡ true }
     {
         let whole = Matrix::new(alloc, view)?;
-        let frame = Frame::begin(alloc, view, Columns::Own(whole), None, atoms)?;
+        let room = Room::new(alloc);
+        let frame = Frame::begin(alloc, view, Columns::Own(whole), None, atoms, room)?;
         Ok(frame)
     }
 
@@ -122,19 +125,21 @@ impl<'a> Frame<'a> {
         ensures well { WellNamed view.now }
         ensures once { distinct view.now.live ≡ true }
     {
-        let frame = Frame::begin(alloc, view, Columns::Lent(whole), None, atoms)?;
+        let room = Room::new(alloc);
+        let frame = Frame::begin(alloc, view, Columns::Lent(whole), None, atoms, room)?;
         Ok(frame)
     }
 
     /// Does what [`Frame::over`] does, but begins with `part`, which takes less time the fewer columns `part` has. Requires that
     /// `whole` is the view's matrix, and that `part` is a matrix of the view with a column for each placement that is open at
-    /// the atoms. [`Frame::into_matrix`] returns such a matrix. Fails only when out of memory.
+    /// the atoms. [`Frame::into_parts`] returns such a matrix. The frame uses the memory of `room`. Fails only when out of memory.
     pub fn within(
         alloc: Global,
         view: &'a View,
         whole: &Matrix,
         part: &'a Matrix,
         atoms: &[Atom],
+        room: Room,
     ) -> Result<Frame<'a>, Refusal>
         requires whole { IsWhole view.now whole.now }
         requires part { IsMatrix view.now part.now }
@@ -144,20 +149,38 @@ impl<'a> Frame<'a> {
         ensures well { WellNamed view.now }
         ensures once { distinct view.now.live ≡ true }
     {
-        let frame = Frame::begin(alloc, view, Columns::Lent(part), Some(whole), atoms)?;
+        let frame = Frame::begin(alloc, view, Columns::Lent(part), Some(whole), atoms, room)?;
         Ok(frame)
     }
 
-    /// The matrix that the frame made for itself and reads at this node; `None` if it reads a matrix that was lent to it. The
-    /// matrix has a column for each placement that is open at the frame's atoms. So it also serves frames whose atoms go on
-    /// from these.
-    pub fn into_matrix(self) -> Option<Matrix>
-        ensures part { IfSome result (λ m. IsMatrix self.entry.scene m) }
-        ensures all { IfSome result (λ m. HasOpen self.entry.scene self.entry.atoms m) }
+    /// The matrix that the frame made for itself and reads at this node, `None` if it reads a matrix that was lent to it; and
+    /// the room for another frame. The matrix has a column for each placement that is open at the frame's atoms. So it also
+    /// serves frames whose atoms go on from these.
+    pub fn into_parts(self, alloc: Global) -> (Option<Matrix>, Room)
+        ensures part { IfSome result.0 (λ m. IsMatrix self.entry.scene m) }
+        ensures all { IfSome result.0 (λ m. HasOpen self.entry.scene self.entry.atoms m) }
     {
-        let Frame { stand, .. } = self;
+        let Frame {
+            stand,
+            trail,
+            members,
+            sizes,
+            options,
+            steps,
+            ..
+        } = self;
+        let lists = Lists {
+            trail,
+            members,
+            sizes,
+            options,
+        };
+        let room = Room {
+            lists,
+            spare: Spare::of(alloc, steps),
+        };
         let Stand { columns, .. } = stand;
-        columns.into_own()
+        (columns.into_own(), room)
     }
 
     /// Reads a smaller matrix from here on, until this node is left, if that seems to pay. Call this only where the search is
@@ -202,6 +225,7 @@ impl<'a> Frame<'a> {
         part: Columns<'a>,
         whole: Option<&Matrix>,
         atoms: &[Atom],
+        room: Room,
     ) -> Result<Frame<'a>, Refusal>
         requires part { IsMatrix view.now (matrix_of part) }
         requires whole { IfSome whole (λ m. IsMatrix view.now m.now) }
@@ -211,8 +235,9 @@ impl<'a> Frame<'a> {
         ensures well { WellNamed view.now }
         ensures once { distinct view.now.live ≡ true }
     {
-        let lists = lists_of(alloc, view, atoms)?;
-        let levels = levels_of(alloc, view, part, whole, atoms, &lists.members)?;
+        let Room { lists, spare } = room;
+        let lists = lists_of(view, atoms, lists)?;
+        let levels = levels_of(alloc, view, part, whole, atoms, &lists.members, spare)?;
         let Lists {
             trail,
             members,

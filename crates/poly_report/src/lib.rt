@@ -40,7 +40,7 @@ pub use laws::{
     trees_share_out,
 };
 pub use leaf::{Leaves, Rests};
-pub use poly_frame::{Frame, Matrix, STEPS};
+pub use poly_frame::{Frame, Matrix, Room, STEPS};
 pub use shared_lists::SharedLists;
 pub use size::{DEPTH, NODES, fits};
 pub use tree::{Arm, Report, Tree, discard};

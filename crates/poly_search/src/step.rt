@@ -13,7 +13,7 @@ ghost use Rattle.poly_search.specs.Searches.{IsExplored};
 use crate::growth::{Growth, grow};
 use poly_atom::Atom;
 use poly_grid::Refusal;
-use poly_report::{DEPTH, Frame, Gathered, Leaves, Matrix, NODES, Tree};
+use poly_report::{DEPTH, Frame, Gathered, Leaves, Matrix, NODES, Room, Tree};
 use poly_tiling::View;
 use std::alloc::Global;
 
@@ -92,14 +92,16 @@ fn explore_kept(
     ensures tree { IfOk result (λ e. IsExplored view.now atoms.now nodes (plan_of e.tree) e.leaves.tilings.items e.leaves.rests) }
     ensures why { IfErr result (λ e. e ≡ Refusal.Memory) }
 {
-    let (explored, _) = explore_within(alloc, view, whole, whole, atoms, nodes, true)?;
+    let mut room = Room::new(alloc);
+    let (explored, _) = explore_within(alloc, view, whole, whole, atoms, nodes, true, &mut room)?;
     Ok(explored)
 }
 
 /// The leaves that `explore_over` gathers, without the tree, which takes less time. Begins with `part`, which takes less time the
 /// fewer columns `part` has. Requires that `part` is a matrix of the view with a column for each placement that is open at the
 /// atoms. Also returns the matrix that the search made for the atoms, if it made one. That matrix can be the `part` of each task
-/// whose atoms go on from these. The only refusal is `Memory`.
+/// whose atoms go on from these. The search uses the memory of `room`, and leaves it there for the next one. The only refusal is
+/// `Memory`.
 pub fn leaves_within(
     alloc: Global,
     view: &View,
@@ -107,6 +109,7 @@ pub fn leaves_within(
     part: &Matrix,
     atoms: &[Atom],
     nodes: u32,
+    room: &mut Room,
 ) -> Result<(Leaves, Option<Matrix>), Refusal>
     requires whole { IsWhole view.now whole.now }
     requires part { IsMatrix view.now part.now }
@@ -117,12 +120,13 @@ pub fn leaves_within(
     ensures own { IfOk result (λ r. IfSome r.1 (λ m. IsMatrix view.now m × HasOpen view.now atoms.now m)) }
     ensures why { IfErr result (λ e. e ≡ Refusal.Memory) }
 {
-    let (explored, own) = explore_within(alloc, view, whole, part, atoms, nodes, false)?;
+    let (explored, own) = explore_within(alloc, view, whole, part, atoms, nodes, false, room)?;
     let Explored { leaves, tree: _ } = explored;
     Ok((leaves, own))
 }
 
-// Searches the atoms, and keeps the tree if `keep` is set. If not, the tree that is returned says nothing.
+// Searches the atoms, and keeps the tree if `keep` is set. If not, the tree that is returned says nothing. The frame uses the
+// memory of `room`, and leaves it there.
 fn explore_within(
     alloc: Global,
     view: &View,
@@ -131,6 +135,7 @@ fn explore_within(
     atoms: &[Atom],
     nodes: u32,
     keep: bool,
+    room: &mut Room,
 ) -> Result<(Explored, Option<Matrix>), Refusal>
     requires whole { IsWhole view.now whole.now }
     requires part { IsMatrix view.now part.now }
@@ -141,7 +146,8 @@ fn explore_within(
     ensures own { IfOk result (λ r. IfSome r.1 (λ m. IsMatrix view.now m × HasOpen view.now atoms.now m)) }
     ensures why { IfErr result (λ e. e ≡ Refusal.Memory) }
 {
-    let mut frame = Frame::within(alloc, view, whole, part, atoms)?;
+    let taken = room.take(alloc);
+    let mut frame = Frame::within(alloc, view, whole, part, atoms, taken)?;
     let mut growth = Growth {
         nodes: NODES,
         inner: nodes,
@@ -153,7 +159,9 @@ fn explore_within(
     let tree = grow(alloc, &mut frame, &mut growth, 0, DEPTH, true)?;
     let Growth { gathered, .. } = growth;
     let leaves = gathered.into_leaves(alloc, atoms)?;
-    Ok((Explored { tree, leaves }, frame.into_matrix()))
+    let (own, left) = frame.into_parts(alloc);
+    room.put_back(left);
+    Ok((Explored { tree, leaves }, own))
 }
 
 /// Returns a tree that divides the family of the atoms, with at most `nodes` nodes that aren't Rest; `nodes` is from 1 to

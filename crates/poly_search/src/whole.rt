@@ -5,7 +5,7 @@ ghost use Rattle.poly_search.specs.Whole.{HasMore, IsFamily};
 use crate::lister::{Listing, sweep};
 use poly_atom::Atom;
 use poly_grid::Refusal;
-use poly_report::{DEPTH, Frame, Matrix, STEPS};
+use poly_report::{DEPTH, Frame, Matrix, Room, STEPS};
 use poly_tiling::{MAX_TILINGS, Tiling, View};
 use std::alloc::Global;
 
@@ -25,10 +25,13 @@ pub fn search_all(alloc: Global, view: &View, atoms: &[Atom]) -> Result<Vec<Tili
         options: Vec::new(alloc),
     };
     list.rests.push(Vec::from_slice(alloc, atoms)?)?;
+    let mut room = Room::new(alloc);
     while let Some(next) = list.rests.pop() {
-        let mut frame = Frame::over(alloc, view, &whole, &next)?;
+        let mut frame = Frame::within(alloc, view, &whole, &whole, &next, room.take(alloc))?;
         let end = frame.level() + STEPS;
         sweep(alloc, &mut frame, &mut list, end, DEPTH)?;
+        let (_, left) = frame.into_parts(alloc);
+        room.put_back(left);
         if list.found.len() > MAX_TILINGS {
             return Err(Refusal::CatalogueFull);
         }

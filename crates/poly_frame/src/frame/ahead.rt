@@ -34,7 +34,8 @@ const NOTED: usize = 8;
 pub(crate) struct Guesses {
     /// The index of the scarcest item, if it is known.
     pub(crate) scarcest: Option<usize>,
-    /// The index of the item that starved last. The next placement often starves it as well, so it is looked at first.
+    /// The index of the item that starved last, or `usize::MAX`. The next placement often starves it as well, so it is looked at
+    /// first.
     pub(crate) starved: usize,
 }
 
@@ -43,7 +44,7 @@ impl Guesses {
     pub(crate) fn none() -> Guesses {
         Guesses {
             scarcest: None,
-            starved: 0,
+            starved: usize::MAX,
         }
     }
 }
@@ -192,7 +193,7 @@ fn leave_open(node: &Node<'_>, steps: &Steps, j: usize, row: &mut [u64])
 }
 
 // The scarcest of the items that are noted as due, if these numbers are open.
-fn scarcest_in(node: &Node<'_>, steps: &Steps, row: &[u64], due: &[u64], first: usize) -> Scarce
+fn scarcest_in(node: &Node<'_>, steps: &Steps, row: &[u64], due: &[u64], guess: usize) -> Scarce
     requires kept { IsAt node.now steps.now }
     requires row { length row.now ≡ node.now.matrix.now.width }
 {
@@ -206,7 +207,7 @@ fn scarcest_in(node: &Node<'_>, steps: &Steps, row: &[u64], due: &[u64], first: 
         leasts: &node.table.leasts,
         single: node.table.single,
     };
-    scarcest(row, &rows, &needs, due, first)
+    scarcest(row, &rows, &needs, due, guess)
 }
 
 // The item at `b`, if it is known that too few placements that have it are left once the number at `j` is taken. `row` has the

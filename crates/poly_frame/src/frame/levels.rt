@@ -15,7 +15,7 @@ use crate::frame::matrix::{Columns, Matrix, columns_of};
 use crate::frame::node::Node;
 use crate::frame::notes::notes_of;
 use crate::frame::opened::open_row;
-use crate::frame::steps::{Steps, start};
+use crate::frame::steps::{Mark, Steps, start};
 use crate::frame::table::{Table, counts_of, table_of};
 use crate::frame::wanted::{Wanted, wanted_of};
 use crate::frame::{STEPS, consistent};
@@ -50,9 +50,50 @@ struct Counted {
     wanted: Wanted,
 }
 
+/// The memory of what a frame kept besides its lists.
+#[derive(Drop)]
+pub(crate) struct Spare {
+    /// Rows of open columns.
+    pub(crate) live: Vec<u64>,
+    /// Indices of items.
+    pub(crate) raised: Vec<usize>,
+    /// What was needed to undo steps.
+    pub(crate) marks: Vec<Mark>,
+    /// A matrix.
+    pub(crate) matrix: Matrix,
+}
+
+impl Spare {
+    /// No memory.
+    pub(crate) fn none(alloc: Global) -> Spare {
+        Spare {
+            live: Vec::new(alloc),
+            raised: Vec::new(alloc),
+            marks: Vec::new(alloc),
+            matrix: Matrix::none(alloc),
+        }
+    }
+
+    /// The memory of the steps.
+    pub(crate) fn of(alloc: Global, steps: Steps) -> Spare {
+        let Steps {
+            live,
+            raised,
+            marks,
+            ..
+        } = steps;
+        Spare {
+            live,
+            raised,
+            marks,
+            matrix: Matrix::none(alloc),
+        }
+    }
+}
+
 /// The levels of a frame at the atoms; `members` is their base. `part` has a column for each placement that is open there.
 /// `whole` is a matrix that has columns for the members, too, or `None` if that is `part`; if a member has no column there, the
-/// base is not known to be consistent.
+/// base is not known to be consistent. Overwrites `spare`.
 pub(crate) fn levels_of<'a>(
     alloc: Global,
     view: &View,
@@ -60,6 +101,7 @@ pub(crate) fn levels_of<'a>(
     whole: Option<&Matrix>,
     atoms: &[Atom],
     members: &[u32],
+    spare: Spare,
 ) -> Result<Levels<'a>, Refusal>
     requires part { IsMatrix view.now (matrix_of part) }
     requires whole { IfSome whole (λ m. IsMatrix view.now m.now) }
@@ -71,8 +113,23 @@ pub(crate) fn levels_of<'a>(
     ensures room { IfOk result (λ l. HasRoom (matrix_of l.columns) l.steps) }
     ensures why { IfErr result (λ e. e ≡ Refusal.Memory) }
 {
-    let (row, counted) = counted_row(alloc, view, part.matrix(), whole, atoms, members)?;
-    let (columns, row) = columns_of(alloc, view, part, row)?;
+    let Spare {
+        live,
+        raised,
+        marks,
+        matrix,
+    } = spare;
+    let (row, counted) = counted_row(
+        alloc,
+        view,
+        part.matrix(),
+        whole,
+        atoms,
+        members,
+        live,
+        raised,
+    )?;
+    let (columns, row) = columns_of(alloc, view, part, row, matrix)?;
     let Counted {
         consistent,
         have,
@@ -89,7 +146,7 @@ pub(crate) fn levels_of<'a>(
         table: &table,
     };
     let due = notes_of(alloc, &table.leasts, &have)?;
-    let steps = start(&node, row, have, due, raised, Vec::new(alloc))?;
+    let steps = start(&node, row, have, due, raised, marks)?;
     Ok(Levels {
         consistent,
         columns,
@@ -98,7 +155,8 @@ pub(crate) fn levels_of<'a>(
     })
 }
 
-// The row of the columns that are open at the atoms, and what is counted before the columns are chosen.
+// The row of the columns that are open at the atoms, and what is counted before the columns are chosen. Overwrites `live` and
+// `raised`.
 fn counted_row(
     alloc: Global,
     view: &View,
@@ -106,6 +164,8 @@ fn counted_row(
     whole: Option<&Matrix>,
     atoms: &[Atom],
     members: &[u32],
+    live: Vec<u64>,
+    raised: Vec<usize>,
 ) -> Result<(Vec<u64>, Counted), Refusal>
     requires part { IsMatrix view.now part.now }
     requires whole { IfSome whole (λ m. IsMatrix view.now m.now) }
@@ -123,10 +183,12 @@ fn counted_row(
     ensures leasts { IfOk result (λ r. LeastsShow view.now atoms.now r.1.wanted.leasts.items) }
     ensures why { IfErr result (λ e. e ≡ Refusal.Memory) }
 {
-    let mut raised = Vec::with_capacity(alloc, STEPS * PLACEMENT_ITEMS)?;
+    let mut raised = raised;
+    raised.clear();
+    raised.reserve(STEPS * PLACEMENT_ITEMS)?;
     let have = counts_of(alloc, view, members, &part.cells, &mut raised)?;
     let wanted = wanted_of(alloc, view, atoms, &part.cells)?;
-    let row = open_row(alloc, view, part, atoms, members, &wanted.mosts, &have)?;
+    let row = open_row(view, part, atoms, members, &wanted.mosts, &have, live)?;
     let whole = whole.unwrap_or(part);
     let consistent = consistent::begin(view, whole, atoms, members, &wanted.mosts, &have);
     Ok((

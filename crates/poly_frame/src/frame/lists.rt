@@ -22,8 +22,18 @@ pub(crate) struct Lists {
     pub(crate) options: Vec<u32>,
 }
 
-/// The lists of a frame at the atoms, without steps.
-pub(crate) fn lists_of(alloc: Global, view: &View, atoms: &[Atom]) -> Result<Lists, Refusal>
+/// Empty lists, which take no memory.
+pub(crate) fn no_lists(alloc: Global) -> Lists {
+    Lists {
+        trail: Vec::new(alloc),
+        members: Vec::new(alloc),
+        sizes: Vec::new(alloc),
+        options: Vec::new(alloc),
+    }
+}
+
+/// The lists of a frame at the atoms, without steps. Overwrites `spare`.
+pub(crate) fn lists_of(view: &View, atoms: &[Atom], spare: Lists) -> Result<Lists, Refusal>
     ensures kept { IfOk result (λ l. IsKept view.now l.trail (length atoms.now) l.members l.options) }
     ensures trail { IfOk result (λ l. l.trail.items ≡ atoms.now) }
     ensures sizes { IfOk result (λ l. l.sizes.items ≡ []) }
@@ -31,12 +41,22 @@ pub(crate) fn lists_of(alloc: Global, view: &View, atoms: &[Atom]) -> Result<Lis
     ensures why { IfErr result (λ e. e ≡ Refusal.Memory) }
 {
     let given = atoms.len();
-    let mut trail = Vec::with_capacity(alloc, given.saturating_add(STEPS))?;
+    let Lists {
+        mut trail,
+        mut members,
+        mut sizes,
+        mut options,
+    } = spare;
+    trail.clear();
+    trail.reserve(given.saturating_add(STEPS))?;
     trail.extend_from_slice(atoms)?;
-    let mut members = Vec::with_capacity(alloc, view.pins().len() + given + STEPS)?;
+    members.clear();
+    members.reserve(view.pins().len() + given + STEPS)?;
     plain::make_base(view, atoms, &mut members);
-    let sizes = Vec::with_capacity(alloc, STEPS)?;
-    let options = Vec::with_capacity(alloc, view.live().len())?;
+    sizes.clear();
+    sizes.reserve(STEPS)?;
+    options.clear();
+    options.reserve(view.live().len())?;
     Ok(Lists {
         trail,
         members,

@@ -186,12 +186,14 @@ fn is_dense(matrix: &Matrix, row: &[u64]) -> bool {
 }
 
 /// Chooses the matrix that a frame reads, and returns it with its row of open columns: the given matrix and row, or a new
-/// matrix of the open columns alone if many of the given columns are closed.
+/// matrix of the open columns alone if many of the given columns are closed. Overwrites `spare`, a matrix that is not used any
+/// more.
 pub(crate) fn columns_of<'a>(
     alloc: Global,
     view: &View,
     part: Columns<'a>,
     row: Vec<u64>,
+    spare: Matrix,
 ) -> Result<(Columns<'a>, Vec<u64>), Refusal>
     requires part { IsMatrix view.now (matrix_of part) }
     requires len { length row.items ≡ (matrix_of part).width }
@@ -204,8 +206,8 @@ pub(crate) fn columns_of<'a>(
     if is_dense(part.matrix(), &row) {
         return Ok((part, row));
     }
-    let narrow = narrowed(alloc, view, part.matrix(), &row, Matrix::none(alloc))?;
-    let first = first_row(narrow.numbers.len(), narrow.width, Vec::new(alloc))?;
+    let narrow = narrowed(alloc, view, part.matrix(), &row, spare)?;
+    let first = first_row(narrow.numbers.len(), narrow.width, row)?;
     Ok((Columns::Own(narrow), first))
 }
 

@@ -16,7 +16,6 @@ use crate::frame::matrix::Matrix;
 use poly_atom::Atom;
 use poly_grid::Refusal;
 use poly_tiling::{Bound, Item, View};
-use std::alloc::Global;
 
 fn is_shut_at(item: &Item, most: u8, have: u64) -> bool
     ensures { result ≡ shut_at item.now most have }
@@ -39,12 +38,15 @@ fn ones() -> u64
     !0
 }
 
-fn full_row(alloc: Global, width: usize) -> Result<Vec<u64>, Refusal>
+// A row of `width` words in which each bit is set. Overwrites `spare`.
+fn full_row(width: usize, spare: Vec<u64>) -> Result<Vec<u64>, Refusal>
     ensures len { IfOk result (λ r. length r.items ≡ width) }
     ensures bits { IfOk result (λ r. (j : ℕ) → j < 64 * width → has_bit r.items j ≡ true) }
     ensures why { IfErr result (λ e. e ≡ Refusal.Memory) }
 {
-    let row = vec![in alloc; ones(); width]?;
+    let mut row = spare;
+    row.clear();
+    row.resize(width, ones())?;
     Ok(row)
 }
 
@@ -143,15 +145,15 @@ fn take_out_members(whole: &Matrix, members: &[u32], row: &mut Vec<u64>)
 }
 
 /// A row with a bit for each number of the matrix that is open at the atoms. `members` is their base, `mosts` is how many
-/// members may have each item at most, and `have` how many have it.
+/// members may have each item at most, and `have` how many have it. Overwrites `spare`.
 pub(crate) fn open_row(
-    alloc: Global,
     view: &View,
     whole: &Matrix,
     atoms: &[Atom],
     members: &[u32],
     mosts: &[u8],
     have: &[u64],
+    spare: Vec<u64>,
 ) -> Result<Vec<u64>, Refusal>
     requires part { IsMatrix view.now whole.now }
     requires base { members.now ≡ base view.now atoms.now }
@@ -163,7 +165,7 @@ pub(crate) fn open_row(
     ensures value { IfOk result (λ r. RowOf (λ p. open_in view.now atoms.now p) whole.now r.items) }
     ensures why { IfErr result (λ e. e ≡ Refusal.Memory) }
 {
-    let mut row = full_row(alloc, whole.width)?;
+    let mut row = full_row(whole.width, spare)?;
     take_out_shut(view.items(), whole, mosts, have, &mut row);
     take_out_lacked(whole, atoms, &mut row);
     take_out_members(whole, members, &mut row);

@@ -234,7 +234,7 @@ fn is_due_at(node: &Node<'_>, steps: &Steps, b: usize) -> bool
 
 // The index of an item that is due and noted as due; `None` if there is none, or if a note is wrong. An item that has too few
 // options comes first, then one with the fewest options beyond what it still needs.
-fn next_noted(node: &Node<'_>, steps: &Steps, first: usize) -> Option<usize>
+fn next_noted(node: &Node<'_>, steps: &Steps, guess: usize) -> Option<usize>
     requires kept { IsAt node.now steps.now }
     ensures { IfSome result (λ b. (b < length steps.now.have.items) × (nat_lt (slice_index steps.now.have.items b) (slice_index node.now.table.now.leasts.items b) ≡ true)) }
 {
@@ -250,7 +250,7 @@ fn next_noted(node: &Node<'_>, steps: &Steps, first: usize) -> Option<usize>
         leasts: &node.table.leasts,
         single: node.table.single,
     };
-    let best = scarcest(live, &rows, &needs, &steps.due, first);
+    let best = scarcest(live, &rows, &needs, &steps.due, guess);
     if best.spare < usize::MAX && is_due_at(node, steps, best.index) {
         Some(best.index)
     } else {

@@ -1,9 +1,12 @@
-//! The scarcest of the items that are noted as due. This runs at each node of a search, so it reads plain words, and only one
-//! of its two loops looks which words of a row are empty. Nothing is proved here but that no index is out of range: the caller
-//! tests whether the item that is found is due.
+//! The scarcest of the items that are noted as due. This runs at each node of a search, so it reads plain words. If the rows are
+//! narrow and each item is asked for once, the options of all items are counted to the end: to stop early, or to look for empty
+//! words, would cost more there than it saves. Nothing is proved here but that no index is out of range: the caller tests
+//! whether the item that is found is due.
 ghost use Rattle.std.specs.Prelude.{length, ◌*◌, ◌<◌, ◌≡◌};
 
-use crate::frame::occupied::{Occupied, common, count_common, is_narrow, occupied_words};
+use crate::frame::occupied::{
+    Occupied, common, count_all, count_common, is_narrow, occupied_words,
+};
 
 // The most words of notes that are read: a note for each of 8,192 items. A design has at most 320.
 const NOTED: usize = 128;
@@ -73,19 +76,19 @@ fn none_found() -> Scarce {
     }
 }
 
-// What the item at `first` alone tells, if its bit is set in `due`: that it has no options to spare, or that the scarcest item
+// What the item at `guess` alone tells, if its bit is set in `due`: that it has no options to spare, or that the scarcest item
 // has at most as many as it has. One more is given as its spare options, so that an item before it that has as many comes first.
-fn bound_by(live: &[u64], rows: &Rows<'_>, needs: &Needs<'_>, due: &[u64], first: usize) -> Scarce
+fn bound_by(live: &[u64], rows: &Rows<'_>, needs: &Needs<'_>, due: &[u64], guess: usize) -> Scarce
     requires { length rows.now.words.now ≡ length live.now * rows.now.items }
 {
-    let k = first / 64;
-    if first >= rows.items || k >= due.len() || (due[k] >> (first % 64)) & 1 == 0 {
+    let k = guess / 64;
+    if guess >= rows.items || k >= due.len() || (due[k] >> (guess % 64)) & 1 == 0 {
         return none_found();
     }
-    let row = row_at(rows.words, live.len(), rows.items, first);
-    let spare = count_common(live, row, usize::MAX).saturating_sub(further(needs, first));
+    let row = row_at(rows.words, live.len(), rows.items, guess);
+    let spare = count_common(live, row, usize::MAX).saturating_sub(further(needs, guess));
     Scarce {
-        index: first,
+        index: guess,
         spare: if spare == 0 {
             0
         } else {
@@ -95,28 +98,29 @@ fn bound_by(live: &[u64], rows: &Rows<'_>, needs: &Needs<'_>, due: &[u64], first
 }
 
 /// The item with the fewest options to spare among those whose bit is set in `due`. `live` is the row of the open columns.
-/// Stops at an item that has too few options, and looks at the item at `first` before the others.
+/// Looks at the item at `guess` before the others, and stops at an item that has too few options.
 pub(crate) fn scarcest(
     live: &[u64],
     rows: &Rows<'_>,
     needs: &Needs<'_>,
     due: &[u64],
-    first: usize,
+    guess: usize,
 ) -> Scarce
     requires { length rows.now.words.now ≡ length live.now * rows.now.items }
 {
-    let best = bound_by(live, rows, needs, due, first);
+    let best = bound_by(live, rows, needs, due, guess);
     if !is_narrow(live) {
-        all_wide(live, rows, needs, due, best)
+        let occupied = occupied_words(live);
+        scarcest_of_all(live, &Some(occupied), rows, needs, due, best)
     } else if needs.single {
-        all_single(live, rows, due, best)
+        scarcest_single(live, rows, due, best)
     } else {
-        all_narrow(live, rows, needs, due, best)
+        scarcest_of_all(live, &None, rows, needs, due, best)
     }
 }
 
-// Does what `scarcest` does, for narrow rows, if at most one member with each item is asked for. `best` is what is known before.
-fn all_single(live: &[u64], rows: &Rows<'_>, due: &[u64], best: Scarce) -> Scarce
+// The scarcest of `best` and the items whose bits are set in `due`, for narrow rows, if each item is asked for at most once.
+fn scarcest_single(live: &[u64], rows: &Rows<'_>, due: &[u64], best: Scarce) -> Scarce
     requires { length rows.now.words.now ≡ length live.now * rows.now.items }
 {
     let mut best = best;
@@ -124,62 +128,55 @@ fn all_single(live: &[u64], rows: &Rows<'_>, due: &[u64], best: Scarce) -> Scarc
         if best.spare == 0 {
             return best;
         }
-        best = scarcest_single(live, rows, 64 * k, due[k], best);
+        best = scarcest_in_word(live, rows, 64 * k, due[k], best);
     }
     best
 }
 
-// Does what `scarcest` does, for narrow rows.
-fn all_narrow(live: &[u64], rows: &Rows<'_>, needs: &Needs<'_>, due: &[u64], best: Scarce) -> Scarce
-    requires { length rows.now.words.now ≡ length live.now * rows.now.items }
-{
-    let mut best = best;
-    for k in 0..due.len().min(NOTED) {
-        best = scarcest_narrow(live, rows, needs, 64 * k, due[k], best);
-    }
-    best
-}
-
-// Does what `scarcest` does, for rows that aren't narrow.
-fn all_wide(live: &[u64], rows: &Rows<'_>, needs: &Needs<'_>, due: &[u64], best: Scarce) -> Scarce
-    requires { length rows.now.words.now ≡ length live.now * rows.now.items }
-{
-    let occupied = occupied_words(live);
-    let mut best = best;
-    for k in 0..due.len().min(NOTED) {
-        best = scarcest_wide(live, &occupied, rows, needs, 64 * k, due[k], best);
-    }
-    best
-}
-
-// The scarcest of `best` and the items whose bits are set in the word. Bit 0 is that of the item at `first`. The caller stops
-// once `best` has no options to spare.
-fn scarcest_single(live: &[u64], rows: &Rows<'_>, first: usize, word: u64, best: Scarce) -> Scarce
+// Does what `scarcest_single` does for the items whose bits are set in the word. Bit 0 is that of the item at `first`. No branch
+// depends on a count.
+fn scarcest_in_word(live: &[u64], rows: &Rows<'_>, first: usize, word: u64, best: Scarce) -> Scarce
     requires words { length rows.now.words.now ≡ length live.now * rows.now.items }
     requires small { first < 64 * NOTED }
 {
-    let mut best = best;
+    let mut index = best.index;
+    let mut spare = best.spare;
     let mut left = word;
     while left != 0 {
         let b = first + left.trailing_zeros() as usize;
         left &= left - 1;
         if b < rows.items {
-            let row = row_at(rows.words, live.len(), rows.items, b);
-            let spare = count_common(live, row, best.spare);
-            if spare < best.spare {
-                best = Scarce { index: b, spare };
-                if spare == 0 {
-                    return best;
-                }
-            }
+            let count = count_all(live, row_at(rows.words, live.len(), rows.items, b));
+            index = if count < spare { b } else { index };
+            spare = spare.min(count);
         }
+    }
+    Scarce { index, spare }
+}
+
+// The scarcest of `best` and the items whose bits are set in `due`. `occupied` are the occupied words of `live`; if there are
+// none, all words are read.
+fn scarcest_of_all(
+    live: &[u64],
+    occupied: &Option<Occupied>,
+    rows: &Rows<'_>,
+    needs: &Needs<'_>,
+    due: &[u64],
+    best: Scarce,
+) -> Scarce
+    requires { length rows.now.words.now ≡ length live.now * rows.now.items }
+{
+    let mut best = best;
+    for k in 0..due.len().min(NOTED) {
+        best = scarcest_of_word(live, occupied, rows, needs, 64 * k, due[k], best);
     }
     best
 }
 
-// Does what `scarcest_single` does, if more than one member with an item may be asked for.
-fn scarcest_narrow(
+// Does what `scarcest_of_all` does for the items whose bits are set in the word. Bit 0 is that of the item at `first`.
+fn scarcest_of_word(
     live: &[u64],
+    occupied: &Option<Occupied>,
     rows: &Rows<'_>,
     needs: &Needs<'_>,
     first: usize,
@@ -199,9 +196,8 @@ fn scarcest_narrow(
         left &= left - 1;
         if b < rows.items {
             let further = further(needs, b);
-            let row = row_at(rows.words, live.len(), rows.items, b);
             let most = best.spare.saturating_add(further);
-            let spare = count_common(live, row, most).saturating_sub(further);
+            let spare = options_at(live, occupied, rows, b, most).saturating_sub(further);
             if spare < best.spare {
                 best = Scarce { index: b, spare };
             }
@@ -210,38 +206,20 @@ fn scarcest_narrow(
     best
 }
 
-// Does what `scarcest_narrow` does, but passes over words that are empty in one of the two rows.
-fn scarcest_wide(
+// How many open columns the row at `b` has. A count that reaches `most` may stop there.
+fn options_at(
     live: &[u64],
-    occupied: &Occupied,
+    occupied: &Option<Occupied>,
     rows: &Rows<'_>,
-    needs: &Needs<'_>,
-    first: usize,
-    word: u64,
-    best: Scarce,
-) -> Scarce
+    b: usize,
+    most: usize,
+) -> usize
     requires words { length rows.now.words.now ≡ length live.now * rows.now.items }
-    requires small { first < 64 * NOTED }
+    requires inside { b < rows.now.items }
 {
-    let mut best = best;
-    let mut left = word;
-    for _turn in 0..64u32 {
-        if left == 0 || best.spare == 0 {
-            return best;
-        }
-        let b = first + left.trailing_zeros() as usize;
-        left &= left - 1;
-        if b < rows.items {
-            let further = further(needs, b);
-            let row = row_at(rows.words, live.len(), rows.items, b);
-            let most = best.spare.saturating_add(further);
-            let spare = common(live, occupied, row, &occupied_at(rows, b), most).saturating_sub(
-                further,
-            );
-            if spare < best.spare {
-                best = Scarce { index: b, spare };
-            }
-        }
+    let row = row_at(rows.words, live.len(), rows.items, b);
+    match occupied {
+        None => count_common(live, row, most),
+        Some(some) => common(live, some, row, &occupied_at(rows, b), most),
     }
-    best
 }

@@ -109,17 +109,25 @@ fn is_starved_at(node: &Node<'_>, steps: &Steps, b: usize, j: usize) -> bool
     )
 }
 
-// Whether no number is both in the row `left` and in the matrix's row at word `from`.
+// The bits that one of the words has.
+fn either(word: u64, other: u64) -> u64
+    ensures first { result ≡ 0 → word ≡ 0 }
+    ensures second { result ≡ 0 → other ≡ 0 }
+{
+    word | other
+}
+
+// Whether no number is both in the row `left` and in the matrix's row at word `from`. Reads the rows to their ends: to stop early
+// would cost more than it saves.
 fn has_none(left: &[u64], rows: &[u64], from: usize) -> bool
     requires { from + length left.now ≤ length rows.now }
     ensures { result ≡ true → (k t : ℕ) → k < length left.now → t < 64 → (bit_at (slice_index left.now k) t == 1) ≡ true → (bit_at (slice_index rows.now (from + k)) t == 1) ≡ false }
 {
+    let mut all = 0u64;
     for k in 0..left.len() {
-        if bits::both(left[k], rows[from + k]) != 0 {
-            return false;
-        }
+        all = either(all, bits::both(left[k], rows[from + k]));
     }
-    true
+    all == 0
 }
 
 /// Does what `is_starved_at` does, in less time, if no item may have several members. `left` has the open numbers without those

@@ -89,7 +89,7 @@ fn limits_of(alloc: Global, bounds: &[Bound], mosts: &[u8]) -> Result<Vec<u8>, R
     ensures value { IfOk result (λ l. (b : ℕ) → b < length bounds.now → slice_index l.items b ≡ limit_at (item_at bounds.now b) (slice_index mosts.now b)) }
     ensures why { IfErr result (λ e. e ≡ Refusal.Memory) }
 {
-    let mut limits = Vec::new(alloc);
+    let mut limits = Vec::with_capacity(alloc, bounds.len())?;
     for b in 0..bounds.len() {
         limits.push(limit(&bounds[b].item, mosts[b]))?;
     }

@@ -1,9 +1,18 @@
-use Rattle.std.proofs.Common.{arith, inr, length, rules, subst, sym, true, ◌≡◌, ◌≤◌}
+use Rattle.std.proofs.Common.{arith, inr, length, refl, rules, subst, sym, true, ◌≡◌, ◌≤◌}
 use Rattle.poly_book.specs.Keeps.{state_of}
 use Rattle.poly_book.specs.Settled.{Cuts, IsNotTurned, IsTurn}
+use Rattle.poly_book.proofs.Hoping.{hopeful_end}
 use Rattle.poly_book.proofs.Nexting.{none_pending}
-use Rattle.poly_book.proofs.Settles.{cuts_on, reported_on}
+use Rattle.poly_book.proofs.Settles.{cuts_none, cuts_on, reported_on}
 use Rattle.poly_book.proofs.settle.settle_all.Goals as goal
+
+pub loop-applied-init : goal.loop-applied-init
+loop-applied-init c = record {
+  keeps = c.requires.keeps;
+  cuts = cuts_none (state_of c.args.parts.now);
+  reports = refl;
+  sure = hopeful_end c.args.parts.now c.len-unsure.result (omega (arith, c.len-unsure.ensures));
+}
 
 pub returns-in-Err-clause-why : goal.returns-in-Err-clause-why
 returns-in-Err-clause-why c =

@@ -21,7 +21,7 @@ returns-clause-tree c =
 pub returns-clause-own : goal.returns-clause-own
 returns-clause-own c =
     let here = c.in_ok-tree.ensures.same ∙ c.in_ok-frame.ensures.made in
-    let m = c.into_matrix in
+    let m = c.into_parts-own in
     let w = c.grow.new.frame in
-    let both = both_some m.result (λ x. IsMatrix w.scene x) (λ x. HasOpen w.scene w.atoms x) m.ensures.part m.ensures.all in
-    subst (λ (x : Walk). IfSome m.result (λ y. IsMatrix x.scene y × HasOpen x.scene x.atoms y)) here both
+    let both = both_some m.result.0 (λ x. IsMatrix w.scene x) (λ x. HasOpen w.scene w.atoms x) m.ensures.part m.ensures.all in
+    subst (λ (x : Walk). IfSome m.result.0 (λ y. IsMatrix x.scene y × HasOpen x.scene x.atoms y)) here both

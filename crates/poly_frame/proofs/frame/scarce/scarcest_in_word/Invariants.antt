@@ -1,4 +1,4 @@
-use Rattle.poly_frame.proofs.frame.scarce.scarcest_single.Given as goal
+use Rattle.poly_frame.proofs.frame.scarce.scarcest_in_word.Given as goal
 
 abbrev pub decreases-loop-left : goal.decreases-loop-left
 decreases-loop-left l = l.left

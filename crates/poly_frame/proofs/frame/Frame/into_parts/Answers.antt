@@ -5,7 +5,7 @@ use Rattle.poly_frame.specs.Matrices.{matrix_of}
 use Rattle.poly_frame.specs.Walk.{Walk}
 use Rattle.poly_frame.specs.declared.frame.matrix.Matrix.{Matrix}
 use Rattle.poly_frame.proofs.Opens.{has_open_after}
-use Rattle.poly_frame.proofs.frame.Frame.into_matrix.Goals as goal
+use Rattle.poly_frame.proofs.frame.Frame.into_parts.Goals as goal
 
 pub returns-clause-all : goal.returns-clause-all
 returns-clause-all c =
