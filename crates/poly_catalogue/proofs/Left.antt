@@ -10,6 +10,7 @@ use Rattle.poly_catalogue.specs.Index.{Agree, HasEntry, HasPart, IsIndex, IsPart
 use Rattle.poly_catalogue.specs.Listed.{AreIndicesWith}
 use Rattle.poly_catalogue.specs.Rows.{Puts, at, but, half, moved, over, row, span}
 use Rattle.poly_catalogue.proofs.Agreed.{but_else, but_here, given, part_once, respects, taken, taken_over}
+use Rattle.poly_catalogue.proofs.Single.{distinct_from, once_tally}
 use Rattle.poly_catalogue.proofs.Spans.{half_all, half_none, over_moved, span_empty, span_grows, span_more, span_whole}
 
 some_is : {X : Type 0} (x y : X) (o : Option X) → o ≡ Some x → o ≡ Some y → x ≡ y
@@ -122,4 +123,10 @@ indices_with ts bs rs p x = record {
   exact = λ t. same_truth (mem (row rs p) t) (mem (row ts t) p)
       (λ h. let i = in_get (row rs p) t (mem_in (row rs p) t h) in let b = x.agree.backed p i.0 t i.1 in in_mem (row ts t) p (get_in (row ts t) b.0 p b.1))
       (λ h. let i = in_get (row ts t) p (mem_in (row ts t) p h) in let e = x.agree.entered t i.0 p i.1 in in_mem (row rs p) t (get_in (row rs p) e.0 t e.2));
+  apart = distinct_from (row rs p) (λ i j t a b.
+      let u = x.agree.backed p i t a in
+      let v = x.agree.backed p j t b in
+      let k : u.0 ≡ v.0 = x.once t u.0 v.0 p u.1 v.1 in
+      some_is i j (at bs t v.0) (sym (ap (λ z. at bs t z) k) ∙ u.2) v.2);
+  once = λ t. once_tally (row ts t) p (λ k l a b. x.once t k l p a b);
 }

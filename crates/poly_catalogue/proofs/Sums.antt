@@ -50,12 +50,15 @@ kept_in q p a b k all = all_from q b (λ T i. true_from_ne_false (q T) (λ e.
 pub kept_flags : (p : List ℕ → Bool) (a b : List (List ℕ)) (n m : ℕ) → Keeps p a b → m ≡ n → HasFlags a n → HasFlags b m
 kept_flags p a b n m k e h = subst (λ z. HasFlags b z) (sym e) (record { few = h.few; low = kept_in (λ T. list_all (λ q. nat_lt q n) T) p a b k h.low })
 
--- a catalogue stays one if its list is as it was and there are enough flags, as after a refused call
-pub same_catalogue : (a b : List (List ℕ)) (n m : ℕ) → b ≡ a → HasFlags b m → IsCatalogue a n → IsCatalogue b m
-same_catalogue a b n m e h c = record { few = omega (arith, ap length e, c.few); once = subst AreOnce (sym e) c.once; flags = h }
+pub kept_room : (p : List ℕ → Bool) (a b : List (List ℕ)) (n m : ℕ) → Keeps p a b → m ≡ n → length a ≤ n → length b ≤ m
+kept_room p a b n m k e l = omega (arith, kept_short p a b k, tally_short p a, e, l)
 
-pub kept_catalogue : (p : List ℕ → Bool) (a b : List (List ℕ)) (n m : ℕ) → Keeps p a b → m ≡ n → IsCatalogue a n → IsCatalogue b m
-kept_catalogue p a b n m k e c = record { few = omega (arith, kept_short p a b k, tally_short p a, c.few); once = kept_once p a b k c.once; flags = kept_flags p a b n m k e c.flags }
+-- a catalogue stays one if its list is as it was and there are enough flags and counts, as after a refused call
+pub same_catalogue : (a b : List (List ℕ)) (n m j k : ℕ) → b ≡ a → HasFlags b m → length b ≤ k → IsCatalogue a n j → IsCatalogue b m k
+same_catalogue a b n m j k e h l c = record { few = omega (arith, ap length e, c.few); once = subst AreOnce (sym e) c.once; flags = h; room = l }
+
+pub kept_catalogue : (p : List ℕ → Bool) (a b : List (List ℕ)) (n j k : ℕ) → Keeps p a b → k ≡ j → IsCatalogue a n j → IsCatalogue b n k
+kept_catalogue p a b n j k x e c = record { few = omega (arith, kept_short p a b x, tally_short p a, c.few); once = kept_once p a b x c.once; flags = kept_flags p a b n n x refl c.flags; room = kept_room p a b j k x e c.room }
 
 filter_at : (p : List ℕ → Bool) (T : List ℕ) (a : List (List ℕ)) (b : Bool) → p T ≡ b → length (filter (λ U. not (p U)) a) + tally p a ≡ length a → length (filter (λ U. not (p U)) (T ∷ a)) + (one (p T) + tally p a) ≡ suc (length a)
 filter_at p T a true e h = rw e (omega (arith, h))

@@ -2,6 +2,7 @@ pub mod Rows
 pub mod Index
 pub mod Table
 pub mod Flags
+pub mod Counts
 pub mod Leads
 pub mod Listed
 pub mod Catalogued

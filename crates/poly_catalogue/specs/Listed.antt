@@ -1,7 +1,7 @@
 -- Lists of tilings, and the tilings in them.
-use Rattle.std.specs.Prelude.{Bool, List, false, length, slice_index_or, true, ℕ, ◌&&◌, ◌||◌, ◌<◌, ◌≡◌, ◌≤◌}
+use Rattle.std.specs.Prelude.{Bool, List, false, length, slice_index_or, true, ℕ, ◌&&◌, ◌||◌, ◌<◌, ◌==◌, ◌≡◌, ◌≤◌}
 use Rattle.std.specs.List.{list_all, list_any}
-use Rattle.poly_tiling.specs.Lists.{mem, same_list, tally}
+use Rattle.poly_tiling.specs.Lists.{distinct, mem, same_list, tally}
 use Rattle.poly_tiling.specs.Puzzle.{View, is_tiling}
 use Rattle.poly_place.specs.declared.delta.Delta.{Delta}
 use Rattle.poly_catalogue.specs.Leads.{Leads}
@@ -25,9 +25,12 @@ pub record AreOfEither (w : View) (x : Delta) (list : List (List ℕ)) : Type 0 
   pub leads : Leads before w x
   pub either : list_all (λ T. is_tiling before T || is_tiling w T) list ≡ true
 
--- `indices` has exactly the indices of the listed tilings that have the number, in any order
+-- `indices` has exactly the indices of the listed tilings that have the number, each once and in any order; no tiling has the
+-- number twice
 pub record AreIndicesWith (list : List (List ℕ)) (number : ℕ) (indices : List ℕ) : Type 0 where
   pub exact : (t : ℕ) → mem indices t ≡ mem (row list t) number
+  pub apart : distinct indices ≡ true
+  pub once : (t : ℕ) → tally (λ p. p == number) (row list t) ≤ 1
 
 -- the marked tilings of the list are those that have one of the numbers
 pub record AreMarked (list : List (List ℕ)) (numbers : List ℕ) (marks : List Bool) : Type 0 where

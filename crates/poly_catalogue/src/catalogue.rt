@@ -27,6 +27,8 @@ pub struct Catalogue {
     listing: Listing,
     /// A flag for each placement number of the tilings. Between calls the flags mean nothing.
     flags: Vec<bool>,
+    /// A count for each listed tiling. Between calls the counts mean nothing.
+    counts: Vec<u8>,
 }
 
 impl Model for Catalogue {
@@ -37,7 +39,7 @@ impl Model for Catalogue {
 
     ghost view = { λ c. c.listing };
 
-    ghost invariant = { λ c. IsCatalogue c.listing (length c.flags.items) };
+    ghost invariant = { λ c. IsCatalogue c.listing (length c.flags.items) (length c.counts.items) };
 }
 
 impl Catalogue {
@@ -49,6 +51,7 @@ impl Catalogue {
             alloc,
             listing: Listing::new(alloc),
             flags: Vec::new(alloc),
+            counts: Vec::new(alloc),
         }
     }
 
@@ -110,7 +113,13 @@ impl Catalogue {
         if tilings.len() > MAX_TILINGS - self.listing.len() {
             return Err(Refusal::CatalogueFull);
         }
-        add(&mut self.listing, &mut self.flags, view, tilings)?;
+        add(
+            &mut self.listing,
+            &mut self.flags,
+            &mut self.counts,
+            view,
+            tilings,
+        )?;
         Ok(())
     }
 
@@ -121,7 +130,13 @@ impl Catalogue {
         requires { AreOfEither view.now delta.now self.old }
         ensures { AreSame self.new (filter (is_tiling view.now) self.old) }
     {
-        keep(&mut self.listing, &mut self.flags, view, delta);
+        keep(
+            &mut self.listing,
+            &mut self.counts,
+            self.flags.len(),
+            view,
+            delta,
+        );
     }
 
     /// Copies of the tilings that `keep_only` would take away, in the order of the list. Requires what `keep_only` requires.
@@ -165,8 +180,20 @@ impl Catalogue {
         if !has_room(&self.listing, &mut self.flags, view, delta, tilings.len()) {
             return Err(Refusal::CatalogueFull);
         }
-        add(&mut self.listing, &mut self.flags, view, tilings)?;
-        keep(&mut self.listing, &mut self.flags, view, delta);
+        add(
+            &mut self.listing,
+            &mut self.flags,
+            &mut self.counts,
+            view,
+            tilings,
+        )?;
+        keep(
+            &mut self.listing,
+            &mut self.counts,
+            self.flags.len(),
+            view,
+            delta,
+        );
         Ok(())
     }
 }

@@ -14,6 +14,7 @@
 
 mod add;
 mod catalogue;
+mod counts;
 mod covering;
 mod entries;
 mod flags;

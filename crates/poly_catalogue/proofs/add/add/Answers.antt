@@ -15,6 +15,9 @@ returns-clause-flags c =
 pub returns-in_err-reach_all-clause-flags : goal.returns-in_err-reach_all-clause-flags
 returns-in_err-reach_all-clause-flags c = flags_more c.args.listing.now (length c.args.flags.now.items) (length c.reach_all.new.flags.items) c.reach_all.ensures.more c.reach_all.ensures.few c.requires.flags
 
+pub returns-in_err-reach_counts-clause-flags : goal.returns-in_err-reach_counts-clause-flags
+returns-in_err-reach_counts-clause-flags c = flags_more c.args.listing.now (length c.args.flags.now.items) (length c.reach_all.new.flags.items) c.reach_all.ensures.more c.reach_all.ensures.few c.requires.flags
+
 pub returns-in_err-push_all-clause-flags : goal.returns-in_err-push_all-clause-flags
 returns-in_err-push_all-clause-flags c =
     let n = length c.reach_all.new.flags.items in

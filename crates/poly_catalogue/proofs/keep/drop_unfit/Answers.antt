@@ -1,11 +1,13 @@
-use Rattle.std.proofs.Common.{List, Bool, length, subst, sym}
-use Rattle.poly_catalogue.specs.Flags.{within}
-use Rattle.poly_catalogue.specs.Listed.{Keeps}
-use Rattle.poly_catalogue.proofs.Flagged.{kept_fits}
+use Rattle.std.proofs.Common.{List, subst, sym, ℕ}
+use Rattle.poly_catalogue.specs.Counts.{ArePassing}
+use Rattle.poly_catalogue.specs.Stays.{fits}
+use Rattle.poly_catalogue.proofs.Raised.{fits_between}
 use Rattle.poly_catalogue.proofs.keep.drop_unfit.Goals as goal
 
 pub returns-clause-keeps : goal.returns-clause-keeps
 returns-clause-keeps c =
-    let k = subst (λ (l : List Bool). Keeps (within l c.bounds-least.result.0 c.bounds-least.result.1) c.args.listing.now c.drop_outside.new.listing) c.deref.ensures.value c.drop_outside.ensures in
-    kept_fits c.args.view.now c.args.item.now c.flag_item.new.flags.items c.bounds-least.result.0 c.bounds-least.result.1 (length c.args.flags.now.items) c.args.listing.now c.drop_outside.new.listing
-    c.flag_item.ensures.flags c.bounds-least.ensures.least c.bounds-least.ensures.most (sym c.flag_item.ensures.long) c.requires k
+    let p = fits c.args.view.now c.args.item.now in
+    let l = c.bounds-least.result.0 in
+    let m = c.bounds-least.result.1 in
+    c.drop_outside.ensures p (subst (λ (z : List ℕ). ArePassing p c.args.listing.now z l m) (sym c.deref.ensures.value)
+    (fits_between c.args.view.now c.args.item.now c.args.listing.now c.count_item.new.counts.items l m c.requires.well c.bounds-least.ensures.least c.bounds-least.ensures.most c.count_item.ensures.counts))

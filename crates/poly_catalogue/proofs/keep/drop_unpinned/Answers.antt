@@ -1,22 +1,20 @@
-use Rattle.std.proofs.Common.{arith, sym, ◌-◌, ◌∙◌}
-use Rattle.std.specs.List.{list_all}
+use Rattle.std.proofs.Common.{arith, get_or, length, refl, ◌∙◌}
 use Rattle.poly_tiling.specs.Lists.{mem}
-use Rattle.poly_catalogue.proofs.Counted.{keeps_none, swept_all, swept_first, swept_more}
+use Rattle.poly_catalogue.proofs.Counted.{keeps_first, keeps_more, keeps_whole}
+use Rattle.poly_catalogue.proofs.Sums.{kept_room}
 use Rattle.poly_catalogue.proofs.keep.drop_unpinned.Goals as goal
 
-pub loop-index-init : goal.loop-index-init
-loop-index-init c = swept_first (λ T. list_all (λ p. mem T p) c.args.pins.now) c.args.listing.now c.len-index.result c.len-index.ensures
+pub loop-pin-init : goal.loop-pin-init
+loop-pin-init c = record { keeps = keeps_first (λ p T. mem T p) c.args.pins.now c.args.listing.now; room = c.requires; long = refl }
 
-pub drop_if_unpinned-requires : goal.drop_if_unpinned-requires
-drop_if_unpinned-requires c = omega (arith, c.loop-index.invariant.low)
+pub loop-pin-preserved : goal.loop-pin-preserved
+loop-pin-preserved c =
+    let p = get_or c.args.pins.now c.loop-pin.pin-index 0 in
+    record {
+      keeps = keeps_more (λ p T. mem T p) c.args.pins.now c.loop-pin.pin-index 0 c.args.listing.now c.loop-pin.listing c.drop_lacking.new.listing c.loop-pin-test.true c.loop-pin.invariant.keeps c.drop_lacking.ensures.keeps;
+      room = kept_room (λ T. mem T p) c.loop-pin.listing c.drop_lacking.new.listing (length c.loop-pin.counts.items) (length c.drop_lacking.new.counts.items) c.drop_lacking.ensures.keeps c.drop_lacking.ensures.long c.loop-pin.invariant.room;
+      long = c.drop_lacking.ensures.long ∙ c.loop-pin.invariant.long;
+    }
 
-pub loop-index-preserved : goal.loop-index-preserved
-loop-index-preserved c =
-    swept_more (λ T. list_all (λ p. mem T p) c.args.pins.now) c.args.listing.now c.loop-index.listing c.drop_if_unpinned.new.listing (c.loop-index.index - 1) c.loop-index.index (omega arith)
-    c.loop-index.invariant c.drop_if_unpinned.ensures.front c.drop_if_unpinned.ensures.long c.drop_if_unpinned.ensures.tally
-
-pub returns : goal.returns
-returns c = swept_all (λ T. list_all (λ p. mem T p) c.args.pins.now) c.args.listing.now c.loop-index.listing c.loop-index.index (omega arith) c.loop-index.invariant
-
-pub returns-then-is_empty : goal.returns-then-is_empty
-returns-then-is_empty c = keeps_none c.args.pins.now c.args.listing.now (sym c.is_empty.ensures ∙ c.if-is_empty.true)
+pub returns-clause-keeps : goal.returns-clause-keeps
+returns-clause-keeps c = keeps_whole (λ p T. mem T p) c.args.pins.now c.loop-pin.pin-index c.args.listing.now c.loop-pin.listing c.loop-pin-test.false c.loop-pin.invariant.keeps

@@ -1,10 +1,12 @@
+use Rattle.std.proofs.Common.{length, take, ◌≡◌, ◌≤◌}
 use Rattle.std.specs.List.{list_all}
 use Rattle.poly_tiling.specs.Lists.{mem}
-use Rattle.poly_catalogue.proofs.Counted.{IsSwept}
+use Rattle.poly_catalogue.specs.Listed.{Keeps}
 use Rattle.poly_catalogue.proofs.keep.drop_unpinned.Given as goal
 
-abbrev pub invariant-loop-index : goal.invariant-loop-index
-invariant-loop-index l = IsSwept (λ T. list_all (λ p. mem T p) l.pins) l.initial.listing l.listing l.index
-
-abbrev pub decreases-loop-index : goal.decreases-loop-index
-decreases-loop-index l = l.index
+abbrev pub invariant-loop-pin : goal.invariant-loop-pin
+invariant-loop-pin l = record {
+  keeps : Keeps (λ T. list_all (λ p. mem T p) (take l.pin-index l.pins)) l.initial.listing l.listing;
+  room : length l.listing ≤ length l.counts.items;
+  long : length l.counts.items ≡ length l.initial.counts.items;
+}

@@ -3,7 +3,7 @@ use Rattle.std.proofs.lemmas.Bool.{leb-true}
 use Rattle.poly_tiling.specs.Puzzle.{is_tiling}
 use Rattle.poly_catalogue.specs.Catalogued.{HasFlags}
 use Rattle.poly_catalogue.specs.Listed.{AreOfEither, Keeps}
-use Rattle.poly_catalogue.proofs.Sums.{either_more, kept_flags, kept_once, room_after, same_catalogue, same_more}
+use Rattle.poly_catalogue.proofs.Sums.{either_more, kept_flags, kept_once, kept_room, room_after, same_catalogue, same_more}
 use Rattle.poly_catalogue.proofs.catalogue.Catalogue.exchange.Goals as goal
 
 pub keep-requires-clause-from : goal.keep-requires-clause-from
@@ -23,7 +23,8 @@ invariant_of-self-2 c =
     record {
       few = room_after (is_tiling w) old more c.keep.new.listing c.requires.tilings k (omega (arith, room, same, c.len.ensures, c.args.tilings.ok.0));
       once = kept_once (is_tiling w) (old ++ more) c.keep.new.listing k c.requires.once;
-      flags = kept_flags (is_tiling w) c.add.new.listing c.keep.new.listing (length c.add.new.flags.items) (length c.keep.new.flags.items) c.keep.ensures.keeps c.keep.ensures.long c.add.ensures.flags;
+      flags = kept_flags (is_tiling w) c.add.new.listing c.keep.new.listing (length c.add.new.flags.items) (length c.add.new.flags.items) c.keep.ensures.keeps refl c.add.ensures.flags;
+      room = kept_room (is_tiling w) c.add.new.listing c.keep.new.listing (length c.add.new.counts.items) (length c.keep.new.counts.items) c.keep.ensures.keeps c.keep.ensures.long c.add.ensures.room;
     }
 
 pub returns-clause-ok : goal.returns-clause-ok
@@ -37,8 +38,8 @@ returns-clause-ok c =
 
 pub invariant_of-self : goal.invariant_of-self
 invariant_of-self c =
-    same_catalogue c.self.inside.listing c.self.inside.listing (length c.self.inside.flags.items) (length c.has_room.new.flags.items) refl
-    (subst (λ n. HasFlags c.self.inside.listing n) (sym c.has_room.ensures.long) c.self.invariant.flags) c.self.invariant
+    same_catalogue c.self.inside.listing c.self.inside.listing (length c.self.inside.flags.items) (length c.has_room.new.flags.items) (length c.self.inside.counts.items) (length c.self.inside.counts.items) refl
+    (subst (λ n. HasFlags c.self.inside.listing n) (sym c.has_room.ensures.long) c.self.invariant.flags) c.self.invariant.room c.self.invariant
 
 pub invariant_of-self-in_err-add : goal.invariant_of-self-in_err-add
-invariant_of-self-in_err-add c = same_catalogue c.self.inside.listing c.add.new.listing (length c.self.inside.flags.items) (length c.add.new.flags.items) c.in_err-add.ensures.err c.add.ensures.flags c.self.invariant
+invariant_of-self-in_err-add c = same_catalogue c.self.inside.listing c.add.new.listing (length c.self.inside.flags.items) (length c.add.new.flags.items) (length c.self.inside.counts.items) (length c.add.new.counts.items) c.in_err-add.ensures.err c.add.ensures.flags c.add.ensures.room c.self.invariant

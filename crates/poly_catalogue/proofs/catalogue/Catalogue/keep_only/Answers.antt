@@ -5,7 +5,7 @@ use Rattle.poly_catalogue.proofs.Sums.{kept_catalogue, same_kept}
 use Rattle.poly_catalogue.proofs.catalogue.Catalogue.keep_only.Goals as goal
 
 pub invariant_of-self : goal.invariant_of-self
-invariant_of-self c = kept_catalogue (is_tiling c.args.view.now) c.self.inside.listing c.keep.new.listing (length c.self.inside.flags.items) (length c.keep.new.flags.items) c.keep.ensures.keeps c.keep.ensures.long c.self.invariant
+invariant_of-self c = kept_catalogue (is_tiling c.args.view.now) c.self.inside.listing c.keep.new.listing (length c.self.inside.flags.items) (length c.self.inside.counts.items) (length c.keep.new.counts.items) c.keep.ensures.keeps c.keep.ensures.long c.self.invariant
 
 pub returns : goal.returns
 returns c =
