@@ -1,7 +1,7 @@
 -- Which tilings a list keeps, by counts.
-use Rattle.std.proofs.Common.{Bool, List, None, Some, [], ap, arith, drop, eqb, false, get_or, inl, inr, length, not, refl, slice_get, subst, suc, sym, take, true, zero, ℕ, ◌&&◌, ◌++◌, ◌||◌, ◌+◌, ◌-◌, ◌<◌, ◌∙◌, ◌∷◌, ◌≡◌, ◌≤◌}
-use Rattle.std.proofs.lemmas.Bool.{both_ways, cases_lt, eqb-true, false_from_ne_true}
-use Rattle.std.proofs.lemmas.List.{drop_all, drop_more, get_or-take, get_or_past, nil_from_length, take-take, take_all, take_more}
+use Rattle.std.proofs.Common.{Bool, List, None, Some, [], ap, arith, drop, false, get_or, inl, inr, length, not, refl, slice_get, subst, suc, sym, take, true, zero, ℕ, ◌&&◌, ◌++◌, ◌||◌, ◌+◌, ◌-◌, ◌<◌, ◌∙◌, ◌∷◌, ◌≡◌, ◌≤◌}
+use Rattle.std.proofs.lemmas.Bool.{both_ways, cases_lt, false_from_ne_true}
+use Rattle.std.proofs.lemmas.List.{drop_all, drop_more, get_or-take, get_or_past, take-take, take_all, take_more}
 use Rattle.std.proofs.lemmas.Option.{slice_get-get_or}
 use Rattle.std.specs.List.{list_all, list_any}
 use Rattle.poly_tiling.specs.declared.item.Item.TheVariants.{Piece}
@@ -144,10 +144,6 @@ pub swept_all : (p : List ℕ → Bool) (a b : List (List ℕ)) (index : ℕ) �
 swept_all p a b index e s f =
     let g = subst (λ z. tally f b ≡ tally f (take z a) + tally (λ T. f T && p T) (drop z a)) e (s.done f) in
     omega (arith, g)
-
--- without pins, each tiling is kept
-pub keeps_none : (pins : List ℕ) (a : List (List ℕ)) → eqb (length pins) 0 ≡ true → Keeps (λ T. list_all (λ p. mem T p) pins) a a
-keeps_none pins a h = subst (λ z. Keeps (λ T. list_all (λ p. mem T p) z) a a) (sym (nil_from_length pins (eqb-true (length pins) 0 h))) (keeps_all (λ T. true) a (λ T i. refl))
 
 either_of : (v w : View) (a : List (List ℕ)) → list_all (λ T. is_tiling v T || is_tiling w T) a ≡ true → (T : List ℕ) → In T a → (is_tiling v T || is_tiling w T) ≡ true
 either_of v w a h T i = all_in (λ U. is_tiling v U || is_tiling w U) a h T i

@@ -4,20 +4,16 @@ use Rattle.std.proofs.lemmas.Bool.{cases_eq}
 use Rattle.std.proofs.lemmas.List.{get_or-set_other, get_or-set_same, length-set, take_all, take_more}
 use Rattle.std.proofs.lemmas.List.Elements.{filter-append}
 use Rattle.std.specs.List.{list_all}
-use Rattle.poly_tiling.specs.declared.item.Item.{Item}
 use Rattle.poly_tiling.specs.declared.item.Item.TheVariants.{Piece}
 use Rattle.poly_tiling.specs.Lists.{mem}
-use Rattle.poly_tiling.specs.Puzzle.{View, is_tiling, least, most}
+use Rattle.poly_tiling.specs.Puzzle.{View, is_tiling}
 use Rattle.poly_tiling.proofs.Contained.{at_in}
 use Rattle.poly_tiling.proofs.Lists.{In, all_append}
 use Rattle.poly_place.specs.declared.delta.Delta.{Delta}
-use Rattle.poly_catalogue.specs.Catalogued.{HasFlags}
-use Rattle.poly_catalogue.specs.Flags.{AreFlags, within}
 use Rattle.poly_catalogue.specs.Listed.{AddsMarks, AreMarked, AreMarkedBy, AreOfEither}
 use Rattle.poly_catalogue.specs.Rows.{row}
 use Rattle.poly_catalogue.specs.Stays.{fits, has_gone}
 use Rattle.poly_catalogue.proofs.Counted.{stay}
-use Rattle.poly_catalogue.proofs.Flagged.{within_fits}
 
 -- the marks after the first k tilings were looked at
 pub record IsMarking (p : List ℕ → Bool) (list : List (List ℕ)) (old new : List Bool) (k : ℕ) : Type 0 where
@@ -81,12 +77,6 @@ adds_more q xs i d list a b c l x y =
 pub adds_whole : {X : Type 0} (q : X → List ℕ → Bool) (xs : List X) (i : ℕ) (list : List (List ℕ)) (a b : List Bool) → length xs ≤ i → AddsMarks (λ T. not (list_all (λ x. q x T) (take i xs))) list a b → AddsMarks (λ T. not (list_all (λ x. q x T) xs)) list a b
 adds_whole q xs i list a b l x =
     adds_as (λ T. not (list_all (λ z. q z T) (take i xs))) (λ T. not (list_all (λ z. q z T) xs)) list a b x (λ T j. ap (λ g. not (list_all (λ z. q z T) g)) (take_all i xs l))
-
--- the flags tell in which tilings an item doesn't fit
-pub adds_unfit : (w : View) (i : Item) (flags : List Bool) (l m n : ℕ) (list : List (List ℕ)) (old new : List Bool) → AreFlags w i flags → l ≡ least w i → m ≡ most w i → n ≡ length flags → HasFlags list n →
-    AddsMarks (λ T. not (within flags l m T)) list old new → AddsMarks (λ T. not (fits w i T)) list old new
-adds_unfit w i flags l m n list old new exact el em en h a =
-    adds_as (λ T. not (within flags l m T)) (λ T. not (fits w i T)) list old new a (λ T j. ap not (within_fits w i flags l m n list T exact el em en h j))
 
 four : (g p n r : Bool) → (((g || not p) || not n) || not r) ≡ not (not g && ((p && n) && r))
 four true p n r = refl

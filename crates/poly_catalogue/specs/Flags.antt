@@ -1,13 +1,7 @@
 -- Flags by placement number.
-use Rattle.std.specs.Prelude.{Bool, List, false, length, nat_le, nat_lt, slice_index_or, true, ℕ, ◌&&◌, ◌<◌, ◌≡◌}
+use Rattle.std.specs.Prelude.{Bool, List, false, nat_le, nat_lt, slice_index_or, true, ℕ, ◌&&◌, ◌≡◌}
 use Rattle.std.specs.List.{list_all}
-use Rattle.poly_tiling.specs.declared.item.Item.{Item}
 use Rattle.poly_tiling.specs.Lists.{tally}
-use Rattle.poly_tiling.specs.Puzzle.{View, has_item}
-
--- the flag of a number, if it has one, is true exactly if the number's placement has the item
-abbrev pub AreFlags : View → Item → List Bool → Type 0
-AreFlags w i flags = (p : ℕ) → p < length flags → slice_index_or flags p false ≡ has_item w p i
 
 -- how many of the numbers are flagged
 abbrev pub flagged : List Bool → List ℕ → ℕ

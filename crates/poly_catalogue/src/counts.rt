@@ -3,7 +3,7 @@
 //! Each placement is checked once for an item. If it has the item, the index leads to the tilings that have the placement, and
 //! the count of each is raised. So no tiling is looked at. A count is one byte and stops at 255, which is more than any most.
 //! The counts are allocated when tilings are listed, so that keeping what is still a tiling never allocates.
-ghost use Rattle.std.specs.Prelude.{◌≡◌, ◌+◌, ◌&&◌, ◌==◌, ◌<◌, ◌≤◌, IfErr, OnOk, length, min, replicate, slice_index_or, slice_set, true, ℕ};
+ghost use Rattle.std.specs.Prelude.{◌≡◌, ◌+◌, ◌&&◌, ◌==◌, ◌<◌, ◌≤◌, IfErr, IfOk, OnOk, length, min, replicate, slice_index_or, slice_set, true, ℕ};
 ghost use Rattle.poly_tiling.specs.Lists.{distinct, mem, one};
 ghost use Rattle.poly_tiling.specs.Puzzle.{has_item};
 ghost use Rattle.poly_catalogue.specs.Catalogued.{HasFlags};
@@ -12,6 +12,15 @@ ghost use Rattle.poly_catalogue.specs.Counts.{AddsCounts, AreCounts, IsCount, be
 use crate::listing::Listing;
 use poly_grid::Refusal;
 use poly_tiling::{Item, View};
+use std::alloc::Global;
+
+/// Returns this many counts, all of them 0. Fails only with `Memory`.
+pub(crate) fn zeros(alloc: Global, count: usize) -> Result<Vec<u8>, Refusal>
+    ensures ok { IfOk result (λ counts. length counts.items ≡ count) }
+    ensures why { IfErr result (λ e. e ≡ Refusal.Memory) }
+{
+    Ok(vec![in alloc; 0u8; count]?)
+}
 
 /// Makes at least this many counts. Fails only with `Memory`. In either case there are as many counts as before or more.
 pub(crate) fn reach_counts(counts: &mut Vec<u8>, len: usize) -> Result<(), Refusal>

@@ -1,15 +1,13 @@
-//! Flags that say which placements have an item.
+//! Flags that say which placements are gone.
 //!
-//! Each placement is checked once for an item, and its number is flagged if it has the item. The placements of a tiling that
-//! have the item are then counted by flags alone. The flags are allocated when tilings are listed, so that keeping what is
-//! still a tiling never allocates.
+//! Each number that is gone is flagged once, and how many of a tiling's numbers are flagged is then seen by flags alone. The
+//! flags are allocated when tilings are listed, so that the count of those that stay never allocates.
 ghost use Rattle.std.specs.Prelude.{◌≡◌, ◌^◌, ◌<◌, ◌≤◌, IfErr, OnOk, false, length, nat_lt, replicate, slice_index_or, slice_set, true, ℕ};
 ghost use Rattle.std.specs.List.{list_all};
 ghost use Rattle.poly_tiling.specs.Lists.{mem};
-ghost use Rattle.poly_catalogue.specs.Flags.{AreFlags, flagged, within};
+ghost use Rattle.poly_catalogue.specs.Flags.{flagged, within};
 
 use poly_grid::Refusal;
-use poly_tiling::{Item, View};
 
 /// Makes a flag for each of the numbers. Fails only with `Memory`, and then there are as many flags as before or more.
 pub(crate) fn reach_all(flags: &mut Vec<bool>, numbers: &[u32]) -> Result<(), Refusal>
@@ -37,24 +35,6 @@ fn reach(flags: &mut Vec<bool>, number: u32) -> Result<(), Refusal>
         flags.push(false)?;
     }
     Ok(())
-}
-
-/// Sets the flag of each number whose placement has the item, and clears all other flags. Adds no flags.
-pub(crate) fn flag_item(flags: &mut Vec<bool>, view: &View, item: &Item)
-    requires { length flags.old.items ≤ 2 ^ 32 }
-    ensures long { length flags.new.items ≡ length flags.old.items }
-    ensures flags { AreFlags view.now item.now flags.new.items }
-{
-    for number in 0..flags.len() {
-        write(flags, number, view.covers(number as u32, *item));
-    }
-}
-
-fn write(flags: &mut Vec<bool>, number: usize, flag: bool)
-    requires { number < length flags.old.items }
-    ensures { flags.new.items ≡ slice_set flags.old.items number flag }
-{
-    flags[number] = flag;
 }
 
 /// Sets the flag of each of the numbers that has one, and clears all other flags. Adds no flags.

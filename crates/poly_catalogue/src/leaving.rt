@@ -4,8 +4,9 @@ ghost use Rattle.poly_tiling.specs.Puzzle.{is_tiling};
 ghost use Rattle.poly_catalogue.specs.Catalogued.{HasFlags};
 ghost use Rattle.poly_catalogue.specs.Listed.{AreMarkedBy, AreOfEither};
 
+use crate::counts::zeros;
 use crate::listing::Listing;
-use crate::marks::{having, mark_unfit_items, mark_unfit_pieces, mark_unpinned, unset};
+use crate::marks::{having, mark_unfit_items, mark_unfit_pieces, mark_unpinned};
 use poly_grid::Refusal;
 use poly_place::Delta;
 use poly_tiling::{Tiling, View};
@@ -25,12 +26,25 @@ pub(crate) fn leaving(
     ensures why { IfErr result (λ e. e ≡ Refusal.Memory) }
 {
     let mut marks = having(alloc, listing, &delta.gone)?;
-    let mut flags = unset(alloc, flag_count)?;
-    let tilings = listing.all();
-    mark_unpinned(&mut marks, tilings, &delta.pinned);
-    mark_unfit_items(&mut marks, &mut flags, tilings, view, &delta.needed);
-    mark_unfit_pieces(&mut marks, &mut flags, tilings, view, &delta.narrowed);
-    let list = copies(alloc, tilings, &marks)?;
+    let mut counts = zeros(alloc, listing.len())?;
+    mark_unpinned(&mut marks, &mut counts, listing, &delta.pinned);
+    mark_unfit_items(
+        &mut marks,
+        &mut counts,
+        listing,
+        flag_count,
+        view,
+        &delta.needed,
+    );
+    mark_unfit_pieces(
+        &mut marks,
+        &mut counts,
+        listing,
+        flag_count,
+        view,
+        &delta.narrowed,
+    );
+    let list = copies(alloc, listing.all(), &marks)?;
     Ok(list)
 }
 

@@ -3,22 +3,22 @@
 //! Each function that marks tilings keeps the marks that are set already, so the marks for several differences add up.
 //!
 //! An item fits in a tiling if the number of the tiling's placements that have it is within the item's bounds. To mark the
-//! tilings in which it doesn't fit, each placement is checked once, and flagged if it has the item. The marking then looks
-//! only at the flags.
-ghost use Rattle.std.specs.Prelude.{◌≡◌, ◌||◌, ◌<◌, IfErr, IfOk, false, length, not, replicate, slice_index_or, slice_set, true, ℕ};
+//! tilings in which it doesn't fit, these placements are counted by the index, and the marking then reads only the counts.
+ghost use Rattle.std.specs.Prelude.{◌≡◌, ◌||◌, ◌<◌, ◌≤◌, Bool, IfErr, IfOk, List, false, length, not, replicate, slice_index_or, slice_set, true, ℕ};
 ghost use Rattle.std.specs.List.{list_all};
 ghost use Rattle.poly_tiling.specs.declared.item.Item.TheVariants.{Piece as PieceItem};
 ghost use Rattle.poly_tiling.specs.Lists.{mem};
+ghost use Rattle.poly_tiling.specs.Names.{WellNamed};
 ghost use Rattle.poly_catalogue.specs.Catalogued.{HasFlags};
-ghost use Rattle.poly_catalogue.specs.Flags.{within};
+ghost use Rattle.poly_catalogue.specs.Counts.{ArePassing};
 ghost use Rattle.poly_catalogue.specs.Listed.{AddsMarks, AreMarked};
 ghost use Rattle.poly_catalogue.specs.Stays.{fits};
 
-use crate::flags::{flag_item, is_within};
+use crate::counts::{count_item, count_number, is_between};
 use crate::listing::Listing;
 use poly_design::Name;
 use poly_grid::Refusal;
-use poly_tiling::{Item, Tiling, View, has_all};
+use poly_tiling::{Item, View};
 use std::alloc::Global;
 
 /// A mark for each tiling of the list: whether the tiling has one of the numbers. Fails only with `Memory`.
@@ -37,8 +37,8 @@ pub(crate) fn having(
     Ok(marks)
 }
 
-/// Returns this many marks, none of them set. Fails only with `Memory`.
-pub(crate) fn unset(alloc: Global, count: usize) -> Result<Vec<bool>, Refusal>
+// Returns this many marks, none of them set. Fails only with `Memory`.
+fn unset(alloc: Global, count: usize) -> Result<Vec<bool>, Refusal>
     ensures ok { IfOk result (λ marks. marks.items ≡ replicate count false) }
     ensures why { IfErr result (λ e. e ≡ Refusal.Memory) }
 {
@@ -63,87 +63,113 @@ fn mark(marks: &mut Vec<bool>, index: u32)
     marks[index as usize] = true;
 }
 
-/// Marks the tilings that lack one of the pins.
-pub(crate) fn mark_unpinned(marks: &mut Vec<bool>, tilings: &[Tiling], pins: &[u32])
-    requires { length marks.old.items ≡ length tilings.now }
-    ensures { AddsMarks (λ T. not (list_all (λ p. mem T p) pins.now)) tilings.now marks.old.items marks.new.items }
+/// Marks the tilings that lack one of the pins. Before the call, the counts may have any values.
+pub(crate) fn mark_unpinned(
+    marks: &mut Vec<bool>,
+    counts: &mut Vec<u8>,
+    listing: &Listing,
+    pins: &[u32],
+)
+    requires long { length marks.old.items ≡ length listing.now }
+    requires room { length listing.now ≤ length counts.old.items }
+    ensures marks { AddsMarks (λ T. not (list_all (λ p. mem T p) pins.now)) listing.now marks.old.items marks.new.items }
+    ensures long { length counts.new.items ≡ length counts.old.items }
 {
-    for (index, tiling) in tilings.iter().enumerate() {
-        mark_if(marks, index, !has_all(tiling.numbers(), pins));
+    for pin in pins {
+        mark_lacking(marks, counts, listing, *pin);
     }
 }
 
-/// Marks the tilings in which one of the items doesn't fit. Before the call, the flags may have any values.
+// Marks the tilings that lack the number.
+fn mark_lacking(marks: &mut Vec<bool>, counts: &mut Vec<u8>, listing: &Listing, number: u32)
+    requires long { length marks.old.items ≡ length listing.now }
+    requires room { length listing.now ≤ length counts.old.items }
+    ensures marks { AddsMarks (λ T. not (mem T number)) listing.now marks.old.items marks.new.items }
+    ensures long { length counts.new.items ≡ length counts.old.items }
+{
+    count_number(counts, listing, number);
+    mark_outside(marks, counts, 1, u8::MAX);
+}
+
+/// Marks the tilings in which one of the items doesn't fit. Before the call, the counts may have any values. Each number of
+/// the tilings is below `flag_count`.
 pub(crate) fn mark_unfit_items(
     marks: &mut Vec<bool>,
-    flags: &mut Vec<bool>,
-    tilings: &[Tiling],
+    counts: &mut Vec<u8>,
+    listing: &Listing,
+    flag_count: usize,
     view: &View,
     items: &[Item],
 )
-    requires long { length marks.old.items ≡ length tilings.now }
-    requires flags { HasFlags tilings.now (length flags.old.items) }
-    ensures marks { AddsMarks (λ T. not (list_all (λ i. fits view.now i T) items.now)) tilings.now marks.old.items marks.new.items }
-    ensures long { length flags.new.items ≡ length flags.old.items }
+    requires well { WellNamed view.now }
+    requires long { length marks.old.items ≡ length listing.now }
+    requires room { length listing.now ≤ length counts.old.items }
+    requires flags { HasFlags listing.now flag_count }
+    ensures marks { AddsMarks (λ T. not (list_all (λ i. fits view.now i T) items.now)) listing.now marks.old.items marks.new.items }
+    ensures long { length counts.new.items ≡ length counts.old.items }
 {
     for item in items {
-        mark_unfit(marks, flags, tilings, view, item);
+        mark_unfit(marks, counts, listing, flag_count, view, item);
     }
 }
 
-/// Marks the tilings in which one of the pieces doesn't fit. Before the call, the flags may have any values.
+/// Marks the tilings in which one of the pieces doesn't fit. Before the call, the counts may have any values. Each number of
+/// the tilings is below `flag_count`.
 pub(crate) fn mark_unfit_pieces(
     marks: &mut Vec<bool>,
-    flags: &mut Vec<bool>,
-    tilings: &[Tiling],
+    counts: &mut Vec<u8>,
+    listing: &Listing,
+    flag_count: usize,
     view: &View,
     names: &[Name],
 )
-    requires long { length marks.old.items ≡ length tilings.now }
-    requires flags { HasFlags tilings.now (length flags.old.items) }
-    ensures marks { AddsMarks (λ T. not (list_all (λ n. fits view.now (PieceItem n) T) names.now)) tilings.now marks.old.items marks.new.items }
-    ensures long { length flags.new.items ≡ length flags.old.items }
+    requires well { WellNamed view.now }
+    requires long { length marks.old.items ≡ length listing.now }
+    requires room { length listing.now ≤ length counts.old.items }
+    requires flags { HasFlags listing.now flag_count }
+    ensures marks { AddsMarks (λ T. not (list_all (λ n. fits view.now (PieceItem n) T) names.now)) listing.now marks.old.items marks.new.items }
+    ensures long { length counts.new.items ≡ length counts.old.items }
 {
     for name in names {
-        mark_unfit(marks, flags, tilings, view, &Item::Piece(*name));
+        mark_unfit(
+            marks,
+            counts,
+            listing,
+            flag_count,
+            view,
+            &Item::Piece(*name),
+        );
     }
 }
 
 // Marks the tilings in which the item doesn't fit.
 fn mark_unfit(
     marks: &mut Vec<bool>,
-    flags: &mut Vec<bool>,
-    tilings: &[Tiling],
+    counts: &mut Vec<u8>,
+    listing: &Listing,
+    flag_count: usize,
     view: &View,
     item: &Item,
 )
-    requires long { length marks.old.items ≡ length tilings.now }
-    requires flags { HasFlags tilings.now (length flags.old.items) }
-    ensures marks { AddsMarks (λ T. not (fits view.now item.now T)) tilings.now marks.old.items marks.new.items }
-    ensures long { length flags.new.items ≡ length flags.old.items }
+    requires well { WellNamed view.now }
+    requires long { length marks.old.items ≡ length listing.now }
+    requires room { length listing.now ≤ length counts.old.items }
+    requires flags { HasFlags listing.now flag_count }
+    ensures marks { AddsMarks (λ T. not (fits view.now item.now T)) listing.now marks.old.items marks.new.items }
+    ensures long { length counts.new.items ≡ length counts.old.items }
 {
-    flag_item(flags, view, item);
+    count_item(counts, listing, flag_count, view, item);
     let (least, most) = view.bounds(*item);
-    mark_outside(marks, flags, tilings, least as usize, most as usize);
+    mark_outside(marks, counts, least, most);
 }
 
-// Marks the tilings in which too few or too many numbers are flagged.
-fn mark_outside(
-    marks: &mut Vec<bool>,
-    flags: &[bool],
-    tilings: &[Tiling],
-    least: usize,
-    most: usize,
-)
-    requires { length marks.old.items ≡ length tilings.now }
-    ensures { AddsMarks (λ T. not (within flags.now least most T)) tilings.now marks.old.items marks.new.items }
+// Marks the tilings whose count is below `least` or above `most`.
+fn mark_outside(marks: &mut Vec<bool>, counts: &[u8], least: u8, most: u8)
+    requires { length marks.old.items ≤ length counts.now }
+    ensures { (p : List ℕ → Bool) (list : List (List ℕ)) → length marks.old.items ≡ length list → ArePassing p list counts.now least most → AddsMarks (λ T. not (p T)) list marks.old.items marks.new.items }
 {
-    for (index, tiling) in tilings.iter().enumerate() {
-        mark_if(
-            marks,
-            index,
-            !is_within(flags, least, most, tiling.numbers()),
-        );
+    for index in 0..marks.len() {
+        mark_if(marks, index, !is_between(counts, least, most, index));
     }
 }
 

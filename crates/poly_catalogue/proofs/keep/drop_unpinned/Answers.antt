@@ -1,4 +1,4 @@
-use Rattle.std.proofs.Common.{arith, get_or, length, refl, ◌∙◌}
+use Rattle.std.proofs.Common.{get_or, length, refl, ◌∙◌}
 use Rattle.poly_tiling.specs.Lists.{mem}
 use Rattle.poly_catalogue.proofs.Counted.{keeps_first, keeps_more, keeps_whole}
 use Rattle.poly_catalogue.proofs.Sums.{kept_room}

@@ -6,6 +6,6 @@ use Rattle.poly_catalogue.proofs.marks.mark_unfit_items.Given as goal
 
 abbrev pub invariant-loop-item : goal.invariant-loop-item
 invariant-loop-item l = record {
-  marks : AddsMarks (λ T. not (list_all (λ i. fits l.view i T) (take l.item-index l.items))) l.tilings l.initial.marks.items l.marks.items;
-  long : length l.flags.items ≡ length l.initial.flags.items;
+  marks : AddsMarks (λ T. not (list_all (λ i. fits l.view i T) (take l.item-index l.items))) l.listing l.initial.marks.items l.marks.items;
+  long : length l.counts.items ≡ length l.initial.counts.items;
 }

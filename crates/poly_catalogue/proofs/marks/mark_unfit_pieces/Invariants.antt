@@ -7,6 +7,6 @@ use Rattle.poly_catalogue.proofs.marks.mark_unfit_pieces.Given as goal
 
 abbrev pub invariant-loop-name : goal.invariant-loop-name
 invariant-loop-name l = record {
-  marks : AddsMarks (λ T. not (list_all (λ i. fits l.view (Piece i) T) (take l.name-index l.names))) l.tilings l.initial.marks.items l.marks.items;
-  long : length l.flags.items ≡ length l.initial.flags.items;
+  marks : AddsMarks (λ T. not (list_all (λ i. fits l.view (Piece i) T) (take l.name-index l.names))) l.listing l.initial.marks.items l.marks.items;
+  long : length l.counts.items ≡ length l.initial.counts.items;
 }
