@@ -16,6 +16,7 @@ ghost use Rattle.poly_frame.specs.Matrices.{bit_index};
 use crate::bits;
 use crate::frame::STEPS;
 use crate::frame::node::Node;
+use crate::frame::notes::leave_out;
 use crate::frame::occupied::is_empty;
 use crate::frame::queries::stands_open;
 use crate::frame::scarce::{Needs, Rows, Scarce, scarcest};
@@ -156,7 +157,7 @@ fn look(
     ensures starved { IfSome result (λ i. arms_fit node.now.view.now (node.now.trail.now ++ Has (slice_index node.now.matrix.now.numbers.items j) ∷ []) i [] ≡ true) }
 {
     due.copy_from_slice(&steps.due);
-    leave_out(node.matrix.items_of(j), due);
+    leave_out(node.matrix.mask_of(j), due);
     leave_open(node, steps, j, row);
     if is_empty(row) {
         return None;
@@ -224,17 +225,6 @@ fn starved_item(node: &Node<'_>, steps: &Steps, b: usize, j: usize, row: &[u64])
         Some(node.view.items()[b].item)
     } else {
         None
-    }
-}
-
-// Clears the notes of the indices.
-fn leave_out(indices: &[usize], due: &mut [u64])
-    ensures { length due.new ≡ length due.old }
-{
-    for b in indices {
-        if *b / 64 < due.len() {
-            due[*b / 64] &= !(1u64 << (*b % 64));
-        }
     }
 }
 

@@ -25,6 +25,10 @@ pub(crate) struct Lists {
     pub(crate) starts: Vec<usize>,
     /// The entries of all lists.
     pub(crate) indices: Vec<usize>,
+    /// A mask for each list, one after another: a bit for each entry. No contract speaks of masks: a wrong one only costs time.
+    pub(crate) masks: Vec<u64>,
+    /// How many words a mask has.
+    pub(crate) words: usize,
 }
 
 /// The exact cover matrix of a view, or some of its columns. The matrix of a view can be made once and lent to each frame of
@@ -101,6 +105,20 @@ impl Lists {
     {
         &self.indices[self.starts[j]..self.starts[j + 1]]
     }
+
+    /// The mask of the list at `j`.
+    pub(crate) fn mask(&self, j: usize) -> &[u64] {
+        part_of(&self.masks, self.words.saturating_mul(j), self.words)
+    }
+}
+
+// The part of the list that starts at `from` and has `count` entries; empty if the list ends before.
+fn part_of<'a, T>(list: &'a [T], from: usize, count: usize) -> &'a [T] {
+    if from <= list.len() && count <= list.len() - from {
+        &list[from..from + count]
+    } else {
+        &[]
+    }
 }
 
 impl Matrix {
@@ -153,6 +171,14 @@ impl Matrix {
         match &self.lists {
             None => &[],
             Some(lists) => lists.of(self.homes[j]),
+        }
+    }
+
+    /// A bit for each item, set if the column has the item.
+    pub(crate) fn mask_of(&self, j: usize) -> &[u64] {
+        match &self.lists {
+            Some(lists) if j < self.homes.len() => lists.mask(self.homes[j]),
+            _ => &[],
         }
     }
 
@@ -330,7 +356,42 @@ fn list_items(
         }
         starts.push(indices.len())?;
     }
-    Ok(Lists { starts, indices })
+    let words = view.items().len() / 64 + 1;
+    let masks = masks_of(alloc, &starts, &indices, words)?;
+    Ok(Lists {
+        starts,
+        indices,
+        masks,
+        words,
+    })
+}
+
+// The masks of the lists, each of as many words.
+fn masks_of(
+    alloc: Global,
+    starts: &[usize],
+    indices: &[usize],
+    words: usize,
+) -> Result<Vec<u64>, Refusal>
+    ensures { IfErr result (λ e. e ≡ Refusal.Memory) }
+{
+    let mut masks = vec![in alloc; 0u64; words.saturating_mul(starts.len())]?;
+    for list in 1..starts.len() {
+        let from = starts[list - 1];
+        let entries = part_of(indices, from, starts[list].saturating_sub(from));
+        put_in_mask(&mut masks, words.saturating_mul(list - 1), entries);
+    }
+    Ok(masks)
+}
+
+// Sets the bits of the indices in the mask that starts at a word. Leaves out an index that the mask has no bit for.
+fn put_in_mask(masks: &mut Vec<u64>, from: usize, indices: &[usize]) {
+    for b in indices {
+        let k = from.saturating_add(*b / 64);
+        if k < masks.len() {
+            masks[k] |= 1u64 << (*b % 64);
+        }
+    }
 }
 
 // The same lists.

@@ -69,6 +69,15 @@ fn raise_noted(have: &mut [u64], due: &mut [u64], leasts: &[u8], indices: &[usiz
     }
 }
 
+/// Clears the notes of the items whose bits are set in the mask.
+pub(crate) fn leave_out(mask: &[u64], due: &mut [u64])
+    ensures { length due.new ≡ length due.old }
+{
+    for k in 0..due.len().min(mask.len()) {
+        due[k] &= !mask[k];
+    }
+}
+
 /// Lowers the count at each index by one, and notes whether the item there is due again.
 pub(crate) fn lower_and_note(
     have: &mut Vec<u64>,

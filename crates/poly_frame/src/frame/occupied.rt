@@ -109,17 +109,6 @@ pub(crate) fn count_common(some: &[u64], others: &[u64], most: usize) -> usize
     all
 }
 
-/// How many numbers both rows have.
-pub(crate) fn count_all(some: &[u64], others: &[u64]) -> usize
-    requires { length some.now ≤ length others.now }
-{
-    let mut all = 0usize;
-    for k in 0..some.len() {
-        all = all.wrapping_add(count_word(some[k], others[k]));
-    }
-    all
-}
-
 // How many numbers both rows have, counting only the words `first + i` for which bit `i` of the mask is set. Stops once the
 // count reaches `most`.
 fn count_in(some: &[u64], others: &[u64], first: usize, mask: u64, most: usize) -> usize

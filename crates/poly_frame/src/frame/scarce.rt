@@ -1,12 +1,9 @@
-//! The scarcest of the items that are noted as due. This runs at each node of a search, so it reads plain words. If the rows are
-//! narrow and each item is asked for once, the options of all items are counted to the end: to stop early, or to look for empty
-//! words, would cost more there than it saves. Nothing is proved here but that no index is out of range: the caller tests
-//! whether the item that is found is due.
+//! The scarcest of the items that are noted as due. This runs at each node of a search, so it reads plain words. A count stops
+//! once it reaches the fewest options so far. Only for wide rows it is worth looking for empty words. Nothing is proved here but
+//! that no index is out of range: the caller tests whether the item that is found is due.
 ghost use Rattle.std.specs.Prelude.{length, ◌*◌, ◌<◌, ◌≡◌};
 
-use crate::frame::occupied::{
-    Occupied, common, count_all, count_common, is_narrow, occupied_words,
-};
+use crate::frame::occupied::{Occupied, common, count_common, is_narrow, occupied_words};
 
 // The most words of notes that are read: a note for each of 8,192 items. A design has at most 320.
 const NOTED: usize = 128;
@@ -133,25 +130,28 @@ fn scarcest_single(live: &[u64], rows: &Rows<'_>, due: &[u64], best: Scarce) -> 
     best
 }
 
-// Does what `scarcest_single` does for the items whose bits are set in the word. Bit 0 is that of the item at `first`. No branch
-// depends on a count.
+// Does what `scarcest_single` does for the items whose bits are set in the word. Bit 0 is that of the item at `first`.
 fn scarcest_in_word(live: &[u64], rows: &Rows<'_>, first: usize, word: u64, best: Scarce) -> Scarce
     requires words { length rows.now.words.now ≡ length live.now * rows.now.items }
     requires small { first < 64 * NOTED }
 {
-    let mut index = best.index;
-    let mut spare = best.spare;
+    let mut best = best;
     let mut left = word;
     while left != 0 {
         let b = first + left.trailing_zeros() as usize;
         left &= left - 1;
         if b < rows.items {
-            let count = count_all(live, row_at(rows.words, live.len(), rows.items, b));
-            index = if count < spare { b } else { index };
-            spare = spare.min(count);
+            let row = row_at(rows.words, live.len(), rows.items, b);
+            let spare = count_common(live, row, best.spare);
+            if spare < best.spare {
+                best = Scarce { index: b, spare };
+                if spare == 0 {
+                    return best;
+                }
+            }
         }
     }
-    Scarce { index, spare }
+    best
 }
 
 // The scarcest of `best` and the items whose bits are set in `due`. `occupied` are the occupied words of `live`; if there are

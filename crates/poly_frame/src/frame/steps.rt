@@ -12,10 +12,10 @@ ghost use Rattle.poly_tiling.specs.Puzzle.{items};
 
 use crate::bits;
 use crate::frame::STEPS;
-use crate::frame::items::{PLACEMENT_ITEMS, note_items};
+use crate::frame::items::{PLACEMENT_ITEMS, note_items, raise};
 use crate::frame::matrix::Matrix;
 use crate::frame::node::Node;
-use crate::frame::notes::{lower_and_note, raise_and_note};
+use crate::frame::notes::{leave_out, lower_and_note, raise_and_note};
 use crate::frame::table::Table;
 use poly_atom::Atom;
 use poly_grid::Refusal;
@@ -281,7 +281,8 @@ pub(crate) fn pick_open(node: &Node<'_>, steps: &mut Steps, j: usize, row: &[u64
     });
     let indices = node.matrix.items_of(j);
     note_list(indices, &mut steps.raised);
-    raise_and_note(&mut steps.have, &mut steps.due, &node.table.leasts, indices);
+    raise(&mut steps.have, indices);
+    leave_out(node.matrix.mask_of(j), &mut steps.due);
     bits::take_out(&mut steps.live, at, j);
 }
 

@@ -22,8 +22,8 @@ note_list-requires c =
     let K = c.requires.kept in
     omega (arith, s.raised.ok.0, raised_few n.view.now n.trail.now n.base n.matrix.now n.table.now s.live.items s.have.items s.raised.items s.marks.items K, K.steps, c.requires.few, c.requires.room.raised, ap length c.items_of-indices.ensures, short_column n.view.now n.trail.now n.base n.matrix.now n.table.now s.live.items s.have.items s.raised.items s.marks.items K c.requires.alone c.args.j c.requires.number)
 
-pub raise_and_note-requires-clause-small : goal.raise_and_note-requires-clause-small
-raise_and_note-requires-clause-small c = λ b h.
+pub raise-requires-clause-small : goal.raise-requires-clause-small
+raise-requires-clause-small c = λ b h.
     let s = c.args.steps.now in
     let n = c.args.node.now in
     let K = c.requires.kept in
@@ -46,17 +46,17 @@ returns-clause-kept c =
     let is = column_items m.lists m.homes.items j in
     let at : c.len-at.result ≡ length live0 = c.len-at.ensures ∙ s.live.ok.0 in
     let C = last_again m.width live0 K.wide in
-    let more = λ (b : ℕ) (l : b < length s.have.items). c.raise_and_note.ensures.more b l ∙ ap (λ xs. get_or s.have.items b 0 + times xs b) c.items_of-indices.ensures in
-    let closes = closes_without v A first m t live0 s.have.items s.raised.items s.marks.items K c.requires.alone j c.requires.number c.args.row.now c.raise_and_note.new.have.items c.requires.row more in
-    pick_made v A first m t live0 s.have.items s.raised.items s.marks.items live1 K C (get_or m.numbers.items j 0) c.len-at.result _ (base v A) live2 live3 c.raise_and_note.new.have.items c.raise_and_note.new.have.items c.note_list.new.noted.items c.push_reserved.new.self.items is
+    let more = λ (b : ℕ) (l : b < length s.have.items). c.raise.ensures.more b l ∙ ap (λ xs. get_or s.have.items b 0 + times xs b) c.items_of-indices.ensures in
+    let closes = closes_without v A first m t live0 s.have.items s.raised.items s.marks.items K c.requires.alone j c.requires.number c.args.row.now c.raise.new.have.items c.requires.row more in
+    pick_made v A first m t live0 s.have.items s.raised.items s.marks.items live1 K C (get_or m.numbers.items j 0) c.len-at.result _ (base v A) live2 live3 c.raise.new.have.items c.raise.new.have.items c.note_list.new.noted.items c.push_reserved.new.self.items is
     is is at (c.len.ensures ∙ s.raised.ok.0) (ap (λ n. n - m.width) at) refl refl (open_base v A (get_or m.numbers.items j 0) c.requires.open)
     (c.note_list.ensures.items ∙ ap (λ xs. s.raised.items ++ xs) c.items_of-indices.ensures)
     (noted_column v A first m t live0 s.have.items s.raised.items s.marks.items K c.requires.alone j c.requires.number)
     (short_column v A first m t live0 s.have.items s.raised.items s.marks.items K c.requires.alone j c.requires.number)
-    c.push_reserved.ensures.items refl refl refl c.raise_and_note.ensures.len more
+    c.push_reserved.ensures.items refl refl refl c.raise.ensures.len more
     (omega (arith, ap length c.push_row.ensures.items, length-append live0 c.args.row.now, c.requires.len, C.len))
     (λ x l. ap (λ ws. has_bit ws x) c.push_row.ensures.items ∙ bits_before live0 c.args.row.now x (omega (arith, l, at)) ∙ sym (bits_before live0 (last_row m.width live0) x (omega (arith, l, at))))
-    (subst (λ (n : ℕ). Closes m t c.raise_and_note.new.have.items is n live1 live2) (sym at) (subst (λ (ws : List ℕ). Closes m t c.raise_and_note.new.have.items is (length live0) live1 ws) (sym c.push_row.ensures.items) closes))
+    (subst (λ (n : ℕ). Closes m t c.raise.new.have.items is n live1 live2) (sym at) (subst (λ (ws : List ℕ). Closes m t c.raise.new.have.items is (length live0) live1 ws) (sym c.push_row.ensures.items) closes))
     c.take_out.ensures.len (taken_before live2 live3 c.len-at.result j c.take_out.ensures.bits)
     (own_taken v A first m t live0 s.have.items s.raised.items s.marks.items K (get_or m.numbers.items j 0) j c.len-at.result live2 live3 (c.requires.number, refl) c.take_out.ensures.bits)
     (taken_past live2 live3 c.len-at.result j c.take_out.ensures.bits)
