@@ -16,7 +16,8 @@ instructions it takes: say s(n, a) for n nodes and a atoms. In
 all steps that are taken once, or for each node, or for each atom cancel each other. A step that is taken for each node and each
 atom is left m * b times. To read an atom takes two steps at least. So the difference is below m * b / 4 only if fewer than one
 node in eight reads all atoms. By this measure, 4,096 nodes and 20,000 atoms together cost at most 2 * 10^7 steps. The count
-doesn't depend on how busy the machine is.
+doesn't depend on how busy the machine is. The C library takes up to some 2,000 steps more or fewer to find free memory, so m * b
+has to be much more than that.
 
 A tree of over 3,600 nodes is also handed in for over 19,000 atoms, without a count, to compare the answers. That it holds is
 seen by hand: once a cell of the last row is taken, no row is left for the 16th copy of A. So at most 15 placements of A are not
@@ -124,7 +125,7 @@ def steps(player, shim, rounds, text):
 
 def growth(player, shim):
     """Compares what nodes and atoms take together with their numbers."""
-    trees = [tree(names, range(WIDTH)) for names in ("C", "CD")]
+    trees = [tree(names, range(WIDTH)) for names in ("C", "CDE")]
     nodes = trees[1].count("branch") - trees[0].count("branch")
     atoms = (ROUNDS[1] - ROUNDS[0]) * (ROWS * (WIDTH - 1) + (ROWS - 1) * WIDTH)
     few, many = ([steps(player, shim, rounds, text) for rounds in ROUNDS] for text in trees)
