@@ -475,7 +475,14 @@ def draw_answers_what_is_typed_at_once():
 
 @case
 def interrupt_ends_quietly():
-    draw = subprocess.Popen([f"{RECIPES}/draw"], stdin=subprocess.PIPE, stdout=subprocess.PIPE, stderr=subprocess.PIPE)
+    # a shell in which the tests run in the background lets its children ignore interrupts
+    draw = subprocess.Popen(
+        [f"{RECIPES}/draw"],
+        stdin=subprocess.PIPE,
+        stdout=subprocess.PIPE,
+        stderr=subprocess.PIPE,
+        preexec_fn=lambda: signal.signal(signal.SIGINT, signal.SIG_DFL),
+    )
     draw.stdin.write(json.dumps(DOMINOES).encode() + b"\n")
     draw.stdin.flush()
     same(draw.stdout.readline(), b"ok 0\n")
