@@ -20,3 +20,4 @@ pub mod Starved
 pub mod Layers
 pub mod Stepped
 pub mod Ahead
+pub mod Six

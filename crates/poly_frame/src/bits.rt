@@ -2,7 +2,7 @@
 //! the number `j` if bit `64 * at + j` of the list is set.
 ghost use Rattle.std.specs.Prelude.{MatchOption, length, not, slice_index, vec_capacity, vec_len, ℕ, ◌&&◌, ◌^◌, ◌*◌, ◌+◌, ◌-◌, ◌/◌, ◌<◌, ◌==◌, ◌||◌, ◌≡◌, ◌≤◌};
 ghost use Rattle.std.specs.Int.{bit_at};
-ghost use Rattle.poly_frame.specs.Bits.{FirstIn, IsLess, NoneIn, has_bit, in_both};
+ghost use Rattle.poly_frame.specs.Bits.{FirstIn, IsLess, IsLessSix, NoneIn, has_bit, in_both};
 
 /// Whether the row that begins at word `at` has the number.
 #[tactic(auto, using(crate::proofs::Words::has_at))]
@@ -125,6 +125,54 @@ fn take_out_rest(words: &mut [u64], from: usize, first: &[u64], second: &[u64], 
 {
     for k in from..words.len() {
         words[k] = less_three(words[k], first[k], second[k], third[k]);
+    }
+}
+
+// The bits that the word has and none of the other six has.
+fn less_six(
+    word: u64,
+    first: u64,
+    second: u64,
+    third: u64,
+    fourth: u64,
+    fifth: u64,
+    sixth: u64,
+) -> u64
+    ensures { IsLessSix result word first second third fourth fifth sixth }
+{
+    less_three(
+        less_three(word, first, second, third),
+        fourth,
+        fifth,
+        sixth,
+    )
+}
+
+/// Makes `words` the row without all numbers that one of six other rows has, in one pass.
+pub(crate) fn without_six(
+    row: &[u64],
+    first: &[u64],
+    second: &[u64],
+    third: &[u64],
+    fourth: &[u64],
+    fifth: &[u64],
+    sixth: &[u64],
+    words: &mut [u64],
+)
+    requires row { length row.now ≡ length words.old }
+    requires first { length first.now ≡ length words.old }
+    requires second { length second.now ≡ length words.old }
+    requires third { length third.now ≡ length words.old }
+    requires fourth { length fourth.now ≡ length words.old }
+    requires fifth { length fifth.now ≡ length words.old }
+    requires sixth { length sixth.now ≡ length words.old }
+    ensures len { length words.new ≡ length words.old }
+    ensures bits { (j : ℕ) → j < 64 * length words.old → has_bit words.new j ≡ (has_bit row.now j && not (has_bit first.now j || (has_bit second.now j || (has_bit third.now j || (has_bit fourth.now j || (has_bit fifth.now j || has_bit sixth.now j)))))) }
+{
+    for k in 0..words.len() {
+        words[k] = less_six(
+            row[k], first[k], second[k], third[k], fourth[k], fifth[k], sixth[k],
+        );
     }
 }
 

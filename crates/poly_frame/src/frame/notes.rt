@@ -78,6 +78,14 @@ pub(crate) fn leave_out(mask: &[u64], due: &mut [u64])
     }
 }
 
+/// Writes to `left` the notes that are left without those of the items whose bits are set in the mask.
+pub(crate) fn notes_without(due: &[u64], mask: &[u64], left: &mut [u64]) {
+    for k in 0..left.len().min(due.len()) {
+        let out = if k < mask.len() { mask[k] } else { 0 };
+        left[k] = due[k] & !out;
+    }
+}
+
 /// Lowers the count at each index by one, and notes whether the item there is due again.
 pub(crate) fn lower_and_note(
     have: &mut Vec<u64>,

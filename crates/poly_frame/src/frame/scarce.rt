@@ -1,7 +1,7 @@
 //! The scarcest of the items that are noted as due. This runs at each node of a search, so it reads plain words. A count stops
 //! once it reaches the fewest options so far. Only for wide rows it is worth looking for empty words. Nothing is proved here but
 //! that no index is out of range: the caller tests whether the item that is found is due.
-ghost use Rattle.std.specs.Prelude.{length, ◌*◌, ◌<◌, ◌≡◌};
+ghost use Rattle.std.specs.Prelude.{length, ◌*◌, ◌+◌, ◌<◌, ◌≡◌, ◌≤◌, ◌^◌};
 
 use crate::frame::occupied::{Occupied, common, count_common, is_narrow, occupied_words};
 
@@ -49,7 +49,7 @@ fn further(needs: &Needs<'_>, b: usize) -> usize {
 
 // The row at `b`.
 fn row_at<'a>(words: &'a [u64], width: usize, items: usize, b: usize) -> &'a [u64]
-    requires words { length words.now ≡ width * items }
+    requires words { width * items ≤ length words.now }
     requires inside { b < items }
     ensures { length result.now ≡ width }
 {
@@ -121,30 +121,47 @@ fn scarcest_single(live: &[u64], rows: &Rows<'_>, due: &[u64], best: Scarce) -> 
     requires { length rows.now.words.now ≡ length live.now * rows.now.items }
 {
     let mut best = best;
-    for k in 0..due.len().min(NOTED) {
+    let mut words = rows.words;
+    let mut items = rows.items;
+    for word in due {
         if best.spare == 0 {
             return best;
         }
-        best = scarcest_in_word(live, rows, 64 * k, due[k], best);
+        let count = items.min(64);
+        let first = rows.items - items;
+        best = scarcest_in_word(live, words, count, first, *word, best);
+        items -= count;
+        words = &words[live.len() * count..];
     }
     best
 }
 
-// Does what `scarcest_single` does for the items whose bits are set in the word. Bit 0 is that of the item at `first`.
-fn scarcest_in_word(live: &[u64], rows: &Rows<'_>, first: usize, word: u64, best: Scarce) -> Scarce
-    requires words { length rows.now.words.now ≡ length live.now * rows.now.items }
-    requires small { first < 64 * NOTED }
+// Does what `scarcest_single` does for the items whose bits are set in the word. Bit 0 is that of the item at `first`, and
+// `words` has the rows of `count` items from that one on.
+fn scarcest_in_word(
+    live: &[u64],
+    words: &[u64],
+    count: usize,
+    first: usize,
+    word: u64,
+    best: Scarce,
+) -> Scarce
+    requires words { length live.now * count ≤ length words.now }
+    requires small { first + count < 2 ^ 64 }
 {
     let mut best = best;
     let mut left = word;
     while left != 0 {
-        let b = first + left.trailing_zeros() as usize;
+        let b = left.trailing_zeros() as usize;
         left &= left - 1;
-        if b < rows.items {
-            let row = row_at(rows.words, live.len(), rows.items, b);
+        if b < count {
+            let row = row_at(words, live.len(), count, b);
             let spare = count_common(live, row, best.spare);
             if spare < best.spare {
-                best = Scarce { index: b, spare };
+                best = Scarce {
+                    index: first + b,
+                    spare,
+                };
                 if spare == 0 {
                     return best;
                 }
