@@ -29,7 +29,7 @@ use poly_tiling::Item;
 const WORDS: usize = 40;
 
 // The most words of a short row. Most rows are short, and it takes less time to make room for them.
-const FEW: usize = 8;
+const FEW: usize = 16;
 
 // The most words of notes that are copied: a note for each of 512 items. A design has at most 320.
 const NOTED: usize = 8;
