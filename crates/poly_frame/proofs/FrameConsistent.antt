@@ -25,7 +25,7 @@ use Rattle.poly_frame.specs.FrameTable.{HaveShows, MostsShow}
 use Rattle.poly_frame.proofs.Steps.{any_put, base_pick, lacks_leave, lacks_pick, others_put, tally_put, most_leave, most_pick}
 use Rattle.poly_frame.proofs.Later.{most_le_atom, most_le_most}
 use Rattle.poly_frame.proofs.FrameMembers.{base_stays}
-use Rattle.poly_frame.proofs.FramePicks.{has_in, in_has, open_base, others_all, column_of, shared, sharing}
+use Rattle.poly_frame.proofs.FramePicks.{base_again, has_in, in_has, open_base, others_all, column_of, shared, sharing}
 
 -- a number that is not ruled out
 record Free (v : View) (A : List Atom) (q : ℕ) : Type 0 where
@@ -122,9 +122,23 @@ consistent_pick v A p s l o =
       | inr k ↦ let w = right_of v A s q k in (w.0, other_free v A p m fp q k w.1)
     ])
 
-pub consistent_leave : (v : View) (A : List Atom) (p : ℕ) → is_consistent v A ≡ true → open_in v A p ≡ true → is_consistent v (A ++ Lacks p ∷ []) ≡ true
-consistent_leave v A p s o =
-    let m = open_base v A p o in
+-- taking a member again keeps the base
+pub consistent_again : (v : View) (A : List Atom) (p : ℕ) → is_consistent v A ≡ true → mem (base v A) p ≡ true → is_consistent v (A ++ Has p ∷ []) ≡ true
+consistent_again v A p s m =
+    let b = base_again v A p m in
+    consistent_by v (A ++ Has p ∷ []) (λ q j.
+    let w = right_of v A s q (subst (λ xs. In q xs) b j) in (
+      w.0,
+      record {
+        named = lacks_pick A p q ∙ w.1.named;
+        apart = ap (λ xs. list_any (λ r. conflicts v q r) xs) b ∙ w.1.apart;
+        below = λ i h. omega (arith, ap (λ xs. others v xs q i) b, most_pick v A p i, w.1.below i h);
+      },
+    ))
+
+-- leaving out a placement that is no member keeps the base, and each member as it is
+pub consistent_leave : (v : View) (A : List Atom) (p : ℕ) → is_consistent v A ≡ true → mem (base v A) p ≡ false → is_consistent v (A ++ Lacks p ∷ []) ≡ true
+consistent_leave v A p s m =
     let b = base_stays v A p in
     consistent_by v (A ++ Lacks p ∷ []) (λ q j.
     let k : In q (base v A) = subst (λ xs. In q xs) (sym b) j in

@@ -301,8 +301,14 @@ impl<'a> Frame<'a> {
         let opened = self.stands_open(placement);
         let node = self.stand.node(&self.trail);
         steps::pick(&node, &self.members, &mut self.steps, placement, opened);
+        self.consistent = consistent::taken(
+            &node,
+            &self.members,
+            self.consistent,
+            placement,
+            opened,
+        );
         members::pick(&node, &mut self.members, &mut self.sizes, placement);
-        self.consistent = consistent::step(&node, self.consistent, placement, opened);
         self.guesses.scarcest = None;
         self.trail.push_reserved(Atom::Has(placement));
     }
@@ -317,7 +323,13 @@ impl<'a> Frame<'a> {
         let node = self.stand.node(&self.trail);
         steps::leave(&node, &mut self.steps, placement);
         members::leave(&node, &self.members, &mut self.sizes, placement);
-        self.consistent = consistent::step(&node, self.consistent, placement, opened);
+        self.consistent = consistent::left(
+            &node,
+            &self.members,
+            self.consistent,
+            placement,
+            opened,
+        );
         self.guesses.scarcest = None;
         self.trail.push_reserved(Atom::Lacks(placement));
     }
@@ -473,8 +485,14 @@ impl<'a> Frame<'a> {
             Attempt::Starved(item) => return Some(item),
             Attempt::Unknown => self.pick(placement),
             Attempt::Taken => {
+                self.consistent = consistent::taken(
+                    &node,
+                    &self.members,
+                    self.consistent,
+                    placement,
+                    true,
+                );
                 members::pick(&node, &mut self.members, &mut self.sizes, placement);
-                self.consistent = consistent::step(&node, self.consistent, placement, true);
                 self.trail.push_reserved(Atom::Has(placement));
             }
         }

@@ -101,18 +101,53 @@ pub(crate) fn begin(
     }
 }
 
-/// The count after a placement is taken or left out. `opened` is whether the placement is known to have been open.
-pub(crate) fn step(node: &Node<'_>, consistent: usize, number: u32, opened: bool) -> usize
+/// The count after a placement is taken. `members` is the base before that, and `opened` is whether the placement is known to
+/// have been open. A member that is taken again doesn't change the base.
+pub(crate) fn taken(
+    node: &Node<'_>,
+    members: &[u32],
+    consistent: usize,
+    number: u32,
+    opened: bool,
+) -> usize
     requires shows { ConsistentShows node.now.view.now node.now.trail.now node.now.given consistent }
     requires low { node.now.given ≤ length node.now.trail.now }
+    requires members { members.now ≡ base node.now.view.now node.now.trail.now }
     requires opened { opened ≡ true → (mem node.now.view.now.live number ≡ true) × (open_in node.now.view.now node.now.trail.now number ≡ true) }
-    ensures taken { ConsistentShows node.now.view.now (node.now.trail.now ++ Atom.Has number ∷ []) node.now.given result }
-    ensures left { ConsistentShows node.now.view.now (node.now.trail.now ++ Atom.Lacks number ∷ []) node.now.given result }
+    ensures { ConsistentShows node.now.view.now (node.now.trail.now ++ Atom.Has number ∷ []) node.now.given result }
 {
-    if opened && consistent > node.trail.len() - node.given {
+    if consistent <= node.trail.len() - node.given {
+        return consistent;
+    }
+    if opened || has_number(members, number) {
         consistent + 1
     } else {
         consistent
+    }
+}
+
+/// The count after a placement is left out. `members` is the base, and `opened` is whether the placement is known to have been
+/// open. The base stays the same, and is consistent as before unless it has the placement.
+pub(crate) fn left(
+    node: &Node<'_>,
+    members: &[u32],
+    consistent: usize,
+    number: u32,
+    opened: bool,
+) -> usize
+    requires shows { ConsistentShows node.now.view.now node.now.trail.now node.now.given consistent }
+    requires low { node.now.given ≤ length node.now.trail.now }
+    requires members { members.now ≡ base node.now.view.now node.now.trail.now }
+    requires opened { opened ≡ true → (mem node.now.view.now.live number ≡ true) × (open_in node.now.view.now node.now.trail.now number ≡ true) }
+    ensures { ConsistentShows node.now.view.now (node.now.trail.now ++ Atom.Lacks number ∷ []) node.now.given result }
+{
+    if consistent <= node.trail.len() - node.given {
+        return consistent;
+    }
+    if !opened && has_number(members, number) {
+        consistent
+    } else {
+        consistent + 1
     }
 }
 

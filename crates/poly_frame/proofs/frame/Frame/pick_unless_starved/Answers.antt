@@ -14,7 +14,7 @@ invariant_of-self-in-Taken c =
     let a = Has c.args.placement in
     let members = c.pick-in-Taken.new.members in
     let sizes = c.pick-in-Taken.new.sizes in
-    let consistent = c.step-self-inside.result in
+    let consistent = c.taken-self-inside.result in
     let steps = c.try_pick.new.steps in
     let taken = c.in-Taken.ensures in
     let S = stepped_here at.view.now n.view.now f.trail.items n.trail.now at.given n.given at.base n.base (matrix_of at.columns) n.matrix.now at.table n.table.now a members.items sizes.items consistent steps e.view (e.trail ∙ c.deref.ensures.value) e.given e.base e.matrix e.table (record {
@@ -22,6 +22,6 @@ invariant_of-self-in-Taken c =
       room = taken.3;
       holds = c.pick-in-Taken.ensures.base;
       grown = c.pick-in-Taken.ensures.sizes;
-      right = c.step-self-inside.ensures.taken;
+      right = c.taken-self-inside.ensures;
     }) in
     frame_after at.view.now f.trail c.push_reserved.new.self at.given f.members members f.sizes sizes f.consistent consistent f.options (matrix_of at.columns) at.table f.steps steps at.base f.under.items a c.self.invariant S (subst (λ (w : Walk). length w.atoms < w.given + 4096) (sym c.self.view_is) c.requires) c.push_reserved.ensures.items c.push_reserved.ensures.capacity c.pick-in-Taken.ensures.room c.pick-in-Taken.ensures.space
