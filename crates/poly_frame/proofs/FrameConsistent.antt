@@ -330,3 +330,13 @@ all_kept ns live f among (x ∷ xs) h =
     let hs = and_parts (mem ns x && f x) (list_all (λ p. mem ns p && f p) xs) h in
     let here = and_parts (mem ns x) (f x) hs.0 in
     and_from _ _ (and_from _ _ (among x here.0) here.1) (all_kept ns live f among xs hs.1)
+
+-- in a consistent base, each member is a placement of the design that is not ruled out
+pub member_right : (v : View) (A : List Atom) (p : ℕ) → is_consistent v A ≡ true → mem (base v A) p ≡ true → (mem v.live p && not (ruled_out v A p)) ≡ true
+member_right v A p s m = all_in (λ q. mem v.live q && not (ruled_out v A q)) (base v A) s p (mem_in (base v A) p m)
+
+-- a placement of the design that is neither open nor a member is ruled out
+pub outside_wrong : (v : View) (A : List Atom) (p : ℕ) → mem (base v A) p ≡ false → (mem v.live p ≡ true → open_in v A p ≡ false) → false ≡ (mem v.live p && not (ruled_out v A p))
+outside_wrong v A p m closed = sym (false_from_ne_true _ (λ e.
+    let two = and_parts (mem v.live p) (not (ruled_out v A p)) e in
+    both_ways (open_in v A p) (closed two.0) (and_from (not (mem (base v A) p)) _ (not_from_false _ m) two.1)))

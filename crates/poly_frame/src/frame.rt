@@ -9,6 +9,7 @@ ghost use Rattle.poly_tiling.specs.Puzzle.{has_item};
 ghost use Rattle.poly_atom.specs.Atoms.{in_family};
 ghost use Rattle.poly_atom.specs.Hopeless.{base};
 ghost use Rattle.poly_frame.specs.Open.{arms_fit, dead, least_with_base, ruled_out};
+ghost use Rattle.poly_frame.specs.FrameConsistent.{is_consistent};
 ghost use Rattle.poly_frame.specs.FrameTable.{HasOpen};
 ghost use Rattle.poly_frame.specs.Matrices.{IsMatrix, IsWhole, matrix_of};
 ghost use Rattle.poly_frame.specs.Walk.{backtrack_to, is_due, is_open, is_option, step_back, with_step};
@@ -432,7 +433,8 @@ impl<'a> Frame<'a> {
         if self.stands_open(placement) {
             return true;
         }
-        consistent::is_right(self.stand.view, &self.trail, &self.members, placement)
+        let node = self.stand.node(&self.trail);
+        allowed::is_right_member(&node, &self.members, placement, self.is_sure())
     }
 
     /// How many placements of the design have the item and are not ruled out.
@@ -442,8 +444,7 @@ impl<'a> Frame<'a> {
         ensures value { result ≡ tally (λ p. has_item self.now.scene p item && not (ruled_out self.now.scene self.now.atoms p)) self.now.scene.live }
     {
         let node = self.stand.node(&self.trail);
-        let sure = self.consistent > self.trail.len() - self.stand.given;
-        allowed::count(&node, &self.steps, &self.members, &item, sure)
+        allowed::count(&node, &self.steps, &self.members, &item, self.is_sure())
     }
 
     /// Each tiling that meets the atoms has at least this many members with the item: as many as the design and the atoms ask
@@ -522,9 +523,17 @@ impl<'a> Frame<'a> {
         Some(&self.members)
     }
 
-    // Whether the placement is known to be open.
+    // Whether the base is known to be consistent.
+    fn is_sure(&self) -> bool
+        ensures { result ≡ true → is_consistent self.now.scene self.now.atoms ≡ true }
+    {
+        self.consistent > self.trail.len() - self.stand.given
+    }
+
+    // Whether the placement is a placement of the design that is open.
     fn stands_open(&self, placement: u32) -> bool
-        ensures { result ≡ true → (mem self.now.scene.live placement ≡ true) × (is_open self.now placement ≡ true) }
+        ensures open { result ≡ true → (mem self.now.scene.live placement ≡ true) × (is_open self.now placement ≡ true) }
+        ensures closed { result ≡ false → mem self.now.scene.live placement ≡ true → is_open self.now placement ≡ false }
     {
         let node = self.stand.node(&self.trail);
         queries::stands_open(&node, &self.steps, placement)

@@ -1,11 +1,11 @@
 //! Counts the placements that are not ruled out: the rows tell which placements are open, and the members of the base are
 //! checked one by one.
-ghost use Rattle.std.specs.Prelude.{Bool, MatchOption, length, max, not, slice_index, true, ℕ, ◌&&◌, ◌*◌, ◌+◌, ◌<◌, ◌^◌, ◌≡◌, ◌≤◌};
+ghost use Rattle.std.specs.Prelude.{Bool, MatchOption, false, length, max, not, slice_index, true, ℕ, ◌&&◌, ◌*◌, ◌+◌, ◌<◌, ◌^◌, ◌≡◌, ◌≤◌};
 ghost use Rattle.poly_tiling.specs.Lists.{mem, tally};
 ghost use Rattle.poly_tiling.specs.Puzzle.{has_item, same_item};
 ghost use Rattle.poly_atom.specs.Hopeless.{base};
 ghost use Rattle.poly_frame.specs.Bits.{in_both};
-ghost use Rattle.poly_frame.specs.Open.{least_with_base, ruled_out};
+ghost use Rattle.poly_frame.specs.Open.{least_with_base, open_in, ruled_out};
 ghost use Rattle.poly_frame.specs.FrameItems.{item_of};
 ghost use Rattle.poly_frame.specs.FrameConsistent.{is_consistent};
 ghost use Rattle.poly_frame.specs.FrameSteps.{IsAt};
@@ -17,7 +17,24 @@ use crate::frame::node::Node;
 use crate::frame::steps::Steps;
 use crate::{bits, plain};
 use poly_atom::Atom;
-use poly_tiling::{Item, View};
+use poly_tiling::{Item, View, has_number};
+
+/// Whether a placement that is not open is a placement of the design that is not ruled out. Only a member of the base can be
+/// that. If `sure`, the base is known to be consistent, so each member is that, and no atom is read.
+pub(crate) fn is_right_member(node: &Node<'_>, members: &[u32], number: u32, sure: bool) -> bool
+    requires members { members.now ≡ base node.now.view.now node.now.trail.now }
+    requires sure { sure ≡ true → is_consistent node.now.view.now node.now.trail.now ≡ true }
+    requires closed { mem node.now.view.now.live number ≡ true → open_in node.now.view.now node.now.trail.now number ≡ false }
+    ensures { result ≡ (mem node.now.view.now.live number && not (ruled_out node.now.view.now node.now.trail.now number)) }
+{
+    if !has_number(members, number) {
+        return false;
+    }
+    if sure {
+        return true;
+    }
+    is_right(node.view, node.trail, members, number)
+}
 
 // How many columns are both in the row of `live` at word `at` and in the matrix's row at word `from`.
 fn count_both(matrix: &Matrix, live: &[u64], at: usize, from: usize) -> usize

@@ -131,10 +131,11 @@ pub(crate) fn narrowed_now(
     Ok(narrow)
 }
 
-/// Whether the number's placement is known to be open.
+/// Whether the number's placement is a placement of the design that is open.
 pub(crate) fn stands_open(node: &Node<'_>, steps: &Steps, number: u32) -> bool
     requires kept { IsAt node.now steps.now }
-    ensures { result ≡ true → (mem node.now.view.now.live number ≡ true) × (open_in node.now.view.now node.now.trail.now number ≡ true) }
+    ensures open { result ≡ true → (mem node.now.view.now.live number ≡ true) × (open_in node.now.view.now node.now.trail.now number ≡ true) }
+    ensures closed { result ≡ false → mem node.now.view.now.live number ≡ true → open_in node.now.view.now node.now.trail.now number ≡ false }
 {
     let at = steps.live.len() - node.matrix.width;
     match node.matrix.column_of(number) {

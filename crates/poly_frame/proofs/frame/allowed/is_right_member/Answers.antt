@@ -1,0 +1,14 @@
+use Rattle.std.proofs.Common.{ap, sym, ◌∙◌}
+use Rattle.poly_tiling.specs.Lists.{mem}
+use Rattle.poly_frame.proofs.FrameConsistent.{member_right, outside_wrong}
+use Rattle.poly_frame.proofs.frame.allowed.is_right_member.Goals as goal
+
+pub returns-then-not-has_number : goal.returns-then-not-has_number
+returns-then-not-has_number c =
+    let p = c.args.number in
+    outside_wrong c.args.node.now.view.now c.args.node.now.trail.now p (ap (λ xs. mem xs p) (sym c.requires.members) ∙ sym c.has_number.ensures ∙ c.if-not-has_number.true) c.requires.closed
+
+pub returns-then-sure : goal.returns-then-sure
+returns-then-sure c =
+    let p = c.args.number in
+    sym (member_right c.args.node.now.view.now c.args.node.now.trail.now p (c.requires.sure c.if-sure.true) (ap (λ xs. mem xs p) (sym c.requires.members) ∙ sym c.has_number.ensures ∙ c.if-not-has_number.false))
