@@ -4,7 +4,7 @@ use Rattle.std.specs.List.{list_any, list_all}
 use Rattle.std.proofs.Math.ListN.{set}
 use Rattle.std.proofs.Math.Nat.{mul-le-mul_left}
 use Rattle.std.proofs.lemmas.Bool.{and_from, and_parts, cases_eq, cases_lt, eq-eqb, eqb-true, false_from_ne_true, lt-ltb, ltb-true, ne_eqb, or_left, or_right, true≢false}
-use Rattle.std.proofs.lemmas.List.{get_or-append_right, get_or-replicate, get_or-set_other, get_or-set_same, get_or_append_left, length-replicate, take_all, take_more}
+use Rattle.std.proofs.lemmas.List.{get_or-append-add, get_or-append_right, get_or-replicate, get_or-set_other, get_or-set_same, get_or_append_left, length-replicate, take_all, take_more}
 use Rattle.std.proofs.lemmas.Nat.Bits.{bit_at-zero}
 use Rattle.std.specs.Int.{bit_at}
 use Rattle.poly_tiling.specs.Lists.{distinct, one}
@@ -13,7 +13,7 @@ use Rattle.poly_tiling.proofs.Lists.{all_append, any_from, any_in, same_truth}
 use Rattle.poly_frame.specs.Bits.{has_bit}
 use Rattle.poly_frame.specs.FrameItems.{Noted, item_of, times}
 use Rattle.poly_frame.specs.Matrices.{RowsShow, bit_index}
-use Rattle.poly_frame.proofs.Words.{no_bits}
+use Rattle.poly_frame.proofs.Words.{no_bits, same_row, same_word}
 use Rattle.poly_frame.proofs.FramePicks.{one_true, some_times, times_some}
 use Rattle.poly_frame.proofs.FrameSteps.{distinct_at, none_and, own_gone, own_spared}
 
@@ -129,3 +129,46 @@ put_inside old new j i put before h = elim (cases_eq j i) [
 
 pub put_past : (old new : List ℕ) (j i : ℕ) → ((x : ℕ) → has_bit new x ≡ (has_bit old x || eqb (64 * 0 + j) x)) → (j ≤ i → has_bit old i ≡ false) → j + 1 ≤ i → has_bit new i ≡ false
 put_past old new j i put before h = put i ∙ ap (λ b. b || eqb (64 * 0 + j) i) (before (omega arith)) ∙ ne_eqb (64 * 0 + j) i (λ e. absurd (omega (arith, e, h)))
+
+-- rows that begin k words before the end of another list of words
+module _ (front tail new : List ℕ) (w k t : ℕ) (rs : List ℕ) (size : length front ≡ k)
+    (bits : (y : ℕ) → has_bit new y ≡ (has_bit tail y || list_any (λ b. eqb (bit_index w b t) y) rs)) where
+  past_front : (xs : List ℕ) (y : ℕ) → has_bit (front ++ xs) (64 * k + y) ≡ has_bit xs y
+  past_front xs y =
+      let first : 0 + y / 64 ≡ y / 64 = omega arith in
+      let zero_row : 64 * 0 + y ≡ y = omega arith in
+      same_row xs (front ++ xs) 0 k y (ap (λ n. get_or (front ++ xs) (n + y / 64) 0) (sym size) ∙ get_or-append-add front xs (y / 64) 0 ∙ ap (λ n. get_or xs n 0) (sym first)) ∙ ap (λ n. has_bit xs n) zero_row
+
+  in_front : (xs : List ℕ) (x : ℕ) → x < 64 * k → get_or (front ++ xs) (x / 64) 0 ≡ get_or front (x / 64) 0
+  in_front xs x h = get_or_append_left front xs 0 (x / 64) (omega (arith, h, size))
+
+  no_more : (b c : Bool) → c ≡ false → b ≡ (b || c)
+  no_more true c e = refl
+  no_more false c e = sym e
+
+  pub put_past_front : (x : ℕ) → has_bit (front ++ new) x ≡ (has_bit (front ++ tail) x || list_any (λ b. eqb (bit_index w b (64 * k + t)) x) rs)
+  put_past_front x = elim (cases_lt x (64 * k)) [
+    | inl h ↦
+        same_word (front ++ tail) (front ++ new) x (in_front new x h ∙ sym (in_front tail x h))
+        ∙ no_more _ _ (false_from_ne_true _ (λ y. let r = any_in (λ b. eqb (bit_index w b (64 * k + t)) x) rs y in absurd (omega (arith, h, eqb-true _ _ r.2))))
+    | inr h ↦
+        let y = x - 64 * k in
+        let here : x ≡ 64 * k + y = omega (arith, h) in
+        let same : (b : ℕ) → eqb (bit_index w b t) y ≡ eqb (bit_index w b (64 * k + t)) x =
+        λ b. same_truth _ _ (λ s. eq-eqb _ _ (omega (arith, h, eqb-true _ _ s))) (λ s. eq-eqb _ _ (omega (arith, h, eqb-true _ _ s))) in
+        ap (λ n. has_bit (front ++ new) n) here ∙ past_front new y ∙ bits y
+        ∙ ap (λ b. b || list_any (λ b. eqb (bit_index w b t) y) rs) (sym (past_front tail y) ∙ ap (λ n. has_bit (front ++ tail) n) (sym here))
+        ∙ ap (λ b. has_bit (front ++ tail) x || b) (any_same _ _ rs same)
+  ]
+    where
+      any_same : (f g : ℕ → Bool) (xs : List ℕ) → ((n : ℕ) → f n ≡ g n) → list_any f xs ≡ list_any g xs
+      any_same f g [] e = refl
+      any_same f g (n ∷ xs) e = ap (λ b. b || list_any f xs) (e n) ∙ ap (λ b. g n || b) (any_same f g xs e)
+
+-- the first words of the rows of these indices are inside the words from word k on
+pub inside_past : (w items k n : ℕ) (rs : List ℕ) → k < w → n + k ≡ w * items → list_all (λ b. ltb b items) rs ≡ true → list_all (λ b. ltb (w * b) n) rs ≡ true
+inside_past w items k n [] h e a = refl
+inside_past w items k n (b ∷ rs) h e a =
+    let p = and_parts (ltb b items) (list_all (λ b. ltb b items) rs) a in
+    let fits = mul-le-mul_left {m = b + 1} {n = items} w (omega (arith, ltb-true b items p.0)) in
+    and_from _ _ (lt-ltb (w * b) n (omega (arith, fits, h, e))) (inside_past w items k n rs h e p.1)

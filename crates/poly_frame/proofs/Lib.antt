@@ -18,6 +18,7 @@ pub mod FrameArms
 pub mod FrameConsistent
 pub mod Starved
 pub mod Layers
+pub mod Listed
 pub mod Stepped
 pub mod Ahead
 pub mod Six

@@ -3,7 +3,7 @@ use Rattle.std.proofs.Common.{◌≡◌, ℕ, zero, suc, ◌+◌, ◌-◌, ◌*�
 use Rattle.std.proofs.Math.ListN.{set}
 use Rattle.std.proofs.lemmas.Bool.{cases_eq, cases_lt, eq-eqb, ne_eqb, or_right}
 use Rattle.std.proofs.lemmas.Nat.Bits.{bit_at_and, bit_at_not, bit_at-lt, bit_at_set_same, bit_at_set_other, bit_at_clear_same, bit_at_clear_other, bit_at-trailing_zeros, bit_at-zero, bit_at_above, shr_and_one}
-use Rattle.std.proofs.lemmas.Nat.{shr-shr}
+use Rattle.std.proofs.lemmas.Nat.{and_le_l, shr-shr}
 use Rattle.std.proofs.Math.Nat.{div-le_self}
 use Rattle.std.proofs.lemmas.List.{get_or-append-add, get_or-drop, get_or-take, get_or_append_left, length-drop, length-set, length-take-le}
 use Rattle.std.specs.Int.{bit_at, bit_not, trailing_zeros}
@@ -84,6 +84,23 @@ clear_one ws i j h =
                 r ∙ ap (λ y. eqb y 1) (bit_at_clear_other w64 w (i % 64) low (j % 64) lowj n) ∙ ap (λ m. eqb (bit_at (get_or ws m 0) (j % 64)) 1) (sym e) ∙ and_yes _ _ (apart_low i j n)
           ]
       | inr n ↦ ap (λ y. eqb (bit_at y (j % 64)) 1) (other_at ws (i / 64) x (j / 64) n) ∙ and_yes _ _ (apart i j n)
+    ]
+
+-- a word from which one bit is taken out
+pub word_without : (w t u : ℕ) → t < 64 → u < 64 → eqb (bit_at (bit_and w (bit_not w64 (1 * 2 ^ t % 2 ^ 64))) u) 1 ≡ (eqb (bit_at w u) 1 && not (eqb t u))
+word_without w t u h l = elim (cases_eq u t) [
+  | inl e ↦ ap (λ n. eqb (bit_at (bit_and w (bit_not w64 (1 * 2 ^ t % 2 ^ 64))) n) 1) e ∙ ap (λ y. eqb y 1) (bit_at_clear_same w64 w t h) ∙ and_no (eqb (bit_at w u) 1) (eqb t u) (eq-eqb t u (sym e))
+  | inr n ↦ ap (λ y. eqb y 1) (bit_at_clear_other w64 w t h u l n) ∙ and_yes _ _ (ne_eqb t u (λ e. n (sym e)))
+]
+
+pub without_less : (w t : ℕ) → t < 64 → bit_at w t ≡ 1 → bit_and w (bit_not w64 (1 * 2 ^ t % 2 ^ 64)) < w
+without_less w t h one =
+    let x = bit_and w (bit_not w64 (1 * 2 ^ t % 2 ^ 64)) in
+    elim (cases_lt x w) [
+      | inl l ↦ l
+      | inr g ↦
+          let same : x ≡ w = omega (arith, g, and_le_l w (bit_not w64 (1 * 2 ^ t % 2 ^ 64))) in
+          absurd (omega (arith, one, ap (λ y. bit_at y t) same, bit_at_clear_same w64 w t h))
     ]
 
 -- the word and the bit of a number of a row

@@ -3,6 +3,7 @@ use Rattle.std.specs.Arc.{arc_value}
 use Rattle.std.specs.declared.sync.Arc.{Arc}
 use Rattle.std.specs.Global.{Global}
 use Rattle.std.specs.Prelude.{Bool, List, None, Option, Some, [], drop, false, length, slice_index, take, true, ℕ, zero, suc, ◌*◌, ◌+◌, ◌-◌, ◌<◌, ◌^◌, ◌||◌, ◌≡◌, ◌≤◌}
+use Rattle.std.specs.List.{filter}
 use Rattle.poly_tiling.specs.Lists.{distinct, mem}
 use Rattle.poly_tiling.specs.Names.{WellNamed}
 use Rattle.poly_tiling.specs.Puzzle.{View, has_item, items}
@@ -25,6 +26,13 @@ RowsShow v ns w rows = (b j : ℕ) → b < length v.bounds → j < length ns →
 -- `stands` has the column of each number
 abbrev pub StandsShow : List ℕ → List ℕ → Type 0
 StandsShow ns stands = (j : ℕ) → j < length ns → (slice_index ns j < length stands) × (slice_index stands (slice_index ns j) ≡ j)
+
+-- `chosen` and `theirs` have the numbers and the homes of those of the first k columns whose bit is set in the row
+pub record ListedTo (ns homes row chosen theirs : List ℕ) (k : ℕ) : Type 0 where
+  pub fewer : length chosen ≤ k
+  pub numbers : (f : ℕ → Bool) → ((j : ℕ) → j < length ns → f (slice_index ns j) ≡ has_bit row j) → chosen ≡ filter f (take k ns)
+  pub len : length theirs ≡ length chosen
+  pub each : (stands : List ℕ) → StandsShow ns stands → (i : ℕ) → i < length chosen → slice_index theirs i ≡ slice_index homes (slice_index stands (slice_index chosen i))
 
 -- list j: the entries from its start to the start of the next list
 abbrev pub list_at : List ℕ → List ℕ → ℕ → List ℕ

@@ -26,6 +26,18 @@ pub(crate) fn put_in(words: &mut Vec<u64>, at: usize, j: usize)
     words[k] = word | (1 << (j % 64));
 }
 
+/// Does what `put_in` does, in a slice: a loop that writes to a slice needn't read again where it is.
+#[tactic(auto, using(crate::proofs::Words::put_bit))]
+pub(crate) fn put_in_words(words: &mut [u64], at: usize, j: usize)
+    requires { at + j / 64 < length words.old }
+    ensures len { length words.new ≡ length words.old }
+    ensures bits { (x : ℕ) → has_bit words.new x ≡ (has_bit words.old x || (64 * at + j == x)) }
+{
+    let k = at + j / 64;
+    let word = words[k];
+    words[k] = word | (1 << (j % 64));
+}
+
 /// Removes a number from the row that begins at word `at`.
 #[tactic(auto, using(crate::proofs::Words::clear_bit))]
 pub(crate) fn take_out(words: &mut Vec<u64>, at: usize, j: usize)
@@ -199,8 +211,8 @@ pub(crate) fn both(word: u64, row: u64) -> u64
     word & row
 }
 
-// The first bit from `low` on that is set in a word; `None` if no bit is set there.
-fn next_bit(word: u64, low: usize) -> Option<usize>
+/// The first bit from `low` on that is set in a word; `None` if no bit is set there.
+pub(crate) fn next_bit(word: u64, low: usize) -> Option<usize>
     requires { low < 64 }
     ensures { MatchOption result (NoneIn (λ t. bit_at word t == 1) low 64) (λ t. FirstIn (λ t. bit_at word t == 1) low 64 t) }
 {
@@ -209,6 +221,15 @@ fn next_bit(word: u64, low: usize) -> Option<usize>
         return None;
     }
     Some(low + rest.trailing_zeros() as usize)
+}
+
+/// The word without bit `t`.
+pub(crate) fn without(word: u64, t: usize) -> u64
+    requires { t < 64 }
+    ensures bits { (u : ℕ) → u < 64 → (bit_at result u == 1) ≡ ((bit_at word u == 1) && not (t == u)) }
+    ensures less { bit_at word t ≡ 1 → result < word }
+{
+    word & !(1 << t)
 }
 
 /// The first number from `low` on that is both in the row of `words` at word `at` and in the row of `rows` at word `from`;

@@ -54,7 +54,7 @@ pub struct Matrix {
     pub(crate) occupied: Vec<Occupied>,
 }
 
-ghost use Rattle.poly_frame.specs.Matrices.{HomesIn, HomesShow, IsMatrix, IsWhole, ListsShow, RowOf, RowsShow, StandsShow, bit_index, column_items, list_at, matrix_of};
+ghost use Rattle.poly_frame.specs.Matrices.{HomesIn, HomesShow, IsMatrix, IsWhole, ListedTo, ListsShow, RowOf, RowsShow, StandsShow, bit_index, column_items, list_at, matrix_of};
 
 /// The matrix that a frame reads.
 #[derive(Drop)]
@@ -103,13 +103,23 @@ impl Lists {
         requires end { slice_index self.now.starts.items (j + 1) ≤ length self.now.indices.items }
         ensures { result.now ≡ list_at self.now.starts.items self.now.indices.items j }
     {
-        &self.indices[self.starts[j]..self.starts[j + 1]]
+        list_of(&self.starts, &self.indices, j)
     }
 
     /// The mask of the list at `j`.
     pub(crate) fn mask(&self, j: usize) -> &[u64] {
         part_of(&self.masks, self.words.saturating_mul(j), self.words)
     }
+}
+
+// The list at `j` of those that begin at `starts`.
+fn list_of<'a>(starts: &[usize], indices: &'a [usize], j: usize) -> &'a [usize]
+    requires high { j + 1 < length starts.now }
+    requires order { slice_index starts.now j ≤ slice_index starts.now (j + 1) }
+    requires end { slice_index starts.now (j + 1) ≤ length indices.now }
+    ensures { result.now ≡ list_at starts.now indices.now j }
+{
+    &indices[starts[j]..starts[j + 1]]
 }
 
 // The part of the list that starts at `from` and has `count` entries; empty if the list ends before.
@@ -151,6 +161,7 @@ impl Matrix {
         let lists = list_items(alloc, view, &cells, &numbers)?;
         let homes = all_homes(alloc, numbers.len())?;
         let shared = Arc::new(alloc, lists)?;
+        let size = size_for(&numbers);
         with_columns(
             alloc,
             view,
@@ -158,6 +169,7 @@ impl Matrix {
             Some(shared),
             homes,
             cells,
+            size,
             Matrix::none(alloc),
         )
     }
@@ -254,23 +266,24 @@ pub(crate) fn narrowed(
 {
     let mut spare = spare;
     let mut numbers = mem::replace(&mut spare.numbers, Vec::new(alloc));
+    let mut homes = mem::replace(&mut spare.homes, Vec::new(alloc));
     numbers.clear();
     numbers.reserve(whole.numbers.len())?;
-    list_set(&whole.numbers, row, whole.width, &mut numbers);
+    homes.clear();
+    homes.reserve(whole.numbers.len())?;
+    list_set(&whole.numbers, &whole.homes, row, &mut numbers, &mut homes);
     let cells = guesses(
         &whole.cells,
         mem::replace(&mut spare.cells, Vec::new(alloc)),
     )?;
-    let homes = homes_of(
-        whole,
-        &numbers,
-        mem::replace(&mut spare.homes, Vec::new(alloc)),
-    )?;
     let lists = share(&whole.lists)?;
-    with_columns(alloc, view, numbers, lists, homes, cells, spare)
+    // `stands` has an entry for each number that has a column
+    let size = whole.stands.len();
+    with_columns(alloc, view, numbers, lists, homes, cells, size, spare)
 }
 
-// The matrix with a column for each of the numbers, from the lists of their items. Uses the memory of `spare` again.
+// The matrix with a column for each of the numbers, which are below `size`, from the lists of their items. Uses the memory of
+// `spare` again.
 fn with_columns(
     alloc: Global,
     view: &View,
@@ -278,10 +291,12 @@ fn with_columns(
     lists: Option<Arc<Lists>>,
     homes: Vec<usize>,
     cells: Vec<usize>,
+    size: usize,
     spare: Matrix,
 ) -> Result<Matrix, Refusal>
     requires well { WellNamed view.now }
     requires once { distinct numbers.items ≡ true }
+    requires above { (j : ℕ) → j < length numbers.items → slice_index numbers.items j < size }
     requires fewer { length numbers.items ≤ length view.now.live }
     requires live { (q : ℕ) → mem numbers.items q ≡ true → mem view.now.live q ≡ true }
     requires lists { HomesShow view.now numbers.items homes.items lists }
@@ -290,7 +305,7 @@ fn with_columns(
 {
     let width = width_for(numbers.len());
     let rows = rows_of(view, &numbers, &lists, &homes, width, spare.rows)?;
-    let stands = stands_of(&numbers, spare.stands)?;
+    let stands = stands_of(&numbers, size, spare.stands)?;
     let occupied = occupied_rows(alloc, &rows, width, view.items().len())?;
     Ok(Matrix {
         numbers,
@@ -315,22 +330,58 @@ fn guesses(from: &[usize], spare: Vec<usize>) -> Result<Vec<usize>, Refusal>
     Ok(all)
 }
 
-// Lists the numbers that have a bit in a row.
-fn list_set(numbers: &[u32], row: &[u64], width: usize, into: &mut Vec<u32>)
-    requires wide { length numbers.now ≤ 64 * width }
-    requires narrow { width < 2 ^ 58 }
-    requires row { length row.now ≡ width }
-    requires none { into.old.items ≡ [] }
-    requires space { length numbers.now ≤ vec_capacity into.old }
-    ensures { (f : ℕ → Bool) → ((j : ℕ) → j < length numbers.now → f (slice_index numbers.now j) ≡ has_bit row.now j) → into.new.items ≡ filter f numbers.now }
+// Lists the numbers and the homes of the columns that have a bit in word `k` of a row, if those of the words before are
+// listed.
+fn list_word(
+    given: &[u32],
+    given_homes: &[usize],
+    row: &[u64],
+    k: usize,
+    numbers: &mut Vec<u32>,
+    homes: &mut Vec<usize>,
+)
+    requires homes { length given_homes.now ≡ length given.now }
+    requires narrow { length row.now < 2 ^ 58 }
+    requires word { k < length row.now }
+    requires listed { ListedTo given.now given_homes.now row.now numbers.old.items homes.old.items (64 * k) }
+    requires space { length given.now ≤ vec_capacity numbers.old }
+    requires room { length given.now ≤ vec_capacity homes.old }
+    ensures listed { ListedTo given.now given_homes.now row.now numbers.new.items homes.new.items (64 * (k + 1)) }
+    ensures space { vec_capacity numbers.new ≡ vec_capacity numbers.old }
+    ensures room { vec_capacity homes.new ≡ vec_capacity homes.old }
 {
-    let mut low = 0;
-    while let Some(j) = bits::next_both(row, 0, row, 0, width, low) {
-        if j >= numbers.len() {
+    let mut rest = row[k];
+    while let Some(t) = bits::next_bit(rest, 0) {
+        let j = 64 * k + t;
+        if j >= given.len() {
             return;
         }
-        into.push_reserved(numbers[j]);
-        low = j + 1;
+        let number = given[j];
+        let home = given_homes[j];
+        numbers.push_reserved(number);
+        homes.push_reserved(home);
+        rest = bits::without(rest, t);
+    }
+}
+
+// Lists the numbers and the homes of the columns that have a bit in a row.
+fn list_set(
+    given: &[u32],
+    given_homes: &[usize],
+    row: &[u64],
+    numbers: &mut Vec<u32>,
+    homes: &mut Vec<usize>,
+)
+    requires homes { length given_homes.now ≡ length given.now }
+    requires narrow { length row.now < 2 ^ 58 }
+    requires none { numbers.old.items ≡ [] }
+    requires no_homes { homes.old.items ≡ [] }
+    requires space { length given.now ≤ vec_capacity numbers.old }
+    requires room { length given.now ≤ vec_capacity homes.old }
+    ensures { ListedTo given.now given_homes.now row.now numbers.new.items homes.new.items (64 * length row.now) }
+{
+    for k in 0..row.len() {
+        list_word(given, given_homes, row, k, numbers, homes);
     }
 }
 
@@ -418,24 +469,6 @@ fn all_homes(alloc: Global, count: usize) -> Result<Vec<usize>, Refusal>
     Ok(homes)
 }
 
-// Which list each number has among those of a matrix that has columns for all of these numbers. Overwrites `spare`.
-fn homes_of(whole: &Matrix, numbers: &[u32], spare: Vec<usize>) -> Result<Vec<usize>, Refusal>
-    requires stands { StandsShow whole.now.numbers.items whole.now.stands.items }
-    requires homes { length whole.now.homes.items ≡ length whole.now.numbers.items }
-    requires among { (p : ℕ) → mem numbers.now p ≡ true → mem whole.now.numbers.items p ≡ true }
-    ensures len { IfOk result (λ h. length h.items ≡ length numbers.now) }
-    ensures each { IfOk result (λ h. (i : ℕ) → i < length numbers.now → slice_index h.items i ≡ slice_index whole.now.homes.items (slice_index whole.now.stands.items (slice_index numbers.now i))) }
-    ensures why { IfErr result (λ e. e ≡ Refusal.Memory) }
-{
-    let mut homes = spare;
-    homes.clear();
-    homes.reserve(numbers.len())?;
-    for p in numbers {
-        homes.push_reserved(whole.homes[whole.stands[*p as usize] as usize]);
-    }
-    Ok(homes)
-}
-
 // The length of a list that has an entry at each of these numbers.
 fn size_for(numbers: &[u32]) -> usize
     ensures above { list_all (λ p. nat_lt p result) numbers.now ≡ true }
@@ -460,17 +493,17 @@ fn lengthened(list: Vec<u32>, size: usize) -> Result<Vec<u32>, Refusal>
     Ok(list)
 }
 
-// The column of each number. Overwrites `spare`, whose other entries stay, since they mean nothing. More columns than a u32
-// can count would be more than fit into memory.
-fn stands_of(numbers: &[u32], spare: Vec<u32>) -> Result<Vec<u32>, Refusal>
-    requires { distinct numbers.now ≡ true }
+// The column of each number, in a list with at least `size` entries. Overwrites `spare`, whose other entries stay, since they
+// mean nothing. More columns than a u32 can count would be more than fit into memory.
+fn stands_of(numbers: &[u32], size: usize, spare: Vec<u32>) -> Result<Vec<u32>, Refusal>
+    requires once { distinct numbers.now ≡ true }
+    requires above { (j : ℕ) → j < length numbers.now → slice_index numbers.now j < size }
     ensures value { IfOk result (λ s. StandsShow numbers.now s.items) }
     ensures why { IfErr result (λ e. e ≡ Refusal.Memory) }
 {
     let Ok(count) = u32::try_from(numbers.len()) else {
         return Err(Refusal::Memory);
     };
-    let size = size_for(numbers);
     let mut stands = lengthened(spare, size)?;
     for j in 0..count {
         let p = numbers[j as usize] as usize;
@@ -479,16 +512,29 @@ fn stands_of(numbers: &[u32], spare: Vec<u32>) -> Result<Vec<u32>, Refusal>
     Ok(stands)
 }
 
-// Puts the number j into the rows of these indices.
-fn put_each(rows: &mut Vec<u64>, width: usize, indices: &[usize], j: usize, items: usize)
+// Puts the number j into the rows of these indices. Cuts off the words before the one that has the bit, so that the place of
+// the word in each row is a product alone.
+fn put_each(rows: &mut [u64], width: usize, indices: &[usize], j: usize, items: usize)
     requires low { list_all (λ b. nat_lt b items) indices.now ≡ true }
-    requires len { length rows.old.items ≡ width * items }
+    requires len { length rows.old ≡ width * items }
     requires wide { j < 64 * width }
-    ensures len { length rows.new.items ≡ width * items }
-    ensures bits { (x : ℕ) → has_bit rows.new.items x ≡ (has_bit rows.old.items x || list_any (λ b. bit_index width b j == x) indices.now) }
+    requires some { 0 < items }
+    ensures len { length rows.new ≡ width * items }
+    ensures bits { (x : ℕ) → has_bit rows.new x ≡ (has_bit rows.old x || list_any (λ b. bit_index width b j == x) indices.now) }
+{
+    let (_, words) = rows.split_at_mut(j / 64);
+    put_bit(words, width, indices, j % 64);
+}
+
+// Sets the bit in the first word of each of these rows, which begin where `words` does and have `width` words.
+fn put_bit(words: &mut [u64], width: usize, indices: &[usize], t: usize)
+    requires low { list_all (λ b. nat_lt (width * b) (length words.old)) indices.now ≡ true }
+    requires bit { t < 64 }
+    ensures len { length words.new ≡ length words.old }
+    ensures bits { (x : ℕ) → has_bit words.new x ≡ (has_bit words.old x || list_any (λ b. bit_index width b t == x) indices.now) }
 {
     for b in indices {
-        bits::put_in(rows, width * *b, j);
+        bits::put_in_words(words, width * *b, t);
     }
 }
 
@@ -522,32 +568,43 @@ fn rows_of(
     ensures why { IfErr result (λ e. e ≡ Refusal.Memory) }
 {
     let items = view.items().len();
-    let rows = empty_rows(width, items, spare)?;
-    match lists {
-        None => Ok(rows),
-        Some(shared) => Ok(filled(view, numbers, shared, homes, width, rows)),
+    let mut rows = empty_rows(width, items, spare)?;
+    if let Some(shared) = lists {
+        fill(
+            view,
+            numbers,
+            &shared.starts,
+            &shared.indices,
+            homes,
+            width,
+            &mut rows,
+        );
     }
+    Ok(rows)
 }
 
-// The row of each item, if `rows` are empty.
-fn filled(
+// Makes empty rows the row of each item.
+fn fill(
     view: &View,
     numbers: &[u32],
-    lists: &Lists,
+    starts: &[usize],
+    indices: &[usize],
     homes: &[usize],
     width: usize,
-    rows: Vec<u64>,
-) -> Vec<u64>
+    rows: &mut [u64],
+)
     requires wide { length numbers.now ≤ 64 * width }
-    requires lists { HomesIn view.now numbers.now homes.now lists.now.starts.items lists.now.indices.items }
-    requires rows { rows.items ≡ replicate (width * length view.now.bounds) 0 }
-    ensures len { length result.items ≡ width * length view.now.bounds }
-    ensures value { RowsShow view.now numbers.now width result.items }
+    requires lists { HomesIn view.now numbers.now homes.now starts.now indices.now }
+    requires rows { rows.old ≡ replicate (width * length view.now.bounds) 0 }
+    ensures len { length rows.new ≡ width * length view.now.bounds }
+    ensures value { RowsShow view.now numbers.now width rows.new }
 {
     let items = view.items().len();
-    let mut rows = rows;
-    for j in 0..numbers.len() {
-        put_each(&mut rows, width, lists.of(homes[j]), j, items);
+    // without rows there are no words to cut off
+    if items == 0 {
+        return;
     }
-    rows
+    for j in 0..numbers.len() {
+        put_each(rows, width, list_of(starts, indices, homes[j]), j, items);
+    }
 }

@@ -1,10 +1,13 @@
-use Rattle.std.proofs.Common.{List, ap, arith, length, refl, subst, ℕ, ◌∙◌}
+use Rattle.std.proofs.Common.{List, ap, arith, get_or, length, refl, subst, sym, ℕ, ◌<◌, ◌∙◌}
 use Rattle.poly_tiling.specs.Lists.{distinct}
 use Rattle.poly_frame.specs.Matrices.{RowsShow, StandsShow}
 use Rattle.poly_frame.proofs.frame.matrix.with_columns.Goals as goal
 
-pub stands_of-requires : goal.stands_of-requires
-stands_of-requires c = ap distinct c.deref-3.ensures.value ∙ c.requires.once
+pub stands_of-requires-clause-once : goal.stands_of-requires-clause-once
+stands_of-requires-clause-once c = ap distinct c.deref-3.ensures.value ∙ c.requires.once
+
+pub stands_of-requires-clause-above : goal.stands_of-requires-clause-above
+stands_of-requires-clause-above c = subst (λ (ns : List ℕ). (j : ℕ) → j < length ns → get_or ns j 0 < c.args.size) (sym c.deref-3.ensures.value) c.requires.above
 
 pub rows_of-requires-clause-wide : goal.rows_of-requires-clause-wide
 rows_of-requires-clause-wide c = omega (arith, ap length c.deref.ensures.value, c.width_for-width.ensures.wide, c.len.ensures, c.args.numbers.ok.0)
