@@ -91,7 +91,7 @@ fn limits_of(alloc: Global, bounds: &[Bound], mosts: &[u8]) -> Result<Vec<u8>, R
 {
     let mut limits = Vec::with_capacity(alloc, bounds.len())?;
     for b in 0..bounds.len() {
-        limits.push(limit(&bounds[b].item, mosts[b]))?;
+        limits.push_reserved(limit(&bounds[b].item, mosts[b]));
     }
     Ok(limits)
 }

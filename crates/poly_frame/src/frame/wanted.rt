@@ -57,8 +57,8 @@ fn mosts_and_leasts(alloc: Global, bounds: &[Bound]) -> Result<(Vec<u8>, Vec<u8>
     let mut mosts = Vec::with_capacity(alloc, bounds.len())?;
     let mut leasts = Vec::with_capacity(alloc, bounds.len())?;
     for b in bounds {
-        mosts.push(b.most)?;
-        leasts.push(b.least)?;
+        mosts.push_reserved(b.most);
+        leasts.push_reserved(b.least);
     }
     Ok((mosts, leasts))
 }
