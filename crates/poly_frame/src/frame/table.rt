@@ -133,11 +133,22 @@ fn end_of(leasts: &[u8]) -> usize
     0
 }
 
-// Whether no limit is over 1.
-fn are_alone(limits: &[u8]) -> bool
-    ensures { result ≡ list_all (λ n. nat_le n 1) limits.now }
+// The greatest of the entries; 0 if there are none. It looks at all, so that the compiler takes several at once.
+fn greatest(entries: &[u8]) -> u8
+    ensures { (n : ℕ) → nat_le result n ≡ list_all (λ e. nat_le e n) entries.now }
 {
-    limits.iter().all(|n| *n <= 1)
+    let mut most = 0u8;
+    for entry in entries {
+        most = most.max(*entry);
+    }
+    most
+}
+
+// Whether no entry is over 1.
+fn are_single(entries: &[u8]) -> bool
+    ensures { result ≡ list_all (λ n. nat_le n 1) entries.now }
+{
+    greatest(entries) <= 1
 }
 
 /// The table of the atoms, for a matrix with a column for each placement that is open at them.
@@ -163,8 +174,8 @@ pub(crate) fn table_of(
     let leasts = wanted.leasts;
     let listed = all_listed(bounds, atoms);
     let leasts_end = end_of(&leasts);
-    let single = leasts.iter().all(|n| *n <= 1);
-    let alone = are_alone(&limits);
+    let single = are_single(&leasts);
+    let alone = are_single(&limits);
     Ok(Table {
         limits,
         leasts,

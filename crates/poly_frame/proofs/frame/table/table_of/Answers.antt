@@ -25,6 +25,6 @@ returns-clause-value c =
       leasts_len = c.requires.leasts_len;
       listed = λ y. subst (λ (bs : List Bound). list_all (of_asked (λ i. list_any (λ b. same_item b.item i) bs)) A ≡ true) c.items-bounds.ensures.value (sym c.all_listed-listed.ensures ∙ y);
       quiet = λ b l h. ap (λ xs. get_or xs b 0) (sym c.deref-2.ensures.value) ∙ c.end_of-leasts_end.ensures b l (omega (arith, h, ap length c.deref-2.ensures.value, c.requires.leasts_len));
-      alone = λ y b h. each_one c.in_ok-limits.limits.items b (ap (λ xs. list_all (λ n. leb n 1) xs) (sym c.deref-4.ensures.value) ∙ sym c.are_alone-alone.ensures ∙ y) (omega (arith, h, c.in_ok-limits.ensures.len, ap length c.items-bounds.ensures.value));
+      alone = λ y b h. each_one c.in_ok-limits.limits.items b (ap (λ xs. list_all (λ n. leb n 1) xs) (sym c.deref-4.ensures.value) ∙ sym c.are_single-alone.ensures ∙ y) (omega (arith, h, c.in_ok-limits.ensures.len, ap length c.items-bounds.ensures.value));
       small = λ i. omega (arith, count_le v (base v A) i, c.requires.few);
     }
