@@ -1,13 +1,15 @@
 -- What the rows say about the arms of a Branch, about dead placements and about a base with a due item.
-use Rattle.std.proofs.Common.{◌≡◌, ℕ, zero, suc, ◌+◌, ◌-◌, ◌*◌, ◌<◌, ◌≤◌, Bool, true, false, max, not, refl, ◌&&◌, ◌||◌, ltb, leb, List, [], ◌∷◌, ◌++◌, sym, ap, ◌∙◌, arith, length, get_or, take}
+use Rattle.std.proofs.Common.{◌≡◌, ℕ, zero, suc, ◌+◌, ◌-◌, ◌*◌, ◌<◌, ◌≤◌, Bool, true, false, cond, eqb, max, not, refl, ◌&&◌, ◌||◌, ltb, leb, List, [], ◌∷◌, ◌++◌, sym, ap, ◌∙◌, arith, length, get_or, take}
 use Rattle.std.specs.List.{list_all, list_any}
-use Rattle.std.proofs.lemmas.Bool.{and_from, and_parts, false_from_ne_true, ltb-true, not-true, or_parts}
+use Rattle.std.proofs.lemmas.Bool.{and_from, and_parts, eq-eqb, eqb-true, false_from_ne_true, le-leb, leb-true, ltb-true, not-true, or_parts, or_right}
 use Rattle.std.proofs.lemmas.List.{take_more}
+use Rattle.poly_tiling.specs.declared.bound.Bound.{Bound}
 use Rattle.poly_tiling.specs.declared.item.Item.{Item}
 use Rattle.poly_tiling.specs.Lists.{distinct, mem, one, tally}
-use Rattle.poly_tiling.specs.Puzzle.{View, conflicts, count, has_item, is_tiling, items, same_item}
-use Rattle.poly_tiling.proofs.Lists.{In, in_mem, mem_in}
+use Rattle.poly_tiling.specs.Puzzle.{View, bound_in, conflicts, count, has_item, is_piece, is_tiling, items, same_item}
+use Rattle.poly_tiling.proofs.Lists.{In, in_mem, mem_in, same_truth}
 use Rattle.poly_tiling.proofs.Counts.{ascending_distinct, tally_within}
+use Rattle.poly_tiling.proofs.Named.{tally_same_in}
 use Rattle.poly_tiling.proofs.Orders.{live_once}
 use Rattle.poly_tiling.proofs.Tilings.{parts, same_item_is}
 use Rattle.poly_atom.specs.declared.atom.Atom.{Atom}
@@ -16,12 +18,14 @@ use Rattle.poly_atom.specs.Hopeless.{base, lacks}
 use Rattle.poly_atom.proofs.Bases.{base_up}
 use Rattle.poly_frame.specs.Open.{least_at, dead, least_with_base, open_in, others, ruled_out, most_at}
 use Rattle.poly_frame.specs.Bits.{in_both}
-use Rattle.poly_frame.specs.FrameItems.{item_of}
-use Rattle.poly_frame.specs.FrameConsistent.{is_consistent}
+use Rattle.poly_frame.specs.FrameItems.{item_at, item_of}
+use Rattle.poly_frame.specs.FrameConsistent.{fits_at, is_consistent, item_fits, items_fit}
 use Rattle.poly_frame.specs.FrameSteps.{Kept}
 use Rattle.poly_frame.specs.declared.frame.matrix.Matrix.{Matrix}
 use Rattle.poly_frame.specs.declared.frame.steps.Mark.{Mark}
 use Rattle.poly_frame.specs.declared.frame.table.Table.{Table}
+use Rattle.poly_frame.proofs.FrameConsistent.{right_counted}
+use Rattle.poly_frame.proofs.Later.{most_le_most}
 use Rattle.poly_frame.proofs.Ruled.{least_is}
 use Rattle.poly_frame.proofs.FrameSteps.{top_have, top_level}
 use Rattle.poly_frame.proofs.FrameQueries.{open_first, row_says}
@@ -182,3 +186,32 @@ held_says v A first matrix t live have raised marks K i b h s right =
     top_have v A first matrix t live have raised marks K b h
     ∙ ap (λ k. count v (base v A) k) (same_item_is (item_of v b) i s)
     ∙ sym (tally_both (λ p. has_item v p i) (λ p. mem v.live p && not (ruled_out v A p)) (base v A) right)
+
+-- whether an item of the view fits is told by its entries in `mosts` and `have`
+pub fits_says : (v : View) (A : List Atom) (first : ℕ) (matrix : Matrix) (t : Table) (live have raised : List ℕ) (marks : List Mark) → Kept v A first matrix t live have raised marks → (i : Item) (b : ℕ) → b < length v.bounds → same_item (item_of v b) i ≡ true →
+    fits_at i (get_or t.mosts.items b 0) (get_or have b 0) ≡ item_fits v A i
+fits_says v A first matrix t live have raised marks K i b h s =
+    let same = same_item_is (item_of v b) i s in
+    let held = top_have v A first matrix t live have raised marks K b h ∙ ap (λ k. count v (base v A) k) same in
+    let most_there = K.table.mosts b h ∙ sym ((top_level v A first matrix t live have raised marks K).mosts (item_of v b)) ∙ ap (λ k. most_at v A k) same in
+    ap (λ n. fits_at i n (get_or have b 0)) most_there ∙ ap (λ n. fits_at i (most_at v A i) n) held
+
+-- no member may have an item that is not among the view's
+pub unlisted_fits : (v : View) (A : List Atom) (i : Item) → ((b : ℕ) → b < length v.bounds → same_item (item_of v b) i ≡ false) → (n : ℕ) → n ≡ count v (base v A) i → eqb n 0 ≡ item_fits v A i
+unlisted_fits v A i out n e = same_truth _ _
+    (λ z.
+    let none = eqb-true n 0 z in
+    and_from (leb (count v (base v A) i) (most_at v A i)) _ (le-leb _ _ (omega (arith, none, e))) (or_right (is_piece i) (leb (count v (base v A) i) 1) (le-leb _ _ (omega (arith, none, e)))))
+    (λ f.
+    let few = leb-true _ _ (and_parts (leb (count v (base v A) i) (most_at v A i)) _ f).0 in
+    eq-eqb n 0 (omega (arith, few, e, most_le_most v i A, unbound v.bounds out)))
+  where
+    unbound : (bs : List Bound) → ((b : ℕ) → b < length bs → same_item (item_at bs b) i ≡ false) → bound_in bs i (λ x. x.most) ≡ 0
+    unbound [] none = refl
+    unbound (x ∷ bs) none = ap (λ t. cond t x.most (bound_in bs i (λ x. x.most))) (none zero (omega arith)) ∙ unbound bs (λ b h. none (suc b) (omega arith))
+
+-- the members that have the item and are placements of the design that are not ruled out are those that fit and are not dead
+pub held_counted : (v : View) (A : List Atom) (i : Item) (T : List ℕ) → T ≡ base v A → tally (λ p. has_item v p i && (items_fit v A p && not (dead v A p))) T ≡ tally (λ p. has_item v p i && (mem v.live p && not (ruled_out v A p))) T
+held_counted v A i T e =
+    tally_same_in (λ p. has_item v p i && (items_fit v A p && not (dead v A p))) (λ p. has_item v p i && (mem v.live p && not (ruled_out v A p))) T
+    (λ p k. ap (λ b. has_item v p i && b) (right_counted v A p (ap (λ xs. mem xs p) (sym e) ∙ in_mem T p k)))

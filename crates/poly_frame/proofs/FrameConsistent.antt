@@ -4,11 +4,11 @@ use Rattle.std.specs.List.{list_all, list_any}
 use Rattle.std.proofs.lemmas.Bool.{and_from, and_parts, both_ways, cases_Bool, cases_lt, eq-eqb, eqb-true, false_from_ne_true, le-leb, leb-true, lt-ltb, ne_eqb, not_from_false, not-true, or_cases, or_from, or_parts}
 use Rattle.std.proofs.lemmas.List.{take-append-le, take_all}
 use Rattle.poly_tiling.specs.declared.item.Item.{Item}
-use Rattle.poly_tiling.specs.declared.item.Item.TheVariants.{Cell}
+use Rattle.poly_tiling.specs.declared.item.Item.TheVariants.{Cell, Piece}
 use Rattle.poly_tiling.specs.Lists.{distinct, mem, one, tally}
 use Rattle.poly_tiling.specs.Names.{WellNamed}
 use Rattle.poly_tiling.specs.Puzzle.{View, conflicts, count, has_item, is_piece, is_tiling, items, least, same_item, share_cell}
-use Rattle.poly_tiling.proofs.Lists.{In, all_from, all_in, any_from, any_in, in_mem, mem_in, tally_none}
+use Rattle.poly_tiling.proofs.Lists.{In, all_from, all_in, any_from, any_in, in_mem, mem_in, same_truth, tally_none}
 use Rattle.poly_tiling.proofs.Ascending.{distinct_rest, not_head, put_in}
 use Rattle.poly_tiling.proofs.Counts.{ascending_distinct, tally_fewer}
 use Rattle.poly_tiling.proofs.Named.{listed_item}
@@ -18,9 +18,9 @@ use Rattle.poly_atom.specs.declared.atom.Atom.TheVariants.{AtLeast, AtMost, Has,
 use Rattle.poly_atom.specs.Atoms.{in_family, meets, meets_all}
 use Rattle.poly_atom.specs.Hopeless.{base, lacks}
 use Rattle.poly_atom.proofs.Bases.{base_up, in_base_has, in_base_pin}
-use Rattle.poly_frame.specs.Open.{least_at, open_in, others, ruled_out, most_at}
+use Rattle.poly_frame.specs.Open.{dead, least_at, open_in, others, ruled_out, most_at}
 use Rattle.poly_frame.specs.FrameItems.{item_of}
-use Rattle.poly_frame.specs.FrameConsistent.{AllFit, ConsistentShows, is_consistent}
+use Rattle.poly_frame.specs.FrameConsistent.{AllFit, ConsistentShows, is_consistent, item_fits, items_fit}
 use Rattle.poly_frame.specs.FrameTable.{HaveShows, MostsShow}
 use Rattle.poly_frame.proofs.Steps.{any_put, base_pick, lacks_leave, lacks_pick, others_put, tally_put, most_leave, most_pick}
 use Rattle.poly_frame.proofs.Later.{most_le_atom, most_le_most}
@@ -247,6 +247,20 @@ two_have f xs p q i j h k n = omega (arith, tally_fewer f xs p i h, some_have (�
     some_have g (x ∷ ys) y (inl e) h = omega (arith, ap one (ap g e ∙ h))
     some_have g (x ∷ ys) y (inr i) h = omega (arith, some_have g ys y i h)
 
+-- a member of the base that no atom lacks isn't ruled out if at most as many members have each of its items as may have it,
+-- and at most one if it is a cell
+few_free : (v : View) (A : List Atom) (q : ℕ) → In q (base v A) → list_any (λ a. lacks a q) A ≡ false → ((i : Item) → In i (items v q) → (count v (base v A) i ≤ most_at v A i) × (is_piece i ≡ false → count v (base v A) i ≤ 1)) → Free v A q
+few_free v A q j n few = record {
+  named = n;
+  apart = false_from_ne_true _ (λ t.
+      let r = any_in (λ r. conflicts v q r) (base v A) t in
+      let two = and_parts (not (eqb q r.0)) (share_cell (slice_get v.placements q) (slice_get v.placements r.0)) r.2 in
+      let s = shared (slice_get v.placements q) (slice_get v.placements r.0) two.1 in
+      let apart : eqb r.0 q ≡ false = ne_eqb r.0 q (λ e. both_ways (eqb q r.0) (not-true _ two.0) (eq-eqb q r.0 (sym e))) in
+      absurd (omega (arith, two_have (λ p. has_item v p (Cell s.0)) (base v A) q r.0 j r.1 (in_has v q (Cell s.0) s.1) (in_has v r.0 (Cell s.0) s.2) apart, (few (Cell s.0) s.1).1 refl)));
+  below = λ i k. omega (arith, tally_fewer (λ p. has_item v p i) (base v A) q j (in_has v q i k), (few i k).0);
+}
+
 -- if at most as many members of the base have each item of the view as may have it, and at most one if it is a cell, and if
 -- the members are placements of the design that no atom lacks, the base is consistent
 module _ (v : View) (A : List Atom) (us hs : List ℕ) (well : WellNamed v) (mosts : MostsShow v A us) (have : HaveShows v (base v A) hs) (fit : AllFit v.bounds us hs) where
@@ -264,16 +278,7 @@ module _ (v : View) (A : List Atom) (us hs : List ℕ) (well : WellNamed v) (mos
       )
 
   fit_free : (q : ℕ) → In q (base v A) → In q v.live → list_any (λ a. lacks a q) A ≡ false → Free v A q
-  fit_free q j l n = record {
-    named = n;
-    apart = false_from_ne_true _ (λ t.
-        let r = any_in (λ r. conflicts v q r) (base v A) t in
-        let two = and_parts (not (eqb q r.0)) (share_cell (slice_get v.placements q) (slice_get v.placements r.0)) r.2 in
-        let s = shared (slice_get v.placements q) (slice_get v.placements r.0) two.1 in
-        let apart : eqb r.0 q ≡ false = ne_eqb r.0 q (λ e. both_ways (eqb q r.0) (not-true _ two.0) (eq-eqb q r.0 (sym e))) in
-        absurd (omega (arith, two_have (λ p. has_item v p (Cell s.0)) (base v A) q r.0 j r.1 (in_has v q (Cell s.0) s.1) (in_has v r.0 (Cell s.0) s.2) apart, (fit_item q l (Cell s.0) s.1).1 refl)));
-    below = λ i k. omega (arith, tally_fewer (λ p. has_item v p i) (base v A) q j (in_has v q i k), (fit_item q l i k).0);
-  }
+  fit_free q j l n = few_free v A q j n (fit_item q l)
 
   pub consistent_fits : list_all (λ p. mem v.live p && not (list_any (λ a. lacks a p) A)) (base v A) ≡ true → is_consistent v A ≡ true
   consistent_fits kept = consistent_by v A (λ q j.
@@ -331,11 +336,62 @@ all_kept ns live f among (x ∷ xs) h =
     let here = and_parts (mem ns x) (f x) hs.0 in
     and_from _ _ (and_from _ _ (among x here.0) here.1) (all_kept ns live f among xs hs.1)
 
--- in a consistent base, each member is a placement of the design that is not ruled out
+-- what `item_fits` says
+fit_parts : (v : View) (A : List Atom) (i : Item) → item_fits v A i ≡ true → (count v (base v A) i ≤ most_at v A i) × (is_piece i ≡ false → count v (base v A) i ≤ 1)
+fit_parts v A i e =
+    let two = and_parts (leb (count v (base v A) i) (most_at v A i)) _ e in (
+      leb-true _ _ two.0,
+      λ n. elim (or_cases (is_piece i) (leb (count v (base v A) i) 1) two.1) [
+        | inl p ↦ absurd (both_ways _ n p)
+        | inr o ↦ leb-true _ _ o
+      ],
+    )
+
+-- the items of a member that is not ruled out fit
+free_fits : (v : View) (A : List Atom) (p : ℕ) → In p (base v A) → Free v A p → (i : Item) → In i (items v p) → item_fits v A i ≡ true
+free_fits v A p j f i k =
+    let few = others_one v p i (base v A) (ascending_distinct (base v A) (base_up v A)) in
+    and_from (leb (count v (base v A) i) (most_at v A i)) _ (le-leb _ _ (omega (arith, few, f.below i k))) (alone i k)
+  where
+    alone : (i : Item) → In i (items v p) → (is_piece i || leb (count v (base v A) i) 1) ≡ true
+    alone (Piece n) k = refl
+    alone (Cell s) k =
+        let T = base v A in
+        let few = others_one v p (Cell s) T (ascending_distinct T (base_up v A)) in
+        elim (cases_Bool (list_any (λ r. has_item v r (Cell s) && not (eqb r p)) T)) [
+          | inl y ↦
+              let r = any_in (λ r. has_item v r (Cell s) && not (eqb r p)) T y in
+              let two = and_parts (has_item v r.0 (Cell s)) (not (eqb r.0 p)) r.2 in
+              let apart : eqb p r.0 ≡ false = ne_eqb p r.0 (λ e. both_ways (eqb r.0 p) (not-true _ two.1) (eq-eqb r.0 p (sym e))) in
+              let share = sharing (slice_get v.placements p) (slice_get v.placements r.0) s k (has_in v r.0 (Cell s) two.0) in
+              absurd (both_ways (list_any (λ r. conflicts v p r) T) f.apart (any_from (λ r. conflicts v p r) T r.0 r.1 (and_from (not (eqb p r.0)) _ (not_from_false _ apart) share)))
+          | inr n ↦ le-leb _ _ (omega (arith, few, tally_none (λ r. has_item v r (Cell s) && not (eqb r p)) T (λ r l. false_from_ne_true _ (λ e. both_ways _ n (any_from (λ r. has_item v r (Cell s) && not (eqb r p)) T r l e)))))
+        ]
+
+-- a member is a placement of the design that is not ruled out if and only if its items fit and it is not dead
+pub right_counted : (v : View) (A : List Atom) (p : ℕ) → mem (base v A) p ≡ true → (items_fit v A p && not (dead v A p)) ≡ (mem v.live p && not (ruled_out v A p))
+right_counted v A p m =
+    let j = mem_in (base v A) p m in
+    same_truth _ _
+    (λ e.
+    let two = and_parts (items_fit v A p) (not (dead v A p)) e in
+    let alive = or_parts (not (mem v.live p)) (list_any (λ a. lacks a p) A) (not-true _ two.1) in
+    let f = few_free v A p j alive.1 (λ i k. fit_parts v A i (all_in (λ i. item_fits v A i) (items v p) two.0 i k)) in
+    and_from (mem v.live p) _ (yes_from (mem v.live p) alive.0) (not_from_false _ (ruled_by v A p f)))
+    (λ e.
+    let two = and_parts (mem v.live p) (not (ruled_out v A p)) e in
+    let f = free_of v A p (not-true _ two.1) in
+    and_from (items_fit v A p) _ (all_from (λ i. item_fits v A i) (items v p) (λ i k. free_fits v A p j f i k)) (not_from_false _ (ap (λ b. not b || list_any (λ a. lacks a p) A) two.0 ∙ f.named)))
+  where
+    yes_from : (b : Bool) → not b ≡ false → b ≡ true
+    yes_from true e = refl
+    yes_from false e = sym e
+
+-- in a consistent base, each member is that
 pub member_right : (v : View) (A : List Atom) (p : ℕ) → is_consistent v A ≡ true → mem (base v A) p ≡ true → (mem v.live p && not (ruled_out v A p)) ≡ true
 member_right v A p s m = all_in (λ q. mem v.live q && not (ruled_out v A q)) (base v A) s p (mem_in (base v A) p m)
 
--- a placement of the design that is neither open nor a member is ruled out
+-- a placement that is neither open nor a member isn't that
 pub outside_wrong : (v : View) (A : List Atom) (p : ℕ) → mem (base v A) p ≡ false → (mem v.live p ≡ true → open_in v A p ≡ false) → false ≡ (mem v.live p && not (ruled_out v A p))
 outside_wrong v A p m closed = sym (false_from_ne_true _ (λ e.
     let two = and_parts (mem v.live p) (not (ruled_out v A p)) e in

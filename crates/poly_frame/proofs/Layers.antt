@@ -54,8 +54,8 @@ all_parts f (suc n) (a ∷ A) h g = let two = and_parts (f a) (list_all f (take 
 
 -- what the table of a layer says holds for the atoms of each of its steps, since no step changes what is asked for
 pub table_here : (v : View) (A : List Atom) (first : ℕ) (matrix m2 : Matrix) (t t2 : Table) (live have raised : List ℕ) (marks : List Mark) (bs : List Bound) (later : List Atom) → Kept v A first matrix t live have raised marks → IsMatrix v m2 → HasOpen v A m2 → length (base v A) < 2 ^ 63 →
-    bs ≡ v.bounds → later ≡ take (length A - first) (drop first A) → t2.limits.items ≡ t.limits.items → t2.leasts.items ≡ t.leasts.items → t2.listed ≡ (t.listed && list_all (of_asked (λ i. list_any (λ b. same_item b.item i) bs)) later) → t2.leasts_end ≡ t.leasts_end → t2.alone ≡ t.alone → TableShows v A m2 t2
-table_here v A first matrix m2 t t2 live have raised marks bs later K M O few eb ed el ea es ee eo =
+    bs ≡ v.bounds → later ≡ take (length A - first) (drop first A) → t2.limits.items ≡ t.limits.items → t2.mosts.items ≡ t.mosts.items → t2.leasts.items ≡ t.leasts.items → t2.listed ≡ (t.listed && list_all (of_asked (λ i. list_any (λ b. same_item b.item i) bs)) later) → t2.leasts_end ≡ t.leasts_end → t2.alone ≡ t.alone → TableShows v A m2 t2
+table_here v A first matrix m2 t t2 live have raised marks bs later K M O few eb ed el em ea es ee eo =
     let T = K.table in
     let L = top_level v A first matrix t live have raised marks K in
     record {
@@ -63,6 +63,8 @@ table_here v A first matrix m2 t t2 live have raised marks bs later K M O few eb
       all = O;
       limits = λ b h. ap (λ xs. get_or xs b 0) el ∙ T.limits b h ∙ ap (λ n. limit_at (item_of v b) n) (sym (L.mosts (item_of v b)));
       limits_len = ap length el ∙ T.limits_len;
+      mosts = λ b h. ap (λ xs. get_or xs b 0) em ∙ T.mosts b h ∙ sym (L.mosts (item_of v b));
+      mosts_len = ap length em ∙ T.mosts_len;
       leasts = λ b h. ap (λ xs. get_or xs b 0) ea ∙ T.leasts b h ∙ sym (L.leasts (item_of v b));
       leasts_len = ap length ea ∙ T.leasts_len;
       listed = λ y.

@@ -42,6 +42,8 @@ pub record TableShows (v : View) (A : List Atom) (m : Matrix) (t : Table) : Type
   pub all : HasOpen v A m
   pub limits : (b : ℕ) → b < length v.bounds → slice_index t.limits.items b ≡ limit_at (item_of v b) (most_at v A (item_of v b))
   pub limits_len : length t.limits.items ≡ length v.bounds
+  pub mosts : MostsShow v A t.mosts.items
+  pub mosts_len : length t.mosts.items ≡ length v.bounds
   pub leasts : LeastsShow v A t.leasts.items
   pub leasts_len : length t.leasts.items ≡ length v.bounds
   pub listed : t.listed ≡ true → list_all (of_asked (λ i. list_any (λ b. same_item b.item i) v.bounds)) A ≡ true

@@ -28,6 +28,7 @@ mod notes;
 mod occupied;
 mod opened;
 mod queries;
+mod right;
 mod room;
 mod scarce;
 mod starved;
@@ -434,7 +435,7 @@ impl<'a> Frame<'a> {
             return true;
         }
         let node = self.stand.node(&self.trail);
-        allowed::is_right_member(&node, &self.members, placement, self.is_sure())
+        right::is_right_member(&node, &self.steps, &self.members, placement, self.is_sure())
     }
 
     /// How many placements of the design have the item and are not ruled out.

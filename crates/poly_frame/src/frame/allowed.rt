@@ -1,40 +1,22 @@
 //! Counts the placements that are not ruled out: the rows tell which placements are open, and the members of the base are
-//! checked one by one.
-ghost use Rattle.std.specs.Prelude.{Bool, MatchOption, false, length, max, not, slice_index, true, ℕ, ◌&&◌, ◌*◌, ◌+◌, ◌<◌, ◌^◌, ◌≡◌, ◌≤◌};
+//! judged one by one.
+ghost use Rattle.std.specs.Prelude.{Bool, MatchOption, length, max, not, slice_index, true, ℕ, ◌&&◌, ◌*◌, ◌+◌, ◌<◌, ◌^◌, ◌≡◌, ◌≤◌};
 ghost use Rattle.poly_tiling.specs.Lists.{mem, tally};
 ghost use Rattle.poly_tiling.specs.Puzzle.{has_item, same_item};
 ghost use Rattle.poly_atom.specs.Hopeless.{base};
 ghost use Rattle.poly_frame.specs.Bits.{in_both};
-ghost use Rattle.poly_frame.specs.Open.{least_with_base, open_in, ruled_out};
+ghost use Rattle.poly_frame.specs.Open.{dead, least_with_base, ruled_out};
 ghost use Rattle.poly_frame.specs.FrameItems.{item_of};
-ghost use Rattle.poly_frame.specs.FrameConsistent.{is_consistent};
+ghost use Rattle.poly_frame.specs.FrameConsistent.{is_consistent, items_fit};
 ghost use Rattle.poly_frame.specs.FrameSteps.{IsAt};
 
-use crate::frame::consistent::is_right;
 use crate::frame::items::{guess_item, index_of};
 use crate::frame::matrix::Matrix;
 use crate::frame::node::Node;
+use crate::frame::right::is_sound;
 use crate::frame::steps::Steps;
 use crate::{bits, plain};
-use poly_atom::Atom;
-use poly_tiling::{Item, View, has_number};
-
-/// Whether a placement that is not open is a placement of the design that is not ruled out. Only a member of the base can be
-/// that. If `sure`, the base is known to be consistent, so each member is that, and no atom is read.
-pub(crate) fn is_right_member(node: &Node<'_>, members: &[u32], number: u32, sure: bool) -> bool
-    requires members { members.now ≡ base node.now.view.now node.now.trail.now }
-    requires sure { sure ≡ true → is_consistent node.now.view.now node.now.trail.now ≡ true }
-    requires closed { mem node.now.view.now.live number ≡ true → open_in node.now.view.now node.now.trail.now number ≡ false }
-    ensures { result ≡ (mem node.now.view.now.live number && not (ruled_out node.now.view.now node.now.trail.now number)) }
-{
-    if !has_number(members, number) {
-        return false;
-    }
-    if sure {
-        return true;
-    }
-    is_right(node.view, node.trail, members, number)
-}
+use poly_tiling::Item;
 
 // How many columns are both in the row of `live` at word `at` and in the matrix's row at word `from`.
 fn count_both(matrix: &Matrix, live: &[u64], at: usize, from: usize) -> usize
@@ -57,23 +39,24 @@ fn count_both(matrix: &Matrix, live: &[u64], at: usize, from: usize) -> usize
     n
 }
 
-// How many members of the base have the item and are placements of the design that are not ruled out.
-fn count_held(view: &View, trail: &[Atom], members: &[u32], item: &Item) -> usize
-    requires { members.now ≡ base view.now trail.now }
-    ensures value { result ≡ tally (λ p. has_item view.now p item.now && (mem view.now.live p && not (ruled_out view.now trail.now p))) members.now }
+// How many members of the base have the item, fit and are not dead.
+fn count_held(node: &Node<'_>, steps: &Steps, members: &[u32], item: &Item) -> usize
+    requires kept { IsAt node.now steps.now }
+    requires members { members.now ≡ base node.now.view.now node.now.trail.now }
+    ensures value { result ≡ tally (λ p. has_item node.now.view.now p item.now && (items_fit node.now.view.now node.now.trail.now p && not (dead node.now.view.now node.now.trail.now p))) members.now }
     ensures few { result ≤ length members.now }
 {
     let mut n = 0;
     for p in members {
-        if view.covers(*p, *item) && is_right(view, trail, members, *p) {
+        if node.view.covers(*p, *item) && is_sound(node, steps, members, *p) {
             n += 1;
         }
     }
     n
 }
 
-// `count_held` for the item of a row. If `sure`, each member is right, so the count of the members that have the item tells
-// it: no atom is read. A report that names many placements of one item can't make this slow.
+// How many members of the base have the item of a row and are placements of the design that are not ruled out. If `sure`, all
+// members are that, so the count of the members that have the item tells it.
 fn count_held_at(
     node: &Node<'_>,
     steps: &Steps,
@@ -93,7 +76,7 @@ fn count_held_at(
     if sure {
         return steps.have[b] as usize;
     }
-    count_held(node.view, node.trail, members, item)
+    count_held(node, steps, members, item)
 }
 
 // How many placements of the design have the item of a row and are not ruled out.

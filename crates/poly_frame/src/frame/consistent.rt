@@ -5,7 +5,7 @@ ghost use Rattle.std.specs.List.{list_all, list_any};
 ghost use Rattle.poly_tiling.specs.Lists.{mem};
 ghost use Rattle.poly_atom.specs.Hopeless.{base, lacks};
 ghost use Rattle.poly_tiling.specs.Puzzle.{is_piece};
-ghost use Rattle.poly_frame.specs.Open.{open_in, ruled_out};
+ghost use Rattle.poly_frame.specs.Open.{open_in};
 ghost use Rattle.poly_frame.specs.FrameConsistent.{AllFit, ConsistentShows, fits_at};
 ghost use Rattle.poly_frame.specs.FrameTable.{HaveShows, MostsShow};
 ghost use Rattle.poly_frame.specs.Matrices.{IsMatrix, StandsShow};
@@ -16,15 +16,8 @@ use crate::plain;
 use poly_atom::Atom;
 use poly_tiling::{Bound, Item, View, has_number};
 
-/// Whether the number is a placement of the design that is not ruled out.
-pub(crate) fn is_right(view: &View, atoms: &[Atom], members: &[u32], number: u32) -> bool
-    requires { members.now ≡ base view.now atoms.now }
-    ensures { result ≡ (mem view.now.live number && not (ruled_out view.now atoms.now number)) }
-{
-    has_number(view.live(), number) && !plain::is_ruled_out(view, atoms, members, number)
-}
-
-fn fits(item: &Item, most: u8, have: u64) -> bool
+/// Whether an item that `have` members have fits: at most `most` members may have it, and at most one if it is a cell.
+pub(crate) fn fits(item: &Item, most: u8, have: u64) -> bool
     ensures { result ≡ fits_at item.now most have }
 {
     have <= u64::from(most) && (is_piece(item) || have <= 1)

@@ -20,6 +20,8 @@ pub(crate) struct Table {
     /// For each item: once a member that has it is added, and at least this many members have it, all other placements that
     /// have it are closed. 0 for a cell, since the first member that has the cell closes them.
     pub(crate) limits: Vec<u8>,
+    /// For each item, how many members may have it.
+    pub(crate) mosts: Vec<u8>,
     /// For each item, how many members with the item are asked for by the design and the atoms.
     pub(crate) leasts: Vec<u8>,
     /// Whether the atoms ask only for items of the view.
@@ -37,6 +39,7 @@ impl Table {
     pub(crate) fn none(alloc: Global) -> Table {
         Table {
             limits: Vec::new(alloc),
+            mosts: Vec::new(alloc),
             leasts: Vec::new(alloc),
             listed: false,
             leasts_end: 0,
@@ -171,13 +174,14 @@ pub(crate) fn table_of(
 {
     let bounds = view.items();
     let limits = limits_of(alloc, bounds, &wanted.mosts)?;
-    let leasts = wanted.leasts;
+    let Wanted { mosts, leasts } = wanted;
     let listed = all_listed(bounds, atoms);
     let leasts_end = end_of(&leasts);
     let single = are_single(&leasts);
     let alone = are_single(&limits);
     Ok(Table {
         limits,
+        mosts,
         leasts,
         listed,
         leasts_end,
@@ -206,18 +210,26 @@ pub(crate) fn table_again(
     spare: Table,
 ) -> Result<Table, Refusal>
     ensures limits { IfOk result (λ t. t.limits.items ≡ table.now.limits.items) }
+    ensures mosts { IfOk result (λ t. t.mosts.items ≡ table.now.mosts.items) }
     ensures leasts { IfOk result (λ t. t.leasts.items ≡ table.now.leasts.items) }
     ensures listed { IfOk result (λ t. t.listed ≡ (table.now.listed && list_all (of_asked (λ i. list_any (λ b. same_item b.item i) bounds.now)) later.now)) }
     ensures end { IfOk result (λ t. t.leasts_end ≡ table.now.leasts_end) }
     ensures alone { IfOk result (λ t. t.alone ≡ table.now.alone) }
     ensures why { IfErr result (λ e. e ≡ Refusal.Memory) }
 {
-    let Table { limits, leasts, .. } = spare;
+    let Table {
+        limits,
+        mosts,
+        leasts,
+        ..
+    } = spare;
     let limits = copied(&table.limits, limits)?;
+    let mosts = copied(&table.mosts, mosts)?;
     let leasts = copied(&table.leasts, leasts)?;
     let listed = table.listed && all_listed(bounds, later);
     Ok(Table {
         limits,
+        mosts,
         leasts,
         listed,
         leasts_end: table.leasts_end,

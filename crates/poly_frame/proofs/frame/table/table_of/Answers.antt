@@ -21,6 +21,8 @@ returns-clause-value c =
           ∙ ap (λ xs. limit_at (item_of v b) (get_or xs b 0)) c.deref.ensures.value
           ∙ ap (λ n. limit_at (item_of v b) n) (c.requires.mosts b h);
       limits_len = c.in_ok-limits.ensures.len ∙ ap length c.items-bounds.ensures.value;
+      mosts = c.requires.mosts;
+      mosts_len = c.requires.mosts_len;
       leasts = c.requires.leasts;
       leasts_len = c.requires.leasts_len;
       listed = λ y. subst (λ (bs : List Bound). list_all (of_asked (λ i. list_any (λ b. same_item b.item i) bs)) A ≡ true) c.items-bounds.ensures.value (sym c.all_listed-listed.ensures ∙ y);
