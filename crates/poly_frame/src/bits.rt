@@ -152,12 +152,7 @@ fn less_six(
 ) -> u64
     ensures { IsLessSix result word first second third fourth fifth sixth }
 {
-    less_three(
-        less_three(word, first, second, third),
-        fourth,
-        fifth,
-        sixth,
-    )
+    less_three(less_three(word, first, second, third), fourth, fifth, sixth)
 }
 
 /// Makes `words` the row without all numbers that one of six other rows has, in one pass.

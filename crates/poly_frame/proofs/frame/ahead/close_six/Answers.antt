@@ -12,5 +12,5 @@ returns-clause-bits c = λ x h.
     c.without_six.ensures.bits x h
     ∙ ap (λ y. has_bit c.args.live.now x && not y)
     (or_six _ _ _ _ _ _ (f (get_or xs 0 0)) (f (get_or xs 1 0)) (f (get_or xs 2 0)) (f (get_or xs 3 0)) (f (get_or xs 4 0)) (f (get_or xs 5 0))
-        (c.item_row.ensures.bits x h) (c.item_row-2.ensures.bits x h) (c.item_row-3.ensures.bits x h) (c.item_row-4.ensures.bits x h) (c.item_row-5.ensures.bits x h) (c.item_row-6.ensures.bits x h)
+    (c.item_row.ensures.bits x h) (c.item_row-2.ensures.bits x h) (c.item_row-3.ensures.bits x h) (c.item_row-4.ensures.bits x h) (c.item_row-5.ensures.bits x h) (c.item_row-6.ensures.bits x h)
     ∙ sym (any_six f xs c.requires.six))
