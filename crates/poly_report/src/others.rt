@@ -89,7 +89,7 @@ fn push_other(buffer: &mut Vec<Atom>, atom: Option<Atom>) -> Result<(), Refusal>
         None => Ok(()),
         Some(Atom::Lacks(_)) => Ok(()),
         Some(other) => {
-            buffer.extend_from_slice(&[other])?;
+            buffer.push(other)?;
             Ok(())
         }
     }
