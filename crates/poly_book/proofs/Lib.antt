@@ -19,6 +19,7 @@ pub mod Holding
 pub mod Changes
 pub mod Alive
 pub mod Mapping
+pub mod Spanning
 pub mod Touched
 pub mod Reached
 pub mod Applying

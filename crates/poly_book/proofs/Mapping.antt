@@ -23,8 +23,8 @@ use Rattle.poly_book.specs.declared.rows.Span.{Span}
 use Rattle.poly_book.specs.declared.task.Own.{Own}
 use Rattle.poly_book.specs.declared.task.Own.TheVariants.{Crossed, Listed, Stair as OfStair}
 use Rattle.poly_book.specs.declared.task.Pending.{Pending}
-use Rattle.poly_book.specs.Mapped.{AreNoted, HasBase, IsPrefix, IsWider, has_pending, in_span, is_pending, under}
-use Rattle.poly_book.specs.Meaning.{IsOwn, own_of}
+use Rattle.poly_book.specs.Mapped.{HasBase, IsPrefix, IsWider, has_pending, in_span, is_pending, under}
+use Rattle.poly_book.specs.Meaning.{IsOwn}
 
 -- if the own atoms can be read, the base can
 pub has_base_of : (log : List (List Atom)) (o : Own) → IsOwn log o → HasBase o
@@ -51,10 +51,6 @@ all_more f xs i d l h k =
 
 pub wide_atoms : (m m2 : Maps) (n : ℕ) (A : List Atom) → IsWider m m2 → list_all (λ a. under m a n) A ≡ true → list_all (λ a. under m2 a n) A ≡ true
 wide_atoms m m2 n A w h = all_imply (λ a. under m a n) (λ a. under m2 a n) A (λ a e. w a n e) h
-
-pub wide_tasks : (m m2 : Maps) (log : List (List Atom)) (ps : List Pending) → IsWider m m2 → AreNoted m log ps → AreNoted m2 log ps
-wide_tasks m m2 log ps w h =
-    all_imply (λ (p : Pending). list_all (λ a. under m a p.number) (own_of log p.own)) (λ p. list_all (λ a. under m2 a p.number) (own_of log p.own)) ps (λ p e. wide_atoms m m2 p.number (own_of log p.own) w e) h
 
 pub on_ok_all : {X E : Type 0} (r : Result X E) (P : Type 0) → P → OnOk r P
 on_ok_all (Ok x) P h = h

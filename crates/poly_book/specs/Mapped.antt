@@ -4,7 +4,7 @@ use Rattle.std.specs.List.{list_all, list_any}
 use Rattle.std.specs.Map.{lookup}
 use Rattle.std.specs.Option.{unwrap_or}
 use Rattle.std.specs.Ordering.{nat_cmp}
-use Rattle.std.specs.Prelude.{Bool, List, [], length, nat_le, slice_index_or, take, true, ℕ, ◌&&◌, ◌*◌, ◌+◌, ◌-◌, ◌<◌, ◌==◌, ◌||◌, ◌≡◌}
+use Rattle.std.specs.Prelude.{Bool, List, [], length, nat_le, nat_lt, slice_index_or, take, true, ℕ, ◌&&◌, ◌*◌, ◌+◌, ◌-◌, ◌<◌, ◌==◌, ◌||◌, ◌≡◌, ◌≤◌}
 use Rattle.poly_tiling.specs.declared.item.Item.{Item}
 use Rattle.poly_tiling.specs.declared.item.Item.TheVariants.{Cell, Piece}
 use Rattle.poly_atom.specs.declared.atom.Atom.{Atom}
@@ -13,6 +13,8 @@ use Rattle.poly_book.specs.declared.maps.TheConstants.{FIRST_NAME}
 use Rattle.poly_book.specs.declared.maps.Base.{Base}
 use Rattle.poly_book.specs.declared.maps.Maps.{Maps}
 use Rattle.poly_book.specs.declared.maps.Prefix.{Prefix}
+use Rattle.poly_book.specs.declared.maps.Run.{Run}
+use Rattle.poly_book.specs.declared.maps.Runs.{Runs}
 use Rattle.poly_book.specs.declared.rows.Span.{Span}
 use Rattle.poly_book.specs.declared.task.Own.{Own}
 use Rattle.poly_book.specs.declared.task.Own.TheVariants.{Crossed, Listed, Stair as OfStair}
@@ -84,6 +86,34 @@ AreNotedBelow b m log ps = list_all (λ p. nat_le b p.number || list_all (λ a. 
 -- each of the edition's first `f.count` guards is noted for all tasks of the span
 abbrev pub IsPrefix : Maps → List (List Atom) → Prefix → Type 0
 IsPrefix m log f = (n : ℕ) → in_span f.span n ≡ true → list_all (λ a. under m a n) (take f.count (slice_index_or log f.edition [])) ≡ true
+
+-- the run of an atom that begins with the number
+abbrev pub run_from : ℕ → Atom → Run
+run_from n a = record { atom = a; first = n }
+
+-- if the run has begun by the number, the number is noted under the run's atom
+abbrev pub has_run : Maps → ℕ → Run → Bool
+has_run m n r = nat_lt n r.first || under m r.atom n
+
+-- each of the runs is noted from its first number to the last one
+abbrev pub AreRunsNoted : Maps → ℕ → List Run → Type 0
+AreRunsNoted m last rs = (n : ℕ) → n ≤ last → list_all (λ r. has_run m n r) rs ≡ true
+
+-- the second maps have all that the first ones have, and each of the runs
+abbrev pub Completes : Maps → Runs → Maps → Type 0
+Completes m r m2 = IsWider m m2 × AreRunsNoted m2 r.last r.begun.items
+
+-- what completes the second maps and runs completes the first ones
+abbrev pub KeepsRuns : Maps → Runs → Maps → Runs → Type 0
+KeepsRuns m r m2 r2 = (m3 : Maps) → Completes m2 r2 m3 → Completes m r m3
+
+-- once the runs are noted, the number is noted under each of the atoms
+abbrev pub WillHave : Maps → Runs → ℕ → List Atom → Type 0
+WillHave m r n A = (m2 : Maps) → Completes m r m2 → list_all (λ a. under m2 a n) A ≡ true
+
+-- once the runs are noted, each task is noted under each of its own atoms
+abbrev pub WillBeNoted : Maps → Runs → List (List Atom) → List Pending → Type 0
+WillBeNoted m r log ps = (m2 : Maps) → Completes m r m2 → AreNoted m2 log ps
 
 -- a pending task has the number
 abbrev pub is_pending : List Pending → ℕ → Bool

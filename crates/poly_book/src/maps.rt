@@ -4,19 +4,24 @@
 //! `Lacks` atoms aren't noted. Only a pin can make one hopeless, and a change that pins a placement checks all tasks. On a wide
 //! board nearly all atoms of a task are of this kind, thousands for each of thousands of tasks.
 //!
+//! Successive tasks with a list of their own are mostly rests of one report, and their lists begin with the same atoms. So an
+//! atom that successive tasks share together with all atoms before it is noted once, for a span from the first of these tasks
+//! to the last. The tasks between them that have no list are noted under it, too.
+//!
 //! Tasks that have ended may still be noted, and a task may be noted under an atom that it doesn't have. Both cost time and
 //! change nothing: each task that is found is checked.
-ghost use Rattle.std.specs.Prelude.{◌≡◌, ◌≤◌, ◌⊎◌, IfErr, IfOk, OnOk, length, true, ℕ};
+ghost use Rattle.std.specs.Prelude.{◌≡◌, ◌++◌, ◌<◌, ◌≤◌, ◌⊎◌, [], IfErr, IfOk, OnOk, length, map, nat_le, slice_index_or, take, true, ℕ};
 ghost use Rattle.std.specs.List.{list_all};
 ghost use Rattle.std.specs.List.Sorted.{IsNonDecreasingBy};
 ghost use Rattle.poly_atom.specs.Logs.{IsStairOf, stair_of};
-ghost use Rattle.poly_book.specs.Mapped.{AreNoted, HasBase, IsNotedBase, IsPrefix, IsWider, KeepsPending, base_of, in_span, key_of, key_of_name, under};
+ghost use Rattle.poly_book.specs.Mapped.{AreNoted, AreRunsNoted, HasBase, IsNotedBase, IsPrefix, IsWider, KeepsPending, KeepsRuns, WillHave, base_of, in_span, key_of, key_of_name, run_from, under};
 ghost use Rattle.poly_book.specs.Meaning.{AreTasks, IsOwn, own_of};
 
 use crate::rows::{Row, Span, note_span, tidy_rows};
 use crate::task::{Own, Pending, is_same_list};
 use poly_atom::{Atom, GuardLog, Stair};
 use poly_grid::{Refusal, SIDE};
+use poly_report::SharedLists;
 use poly_tiling::Item;
 use std::alloc::Global;
 use std::collections::BTreeMap;
@@ -55,6 +60,27 @@ pub(crate) struct Base {
     span: Span,
 }
 
+/// Successive tasks whose lists have the same atom, and the same atoms before it. The atom is noted for all of them once it is
+/// known which task is the last.
+#[derive(Clone, Copy, Debug)]
+pub(crate) struct Run {
+    /// The atom.
+    atom: Atom,
+    /// The number of the first of these tasks.
+    first: u32,
+}
+
+/// The runs that may go on. All of them have the last task that had a list of its own.
+#[derive(Debug, Drop)]
+pub(crate) struct Runs {
+    /// A run for each atom of that task's list that is no `Lacks`, in the list's order.
+    begun: Vec<Run>,
+    /// The number of that task.
+    last: u32,
+    /// The atoms of the next task's list that are no `Lacks`.
+    others: Vec<Atom>,
+}
+
 impl Maps {
     /// Maps without tasks.
     pub(crate) fn new(alloc: Global) -> Maps {
@@ -66,9 +92,9 @@ impl Maps {
         }
     }
 
-    /// Notes each task under its own atoms. Stairs of one change share what is noted for the change's guards, and successive
-    /// tasks with the same base share what is noted for the base. Fails only when out of memory. What was noted before stays
-    /// noted in any case.
+    /// Notes each task under its own atoms. Stairs of one change share what is noted for the change's guards, successive tasks
+    /// with the same base share what is noted for the base, and successive lists share what is noted for the atoms that all of
+    /// them begin with. Fails only when out of memory. What was noted before stays noted in any case.
     pub(crate) fn note_all(&mut self, log: &GuardLog, tasks: &[Pending]) -> Result<(), Refusal>
         requires { AreTasks log.now tasks.now }
         ensures wider { IsWider self.old self.new }
@@ -85,12 +111,17 @@ impl Maps {
             others: Vec::new(self.alloc),
             span: Span { from: 1, to: 0 },
         };
+        let mut runs = Runs {
+            begun: Vec::new(self.alloc),
+            last: 0,
+            others: Vec::new(self.alloc),
+        };
         let mut buffer = Vec::new(self.alloc);
         for (i, task) in tasks.iter().enumerate() {
             self.note_base(&task.own, &mut base, task.number, &tasks[i..], &mut buffer)?;
-            self.note_task(log, &task.own, task.number, last, &mut prefix, &mut buffer)?;
+            self.note_task(log, &task.own, task.number, last, &mut prefix, &mut runs)?;
         }
-        Ok(())
+        self.note_runs(&runs.begun, runs.last)
     }
 
     /// Drops the spans without a pending task, so that those of ended tasks don't pile up. What is noted for a pending task
@@ -104,7 +135,8 @@ impl Maps {
         tidy_rows(&mut self.at_most, pending);
     }
 
-    // Notes the task under its own atoms, except for the base of a crossed task, which is noted. Lists are read into the buffer.
+    // Notes the task under its own atoms, except for the base of a crossed task, which is noted. The atoms of a list are noted
+    // only when their runs end.
     fn note_task(
         &mut self,
         log: &GuardLog,
@@ -112,30 +144,64 @@ impl Maps {
         number: u32,
         last: u32,
         prefix: &mut Prefix,
-        buffer: &mut Vec<Atom>,
+        runs: &mut Runs,
     ) -> Result<(), Refusal>
         requires own { IsOwn log.now own.now }
         requires base { list_all (λ a. under self.old a number) (base_of own.now) ≡ true }
         requires prefix { IsPrefix self.old log.now prefix.old }
         ensures prefix { OnOk result (IsPrefix self.new log.now prefix.new) }
+        ensures runs { OnOk result (KeepsRuns self.old runs.old self.new runs.new) }
         ensures wider { IsWider self.old self.new }
-        ensures ok { OnOk result (list_all (λ a. under self.new a number) (own_of log.now own.now) ≡ true) }
+        ensures ok { OnOk result (WillHave self.new runs.new number (own_of log.now own.now)) }
         ensures why { IfErr result (λ e. e ≡ Refusal.Memory) }
     {
         match own {
-            Own::Listed(lists, index) => {
-                lists.read_others(*index, buffer)?;
-                self.note_list(
-                    buffer,
-                    Span {
-                        from: number,
-                        to: number,
-                    },
-                )
-            }
+            Own::Listed(lists, index) => self.note_listed(lists, *index, number, runs),
             Own::Stair(stair) => self.note_stair(log, stair, number, last, prefix),
             Own::Crossed(_, _, stair) => self.note_stair(log, stair, number, last, prefix),
         }
+    }
+
+    // Lets the runs go on to the task with this number and the list at the index, as far as the list has their atoms. Notes the
+    // other runs, which have ended, and begins one for each further atom of the list.
+    fn note_listed(
+        &mut self,
+        lists: &SharedLists,
+        index: usize,
+        number: u32,
+        runs: &mut Runs,
+    ) -> Result<(), Refusal>
+        requires { index < length lists.now }
+        ensures runs { OnOk result (KeepsRuns self.old runs.old self.new runs.new) }
+        ensures wider { IsWider self.old self.new }
+        ensures ok { OnOk result (WillHave self.new runs.new number (slice_index_or lists.now index [])) }
+        ensures why { IfErr result (λ e. e ≡ Refusal.Memory) }
+    {
+        lists.read_others(index, &mut runs.others)?;
+        let count = going_on(runs, number);
+        self.note_runs(&runs.begun[count..], runs.last)?;
+        runs.begun.truncate(count);
+        begin_runs(&mut runs.begun, &runs.others[count..], number)?;
+        runs.last = number;
+        Ok(())
+    }
+
+    // Notes the runs, which end with the task of the number `last`.
+    fn note_runs(&mut self, runs: &[Run], last: u32) -> Result<(), Refusal>
+        ensures wider { IsWider self.old self.new }
+        ensures ok { OnOk result (AreRunsNoted self.new last runs.now) }
+        ensures why { IfErr result (λ e. e ≡ Refusal.Memory) }
+    {
+        for run in runs {
+            self.note(
+                &run.atom,
+                Span {
+                    from: run.first,
+                    to: last,
+                },
+            )?;
+        }
+        Ok(())
     }
 
     // Notes the base of a crossed task for this task and the next ones that have the same, and nothing for another task. `known`
@@ -258,6 +324,57 @@ impl Maps {
             Atom::AtMost(item, _) => note_span(self.alloc, &mut self.at_most, key_of(item), span),
         }
     }
+}
+
+// How many of the runs, from the first on, go on to the task with the number: its list has their atoms. If the number is not
+// beyond those of the earlier tasks, none does.
+fn going_on(runs: &Runs, number: u32) -> usize
+    ensures low { result ≤ length runs.now.begun.items }
+    ensures others { result ≤ length runs.now.others.items }
+    ensures same { map (λ r. r.atom) (take result runs.now.begun.items) ≡ take result runs.now.others.items }
+    ensures firsts { list_all (λ r. nat_le r.first number) (take result runs.now.begun.items) ≡ true }
+    ensures late { (result ≡ 0) ⊎ (runs.now.last ≤ number) }
+{
+    if number <= runs.last {
+        return 0;
+    }
+    shared_count(&runs.begun, &runs.others, number)
+}
+
+// How many of the runs, from the first on, have the atoms that the list begins with and have begun by the number.
+fn shared_count(runs: &[Run], others: &[Atom], number: u32) -> usize
+    ensures low { result ≤ length runs.now }
+    ensures others { result ≤ length others.now }
+    ensures same { map (λ r. r.atom) (take result runs.now) ≡ take result others.now }
+    ensures firsts { list_all (λ r. nat_le r.first number) (take result runs.now) ≡ true }
+{
+    let limit = runs.len().min(others.len());
+    let mut count = 0;
+    while count < limit && is_run(&runs[count], &others[count], number) {
+        count += 1;
+    }
+    count
+}
+
+// If this is true, the run has the atom and has begun by the number.
+fn is_run(run: &Run, atom: &Atom, number: u32) -> bool
+    ensures { result ≡ true → (run.now.atom ≡ atom.now) × (run.now.first ≤ number) }
+{
+    run.first <= number && run.atom == *atom
+}
+
+// Begins a run with the task of the number for each atom. Fails only when out of memory.
+fn begin_runs(runs: &mut Vec<Run>, atoms: &[Atom], number: u32) -> Result<(), Refusal>
+    ensures ok { OnOk result (runs.new.items ≡ runs.old.items ++ map (λ a. run_from number a) atoms.now) }
+    ensures why { IfErr result (λ e. e ≡ Refusal.Memory) }
+{
+    for atom in atoms {
+        runs.push(Run {
+            atom: *atom,
+            first: number,
+        })?;
+    }
+    Ok(())
 }
 
 // Whether the base, of which `others` are the atoms that are no `Lacks`, is noted for the task with the number.

@@ -1,9 +1,10 @@
-use Rattle.std.proofs.Common.{[], slice_index_or, subst, sym, take, true, ◌≡◌}
+use Rattle.std.proofs.Common.{[], arith, slice_index_or, subst, sym, take, true, ◌≡◌}
+use Rattle.std.proofs.lemmas.List.{take_all}
 use Rattle.std.specs.List.{list_all}
-use Rattle.poly_book.specs.Mapped.{under}
+use Rattle.poly_book.specs.Mapped.{AreNoted, AreRunsNoted, under}
 use Rattle.poly_book.specs.Meaning.{IsTask, own_of}
 use Rattle.poly_book.proofs.Held.{task_at}
-use Rattle.poly_book.proofs.Mapping.{all_more, has_base_of, wide_atoms, wide_tasks}
+use Rattle.poly_book.proofs.Mapping.{all_more, has_base_of, on_ok_then, wide_atoms}
 use Rattle.poly_book.proofs.maps.Maps.note_all.Goals as goal
 
 pub note_base-requires : goal.note_base-requires
@@ -34,8 +35,20 @@ loop-i-preserved c =
     record {
       wider = λ a n h. c.note_task.ensures.wider a n (c.note_base.ensures.wider a n (c.loop-i.invariant.wider a n h));
       prefix = c.in_ok-note_task.ensures.prefix;
-      noted = all_more (λ p. list_all (λ a. under m a p.number) (own_of log p.own)) ps i x c.loop-i-test.true
-          (wide_tasks m1 m log (take i ps) c.note_task.ensures.wider (wide_tasks c.loop-i.self m1 log (take i ps) c.note_base.ensures.wider c.loop-i.invariant.noted))
-          (subst (λ p. list_all (λ a. under m a p.number) (own_of log p.own) ≡ true) c.index-tasks-i.is c.in_ok-note_task.ensures.ok);
+      noted = λ m2 done.
+          let before = c.in_ok-note_task.ensures.runs m2 done in
+          all_more (λ p. list_all (λ a. under m2 a p.number) (own_of log p.own)) ps i x c.loop-i-test.true
+          (c.loop-i.invariant.noted m2 ((λ a n h. before.0 a n (c.note_base.ensures.wider a n h)), before.1))
+          (subst (λ p. list_all (λ a. under m2 a p.number) (own_of log p.own) ≡ true) c.index-tasks-i.is (c.in_ok-note_task.ensures.ok m2 done));
       base = λ n h. wide_atoms m1 m n c.note_base.new.known.others.items c.note_task.ensures.wider (c.in_ok-note_base.ensures.known n h);
     }
+
+pub returns-clause-ok : goal.returns-clause-ok
+returns-clause-ok c =
+    let m = c.note_runs.new.self in
+    let runs = c.loop-i.runs in
+    let ps = c.args.tasks.now in
+    on_ok_then c.note_runs.result (AreRunsNoted m runs.last c.deref.result.now) (AreNoted m c.args.log.now ps)
+    (λ h. subst (AreNoted m c.args.log.now) (take_all c.loop-i.i ps (omega (arith, c.loop-i-test.false)))
+    (c.loop-i.invariant.noted m (c.note_runs.ensures.wider, subst (AreRunsNoted m runs.last) c.deref.ensures.value h)))
+    c.note_runs.ensures.ok
