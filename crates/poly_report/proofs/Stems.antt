@@ -1,6 +1,6 @@
 -- The lists of a trie, by their index.
 use Rattle.std.proofs.Common.{Bool, List, [], ap, arith, get_or, length, map, reverse, sym, true, ℕ, ◌++◌, ◌<◌, ◌∙◌, ◌≡◌}
-use Rattle.std.proofs.lemmas.List.{append_assoc, append_cancel_right, get_or-map, length-map, nil_from_length, reverse-append, reverse-reverse}
+use Rattle.std.proofs.lemmas.List.{append-nil, append_assoc, append_cancel_right, get_or-map, length-map, nil_from_length, reverse-append, reverse-reverse}
 use Rattle.std.proofs.lemmas.List.Elements.{filter-append}
 use Rattle.std.proofs.lemmas.Bool.{eq-eqb, eqb-true}
 use Rattle.std.specs.Bool.{◌==◌}
@@ -25,8 +25,17 @@ read_over stem rest whole old middle new is begun done =
     let both : reverse whole ≡ reverse rest ++ reverse stem = ap reverse is ∙ reverse-append stem rest in
     done ∙ ap (λ B. B ++ reverse stem) begun ∙ append_assoc old (reverse rest) (reverse stem) ∙ ap (λ B. old ++ B) (sym both)
 
-pub others_over : (stem rest whole old middle new : List Atom) → whole ≡ stem ++ rest → middle ≡ old ++ reverse (filter is_other rest) → new ≡ middle ++ reverse (filter is_other stem) → new ≡ old ++ reverse (filter is_other whole)
-others_over stem rest whole old middle new is begun done = read_over (filter is_other stem) (filter is_other rest) (filter is_other whole) old middle new (ap (filter is_other) is ∙ filter-append is_other stem rest) begun done
+-- the same, without each `Lacks`; the stem's other atoms may be read from another list
+pub others_over : (stem others rest whole old middle new : List Atom) → filter is_other others ≡ filter is_other stem → whole ≡ stem ++ rest → middle ≡ old ++ reverse (filter is_other rest) → new ≡ middle ++ reverse (filter is_other others) → new ≡ old ++ reverse (filter is_other whole)
+others_over stem others rest whole old middle new same is begun done =
+    let both : filter is_other whole ≡ filter is_other others ++ filter is_other rest = ap (filter is_other) is ∙ filter-append is_other stem rest ∙ ap (λ l. l ++ filter is_other rest) (sym same) in
+    read_over (filter is_other others) (filter is_other rest) (filter is_other whole) old middle new both begun done
+
+-- if the rest has nothing but `Lacks`, the other atoms are those of the stem
+pub only_lacks : (stem others rest whole : List Atom) → filter is_other others ≡ filter is_other stem → whole ≡ stem ++ rest → filter is_other rest ≡ [] → filter is_other others ≡ filter is_other whole
+only_lacks stem others rest whole same is none =
+    let both : filter is_other whole ≡ filter is_other stem = ap (filter is_other) is ∙ filter-append is_other stem rest ∙ ap (λ l. filter is_other stem ++ l) none ∙ append-nil (filter is_other stem) in
+    same ∙ sym both
 
 pub ended_at : (ls : List Link) (ends : List ℕ) (lists : List (List Atom)) (i e : ℕ) → ended ls ends ≡ lists → i < length ends → e ≡ get_or ends i e → get_or lists i [] ≡ at_node ls e
 ended_at ls ends lists i e is h found = ap (λ l. get_or l i []) (sym is) ∙ get_or-map (λ n. at_node ls n) ends i e [] h ∙ ap (at_node ls) (sym found)

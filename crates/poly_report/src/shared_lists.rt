@@ -3,11 +3,14 @@
 //! The rests of a report begin with the atoms of the task that the report cuts up. These are most of each rest on a wide
 //! board, and they are often a list of an earlier report. So lists are kept over their stem, the list that all of them begin
 //! with: it is a list of other lists, and whoever reads them begins there.
+//!
+//! A list is thus read through a chain of tries. On a wide board most of these add nothing but `Lacks`, so each trie has a
+//! second stem, which leaves them out: reading the atoms that are no `Lacks` goes on from there.
 ghost use Rattle.std.specs.Arc.{arc_value};
 ghost use Rattle.std.specs.List.{filter};
-ghost use Rattle.std.specs.Prelude.{◌≡◌, ◌++◌, ◌∷◌, ◌<◌, ◌≤◌, ◌↔◌, [], IfErr, IfOk, IsTrue, MatchOption, OnOk, length, map, reverse, slice_index_or, ⊤};
+ghost use Rattle.std.specs.Prelude.{◌≡◌, ◌++◌, ◌+◌, ◌∷◌, ◌<◌, ◌≤◌, ◌↔◌, [], IfErr, IfOk, IsTrue, MatchOption, OnOk, length, map, reverse, slice_index_or, ⊤, ℕ};
 ghost use Rattle.poly_report.specs.Linked.{AreEarlier, AreLinked, at_node, ended};
-ghost use Rattle.poly_report.specs.Stems.{IsStem, stem_of};
+ghost use Rattle.poly_report.specs.Stems.{AreStems, IsStem, stem_of};
 ghost use Rattle.poly_report.specs.Words.{is_other};
 ghost use Rattle.poly_report.specs.declared.shared_lists.TheConstants.{DEEPEST};
 
@@ -46,6 +49,8 @@ impl Model for SharedLists {
 pub(crate) struct Trie {
     /// What each list begins with.
     stem: Stem,
+    /// Has the same atoms as the stem besides each `Lacks`. These are read from here, past the tries that add nothing but `Lacks`.
+    others: Stem,
     /// More than the depth of the trie that has the stem.
     depth: u32,
     /// The nodes of the atoms after the stem.
@@ -77,7 +82,7 @@ impl Model for Trie {
 
     ghost view = { λ r. lists_of r.depth (map (λ B. stem_of r.stem ++ B) (ended r.nodes r.ends.items)) };
 
-    ghost invariant = { λ r. HasStem r.stem r.depth r.nodes r.jumps.items r.ends.items };
+    ghost invariant = { λ r. HasStem r.stem r.others r.depth r.nodes r.jumps.items r.ends.items };
 
     ghost size = { λ t. t.depth };
 
@@ -124,7 +129,7 @@ impl Trie {
         ensures why { IfErr result (λ e. e ≡ Refusal.Memory) }
     {
         others_back(&self.nodes, &self.jumps, self.ends[index] as usize, buffer)?;
-        match &self.stem {
+        match &self.others {
             Stem::Empty => Ok(()),
             Stem::Listed(trie, at) => {
                 trie.others_back(*at, buffer)?;
@@ -146,6 +151,35 @@ impl Trie {
                     Stem::Listed(trie, at) => trie.matches(*at, rest),
                 }
             }
+        }
+    }
+
+    // A stem below this trie that has the same atoms as the list at the index besides each `Lacks`. If this trie adds such an
+    // atom to the list, `None`.
+    fn others_before(&self, index: usize) -> Result<Option<Stem>, Refusal>
+        requires { index < length self.now.lists }
+        ensures stem { IfOk result (λ o. MatchOption o ⊤ (λ s. IsStem s self.now.depth)) }
+        ensures same { IfOk result (λ o. MatchOption o ⊤ (λ s. filter is_other (stem_of s) ≡ filter is_other (slice_index_or self.now.lists index []))) }
+        ensures why { IfErr result (λ e. e ≡ Refusal.Memory) }
+    {
+        if self.jumps[self.ends[index] as usize] > 0 {
+            return Ok(None);
+        }
+        let others = self.others.try_clone()?;
+        Ok(Some(others))
+    }
+}
+
+impl Stem {
+    // The same list.
+    fn try_clone(&self) -> Result<Stem, Refusal>
+        ensures list { IfOk result (λ s. stem_of s ≡ stem_of self.now) }
+        ensures stem { IfOk result (λ s. (d : ℕ) → IsStem self.now d → IsStem s d) }
+        ensures why { IfErr result (λ e. e ≡ Refusal.Memory) }
+    {
+        match self {
+            Stem::Empty => Ok(Stem::Empty),
+            Stem::Listed(trie, at) => Ok(Stem::Listed(Arc::try_clone(trie)?, *at)),
         }
     }
 }
@@ -177,7 +211,7 @@ impl SharedLists {
         ensures ok { IfOk result (λ lists. lists ≡ list.now ∷ []) }
         ensures why { IfErr result (λ e. e ≡ Refusal.Memory) }
     {
-        let trie = trie_of_one(alloc, Stem::Empty, 0, list)?;
+        let trie = trie_of_one(alloc, Stored::nothing(), list)?;
         Ok(SharedLists {
             trie: Arc::new(alloc, trie)?,
         })
@@ -247,20 +281,40 @@ impl SharedLists {
     }
 }
 
-// A stem, and the depth of a trie over it.
+// The stems and the depth of a trie.
 struct Stored {
     stem: Stem,
+    others: Stem,
     depth: u32,
+}
+
+impl Stored {
+    // Those of a trie whose lists begin with no list.
+    fn nothing() -> Stored
+        ensures stem { AreStems result.stem result.others result.depth }
+        ensures list { stem_of result.stem ≡ [] }
+        ensures depth { result.depth ≡ 0 }
+    {
+        Stored {
+            stem: Stem::Empty,
+            others: Stem::Empty,
+            depth: 0,
+        }
+    }
 }
 
 // The lists of these nodes, each after the stem.
 fn trie_over(alloc: Global, stored: Stored, nodes: Nodes, ends: Vec<u32>) -> Result<Trie, Refusal>
     requires linked { AreLinked nodes ends.items }
-    requires stem { IsStem stored.stem stored.depth }
+    requires stem { AreStems stored.stem stored.others stored.depth }
     ensures ok { IfOk result (λ trie. trie.lists ≡ map (λ B. stem_of stored.stem ++ B) (ended nodes ends.items)) }
     ensures why { IfErr result (λ e. e ≡ Refusal.Memory) }
 {
-    let Stored { stem, depth } = stored;
+    let Stored {
+        stem,
+        others,
+        depth,
+    } = stored;
     let mut nodes = nodes;
     nodes.shrink();
     let mut ends = ends;
@@ -268,6 +322,7 @@ fn trie_over(alloc: Global, stored: Stored, nodes: Nodes, ends: Vec<u32>) -> Res
     let jumps = jumps_of(alloc, &nodes)?;
     Ok(Trie {
         stem,
+        others,
         depth,
         nodes,
         jumps,
@@ -283,7 +338,7 @@ fn stem_for(
     base: Option<(&SharedLists, usize)>,
 ) -> Result<Stored, Refusal>
     requires index { MatchOption base ⊤ (λ b. b.1 < length b.0.now) }
-    ensures stem { IfOk result (λ s. IsStem s.stem s.depth) }
+    ensures stem { IfOk result (λ s. AreStems s.stem s.others s.depth) }
     ensures list { IfOk result (λ s. stem_of s.stem ≡ list.now) }
     ensures why { IfErr result (λ e. e ≡ Refusal.Memory) }
 {
@@ -304,7 +359,7 @@ fn stem_over(
     index: usize,
 ) -> Result<Option<Stored>, Refusal>
     requires index { index < length (arc_value base.now).lists }
-    ensures stem { IfOk result (λ o. MatchOption o ⊤ (λ s. IsStem s.stem s.depth)) }
+    ensures stem { IfOk result (λ o. MatchOption o ⊤ (λ s. AreStems s.stem s.others s.depth)) }
     ensures list { IfOk result (λ o. MatchOption o ⊤ (λ s. stem_of s.stem ≡ list.now)) }
     ensures why { IfErr result (λ e. e ≡ Refusal.Memory) }
 {
@@ -325,34 +380,38 @@ fn stem_over(
     Ok(Some(stored))
 }
 
-// The list at the index, as a stem.
+// The list at the index, as a stem. If the trie adds nothing but `Lacks` to the list, the second stem leaves the trie out.
 fn stem_at(trie: &Arc<Trie>, index: usize) -> Result<Stored, Refusal>
     requires index { index < length (arc_value trie.now).lists }
     requires depth { (arc_value trie.now).depth ≤ DEEPEST }
-    ensures stem { IfOk result (λ s. IsStem s.stem s.depth) }
+    ensures stem { IfOk result (λ s. AreStems s.stem s.others s.depth) }
     ensures list { IfOk result (λ s. stem_of s.stem ≡ slice_index_or (arc_value trie.now).lists index []) }
+    ensures depth { IfOk result (λ s. s.depth ≡ (arc_value trie.now).depth + 1) }
     ensures why { IfErr result (λ e. e ≡ Refusal.Memory) }
 {
     let depth = trie.depth() + 1;
+    let stem = Stem::Listed(Arc::try_clone(trie)?, index);
+    let others = match trie.others_before(index)? {
+        None => stem.try_clone()?,
+        Some(before) => before,
+    };
     Ok(Stored {
-        stem: Stem::Listed(Arc::try_clone(trie)?, index),
+        stem,
+        others,
         depth,
     })
 }
 
 // The list as a stem that is stored in a trie of its own. An empty list needs none.
 fn stem_alone(alloc: Global, list: &[Atom]) -> Result<Stored, Refusal>
-    ensures stem { IfOk result (λ s. IsStem s.stem s.depth) }
+    ensures stem { IfOk result (λ s. AreStems s.stem s.others s.depth) }
     ensures list { IfOk result (λ s. stem_of s.stem ≡ list.now) }
     ensures why { IfErr result (λ e. e ≡ Refusal.Memory) }
 {
     if list.is_empty() {
-        return Ok(Stored {
-            stem: Stem::Empty,
-            depth: 0,
-        });
+        return Ok(Stored::nothing());
     }
-    let trie = trie_of_one(alloc, Stem::Empty, 0, list)?;
+    let trie = trie_of_one(alloc, Stored::nothing(), list)?;
     let whole = Arc::new(alloc, trie)?;
     let stored = stem_at(&whole, 0)?;
     Ok(stored)
@@ -388,29 +447,34 @@ fn trie_after(alloc: Global, base: &Arc<Trie>, index: usize, more: &[Atom]) -> R
     ensures depth { IfOk result (λ trie. trie.depth ≤ DEEPEST) }
     ensures why { IfErr result (λ e. e ≡ Refusal.Memory) }
 {
-    let depth = base.depth();
-    if depth >= DEEPEST {
+    if base.depth() >= DEEPEST {
         let mut list = list_of(alloc, base, index)?;
         list.extend_from_slice(more)?;
-        return trie_of_one(alloc, Stem::Empty, 0, &list);
+        return trie_of_one(alloc, Stored::nothing(), &list);
     }
-    let stem = Stem::Listed(Arc::try_clone(base)?, index);
-    trie_of_one(alloc, stem, depth + 1, more)
+    let stored = stem_at(base, index)?;
+    trie_of_one(alloc, stored, more)
 }
 
 // The stem's list, followed by these atoms.
-fn trie_of_one(alloc: Global, stem: Stem, depth: u32, more: &[Atom]) -> Result<Trie, Refusal>
-    requires { IsStem stem depth }
-    ensures ok { IfOk result (λ trie. trie.lists ≡ (stem_of stem ++ more.now) ∷ []) }
-    ensures depth { IfOk result (λ trie. trie.depth ≡ depth) }
+fn trie_of_one(alloc: Global, stored: Stored, more: &[Atom]) -> Result<Trie, Refusal>
+    requires { AreStems stored.stem stored.others stored.depth }
+    ensures ok { IfOk result (λ trie. trie.lists ≡ (stem_of stored.stem ++ more.now) ∷ []) }
+    ensures depth { IfOk result (λ trie. trie.depth ≡ stored.depth) }
     ensures why { IfErr result (λ e. e ≡ Refusal.Memory) }
 {
+    let Stored {
+        stem,
+        others,
+        depth,
+    } = stored;
     let nodes = chain(alloc, more)?;
     let jumps = jumps_of(alloc, &nodes)?;
     let mut ends = Vec::with_capacity(alloc, 1)?;
     ends.push(short(nodes.len())?)?;
     Ok(Trie {
         stem,
+        others,
         depth,
         nodes,
         jumps,
