@@ -176,7 +176,111 @@ pub(crate) fn without_six(
     ensures len { length words.new ≡ length words.old }
     ensures bits { (j : ℕ) → j < 64 * length words.old → has_bit words.new j ≡ (has_bit row.now j && not (has_bit first.now j || (has_bit second.now j || (has_bit third.now j || (has_bit fourth.now j || (has_bit fifth.now j || has_bit sixth.now j)))))) }
 {
-    for k in 0..words.len() {
+    let fours = words.len() / 4;
+    without_six_fours(
+        row, first, second, third, fourth, fifth, sixth, words, fours,
+    );
+    without_six_rest(
+        row,
+        first,
+        second,
+        third,
+        fourth,
+        fifth,
+        sixth,
+        words,
+        4 * fours,
+    );
+}
+
+// Does what `without_six` does, in the first `4 * fours` words. It reads four words of each row before it writes one, as
+// `take_out_fours` does.
+fn without_six_fours(
+    row: &[u64],
+    first: &[u64],
+    second: &[u64],
+    third: &[u64],
+    fourth: &[u64],
+    fifth: &[u64],
+    sixth: &[u64],
+    words: &mut [u64],
+    fours: usize,
+)
+    requires words { 4 * fours ≤ length words.old }
+    requires row { length row.now ≡ length words.old }
+    requires first { length first.now ≡ length words.old }
+    requires second { length second.now ≡ length words.old }
+    requires third { length third.now ≡ length words.old }
+    requires fourth { length fourth.now ≡ length words.old }
+    requires fifth { length fifth.now ≡ length words.old }
+    requires sixth { length sixth.now ≡ length words.old }
+    ensures len { length words.new ≡ length words.old }
+    ensures done { (k : ℕ) → k < 4 * fours → IsLessSix (slice_index words.new k) (slice_index row.now k) (slice_index first.now k) (slice_index second.now k) (slice_index third.now k) (slice_index fourth.now k) (slice_index fifth.now k) (slice_index sixth.now k) }
+{
+    for c in 0..fours {
+        let k = 4 * c;
+        let one = less_six(
+            row[k], first[k], second[k], third[k], fourth[k], fifth[k], sixth[k],
+        );
+        let two = less_six(
+            row[k + 1],
+            first[k + 1],
+            second[k + 1],
+            third[k + 1],
+            fourth[k + 1],
+            fifth[k + 1],
+            sixth[k + 1],
+        );
+        let three = less_six(
+            row[k + 2],
+            first[k + 2],
+            second[k + 2],
+            third[k + 2],
+            fourth[k + 2],
+            fifth[k + 2],
+            sixth[k + 2],
+        );
+        let four = less_six(
+            row[k + 3],
+            first[k + 3],
+            second[k + 3],
+            third[k + 3],
+            fourth[k + 3],
+            fifth[k + 3],
+            sixth[k + 3],
+        );
+        words[k] = one;
+        words[k + 1] = two;
+        words[k + 2] = three;
+        words[k + 3] = four;
+    }
+}
+
+// Does what `without_six` does, in the words from `from` on.
+fn without_six_rest(
+    row: &[u64],
+    first: &[u64],
+    second: &[u64],
+    third: &[u64],
+    fourth: &[u64],
+    fifth: &[u64],
+    sixth: &[u64],
+    words: &mut [u64],
+    from: usize,
+)
+    requires words { from ≤ length words.old }
+    requires row { length row.now ≡ length words.old }
+    requires first { length first.now ≡ length words.old }
+    requires second { length second.now ≡ length words.old }
+    requires third { length third.now ≡ length words.old }
+    requires fourth { length fourth.now ≡ length words.old }
+    requires fifth { length fifth.now ≡ length words.old }
+    requires sixth { length sixth.now ≡ length words.old }
+    ensures len { length words.new ≡ length words.old }
+    ensures done { (k : ℕ) → from ≤ k → k < length words.old → IsLessSix (slice_index words.new k) (slice_index row.now k) (slice_index first.now k) (slice_index second.now k) (slice_index third.now k) (slice_index fourth.now k) (slice_index fifth.now k) (slice_index sixth.now k) }
+    ensures before { (k : ℕ) → k < from → slice_index words.new k ≡ slice_index words.old k }
+{
+    for k in from..words.len() {
         words[k] = less_six(
             row[k], first[k], second[k], third[k], fourth[k], fifth[k], sixth[k],
         );

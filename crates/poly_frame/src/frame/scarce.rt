@@ -1,12 +1,24 @@
-//! The scarcest of the items that are noted as due. This runs at each node of a search, so it reads plain words. A count stops
-//! once it reaches the fewest options so far. Only for wide rows it is worth looking for empty words. Nothing is proved here but
-//! that no index is out of range: the caller tests whether the item that is found is due.
+//! The scarcest of the items that are noted as due. This runs at each node of a search, so it reads plain words. In short rows all
+//! words are counted, and the scarcest item is kept without a branch. In longer rows a count stops once it reaches the fewest
+//! options so far. Only for wide rows it is worth looking for empty words. Nothing is proved here but that no index is out of
+//! range: the caller tests whether the item that is found is due.
 ghost use Rattle.std.specs.Prelude.{length, ◌*◌, ◌+◌, ◌<◌, ◌≡◌, ◌≤◌, ◌^◌};
 
-use crate::frame::occupied::{Occupied, common, count_common, is_narrow, occupied_words};
+use crate::frame::occupied::{
+    Occupied, common, count_all, count_common, is_narrow, occupied_words,
+};
 
 // The most words of notes that are read: a note for each of 8,192 items. A design has at most 320.
 const NOTED: usize = 128;
+
+// The most words of a short row.
+const SHORT: usize = 16;
+
+// The lowest bit of a rank that tells how many options there are to spare. The bits below it tell the index of an item.
+const SPARE: u32 = 16;
+
+// A rank tells of at most this many options to spare, which is more than any row has. It stands for `usize::MAX` as well.
+const MOST_SPARE: u64 = 0xffff_ffff;
 
 /// The rows of a matrix.
 #[derive(Clone, Copy)]
@@ -129,7 +141,11 @@ fn scarcest_single(live: &[u64], rows: &Rows<'_>, due: &[u64], best: Scarce) -> 
         }
         let count = items.min(64);
         let first = rows.items - items;
-        best = scarcest_in_word(live, words, count, first, *word, best);
+        best = if live.len() <= SHORT {
+            scarcest_in_short(live, words, count, first, *word, best)
+        } else {
+            scarcest_in_word(live, words, count, first, *word, best)
+        };
         items -= count;
         words = &words[live.len() * count..];
     }
@@ -169,6 +185,53 @@ fn scarcest_in_word(
         }
     }
     best
+}
+
+// Does what `scarcest_in_word` does, for short rows.
+fn scarcest_in_short(
+    live: &[u64],
+    words: &[u64],
+    count: usize,
+    first: usize,
+    word: u64,
+    best: Scarce,
+) -> Scarce
+    requires words { length live.now * count ≤ length words.now }
+    requires small { first + count < 2 ^ 64 }
+{
+    let mut rank = rank_of(best.spare, best.index);
+    let mut left = word;
+    while left != 0 {
+        let b = left.trailing_zeros() as usize;
+        left &= left - 1;
+        if b < count {
+            let spare = count_all(live, row_at(words, live.len(), count, b));
+            rank = rank.min(rank_of(spare, first + b));
+            if spare == 0 {
+                return scarce_of(rank);
+            }
+        }
+    }
+    scarce_of(rank)
+}
+
+// A number for each item, which is lower the fewer options the item has to spare, and of two with equally many the lower for the
+// item that comes first.
+fn rank_of(spare: usize, index: usize) -> u64 {
+    ((spare as u64).min(MOST_SPARE) << SPARE) | ((index as u64) & 0xffff)
+}
+
+// The item of a rank.
+fn scarce_of(rank: u64) -> Scarce {
+    let spare = rank >> SPARE;
+    Scarce {
+        index: (rank & 0xffff) as usize,
+        spare: if spare < MOST_SPARE {
+            spare as usize
+        } else {
+            usize::MAX
+        },
+    }
 }
 
 // The scarcest of `best` and the items whose bits are set in `due`. `occupied` are the occupied words of `live`; if there are
