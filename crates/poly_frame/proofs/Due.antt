@@ -12,7 +12,7 @@ use Rattle.poly_frame.specs.Open.{least_at}
 use Rattle.poly_frame.specs.Plain.{least_for, of_asked}
 
 -- if an item isn't in the view and no atom asks for it, no member has to have the item
-least_none : (v : View) (A : List Atom) (i : Item) → list_any (λ b. same_item b.item i) v.bounds ≡ false → list_any (least_for i) A ≡ false → least_at v A i ≡ 0
+pub least_none : (v : View) (A : List Atom) (i : Item) → list_any (λ b. same_item b.item i) v.bounds ≡ false → list_any (least_for i) A ≡ false → least_at v A i ≡ 0
 least_none v [] i n m = bound_none v.bounds i (λ b. b.least) n
 least_none v (Has p ∷ A) i n m = least_none v A i n m
 least_none v (Lacks p ∷ A) i n m = least_none v A i n m
@@ -21,7 +21,7 @@ least_none v (AtLeast j k ∷ A) i n m =
     cond-false (same_item j i) (max k (least_at v A i)) (least_at v A i) ms.0 ∙ least_none v A i n ms.1
 least_none v (AtMost j k ∷ A) i n m = least_none v A i n m
 
-leasts_one : (f : Item → Bool) (i : Item) (a : Atom) → least_for i a ≡ true → of_asked f a ≡ true → f i ≡ true
+pub leasts_one : (f : Item → Bool) (i : Item) (a : Atom) → least_for i a ≡ true → of_asked f a ≡ true → f i ≡ true
 leasts_one f i (Has p) s h = absurd (cc)
 leasts_one f i (Lacks p) s h = absurd (cc)
 leasts_one f i (AtLeast j n) s h = subst (λ k. f k ≡ true) (same_item_is j i s) h

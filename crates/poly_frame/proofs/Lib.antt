@@ -19,6 +19,8 @@ pub mod FrameConsistent
 pub mod Starved
 pub mod Layers
 pub mod Listed
+pub mod Alive
+pub mod Elsewhere
 pub mod Stepped
 pub mod Ahead
 pub mod Six

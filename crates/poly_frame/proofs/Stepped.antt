@@ -5,6 +5,7 @@ use Rattle.std.specs.Global.{Global}
 use Rattle.poly_tiling.specs.Puzzle.{View}
 use Rattle.poly_atom.specs.declared.atom.Atom.{Atom}
 use Rattle.poly_atom.specs.Hopeless.{base}
+use Rattle.poly_frame.specs.Alive.{AliveShows}
 use Rattle.poly_frame.specs.FrameMembers.{SizesShow}
 use Rattle.poly_frame.specs.FrameConsistent.{ConsistentShows}
 use Rattle.poly_frame.specs.FrameSteps.{HasRoom, StepsKeep}
@@ -14,6 +15,7 @@ use Rattle.poly_frame.specs.declared.frame.layers.Layer.{Layer}
 use Rattle.poly_frame.specs.declared.frame.matrix.Matrix.{Matrix}
 use Rattle.poly_frame.specs.declared.frame.steps.Steps.{Steps}
 use Rattle.poly_frame.specs.declared.frame.table.Table.{Table}
+use Rattle.poly_frame.proofs.Alive.{alive_more}
 use Rattle.poly_frame.proofs.Layers.{pile_more}
 
 -- what the step leaves at the node
@@ -35,11 +37,11 @@ stepped_here v w A B given g first f m n t u a members sizes consistent s ev eA 
     (subst (λ x. Stepped v x g f n u a members sizes consistent s) eA
     (subst (λ x. Stepped x B g f n u a members sizes consistent s) ev S)))))
 
-pub frame_after : (v : View) (trail trail2 : Vec Atom Global) (given : ℕ) (members members2 sizes sizes2 : Vec ℕ Global) (consistent consistent2 : ℕ) (options : Vec ℕ Global) (m : Matrix) (t : Table) (s s2 : Steps) (first : ℕ) (under : List Layer) (a : Atom) →
-    IsFrame v trail given members sizes consistent options m t s first under → Stepped v trail.items given first m t a members2.items sizes2.items consistent2 s2 →
+pub frame_after : {alive : List ℕ} (v : View) (trail trail2 : Vec Atom Global) (given : ℕ) (members members2 sizes sizes2 : Vec ℕ Global) (consistent consistent2 : ℕ) (options : Vec ℕ Global) (m : Matrix) (t : Table) (s s2 : Steps) (first : ℕ) (under : List Layer) (a : Atom) →
+    IsFrame v trail given members sizes consistent options m t s first under alive → Stepped v trail.items given first m t a members2.items sizes2.items consistent2 s2 →
     length trail.items < given + 4096 → trail2.items ≡ trail.items ++ a ∷ [] → vec_capacity trail2 ≡ vec_capacity trail → vec_capacity members ≤ vec_capacity members2 → vec_capacity sizes2 ≡ vec_capacity sizes →
-    IsFrame v trail2 given members2 sizes2 consistent2 options m t s2 first under
-frame_after v trail trail2 given members members2 sizes sizes2 consistent consistent2 options m t s s2 first under a F S few items capacity room space =
+    IsFrame v trail2 given members2 sizes2 consistent2 options m t s2 first under alive
+frame_after {alive} v trail trail2 given members members2 sizes sizes2 consistent consistent2 options m t s s2 first under a F S few items capacity room space =
     let more : vec_len trail2 ≡ vec_len trail + 1 = omega (arith, trail.ok.0, trail2.ok.0, length-append trail.items (a ∷ []), ap length items) in
     record {
       lists = record {
@@ -55,5 +57,6 @@ frame_after v trail trail2 given members members2 sizes sizes2 consistent consis
       changes = omega (arith, F.changes, space);
       levels = subst (λ (B : List Atom). StepsKeep v B first m t s2) (sym items) S.kept;
       room = S.room;
+      lives = subst (λ (B : List Atom). AliveShows v B given alive) (sym items) (alive_more v trail.items a given alive F.lives);
       pile = subst (λ (B : List Atom). PileShows v B given first (reverse under)) (sym items) (pile_more v trail.items a given first (reverse under) (omega (arith, F.levels.low)) F.pile);
     }

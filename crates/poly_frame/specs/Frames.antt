@@ -5,6 +5,7 @@ use Rattle.std.specs.Vec.{vec_capacity}
 use Rattle.poly_tiling.specs.Puzzle.{View}
 use Rattle.poly_atom.specs.declared.atom.Atom.{Atom}
 use Rattle.poly_atom.specs.Hopeless.{base}
+use Rattle.poly_frame.specs.Alive.{AliveShows}
 use Rattle.poly_frame.specs.FrameMembers.{SizesShow}
 use Rattle.poly_frame.specs.FrameConsistent.{ConsistentShows}
 use Rattle.poly_frame.specs.FrameSteps.{HasRoom, StepsKeep}
@@ -25,8 +26,8 @@ pub record IsKept (v : View) (trail : Vec Atom Global) (given : ℕ) (members op
   pub room : length v.pins + (given + STEPS) ≤ vec_capacity members
   pub answers : length v.live ≤ vec_capacity options
 
--- the lists, the sizes, the consistent levels and the layers are right for the trail, with room for 4,096 steps
-pub record IsFrame (v : View) (trail : Vec Atom Global) (given : ℕ) (members sizes : Vec ℕ Global) (consistent : ℕ) (options : Vec ℕ Global) (matrix : Matrix) (t : Table) (s : Steps) (base : ℕ) (under : List Layer) : Type 0 where
+-- the lists, the sizes, the consistent levels, the layers and the bits are right for the trail, with room for 4,096 steps
+pub record IsFrame (v : View) (trail : Vec Atom Global) (given : ℕ) (members sizes : Vec ℕ Global) (consistent : ℕ) (options : Vec ℕ Global) (matrix : Matrix) (t : Table) (s : Steps) (base : ℕ) (under : List Layer) (alive : List ℕ) : Type 0 where
   pub lists : IsKept v trail given members options
   pub grown : SizesShow v trail.items given sizes.items
   pub right : ConsistentShows v trail.items given consistent
@@ -34,3 +35,4 @@ pub record IsFrame (v : View) (trail : Vec Atom Global) (given : ℕ) (members s
   pub levels : StepsKeep v trail.items base matrix t s
   pub room : HasRoom matrix s
   pub pile : PileShows v trail.items given base (reverse under)
+  pub lives : AliveShows v trail.items given alive

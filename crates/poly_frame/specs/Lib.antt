@@ -9,6 +9,7 @@ pub mod FrameItems
 pub mod Matrices
 pub mod FrameTable
 pub mod FrameMembers
+pub mod Alive
 pub mod FrameConsistent
 pub mod FrameSteps
 pub mod Layers

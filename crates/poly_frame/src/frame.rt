@@ -8,6 +8,7 @@ ghost use Rattle.poly_tiling.specs.Names.{WellNamed};
 ghost use Rattle.poly_tiling.specs.Puzzle.{has_item};
 ghost use Rattle.poly_atom.specs.Atoms.{in_family};
 ghost use Rattle.poly_atom.specs.Hopeless.{base};
+ghost use Rattle.poly_frame.specs.Alive.{AliveShows};
 ghost use Rattle.poly_frame.specs.Open.{arms_fit, dead, least_with_base, ruled_out};
 ghost use Rattle.poly_frame.specs.FrameConsistent.{is_consistent};
 ghost use Rattle.poly_frame.specs.FrameTable.{HasOpen};
@@ -15,6 +16,7 @@ ghost use Rattle.poly_frame.specs.Matrices.{IsMatrix, IsWhole, matrix_of};
 ghost use Rattle.poly_frame.specs.Walk.{backtrack_to, is_due, is_open, is_option, step_back, with_step};
 
 mod ahead;
+mod alive;
 mod allowed;
 mod consistent;
 mod items;
@@ -37,6 +39,7 @@ mod table;
 mod wanted;
 
 use crate::frame::ahead::{Attempt, Guesses};
+use crate::frame::alive::{alive_of, is_dead};
 use crate::frame::layers::{Layer, narrow_layer, widen};
 use crate::frame::levels::{Levels, Spare, levels_of};
 use crate::frame::lists::{Lists, lists_of};
@@ -92,7 +95,7 @@ impl<'a> Model for Frame<'a> {
 
     ghost view = { λ f. record { scene = f.stand.view.now; atoms = f.trail.items; given = f.stand.given } };
 
-    ghost invariant = { λ f. IsFrame f.stand.view.now f.trail f.stand.given f.members f.sizes f.consistent f.options (matrix_of f.stand.columns) f.stand.table f.steps f.stand.base f.under.items };
+    ghost invariant = { λ f. IsFrame f.stand.view.now f.trail f.stand.given f.members f.sizes f.consistent f.options (matrix_of f.stand.columns) f.stand.table f.steps f.stand.base f.under.items f.stand.alive.items };
 }
 
 impl<'a> Frame<'a> {
@@ -108,7 +111,8 @@ impl<'a> Frame<'a> {
     {
         let whole = Matrix::new(alloc, view)?;
         let room = Room::new(alloc);
-        let frame = Frame::begin(alloc, view, Columns::Own(whole), None, atoms, room)?;
+        let alive = alive_of(alloc, view, atoms)?;
+        let frame = Frame::begin(alloc, view, Columns::Own(whole), None, atoms, alive, room)?;
         Ok(frame)
     }
 
@@ -128,7 +132,8 @@ impl<'a> Frame<'a> {
         ensures once { distinct view.now.live ≡ true }
     {
         let room = Room::new(alloc);
-        let frame = Frame::begin(alloc, view, Columns::Lent(whole), None, atoms, room)?;
+        let alive = alive_of(alloc, view, atoms)?;
+        let frame = Frame::begin(alloc, view, Columns::Lent(whole), None, atoms, alive, room)?;
         Ok(frame)
     }
 
@@ -151,7 +156,16 @@ impl<'a> Frame<'a> {
         ensures well { WellNamed view.now }
         ensures once { distinct view.now.live ≡ true }
     {
-        let frame = Frame::begin(alloc, view, Columns::Lent(part), Some(whole), atoms, room)?;
+        let alive = Vec::new(alloc);
+        let frame = Frame::begin(
+            alloc,
+            view,
+            Columns::Lent(part),
+            Some(whole),
+            atoms,
+            alive,
+            room,
+        )?;
         Ok(frame)
     }
 
@@ -219,7 +233,8 @@ impl<'a> Frame<'a> {
     }
 
     // A frame at the atoms, from a matrix with a column for each placement that is open there. `whole` is the matrix that has
-    // columns for the members of the base, too, or `None` if that is `part`.
+    // columns for the members of the base, too, or `None` if that is `part`. `alive` has a bit for each number that is not dead at
+    // the atoms, or is empty.
     #[tactic(auto, using(poly_tiling::proofs::Orders::live_once))]
     fn begin(
         alloc: Global,
@@ -227,11 +242,13 @@ impl<'a> Frame<'a> {
         part: Columns<'a>,
         whole: Option<&Matrix>,
         atoms: &[Atom],
+        alive: Vec<u64>,
         room: Room,
     ) -> Result<Frame<'a>, Refusal>
         requires part { IsMatrix view.now (matrix_of part) }
         requires whole { IfSome whole (λ m. IsMatrix view.now m.now) }
         requires all { HasOpen view.now atoms.now (matrix_of part) }
+        requires alive { AliveShows view.now atoms.now (length atoms.now) alive.items }
         ensures made { IfOk result (λ f. f ≡ record { scene = view.now; atoms = atoms.now; given = length atoms.now }) }
         ensures why { IfErr result (λ e. e ≡ Refusal.Memory) }
         ensures well { WellNamed view.now }
@@ -258,6 +275,7 @@ impl<'a> Frame<'a> {
             base: atoms.len(),
             columns,
             table,
+            alive,
         };
         Ok(Frame {
             stand,
@@ -416,7 +434,8 @@ impl<'a> Frame<'a> {
         if self.stands_open(placement) {
             return false;
         }
-        plain::is_dead(self.stand.view, &self.trail, placement)
+        let node = self.stand.node(&self.trail);
+        is_dead(&node, placement)
     }
 
     /// Whether the placement has the item.

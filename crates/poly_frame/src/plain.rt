@@ -254,20 +254,6 @@ pub(crate) fn due_elsewhere(view: &View, atoms: &[Atom], members: &[u32]) -> Opt
     None
 }
 
-/// How many placements of the design have the item and are not ruled out.
-pub(crate) fn count_allowed(view: &View, atoms: &[Atom], members: &[u32], item: &Item) -> usize
-    requires { members.now ≡ base view.now atoms.now }
-    ensures { result ≡ tally (λ p. has_item view.now p item.now && not (ruled_out view.now atoms.now p)) view.now.live }
-{
-    let mut n = 0;
-    for p in view.live() {
-        if view.covers(*p, *item) && !is_ruled_out(view, atoms, members, *p) {
-            n += 1;
-        }
-    }
-    n
-}
-
 /// Each tiling of the family has at least this many members with the item: as many as the view and the atoms ask for, or as
 /// many as the base has, whichever is more.
 pub(crate) fn least_with_base(view: &View, atoms: &[Atom], members: &[u32], item: &Item) -> usize

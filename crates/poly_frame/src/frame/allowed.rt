@@ -1,10 +1,11 @@
 //! Counts the placements that are not ruled out: the rows tell which placements are open, and the members of the base are
 //! judged one by one.
-ghost use Rattle.std.specs.Prelude.{Bool, MatchOption, length, max, not, slice_index, true, ℕ, ◌&&◌, ◌*◌, ◌+◌, ◌<◌, ◌^◌, ◌≡◌, ◌≤◌};
+ghost use Rattle.std.specs.Prelude.{Bool, MatchOption, false, length, max, not, slice_index, true, ℕ, ◌&&◌, ◌*◌, ◌+◌, ◌<◌, ◌^◌, ◌≡◌, ◌≤◌};
 ghost use Rattle.poly_tiling.specs.Lists.{mem, tally};
 ghost use Rattle.poly_tiling.specs.Puzzle.{has_item, same_item};
 ghost use Rattle.poly_atom.specs.Hopeless.{base};
 ghost use Rattle.poly_frame.specs.Bits.{in_both};
+ghost use Rattle.poly_frame.specs.Alive.{KnowsDead};
 ghost use Rattle.poly_frame.specs.Open.{dead, least_with_base, ruled_out};
 ghost use Rattle.poly_frame.specs.FrameItems.{item_of};
 ghost use Rattle.poly_frame.specs.FrameConsistent.{is_consistent, items_fit};
@@ -42,6 +43,7 @@ fn count_both(matrix: &Matrix, live: &[u64], at: usize, from: usize) -> usize
 // How many members of the base have the item, fit and are not dead.
 fn count_held(node: &Node<'_>, steps: &Steps, members: &[u32], item: &Item) -> usize
     requires kept { IsAt node.now steps.now }
+    requires alive { KnowsDead node.now }
     requires members { members.now ≡ base node.now.view.now node.now.trail.now }
     ensures value { result ≡ tally (λ p. has_item node.now.view.now p item.now && (items_fit node.now.view.now node.now.trail.now p && not (dead node.now.view.now node.now.trail.now p))) members.now }
     ensures few { result ≤ length members.now }
@@ -68,6 +70,7 @@ fn count_held_at(
     requires kept { IsAt node.now steps.now }
     requires row { b < length node.now.view.now.bounds }
     requires same { same_item (item_of node.now.view.now b) item.now ≡ true }
+    requires alive { KnowsDead node.now }
     requires members { members.now ≡ base node.now.view.now node.now.trail.now }
     requires sure { sure ≡ true → is_consistent node.now.view.now node.now.trail.now ≡ true }
     ensures value { result ≡ tally (λ p. has_item node.now.view.now p item.now && (mem node.now.view.now.live p && not (ruled_out node.now.view.now node.now.trail.now p))) members.now }
@@ -91,6 +94,7 @@ fn count_row(
     requires kept { IsAt node.now steps.now }
     requires row { b < length node.now.view.now.bounds }
     requires same { same_item (item_of node.now.view.now b) item.now ≡ true }
+    requires alive { KnowsDead node.now }
     requires members { members.now ≡ base node.now.view.now node.now.trail.now }
     requires sure { sure ≡ true → is_consistent node.now.view.now node.now.trail.now ≡ true }
     ensures { result ≡ tally (λ p. has_item node.now.view.now p item.now && not (ruled_out node.now.view.now node.now.trail.now p)) node.now.view.now.live }
@@ -109,6 +113,7 @@ pub(crate) fn count(
     sure: bool,
 ) -> usize
     requires kept { IsAt node.now steps.now }
+    requires alive { KnowsDead node.now }
     requires members { members.now ≡ base node.now.view.now node.now.trail.now }
     requires sure { sure ≡ true → is_consistent node.now.view.now node.now.trail.now ≡ true }
     ensures { result ≡ tally (λ p. has_item node.now.view.now p item.now && not (ruled_out node.now.view.now node.now.trail.now p)) node.now.view.now.live }
@@ -119,7 +124,8 @@ pub(crate) fn count(
         *item,
     ) {
         Some(b) => count_row(node, steps, members, b, item, sure),
-        None => plain::count_allowed(node.view, node.trail, members, item),
+        // a placement of the design has no other items
+        None => 0,
     }
 }
 
@@ -131,6 +137,19 @@ fn least_of_row(node: &Node<'_>, steps: &Steps, b: usize, item: &Item) -> usize
     ensures { result ≡ least_with_base node.now.view.now node.now.trail.now item.now }
 {
     (node.table.leasts[b] as usize).max(steps.have[b] as usize)
+}
+
+// `least` for an item that the view doesn't have. The atoms are read only if one of them asks for such an item.
+fn least_elsewhere(node: &Node<'_>, steps: &Steps, members: &[u32], item: &Item) -> usize
+    requires kept { IsAt node.now steps.now }
+    requires none { (b : ℕ) → b < length node.now.view.now.bounds → same_item (item_of node.now.view.now b) item.now ≡ false }
+    requires members { members.now ≡ base node.now.view.now node.now.trail.now }
+    ensures { result ≡ least_with_base node.now.view.now node.now.trail.now item.now }
+{
+    if node.table.listed {
+        return node.view.count(members, item);
+    }
+    plain::least_with_base(node.view, node.trail, members, item)
 }
 
 /// Each tiling of the family has at least this many members with the item: as many as the view and the atoms ask for, or as
@@ -146,6 +165,6 @@ pub(crate) fn least(node: &Node<'_>, steps: &Steps, members: &[u32], item: &Item
         *item,
     ) {
         Some(b) => least_of_row(node, steps, b, item),
-        None => plain::least_with_base(node.view, node.trail, members, item),
+        None => least_elsewhere(node, steps, members, item),
     }
 }

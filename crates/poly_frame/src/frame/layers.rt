@@ -141,6 +141,7 @@ pub(crate) fn narrow_layer<'a>(
         base: node.trail.len(),
         matrix: &matrix,
         table: &table,
+        alive: node.alive,
     };
     let steps = steps_here(&here, steps, old_steps)?;
     Ok(Layer {

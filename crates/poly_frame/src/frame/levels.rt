@@ -144,6 +144,7 @@ pub(crate) fn levels_of<'a>(
         base: atoms.len(),
         matrix: columns.matrix(),
         table: &table,
+        alive: &[],
     };
     let due = notes_of(alloc, &table.leasts, &have)?;
     let steps = start(&node, row, have, due, raised, marks)?;

@@ -23,6 +23,8 @@ pub(crate) struct Node<'a> {
     pub(crate) matrix: &'a Matrix,
     /// What the design and the first `base` atoms say about the items.
     pub(crate) table: &'a Table,
+    /// A bit for each number, set if its placement is not dead at the given atoms; or empty if that is not kept.
+    pub(crate) alive: &'a [u64],
 }
 
 /// Where a frame stands: what its node reads besides the atoms.
@@ -38,6 +40,8 @@ pub(crate) struct Stand<'a> {
     pub(crate) columns: Columns<'a>,
     /// What stays the same while the frame moves on this matrix.
     pub(crate) table: Table,
+    /// A bit for each number, set if its placement is not dead at the given atoms; or empty if that is not kept.
+    pub(crate) alive: Vec<u64>,
 }
 
 impl<'a> Stand<'a> {
@@ -49,6 +53,7 @@ impl<'a> Stand<'a> {
         ensures base { result.base ≡ self.now.base }
         ensures matrix { result.matrix.now ≡ matrix_of self.now.columns }
         ensures table { result.table.now ≡ self.now.table }
+        ensures alive { result.alive.now ≡ self.now.alive.items }
     {
         Node {
             view: self.view,
@@ -57,6 +62,7 @@ impl<'a> Stand<'a> {
             base: self.base,
             matrix: self.columns.matrix(),
             table: &self.table,
+            alive: &self.alive,
         }
     }
 }

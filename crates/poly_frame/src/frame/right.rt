@@ -1,21 +1,22 @@
 //! Judges members of the base. A member is right if it is a placement of the design that is not ruled out. How many members
 //! have each item tells whether a member is in conflict with another one, and whether it has an item that others cover as often
-//! as they may. So the atoms are read only to tell whether one of them lacks the member, and only if its items fit.
+//! as they may. So whether an atom lacks the member is asked only if its items fit.
 ghost use Rattle.std.specs.Prelude.{false, length, map, not, take, true, ◌&&◌, ◌<◌, ◌∷◌, ◌≡◌};
 ghost use Rattle.std.specs.List.{list_all};
 ghost use Rattle.poly_tiling.specs.Lists.{mem};
 ghost use Rattle.poly_tiling.specs.Puzzle.{items};
 ghost use Rattle.poly_tiling.specs.declared.item.Item.TheVariants.{Cell as CellItem, Piece as PieceItem};
 ghost use Rattle.poly_atom.specs.Hopeless.{base};
+ghost use Rattle.poly_frame.specs.Alive.{KnowsDead};
 ghost use Rattle.poly_frame.specs.Open.{dead, open_in, ruled_out};
 ghost use Rattle.poly_frame.specs.FrameConsistent.{is_consistent, item_fits, items_fit};
 ghost use Rattle.poly_frame.specs.FrameSteps.{IsAt};
 
+use crate::frame::alive::is_dead;
 use crate::frame::consistent::fits;
 use crate::frame::items::{guess_item, index_of};
 use crate::frame::node::Node;
 use crate::frame::steps::Steps;
-use crate::plain;
 use poly_design::Name;
 use poly_grid::Cell;
 use poly_tiling::{Item, has_number};
@@ -82,10 +83,11 @@ fn items_fit(node: &Node<'_>, steps: &Steps, members: &[u32], number: u32) -> bo
 /// Whether each item of the number's placement fits and the placement is not dead. A member is right if and only if this holds.
 pub(crate) fn is_sound(node: &Node<'_>, steps: &Steps, members: &[u32], number: u32) -> bool
     requires kept { IsAt node.now steps.now }
+    requires alive { KnowsDead node.now }
     requires members { members.now ≡ base node.now.view.now node.now.trail.now }
     ensures { result ≡ (items_fit node.now.view.now node.now.trail.now number && not (dead node.now.view.now node.now.trail.now number)) }
 {
-    items_fit(node, steps, members, number) && !plain::is_dead(node.view, node.trail, number)
+    items_fit(node, steps, members, number) && !is_dead(node, number)
 }
 
 /// Whether a placement that is not open is a placement of the design that is not ruled out. Only a member can be that. If
@@ -98,6 +100,7 @@ pub(crate) fn is_right_member(
     sure: bool,
 ) -> bool
     requires kept { IsAt node.now steps.now }
+    requires alive { KnowsDead node.now }
     requires members { members.now ≡ base node.now.view.now node.now.trail.now }
     requires sure { sure ≡ true → is_consistent node.now.view.now node.now.trail.now ≡ true }
     requires closed { mem node.now.view.now.live number ≡ true → open_in node.now.view.now node.now.trail.now number ≡ false }
