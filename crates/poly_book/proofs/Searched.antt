@@ -1,5 +1,5 @@
 -- What a search found, for a task at an index.
-use Rattle.std.proofs.Common.{List, Some, ap, false, get_or, subst, sym, true, ℕ, ◌∙◌, ◌≡◌}
+use Rattle.std.proofs.Common.{List, Some, [], ap, arith, false, get_or, length, refl, subst, sym, true, ℕ, ◌∙◌, ◌∷◌, ◌≡◌}
 use Rattle.std.specs.List.{position_from}
 use Rattle.std.specs.Prelude.{◌==◌}
 use Rattle.poly_tiling.specs.Puzzle.{View}
@@ -41,3 +41,8 @@ found_hopeful v w A tree ts rs same h fine =
     let free : opened w A tree ≡ true = subst (λ u. opened u A tree ≡ true) same h.free in
     let left : rs ≡ rests w A tree = subst (λ u. rs ≡ rests u A tree) same h.cut.rests in
     subst (λ L. AreHopeful w L) (sym left) (rests_hopeful w A tree free fine)
+
+-- without lists, none is hopeless
+pub none_hopeful : (v : View) (rs : List (List Atom)) → length rs ≡ 0 → AreHopeful v rs
+none_hopeful v [] h = refl
+none_hopeful v (r ∷ rs) h = absurd (omega (arith, h))

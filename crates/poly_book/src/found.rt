@@ -1,17 +1,19 @@
 //! A report that a search made. Its tree fits, and holds for the atoms and the view that were searched, and its leaves were
 //! gathered during the search. So the tree needs no check if the task has these atoms and the book has this view. And since the
 //! tree names only open placements, none of its rests is hopeless unless the task is.
-ghost use Rattle.std.specs.Prelude.{◌≡◌, ◌≤◌, ◌==◌, false, IfErr, IfOk, IsTrue, OnErr, Some};
+ghost use Rattle.std.specs.Prelude.{◌≡◌, ◌≤◌, ◌==◌, false, IfErr, IfOk, IsTrue, OnErr, Some, true};
 ghost use Rattle.std.specs.Arc.{arc_value};
 ghost use Rattle.std.specs.List.{position_from};
 ghost use Rattle.poly_tiling.specs.Listings.{HasOverTilings};
 ghost use Rattle.poly_frame.specs.Matrices.{IsWhole};
 ghost use Rattle.poly_report.specs.Shapes.{plan_of};
 ghost use Rattle.poly_report.specs.Sizes.{inner, is_rest};
+ghost use Rattle.poly_report.specs.Trees.{Plan};
 ghost use Rattle.poly_book.specs.Findings.{HasAtoms, IsFound};
 ghost use Rattle.poly_book.specs.Keeps.{Keeps, state_of};
 ghost use Rattle.poly_book.specs.Refused.{IsNotApplied};
 ghost use Rattle.poly_book.specs.Reports.{IsApplied};
+ghost use Rattle.poly_book.specs.Tasks.{AreHopeful};
 ghost use Rattle.poly_tiling.specs.declared.lister.TheConstants.{MAX_TILINGS};
 ghost use Rattle.poly_report.specs.declared.size.TheConstants.{NODES};
 
@@ -173,10 +175,19 @@ fn apply_found(
         return Err(Refusal::Gone);
     };
     if has_atoms(parts, at, report.task, atoms) {
-        let sure = !hopeless(parts.scene.view(), atoms);
+        let sure = is_hopeful(parts.scene.view(), atoms, &leaves);
         return apply_leaves(parts, at, report.edition, leaves, sure);
     }
     apply_report(parts, report)
+}
+
+// If this is true, no rest is hopeless. The leaves are those of a search of the atoms, whose rests are hopeless only if the atoms
+// are. So the atoms are asked about only if there are rests.
+fn is_hopeful(view: &View, atoms: &[Atom], leaves: &Leaves) -> bool
+    requires { (tree : Plan) × IsFound view.now atoms.now tree leaves.now.tilings.items leaves.now.rests }
+    ensures { result ≡ true → AreHopeful view.now leaves.now.rests }
+{
+    leaves.rests.is_empty() || !hopeless(view, atoms)
 }
 
 // If this is true, the task with this number has exactly these atoms. `at` is its index among the pending tasks.

@@ -1,17 +1,18 @@
-use Rattle.std.proofs.Common.{None, Some, ap, false, inl, inr, refl, rules, subst, sym, ◌∙◌, ◌≡◌}
+use Rattle.std.proofs.Common.{None, Some, ap, inl, inr, refl, rules, subst, sym, ◌∙◌, ◌≡◌}
 use Rattle.std.proofs.lemmas.Result.{IfErr-weaker, IfOk-weaker}
 use Rattle.std.specs.List.{position_from}
 use Rattle.std.specs.List.Sorted.{IsNonDecreasingBy}
 use Rattle.std.specs.Prelude.{◌==◌}
-use Rattle.poly_atom.specs.Hopeless.{hopeless}
 use Rattle.poly_report.specs.Shapes.{plan_of}
 use Rattle.poly_book.specs.declared.task.Pending.{Pending}
+use Rattle.poly_book.specs.Findings.{IsFound}
 use Rattle.poly_book.specs.Keeps.{state_of}
 use Rattle.poly_book.specs.Refused.{IsNotApplied}
 use Rattle.poly_book.specs.Reports.{AreLeaves, IsApplied}
+use Rattle.poly_book.specs.Tasks.{AreHopeful}
 use Rattle.poly_book.proofs.Halving.{numbers_rise}
 use Rattle.poly_book.proofs.Indices.{nowhere}
-use Rattle.poly_book.proofs.Searched.{found_hopeful, found_leaves}
+use Rattle.poly_book.proofs.Searched.{found_leaves}
 use Rattle.poly_book.proofs.found.apply_found.Goals as goal
 
 pub index_of-requires : goal.index_of-requires
@@ -25,11 +26,14 @@ returns-in_default-clause-why c =
     let e : position_from (λ (p : Pending). p.number == c.args.report.now.task) 0 c.args.parts.now.tasks.items ≡ None = ap (λ ps. position_from (λ (p : Pending). p.number == c.args.report.now.task) 0 ps) (sym c.deref.ensures.value) ∙ sym c.index_of.ensures ∙ none in
     inl (refl, nowhere c.args.report.now.task 0 c.args.parts.now.log c.args.parts.now.tasks.items e)
 
+pub is_hopeful-sure-requires : goal.is_hopeful-sure-requires
+is_hopeful-sure-requires c =
+    let r = c.args.report.now in
+    let ls = c.args.leaves in
+    (plan_of r.tree, subst (λ v. IsFound v c.args.atoms.now (plan_of r.tree) ls.tilings.items ls.rests) (sym c.view.ensures) c.requires.found)
+
 pub apply_leaves-requires-clause-sure : goal.apply_leaves-requires-clause-sure
-apply_leaves-requires-clause-sure c = λ yes.
-    let w = c.args.parts.now.scene in
-    let fine : hopeless w c.args.atoms.now ≡ false = search rules in
-    found_hopeful w w c.args.atoms.now (plan_of c.args.report.now.tree) c.args.leaves.tilings.items c.args.leaves.rests refl c.requires.found fine
+apply_leaves-requires-clause-sure c = λ yes. subst (λ v. AreHopeful v c.args.leaves.rests) c.view.ensures (c.is_hopeful-sure.ensures yes)
 
 pub returns-then-has_atoms-clause-ok : goal.returns-then-has_atoms-clause-ok
 returns-then-has_atoms-clause-ok c =
