@@ -22,6 +22,7 @@ pub mod Mapping
 pub mod Spanning
 pub mod Touched
 pub mod Reached
+pub mod Placing
 pub mod Applying
 pub mod Tops
 pub mod Indices

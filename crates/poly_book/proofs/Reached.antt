@@ -17,7 +17,7 @@ use Rattle.poly_book.specs.declared.maps.Maps.{Maps}
 use Rattle.poly_book.specs.declared.rows.Span.{Span}
 use Rattle.poly_book.specs.declared.task.Pending.{Pending}
 use Rattle.poly_book.specs.declared.touch.Touch.{Touch}
-use Rattle.poly_book.specs.Mapped.{AreNoted, Rows, in_span, key_of, spanned, under}
+use Rattle.poly_book.specs.Mapped.{AreNoted, Rows, in_span, key_of, placed, spanned, under}
 use Rattle.poly_book.specs.Meaning.{own_of}
 use Rattle.poly_book.specs.Reaching.{AreEndsReached, IsFarther, IsReached}
 use Rattle.poly_book.specs.Touching.{AreTouched, touches}
@@ -51,7 +51,7 @@ or_cases true b h = inl refl
 or_cases false b h = inr h
 
 -- if one of the first k + 1 elements passes, one of the first k passes, or the element at index k does
-any_more : {X : Type 0} (f : X → Bool) (xs : List X) (k : ℕ) (d : X) → k < length xs → list_any f (take (k + 1) xs) ≡ true → (list_any f (take k xs) ≡ true) ⊎ (f (get_or xs k d) ≡ true)
+pub any_more : {X : Type 0} (f : X → Bool) (xs : List X) (k : ℕ) (d : X) → k < length xs → list_any f (take (k + 1) xs) ≡ true → (list_any f (take k xs) ≡ true) ⊎ (f (get_or xs k d) ≡ true)
 any_more f xs k d l h =
     let x = get_or xs k d in
     let split : list_any f (take (k + 1) xs) ≡ (list_any f (take k xs) || (f x || false)) = ap (list_any f) (take_more xs k d l) ∙ any_append f (take k xs) (x ∷ []) in
@@ -115,7 +115,7 @@ all_more r r2 ps k x l is w h one i d low =
 
 -- if the tasks under the touched atoms of each kind are reached, one kind after the other, those under all touched atoms are
 pub all_kinds : (t : Touch) (m : Maps) (ps : List Pending) (r1 r2 r3 r4 r5 : List ℕ) → IsFarther r1 r2 → IsFarther r2 r3 → IsFarther r3 r4 → IsFarther r4 r5 →
-    ((p : ℕ) → touches t (Has p) ≡ true → IsReached r1 ps (λ n. spanned m.has.entries p n)) →
+    ((p : ℕ) → touches t (Has p) ≡ true → IsReached r1 ps (λ n. placed m.has.rows.items p n)) →
     ((p : ℕ) → mem t.delta.now.pinned.items p ≡ true → IsReached r2 ps (λ n. true)) →
     ((i : Item) → list_any (λ x. same_item (Piece x) i) t.delta.now.narrowed.items ≡ true → IsReached r3 ps (λ n. spanned m.at_least.entries (key_of i) n)) →
     IsReached r4 ps (λ n. spanned m.at_least.entries (key_of t.item) n) →

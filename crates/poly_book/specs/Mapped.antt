@@ -15,6 +15,7 @@ use Rattle.poly_book.specs.declared.maps.Maps.{Maps}
 use Rattle.poly_book.specs.declared.maps.Prefix.{Prefix}
 use Rattle.poly_book.specs.declared.maps.Run.{Run}
 use Rattle.poly_book.specs.declared.maps.Runs.{Runs}
+use Rattle.poly_book.specs.declared.placed.PlacedRow.{PlacedRow}
 use Rattle.poly_book.specs.declared.rows.Span.{Span}
 use Rattle.poly_book.specs.declared.task.Own.{Own}
 use Rattle.poly_book.specs.declared.task.Own.TheVariants.{Crossed, Listed, Stair as OfStair}
@@ -48,9 +49,20 @@ spanned rows k n = list_any (λ s. in_span s n) (row_at rows k)
 abbrev pub AreWider : Rows → Rows → Type 0
 AreWider old new = (k n : ℕ) → spanned old k n ≡ true → spanned new k n ≡ true
 
+-- the row has the placement and the number
+abbrev pub is_placed : ℕ → ℕ → PlacedRow → Bool
+is_placed p n r = (r.placement == p) && list_any (λ s. in_span s n) r.row
+
+-- a row of the placement has the number
+abbrev pub placed : List PlacedRow → ℕ → ℕ → Bool
+placed rows p n = list_any (λ r. is_placed p n r) rows
+
+abbrev pub ArePlacedWider : List PlacedRow → List PlacedRow → Type 0
+ArePlacedWider old new = (p n : ℕ) → placed old p n ≡ true → placed new p n ≡ true
+
 -- the task with the number is noted under the atom; each task counts as noted under each `Lacks`
 abbrev pub under : Maps → Atom → ℕ → Bool
-under m (Has p) n = spanned m.has.entries p n
+under m (Has p) n = placed m.has.rows.items p n
 under m (Lacks p) n = true
 under m (AtLeast i k) n = spanned m.at_least.entries (key_of i) n
 under m (AtMost i k) n = spanned m.at_most.entries (key_of i) n
@@ -126,6 +138,10 @@ has_pending ps s = list_any (λ p. in_span s p.number) ps
 -- a row that has the number of a pending task keeps the number
 abbrev pub AreKept : List Pending → Rows → Rows → Type 0
 AreKept ps old new = (k n : ℕ) → is_pending ps n ≡ true → spanned old k n ≡ true → spanned new k n ≡ true
+
+-- a row of a placement that has the number of a pending task keeps the number
+abbrev pub ArePlacedStill : List Pending → List PlacedRow → List PlacedRow → Type 0
+ArePlacedStill ps old new = (p n : ℕ) → is_pending ps n ≡ true → placed old p n ≡ true → placed new p n ≡ true
 
 -- what is noted for the pending tasks stays noted
 abbrev pub KeepsPending : List Pending → Maps → Maps → Type 0

@@ -33,6 +33,7 @@ mod maps;
 mod narrowed;
 mod next_tasks;
 mod parts;
+mod placed;
 mod prepare;
 mod quiet;
 mod reach;

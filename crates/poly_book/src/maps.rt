@@ -17,6 +17,7 @@ ghost use Rattle.poly_atom.specs.Logs.{IsStairOf, stair_of};
 ghost use Rattle.poly_book.specs.Mapped.{AreNoted, AreRunsNoted, HasBase, IsNotedBase, IsPrefix, IsWider, KeepsPending, KeepsRuns, WillHave, base_of, in_span, key_of, key_of_name, run_from, under};
 ghost use Rattle.poly_book.specs.Meaning.{AreTasks, IsOwn, own_of};
 
+use crate::placed::PlacedRows;
 use crate::rows::{Row, Span, note_span, tidy_rows};
 use crate::task::{Own, Pending, is_same_list};
 use poly_atom::{Atom, GuardLog, Stair};
@@ -33,7 +34,7 @@ pub(crate) struct Maps {
     /// The allocator.
     pub alloc: Global,
     /// The tasks noted under a `Has` atom, by its placement.
-    pub has: BTreeMap<u32, Row>,
+    pub has: PlacedRows,
     /// The tasks noted under an `AtLeast` atom, by the key of its item.
     pub at_least: BTreeMap<u32, Row>,
     /// The tasks noted under an `AtMost` atom, by the key of its item.
@@ -86,7 +87,7 @@ impl Maps {
     pub(crate) fn new(alloc: Global) -> Maps {
         Maps {
             alloc,
-            has: BTreeMap::new(alloc),
+            has: PlacedRows::new(alloc),
             at_least: BTreeMap::new(alloc),
             at_most: BTreeMap::new(alloc),
         }
@@ -130,7 +131,7 @@ impl Maps {
         requires { IsNonDecreasingBy (λ p. p.number) pending.now }
         ensures { KeepsPending pending.now self.old self.new }
     {
-        tidy_rows(&mut self.has, pending);
+        self.has.tidy(pending);
         tidy_rows(&mut self.at_least, pending);
         tidy_rows(&mut self.at_most, pending);
     }
@@ -318,7 +319,7 @@ impl Maps {
         ensures why { IfErr result (λ e. e ≡ Refusal.Memory) }
     {
         match atom {
-            Atom::Has(p) => note_span(self.alloc, &mut self.has, *p, span),
+            Atom::Has(p) => self.has.note(self.alloc, *p, span),
             Atom::Lacks(_) => Ok(()),
             Atom::AtLeast(item, _) => note_span(self.alloc, &mut self.at_least, key_of(item), span),
             Atom::AtMost(item, _) => note_span(self.alloc, &mut self.at_most, key_of(item), span),

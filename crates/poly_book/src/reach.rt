@@ -9,11 +9,12 @@ ghost use Rattle.poly_tiling.specs.Lists.{mem};
 ghost use Rattle.poly_tiling.specs.Puzzle.{same_item};
 ghost use Rattle.poly_tiling.specs.declared.item.Item.{Item as ItemOf};
 ghost use Rattle.poly_tiling.specs.declared.item.Item.TheVariants.{Piece as PieceItem};
-ghost use Rattle.poly_book.specs.Mapped.{in_span, key_of, spanned, under};
+ghost use Rattle.poly_book.specs.Mapped.{in_span, key_of, placed, spanned, under};
 ghost use Rattle.poly_book.specs.Reaching.{IsFarther, IsReached};
 ghost use Rattle.poly_book.specs.Touching.{touches};
 
 use crate::maps::{Maps, key_of};
+use crate::placed::PlacedRow;
 use crate::rows::{Row, Span};
 use crate::task::Pending;
 use crate::touch::Touch;
@@ -38,7 +39,7 @@ pub(crate) fn reached(
     ensures why { IfErr result (λ e. e ≡ Refusal.Memory) }
 {
     let mut reach = vec![in alloc; 0u32; tasks.len()]?;
-    reach_has(&mut reach, tasks, touch, &maps.has);
+    reach_has(&mut reach, tasks, touch, &maps.has.rows);
     reach_lacks(&mut reach, tasks, &touch.delta.pinned);
     reach_names(&mut reach, tasks, &touch.delta.narrowed, &maps.at_least);
     reach_key(&mut reach, tasks, &maps.at_least, key_of(&touch.item));
@@ -47,15 +48,15 @@ pub(crate) fn reached(
 }
 
 // Reaches the tasks that are noted under a `Has` atom that the change touches.
-fn reach_has(reach: &mut Vec<u32>, tasks: &[Pending], touch: &Touch, rows: &BTreeMap<u32, Row>)
+fn reach_has(reach: &mut Vec<u32>, tasks: &[Pending], touch: &Touch, rows: &[PlacedRow])
     requires rise { IsNonDecreasingBy (λ p. p.number) tasks.now }
     requires len { length reach.old.items ≡ length tasks.now }
     ensures farther { IsFarther reach.old.items reach.new.items }
-    ensures reached { (p : ℕ) → touches touch.now (Has p) ≡ true → IsReached reach.new.items tasks.now (λ n. spanned rows.now.entries p n) }
+    ensures reached { (p : ℕ) → touches touch.now (Has p) ≡ true → IsReached reach.new.items tasks.now (λ n. placed rows.now p n) }
 {
-    for (p, row) in rows.iter() {
-        if touch.has_placement(*p) {
-            reach_spans(reach, tasks, row.spans());
+    for row in rows {
+        if touch.has_placement(row.placement) {
+            reach_spans(reach, tasks, row.row.spans());
         }
     }
 }

@@ -38,7 +38,8 @@ impl Model for Row {
 }
 
 impl Row {
-    fn new(alloc: Global) -> Row
+    /// A row without spans.
+    pub(crate) fn new(alloc: Global) -> Row
         ensures { result ≡ [] }
     {
         Row {
@@ -53,7 +54,8 @@ impl Row {
         &self.spans
     }
 
-    fn push(&mut self, span: Span) -> Result<(), Refusal>
+    /// Adds the span. Fails only when out of memory, and then the row stays as it was.
+    pub(crate) fn push(&mut self, span: Span) -> Result<(), Refusal>
         ensures ok { OnOk result (self.new ≡ self.old ++ span ∷ []) }
         ensures err { OnErr result (self.new ≡ self.old) }
         ensures why { IfErr result (λ e. e ≡ Refusal.Memory) }
@@ -62,8 +64,8 @@ impl Row {
         Ok(())
     }
 
-    // Drops the spans without a pending task. Returns whether a span is left.
-    fn keep_pending(&mut self, pending: &[Pending]) -> bool
+    /// Drops the spans without a pending task. Returns whether a span is left.
+    pub(crate) fn keep_pending(&mut self, pending: &[Pending]) -> bool
         requires { IsNonDecreasingBy (λ p. p.number) pending.now }
         ensures kept { self.new ≡ filter (λ s. has_pending pending.now s) self.old }
         ensures none { result ≡ false → self.new ≡ [] }
