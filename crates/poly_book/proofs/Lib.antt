@@ -23,6 +23,7 @@ pub mod Spanning
 pub mod Touched
 pub mod Reached
 pub mod Placing
+pub mod Flagging
 pub mod Applying
 pub mod Tops
 pub mod Indices

@@ -46,8 +46,6 @@ pub record AreNext (w : View) (log : List (List Atom)) (ps : List Pending) (laid
   pub few : next + length t.fresh.items ≤ 4294967296
   pub flags_are : t.flags.items ≡ map (λ p. not (hopeless w (own_of log p.own))) ps
   pub ended_are : t.ended.items ≡ hopeless_endings w (length log + 1) (tasks_of log ps)
-  pub room_empty : t.room.items ≡ []
-  pub room : length ps + length t.fresh.items ≤ vec_capacity t.room
 
 -- what a change from one view to another adds and stores, and its effect on the tasks
 pub record IsGathered (v w : View) (listed : List (List ℕ)) (log : List (List Atom)) (ps : List Pending) (stood : Option Stored) (next : ℕ) (e : Entry) (t : NextTasks) (h : Option Shelf) : Type 0 where
@@ -112,6 +110,7 @@ pub record IsPrepared (k : Kind) (x : Change) (p : Parts) (e : Entry) (r : Prepa
   pub enough : ¬ NumbersAreSpent p.scene.placements (changed p.design x)
   pub room_steps : vec_len p.steps < vec_capacity p.steps
   pub room_endings : vec_len p.endings + length r.tasks.ended.items ≤ vec_capacity p.endings
+  pub room_tasks : vec_len p.tasks + length r.tasks.fresh.items ≤ vec_capacity p.tasks
 
 abbrev pub event_of : Kind → Change → View → Event
 event_of Edit x w = event.Edit x w

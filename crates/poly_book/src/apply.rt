@@ -1,6 +1,6 @@
 //! Applies a change to the parts of a book. Everything that may be refused comes first; after the exchange of the listed
 //! tilings, nothing allocates.
-ghost use Rattle.std.specs.Prelude.{◌≡◌, ◌≤◌, ◌<◌, ◌+◌, ◌++◌, ◌∷◌, ◌⊎◌, [], IfErr, IfOk, OnErr, OnOk, length, true, vec_capacity, vec_len};
+ghost use Rattle.std.specs.Prelude.{◌≡◌, ◌≤◌, ◌<◌, ◌+◌, ◌++◌, ◌∷◌, ◌⊎◌, [], IfErr, IfOk, OnErr, OnOk, false, length, slice_index_or, true, vec_capacity, vec_len};
 ghost use Rattle.std.specs.List.{filter, items_where_true, list_all};
 ghost use Rattle.std.specs.Arc.{arc_value};
 ghost use Rattle.poly_design.specs.Changes.{HasBefore, changed};
@@ -31,7 +31,6 @@ use poly_grid::Refusal;
 use poly_place::Delta;
 use poly_tiling::View;
 use poly_undo::History;
-use std::mem;
 
 /// Applies the change. First notes the pending tasks that aren't noted yet. Afterwards drops guards that nothing reads any
 /// more.
@@ -82,8 +81,7 @@ fn finish_change(parts: &mut Parts, kind: Kind, change: Change, step: Step, read
     requires history { CanNote kind parts.old.history }
     requires table { (arc_value ready.plan.view).placements ≡ parts.old.table.placements }
     requires tasks { length ready.tasks.flags.items ≡ length parts.old.tasks.items }
-    requires empty { ready.tasks.room.items ≡ [] }
-    requires room { length parts.old.tasks.items + length ready.tasks.fresh.items ≤ vec_capacity ready.tasks.room }
+    requires room { vec_len parts.old.tasks + length ready.tasks.fresh.items ≤ vec_capacity parts.old.tasks }
     requires steps { vec_len parts.old.steps < vec_capacity parts.old.steps }
     requires endings { vec_len parts.old.endings + length ready.tasks.ended.items ≤ vec_capacity parts.old.endings }
     requires next { parts.old.next + length ready.tasks.fresh.items ≤ 4294967296 }
@@ -180,12 +178,11 @@ fn note(history: &mut History<Change, Kept>, kind: Kind, change: Change, kept: K
     }
 }
 
-// Keeps the tasks that go on and appends the new tasks to them. Appends the endings of the tasks that don't go on to the list
-// of endings.
+// Keeps the tasks that go on, in place, and appends the new tasks to them. Appends the endings of the tasks that don't go on to
+// the list of endings.
 fn replace_tasks(tasks: &mut Vec<Pending>, endings: &mut Vec<Ending>, next: NextTasks)
-    requires empty { next.room.items ≡ [] }
-    requires room { length tasks.old.items + length next.fresh.items ≤ vec_capacity next.room }
     requires flags { length next.flags.items ≡ length tasks.old.items }
+    requires room { vec_len tasks.old + length next.fresh.items ≤ vec_capacity tasks.old }
     requires endings { vec_len endings.old + length next.ended.items ≤ vec_capacity endings.old }
     ensures tasks { tasks.new.items ≡ items_where_true next.flags.items tasks.old.items ++ next.fresh.items }
     ensures endings { endings.new.items ≡ endings.old.items ++ next.ended.items }
@@ -194,12 +191,34 @@ fn replace_tasks(tasks: &mut Vec<Pending>, endings: &mut Vec<Ending>, next: Next
         fresh,
         flags,
         ended,
-        room,
     } = next;
-    let old = mem::replace(tasks, room);
-    push_surviving(old, &flags, tasks);
+    keep_flagged(tasks, &flags);
     push_tasks(fresh, tasks);
     push_endings(ended, endings);
+}
+
+// Drops the tasks whose flags are false.
+fn keep_flagged(tasks: &mut Vec<Pending>, flags: &[bool])
+    requires { length flags.now ≡ length tasks.old.items }
+    ensures items { tasks.new.items ≡ items_where_true flags.now tasks.old.items }
+    ensures len { vec_len tasks.new ≤ vec_len tasks.old }
+    ensures capacity { vec_capacity tasks.new ≡ vec_capacity tasks.old }
+{
+    let mut index = 0;
+    tasks.retain(|_| next_flag(flags, &mut index));
+}
+
+// The flag at the index, which moves on to the next one; false at the end.
+fn next_flag(flags: &[bool], index: &mut usize) -> bool
+    ensures flag { index.old < length flags.now → result ≡ slice_index_or flags.now index.old false }
+    ensures next { index.old < length flags.now → index.new ≡ index.old + 1 }
+{
+    let at = *index;
+    if at >= flags.len() {
+        return false;
+    }
+    *index = at + 1;
+    flags[at]
 }
 
 /// Appends the tasks to the list, which has room for them.
@@ -209,23 +228,6 @@ pub(crate) fn push_tasks(fresh: Vec<Pending>, out: &mut Vec<Pending>)
 {
     for task in fresh {
         out.push_reserved(task);
-    }
-}
-
-// Appends to `out` the tasks whose flags are true. `out` has room for all of the tasks.
-fn push_surviving(tasks: Vec<Pending>, flags: &[bool], out: &mut Vec<Pending>)
-    requires flags { length flags.now ≡ length tasks.items }
-    requires room { vec_len out.old + length tasks.items ≤ vec_capacity out.old }
-    ensures len { vec_len out.new ≤ vec_len out.old + length tasks.items }
-    ensures items { out.new.items ≡ out.old.items ++ items_where_true flags.now tasks.items }
-    ensures capacity { vec_capacity out.new ≡ vec_capacity out.old }
-{
-    let mut i = 0;
-    for task in tasks {
-        if flags[i] {
-            out.push_reserved(task);
-        }
-        i += 1;
     }
 }
 

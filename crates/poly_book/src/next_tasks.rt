@@ -38,8 +38,6 @@ pub(crate) struct NextTasks {
     pub flags: Vec<bool>,
     /// The endings of the pending tasks that don't go on.
     pub ended: Vec<Ending>,
-    /// An empty list with room for all tasks after the change.
-    pub room: Vec<Pending>,
 }
 
 /// What the change that leads to the view does to the tasks. `laid` are the guards of the change, and `stood` is the shelf
@@ -65,12 +63,10 @@ pub(crate) fn next_tasks(
     let fresh = fresh_tasks(alloc, view, &parts.log, laid, stood, parts.next, edition)?;
     let flags = going_on(parts, view, delta, change)?;
     let ended = endings_of(alloc, &parts.tasks, &flags, edition + 1)?;
-    let room = Vec::with_capacity(alloc, parts.tasks.len() + fresh.len())?;
     Ok(NextTasks {
         fresh,
         flags,
         ended,
-        room,
     })
 }
 

@@ -85,7 +85,8 @@ pub(crate) fn prepare(
     requires before { HasBefore parts.old.design change.now }
     requires design { IsDesign (changed parts.old.design change.now) }
     requires top { IsTop kind parts.old.history change.now }
-    ensures stays { parts.new ≡ record parts.old { table = parts.new.table; steps = parts.new.steps; endings = parts.new.endings } }
+    ensures stays { parts.new ≡ record parts.old { table = parts.new.table; tasks = parts.new.tasks; steps = parts.new.steps; endings = parts.new.endings } }
+    ensures tasks { parts.new.tasks.items ≡ parts.old.tasks.items }
     ensures steps { parts.new.steps.items ≡ parts.old.steps.items }
     ensures endings { parts.new.endings.items ≡ parts.old.endings.items }
     ensures keeps { Keeps parts.new }
@@ -105,6 +106,7 @@ pub(crate) fn prepare(
     let view = Arc::try_clone(&plan.view)?;
     let (entry, tasks, shelf) = gather(parts, kind, change, &view, &plan.delta)?;
     parts.endings.reserve(tasks.ended.len())?;
+    parts.tasks.reserve(tasks.fresh.len())?;
     Ok((
         entry,
         Prepared {

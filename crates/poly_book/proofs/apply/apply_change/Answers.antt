@@ -1,5 +1,5 @@
 use mathlib.Core.Path.{transport}
-use Rattle.std.proofs.Common.{[], ap, arith, inl, inr, length, refl, rules, subst, sym, true, ◌++◌, ◌+◌, ◌<◌, ◌∙◌, ◌∷◌, ◌≡◌, ◌≤◌}
+use Rattle.std.proofs.Common.{List, [], ap, arith, inl, inr, length, refl, rules, subst, sym, true, ◌++◌, ◌+◌, ◌<◌, ◌∙◌, ◌∷◌, ◌≡◌, ◌≤◌}
 use Rattle.std.specs.Arc.{arc_value}
 use Rattle.std.specs.List.{filter, list_all}
 use Rattle.std.specs.Prelude.{reverse}
@@ -16,6 +16,7 @@ use Rattle.poly_place.specs.Right.{IsRight}
 use Rattle.poly_book.specs.declared.parts.Parts.{Parts}
 use Rattle.poly_book.specs.declared.shelf.Kept.{Kept}
 use Rattle.poly_book.specs.declared.step.Kind.{Kind}
+use Rattle.poly_book.specs.declared.task.Pending.{Pending}
 use Rattle.poly_book.specs.Amounts.{IsNarrow}
 use Rattle.poly_book.specs.Changing.{IsTop, event_of, shelved_by, stood_by}
 use Rattle.poly_book.specs.Events.{Leads, step}
@@ -37,8 +38,8 @@ use Rattle.poly_book.proofs.apply.apply_change.Goals.{After-finish_change}
 use Rattle.poly_book.proofs.apply.apply_change.Goals as goal
 
 -- preparing a change doesn't alter what the book shows
-same : (p q : Parts) → q ≡ record p { table = q.table; steps = q.steps; endings = q.endings } → q.steps.items ≡ p.steps.items → q.endings.items ≡ p.endings.items → state_of q ≡ state_of p
-same p q s steps ends = ap (λ (z : Parts). shown z.opened z.design z.scene z.listed z.log z.tasks.items z.next z.history q.steps.items q.endings.items) s ∙ (λ i. shown p.opened p.design p.scene p.listed p.log p.tasks.items p.next p.history (steps i) (ends i))
+same : (p q : Parts) → q ≡ record p { table = q.table; tasks = q.tasks; steps = q.steps; endings = q.endings } → q.tasks.items ≡ p.tasks.items → q.steps.items ≡ p.steps.items → q.endings.items ≡ p.endings.items → state_of q ≡ state_of p
+same p q s tasks steps ends = ap (λ (z : Parts). shown z.opened z.design z.scene z.listed z.log q.tasks.items z.next z.history q.steps.items q.endings.items) s ∙ (λ i. shown p.opened p.design p.scene p.listed p.log (tasks i) p.next p.history (steps i) (ends i))
 
 still_not_made : (k : Kind) (x : Change) (s t : State) (e : Refusal) → s ≡ t → IsNotMade k x s e → IsNotMade k x t e
 still_not_made k x s t e is n = subst (λ z. IsNotMade k x z e) is n
@@ -47,10 +48,10 @@ pub returns-in_err-entry-clause-err : goal.returns-in_err-entry-clause-err
 returns-in_err-entry-clause-err c =
     let p = err_from_is_err_and c.from_residual-in_err-entry.result c.from_residual-in_err-entry.ensures.1 in
     let q = c.prepare.ensures in
-    rw p.1 (same c.catch_up.new.parts c.prepare.new.parts q.stays q.steps q.endings ∙ ap state_of c.catch_up.ensures.stays)
+    rw p.1 (same c.catch_up.new.parts c.prepare.new.parts q.stays q.tasks q.steps q.endings ∙ ap state_of c.catch_up.ensures.stays)
 
 -- a change may be made on top of the same history
-top_of : (k : Kind) (x : Change) (p q : Parts) → q ≡ record p { table = q.table; steps = q.steps; endings = q.endings } → IsTop k p.history x → IsTop k q.history x
+top_of : (k : Kind) (x : Change) (p q : Parts) → q ≡ record p { table = q.table; tasks = q.tasks; steps = q.steps; endings = q.endings } → IsTop k p.history x → IsTop k q.history x
 top_of k x p q s t = subst (λ h. IsTop k h x) (sym (ap (λ (z : Parts). z.history) s)) t
 
 enters_by : (p : Parts) (k : Kind) (x : Change) (w : View) → Keeps p → IsTop k p.history x → Leads (state_of p) x w → Enters w p.listed (returned (stood_by p.log k p.history))
@@ -84,7 +85,7 @@ returns-in_err-enter-clause-err c =
     let p = err_from_is_err_and c.from_residual-in_err-enter.result c.from_residual-in_err-enter.ensures.1 in
     let k = c.in_err-enter.ensures in
     let a = c.prepare.new.parts in
-    rw p.1 ((λ i. shown a.opened a.design a.scene (k.listed_stays i) (k.log_stays i) a.tasks.items a.next a.history a.steps.items a.endings.items) ∙ (same c.catch_up.new.parts c.prepare.new.parts c.prepare.ensures.stays c.prepare.ensures.steps c.prepare.ensures.endings ∙ ap state_of c.catch_up.ensures.stays))
+    rw p.1 ((λ i. shown a.opened a.design a.scene (k.listed_stays i) (k.log_stays i) a.tasks.items a.next a.history a.steps.items a.endings.items) ∙ (same c.catch_up.new.parts c.prepare.new.parts c.prepare.ensures.stays c.prepare.ensures.tasks c.prepare.ensures.steps c.prepare.ensures.endings ∙ ap state_of c.catch_up.ensures.stays))
 
 pub returns-in_err-enter-clause-why : goal.returns-in_err-enter-clause-why
 returns-in_err-enter-clause-why c =
@@ -101,7 +102,7 @@ returns-in_err-enter-clause-why c =
     let low : a.next + length (hopeful w (openings st (stairs (guards a.scene w)))) ≤ 4294967296 =
     omega (arith, g.tasks.few, opened_length (a.log ++ guards a.scene w ∷ []) a.next w (openings st (stairs (guards a.scene w))) fresh opens) in
     rw (p.1, p.2) (elim c.in_err-enter.ensures.why [
-      | inl m ↦ still_not_made c.args.kind c.args.change _ _ _ (same c.catch_up.new.parts c.prepare.new.parts c.prepare.ensures.stays c.prepare.ensures.steps c.prepare.ensures.endings ∙ ap state_of c.catch_up.ensures.stays) (full_not_made a.log (state_of a) a.history c.args.change w refl refl r.leads c.args.kind (top_of c.args.kind c.args.change c.catch_up.new.parts c.prepare.new.parts c.prepare.ensures.stays (subst (λ h. IsTop c.args.kind h c.args.change) (sym (ap (λ (z : Parts). z.history) c.catch_up.ensures.stays)) c.requires.top)) _ m.0 (subst (λ L. 0 < length L) r.gathered.returned_are m.1)
+      | inl m ↦ still_not_made c.args.kind c.args.change _ _ _ (same c.catch_up.new.parts c.prepare.new.parts c.prepare.ensures.stays c.prepare.ensures.tasks c.prepare.ensures.steps c.prepare.ensures.endings ∙ ap state_of c.catch_up.ensures.stays) (full_not_made a.log (state_of a) a.history c.args.change w refl refl r.leads c.args.kind (top_of c.args.kind c.args.change c.catch_up.new.parts c.prepare.new.parts c.prepare.ensures.stays (subst (λ h. IsTop c.args.kind h c.args.change) (sym (ap (λ (z : Parts). z.history) c.catch_up.ensures.stays)) c.requires.top)) _ m.0 (subst (λ L. 0 < length L) r.gathered.returned_are m.1)
           (subst (λ L. 1000000 < length (filter (λ T. is_tiling w T) a.listed) + length L) r.gathered.returned_are (subst (λ z. 1000000 < length (filter (λ T. is_tiling z T) a.listed) + length back) at m.2))
           (omega (arith, r.few_steps, length-reverse a.steps.items)) low r.enough)
       | inr m ↦ memory_not_made c.args.kind c.args.change (state_of c.args.parts.now) _ m
@@ -138,7 +139,7 @@ did c =
       fresh_are = subst (λ y. Opens (a.log ++ y ∷ []) a.next w (openings st (stairs y)) c.in_ok-entry.ready.tasks.fresh.items) g.guards_are t.fresh_are;
       next_is = f.next;
       few_tasks = let few = t.few in omega (arith, few, f.next);
-      steps_are = f.steps ∙ ap (λ z. a.steps.items ++ z ∷ []) (c.in_ok-step.ensures.ok ∙ ap (λ (z : Parts). record { kind = c.args.kind; change = c.args.change; pending = length z.tasks.items; shelved = shelved_by z.log c.args.kind z.history }) (sym c.prepare.ensures.stays));
+      steps_are = f.steps ∙ ap (λ z. a.steps.items ++ z ∷ []) (c.in_ok-step.ensures.ok ∙ ap (λ (ps : List Pending). record { kind = c.args.kind; change = c.args.change; pending = length ps; shelved = shelved_by c.catch_up.new.parts.log c.args.kind c.catch_up.new.parts.history }) (sym c.prepare.ensures.tasks) ∙ ap (λ (z : Parts). record { kind = c.args.kind; change = c.args.change; pending = length z.tasks.items; shelved = shelved_by z.log c.args.kind z.history }) (sym c.prepare.ensures.stays));
       few_steps = let few = r.few_steps in omega (arith, few);
       ended_are = f.endings ∙ ap (λ es. a.endings.items ++ es) t.ended_are;
       few_ways = c.prepare.ensures.keeps.few_ways;
@@ -188,7 +189,7 @@ returns-clause-ok c =
     let log = ap (λ (p : Parts). p.log) s in
     let told : c.in_ok-step.step ≡ c.in_ok-told.told = c.in_ok-step.ensures.ok ∙ sym c.in_ok-told.ensures.ok in
     let count : length f.steps.items ≡ c.len-place.result = search rules in
-    let start = same c.catch_up.new.parts c.prepare.new.parts c.prepare.ensures.stays c.prepare.ensures.steps c.prepare.ensures.endings ∙ ap state_of c.catch_up.ensures.stays in
+    let start = same c.catch_up.new.parts c.prepare.new.parts c.prepare.ensures.stays c.prepare.ensures.tasks c.prepare.ensures.steps c.prepare.ensures.endings ∙ ap state_of c.catch_up.ensures.stays in
     let done : IsDone k x (state_of a) (state_of f) (record { place = length f.steps.items; step = c.in_ok-step.step }) =
     record {
       view = w;

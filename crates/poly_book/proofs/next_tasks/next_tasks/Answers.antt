@@ -20,6 +20,4 @@ returns-clause-ok c =
       few = search rules;
       flags_are = flags;
       ended_are = ended ∙ (λ i. hopeless_endings w (count i + 1) (tasks_of log (all i)));
-      room_empty = search rules;
-      room = search rules;
     }

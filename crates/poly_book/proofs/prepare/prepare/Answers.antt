@@ -112,8 +112,16 @@ returns-in_err-reserve-2-clause-why c =
     let p = err_from_is_err_and c.from_residual-in_err-reserve-2.result c.from_residual-in_err-reserve-2.ensures.1 in
     rw p.1 (memory_not_made c.args.kind c.args.change.now (state_of c.args.parts.now) p.0 p.2)
 
+pub returns-in_err-reserve-3-clause-keeps : goal.returns-in_err-reserve-3-clause-keeps
+returns-in_err-reserve-3-clause-keeps c = rw (c.reserve.ensures.items, c.reserve-2.ensures.items, c.reserve-3.ensures.items) (still_keeps c.requires.keeps (subst (λ (v : View). Grown v c.plan_of_change.new.table) c.view.ensures c.in_ok-plan.ensures.first) c.in_ok-plan.ensures.right)
+
+pub returns-in_err-reserve-3-clause-why : goal.returns-in_err-reserve-3-clause-why
+returns-in_err-reserve-3-clause-why c =
+    let p = err_from_is_err_and c.from_residual-in_err-reserve-3.result c.from_residual-in_err-reserve-3.ensures.1 in
+    rw p.1 (memory_not_made c.args.kind c.args.change.now (state_of c.args.parts.now) p.0 p.2)
+
 pub returns-clause-keeps : goal.returns-clause-keeps
-returns-clause-keeps c = rw (c.reserve.ensures.items, c.reserve-2.ensures.items) (still_keeps c.requires.keeps (subst (λ (v : View). Grown v c.plan_of_change.new.table) c.view.ensures c.in_ok-plan.ensures.first) c.in_ok-plan.ensures.right)
+returns-clause-keeps c = rw (c.reserve.ensures.items, c.reserve-2.ensures.items, c.reserve-3.ensures.items) (still_keeps c.requires.keeps (subst (λ (v : View). Grown v c.plan_of_change.new.table) c.view.ensures c.in_ok-plan.ensures.first) c.in_ok-plan.ensures.right)
 
 pub returns-clause-narrow : goal.returns-clause-narrow
 returns-clause-narrow c = λ edit.
@@ -143,17 +151,19 @@ returns-clause-ok c =
     let at : c.deref.result.now ≡ w = c.deref.ensures ∙ shown_view in
     let steps : c.reserve.new.self.items ≡ a.steps.items = c.reserve.ensures.items in
     let ends : c.reserve-2.new.self.items ≡ a.endings.items = c.reserve-2.ensures.items in
+    let tasks : c.reserve-3.new.self.items ≡ a.tasks.items = c.reserve-3.ensures.items in
     let l = leads_by a x c.in_ok-plan.plan c.requires.keeps c.requires.before c.requires.design q in
     record {
       after_is = c.in_ok-after.ensures.ok;
       view_is = shown_view;
-      leads = transport (λ i. Leads (shown a.opened a.design a.scene a.listed a.log a.tasks.items a.next a.history (sym steps i) (sym ends i)) x w) l;
+      leads = transport (λ i. Leads (shown a.opened a.design a.scene a.listed a.log (sym tasks i) a.next a.history (sym steps i) (sym ends i)) x w) l;
       right = q.plan.right;
       last = c.in_ok-plan.ensures.last;
       either = either_by a x c.in_ok-plan.plan c.requires.keeps q;
-      gathered = subst (λ v. IsGathered a.scene v a.listed a.log a.tasks.items (stood_by a.log c.args.kind a.history) a.next c.in_ok-entry.entry c.in_ok-entry.tasks c.in_ok-entry.shelf) at c.in_ok-entry.ensures.ok;
+      gathered = transport (λ i. IsGathered a.scene (at i) a.listed a.log (sym tasks i) (stood_by a.log c.args.kind a.history) a.next c.in_ok-entry.entry c.in_ok-entry.tasks c.in_ok-entry.shelf) c.in_ok-entry.ensures.ok;
       few_steps = c.in_ok-entry.ensures.few;
       enough = subst (λ (v : View). ¬ NumbersAreSpent v.placements (changed a.design x)) c.view.ensures c.in_ok-plan.ensures.enough;
       room_steps = search rules;
       room_endings = search rules;
+      room_tasks = search rules;
     }
