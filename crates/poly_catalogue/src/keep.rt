@@ -2,7 +2,7 @@
 //!
 //! An item fits in a tiling if the number of the tiling's placements that have it is within the item's bounds. The index
 //! leads from each placement to the tilings that have it, so the tilings' counts are raised placement by placement. Then only
-//! the counts are read, and the tilings themselves stay untouched, except those that are removed.
+//! the counts are read, and the tilings themselves stay untouched, except those that are removed or move to a free place.
 ghost use Rattle.std.specs.Prelude.{◌≡◌, ◌+◌, ◌&&◌, ◌<◌, ◌≤◌, Bool, IfNone, IfSome, List, false, length, not, take, true, ℕ};
 ghost use Rattle.std.specs.List.{list_all, list_any};
 ghost use Rattle.poly_tiling.specs.declared.item.Item.TheVariants.{Piece as PieceItem};

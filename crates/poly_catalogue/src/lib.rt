@@ -4,8 +4,8 @@
 //! bound. An index leads from each placement to the tilings that have it. So if an edit adds no pin, raises no least and
 //! lowers no most, `keep_only` checks no other tilings than those that it removes. If it does, the index leads to the tilings
 //! that have the pin, or a placement with the item, and these placements are counted for each tiling; `keep_only` then reads
-//! the counts, and no tiling that stays. For each placement of a tiling, it is also noted where the index has the tiling, so
-//! removing a tiling neither searches the index nor allocates.
+//! the counts. Of the tilings that stay it reads only those that move to the place of a removed one. For each placement of a
+//! tiling, it is also noted where the index has the tiling, so removing a tiling neither searches the index nor allocates.
 //!
 //! - [`Catalogue`]: the listed tilings. `new` lists none. `list_all` adds some, `leaving` copies those that a change takes
 //!   away, `keep_only` removes these, and `exchange` removes some and adds others in one call. `len`, `is_empty`, `get` and

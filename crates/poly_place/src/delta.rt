@@ -73,11 +73,15 @@ pub(crate) fn unmarked(
 ) -> Result<Vec<u32>, AllocError>
     ensures { IfOk result (λ list. list.items ≡ filter (λ n. not (slice_index_or marks.now n false)) numbers.now) }
 {
-    numbers
-        .iter()
-        .filter(|n| !is_marked(marks, **n))
-        .copied()
-        .collect(alloc)
+    let mut list = Vec::from_slice(alloc, numbers)?;
+    keep_unmarked(&mut list, marks);
+    Ok(list)
+}
+
+fn keep_unmarked(numbers: &mut Vec<u32>, marks: &[bool])
+    ensures { numbers.new.items ≡ filter (λ n. not (slice_index_or marks.now n false)) numbers.old.items }
+{
+    numbers.retain(|n| !is_marked(marks, *n));
 }
 
 fn is_marked(marks: &[bool], number: u32) -> bool
