@@ -1,5 +1,5 @@
 -- Rows of bits: putting a number in, taking out one number or those of another row, and searching two rows.
-use Rattle.std.proofs.Common.{◌≡◌, ℕ, zero, suc, ◌+◌, ◌-◌, ◌*◌, ◌/◌, ◌%◌, ◌^◌, ◌<◌, ◌≤◌, min, Bool, true, false, not, ◌&&◌, ◌||◌, eqb, List, [], ◌++◌, ◌⊎◌, inl, inr, refl, sym, ap, subst, ◌∙◌, arith, length, length-append, take, drop, replicate, get_or, get_or-set_other, get_or-set_same, w64, bit_and, bit_or}
+use Rattle.std.proofs.Common.{◌≡◌, ℕ, zero, suc, ◌+◌, ◌-◌, ◌*◌, ◌/◌, ◌%◌, ◌^◌, ◌<◌, ◌≤◌, min, Bool, true, false, not, ◌&&◌, ◌||◌, eqb, List, [], ◌++◌, ◌⊎◌, inl, inr, refl, sym, ap, subst, ◌∙◌, arith, length, length-append, take, drop, replicate, get_or, get_or-set_other, get_or-set_same, w64, bit_and, bit_or, true≢false}
 use Rattle.std.proofs.Math.ListN.{set}
 use Rattle.std.proofs.lemmas.Bool.{cases_eq, cases_lt, eq-eqb, ne_eqb, or_right}
 use Rattle.std.proofs.lemmas.Nat.Bits.{bit_at_and, bit_at_not, bit_at-lt, bit_at_set_same, bit_at_set_other, bit_at_clear_same, bit_at_clear_other, bit_at-trailing_zeros, bit_at-zero, bit_at_above, shr_and_one}
@@ -7,7 +7,7 @@ use Rattle.std.proofs.lemmas.Nat.{and_le_l, shr-shr}
 use Rattle.std.proofs.Math.Nat.{div-le_self}
 use Rattle.std.proofs.lemmas.List.{get_or-append-add, get_or-drop, get_or-take, get_or_append_left, length-drop, length-set, length-take-le}
 use Rattle.std.specs.Int.{bit_at, bit_not, trailing_zeros}
-use Rattle.poly_frame.specs.Bits.{FirstIn, IsLess, IsLessSix, NoneIn, has_bit, in_both}
+use Rattle.poly_frame.specs.Bits.{FirstIn, IsLess, IsLessSix, NoneIn, TellsShared, has_bit, in_both}
 
 less_at : (x y : ℕ) → x < 2 → y < 2 → eqb (min x (1 - y)) 1 ≡ (eqb x 1 && not (eqb y 1))
 less_at zero zero h k = refl
@@ -92,6 +92,16 @@ word_without w t u h l = elim (cases_eq u t) [
   | inl e ↦ ap (λ n. eqb (bit_at (bit_and w (bit_not w64 (1 * 2 ^ t % 2 ^ 64))) n) 1) e ∙ ap (λ y. eqb y 1) (bit_at_clear_same w64 w t h) ∙ and_no (eqb (bit_at w u) 1) (eqb t u) (eq-eqb t u (sym e))
   | inr n ↦ ap (λ y. eqb y 1) (bit_at_clear_other w64 w t h u l n) ∙ and_yes _ _ (ne_eqb t u (λ e. n (sym e)))
 ]
+
+-- a word with one more bit set has this bit and those that it had
+pub with_kept : (w t u : ℕ) → t < 64 → eqb (bit_at (bit_or w (1 * 2 ^ t % 2 ^ 64)) u) 1 ≡ false → eqb (bit_at w u) 1 ≡ false
+with_kept w t u h e = elim (cases_eq u t) [
+  | inl s ↦ absurd (true≢false (sym (ap (λ n. eqb (bit_at (bit_or w (1 * 2 ^ t % 2 ^ 64)) n) 1) s ∙ eq-eqb _ _ (bit_at_set_same w64 w t h)) ∙ e))
+  | inr n ↦ ap (λ y. eqb y 1) (sym (bit_at_set_other w64 w t h u n)) ∙ e
+]
+
+pub with_put : (w t : ℕ) → t < 64 → eqb (bit_at (bit_or w (1 * 2 ^ t % 2 ^ 64)) t) 1 ≡ false → ⊥
+with_put w t h e = true≢false (sym (eq-eqb _ _ (bit_at_set_same w64 w t h)) ∙ e)
 
 pub without_less : (w t : ℕ) → t < 64 → bit_at w t ≡ 1 → bit_and w (bit_not w64 (1 * 2 ^ t % 2 ^ 64)) < w
 without_less w t h one =
@@ -329,6 +339,24 @@ module _ (ws : List ℕ) (at : ℕ) (rs : List ℕ) (from low k past w : ℕ)
         is = both_word ws at rs from k w t same f.most ∙ f.is;
         before = none_both t (omega (arith, f.most)) f.before;
       }
+
+-- words that have no bit in common have no number in common
+pub unshared : (ws : List ℕ) (at : ℕ) (rs : List ℕ) (from k w t : ℕ) →
+    ((u : ℕ) → eqb (bit_at w u) 1 ≡ (eqb (bit_at (get_or ws (at + k) 0) u) 1 && eqb (bit_at (get_or rs (from + k) 0) u) 1)) → w ≡ 0 → t < 64 →
+    in_both ws at rs from (64 * k + t) ≡ false
+unshared ws at rs from k w t same none l = both_word ws at rs from k w t same l ∙ ap (λ x. eqb (bit_at x t) 1) none ∙ ap (λ x. eqb x 1) (bit_at-zero t)
+
+-- if no number below word k is shared, and no word from k on and before word n, then no number below word n is
+pub none_skipped : (ws : List ℕ) (at : ℕ) (rs : List ℕ) (from width shared low k n : ℕ) → TellsShared ws at rs from width shared → n ≤ width →
+    NoneIn (in_both ws at rs from) low (64 * k) → ((j : ℕ) → k ≤ j → j < n → (j < 64) × (eqb (bit_at shared j) 1 ≡ false)) → NoneIn (in_both ws at rs from) low (64 * n)
+none_skipped ws at rs from width shared low k n tells h passed skipped = λ x l m. elim (cases_lt x (64 * k)) [
+  | inl b ↦ passed x l b
+  | inr b ↦
+      let j = x / 64 in
+      let inside : j < n = omega arith in
+      let told = skipped j (omega arith) inside in
+      ap (λ y. in_both ws at rs from y) (omega arith) ∙ tells j (x % 64) (omega (arith, inside)) told.0 (omega arith) told.1
+]
 
 full_at : (n x k : ℕ) → k < n → get_or (replicate n x) k 0 ≡ x
 full_at zero x k h = absurd (omega arith)

@@ -108,7 +108,7 @@ impl Lists {
 
     /// The mask of the list at `j`.
     pub(crate) fn mask(&self, j: usize) -> &[u64] {
-        part_of(&self.masks, self.words.saturating_mul(j), self.words)
+        part_of(&self.masks, self.words.wrapping_mul(j), self.words)
     }
 }
 

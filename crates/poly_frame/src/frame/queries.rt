@@ -41,8 +41,9 @@ fn list_both(matrix: &Matrix, live: &[u64], at: usize, from: usize, into: &mut V
     ensures room { vec_capacity into.new ≡ vec_capacity into.old }
 {
     into.clear();
+    let shared = bits::shared_words(live, at, &matrix.rows, from, matrix.width);
     let mut low = 0;
-    while let Some(j) = bits::next_both(live, at, &matrix.rows, from, matrix.width, low) {
+    while let Some(j) = bits::next_shared(live, at, &matrix.rows, from, matrix.width, shared, low) {
         if j >= matrix.numbers.len() {
             return;
         }

@@ -1,7 +1,7 @@
 //! The scarcest of the items that are noted as due. This runs at each node of a search, so it reads plain words. In short rows all
-//! words are counted, and the scarcest item is kept without a branch. In longer rows a count stops once it reaches the fewest
-//! options so far. Only for wide rows it is worth looking for empty words. Nothing is proved here but that no index is out of
-//! range: the caller tests whether the item that is found is due.
+//! words are counted, by code for each width that has no loop over the words, and the scarcest item is kept without a branch. In
+//! longer rows a count stops once it reaches the fewest options so far. Only for wide rows it is worth looking for empty words.
+//! Nothing is proved here but that no index is out of range: the caller tests whether the item that is found is due.
 ghost use Rattle.std.specs.Prelude.{length, ◌*◌, ◌+◌, ◌<◌, ◌≡◌, ◌≤◌, ◌^◌};
 
 use crate::frame::occupied::{
@@ -10,9 +10,6 @@ use crate::frame::occupied::{
 
 // The most words of notes that are read: a note for each of 8,192 items. A design has at most 320.
 const NOTED: usize = 128;
-
-// The most words of a short row.
-const SHORT: usize = 16;
 
 // The lowest bit of a rank that tells how many options there are to spare. The bits below it tell the index of an item.
 const SPARE: u32 = 16;
@@ -117,102 +114,118 @@ pub(crate) fn scarcest(
 ) -> Scarce
     requires { length rows.now.words.now ≡ length live.now * rows.now.items }
 {
-    let best = bound_by(live, rows, needs, due, guess);
-    if !is_narrow(live) {
-        let occupied = occupied_words(live);
-        scarcest_of_all(live, &Some(occupied), rows, needs, due, best)
-    } else if needs.single {
-        scarcest_single(live, rows, due, best)
-    } else {
-        scarcest_of_all(live, &None, rows, needs, due, best)
+    if needs.single {
+        if let Some(rank) = least_rank(live, rows, due, guess) {
+            return scarce_of(rank);
+        }
     }
+    let best = bound_by(live, rows, needs, due, guess);
+    if is_narrow(live) {
+        return scarcest_of_all(live, &None, rows, needs, due, best);
+    }
+    let occupied = occupied_words(live);
+    scarcest_of_all(live, &Some(occupied), rows, needs, due, best)
 }
 
-// The scarcest of `best` and the items whose bits are set in `due`, for narrow rows, if each item is asked for at most once.
-fn scarcest_single(live: &[u64], rows: &Rows<'_>, due: &[u64], best: Scarce) -> Scarce
+// The rank of the scarcest item whose bit is set in `due`, if each item is asked for at most once. `None` if the rows aren't
+// narrow. A narrow row has up to 24 words, and each width has code of its own.
+fn least_rank(live: &[u64], rows: &Rows<'_>, due: &[u64], guess: usize) -> Option<u64>
     requires { length rows.now.words.now ≡ length live.now * rows.now.items }
 {
-    let mut best = best;
-    let mut words = rows.words;
-    let mut items = rows.items;
-    for word in due {
-        if best.spare == 0 {
-            return best;
-        }
-        let count = items.min(64);
-        let first = rows.items - items;
-        best = if live.len() <= SHORT {
-            scarcest_in_short(live, words, count, first, *word, best)
-        } else {
-            scarcest_in_word(live, words, count, first, *word, best)
-        };
-        items -= count;
-        words = &words[live.len() * count..];
+    match live.len() {
+        1 => Some(least_rank_in::<1>(live, rows, due, guess)),
+        2 => Some(least_rank_in::<2>(live, rows, due, guess)),
+        3 => Some(least_rank_in::<3>(live, rows, due, guess)),
+        4 => Some(least_rank_in::<4>(live, rows, due, guess)),
+        5 => Some(least_rank_in::<5>(live, rows, due, guess)),
+        6 => Some(least_rank_in::<6>(live, rows, due, guess)),
+        7 => Some(least_rank_in::<7>(live, rows, due, guess)),
+        8 => Some(least_rank_in::<8>(live, rows, due, guess)),
+        9 => Some(least_rank_in::<9>(live, rows, due, guess)),
+        10 => Some(least_rank_in::<10>(live, rows, due, guess)),
+        11 => Some(least_rank_in::<11>(live, rows, due, guess)),
+        12 => Some(least_rank_in::<12>(live, rows, due, guess)),
+        13 => Some(least_rank_in::<13>(live, rows, due, guess)),
+        14 => Some(least_rank_in::<14>(live, rows, due, guess)),
+        15 => Some(least_rank_in::<15>(live, rows, due, guess)),
+        16 => Some(least_rank_in::<16>(live, rows, due, guess)),
+        17 => Some(least_rank_in::<17>(live, rows, due, guess)),
+        18 => Some(least_rank_in::<18>(live, rows, due, guess)),
+        19 => Some(least_rank_in::<19>(live, rows, due, guess)),
+        20 => Some(least_rank_in::<20>(live, rows, due, guess)),
+        21 => Some(least_rank_in::<21>(live, rows, due, guess)),
+        22 => Some(least_rank_in::<22>(live, rows, due, guess)),
+        23 => Some(least_rank_in::<23>(live, rows, due, guess)),
+        24 => Some(least_rank_in::<24>(live, rows, due, guess)),
+        _ => None,
     }
-    best
 }
 
-// Does what `scarcest_single` does for the items whose bits are set in the word. Bit 0 is that of the item at `first`, and
-// `words` has the rows of `count` items from that one on.
-fn scarcest_in_word(
+// Does what `least_rank` does, for rows of `WIDTH` words.
+fn least_rank_in<const WIDTH: usize>(
     live: &[u64],
-    words: &[u64],
-    count: usize,
-    first: usize,
-    word: u64,
-    best: Scarce,
-) -> Scarce
-    requires words { length live.now * count ≤ length words.now }
-    requires small { first + count < 2 ^ 64 }
+    rows: &Rows<'_>,
+    due: &[u64],
+    guess: usize,
+) -> u64
+    requires live { length live.now ≡ WIDTH }
+    requires words { length rows.now.words.now ≡ WIDTH * rows.now.items }
 {
-    let mut best = best;
-    let mut left = word;
-    while left != 0 {
-        let b = left.trailing_zeros() as usize;
-        left &= left - 1;
-        if b < count {
-            let row = row_at(words, live.len(), count, b);
-            let spare = count_common(live, row, best.spare);
-            if spare < best.spare {
-                best = Scarce {
-                    index: first + b,
-                    spare,
-                };
-                if spare == 0 {
-                    return best;
-                }
-            }
+    let mut rank = guessed_rank::<WIDTH>(live, rows, due, guess);
+    for k in 0..due.len().min(NOTED) {
+        if spare_of(rank) == 0 {
+            return rank;
         }
+        rank = least_rank_of_word::<WIDTH>(live, rows, 64 * k, due[k], rank);
     }
-    best
+    rank
 }
 
-// Does what `scarcest_in_word` does, for short rows.
-fn scarcest_in_short(
+// The rank of the item at `guess`, if its bit is set in `due`. One more is given as its spare options, so that an item before it
+// that has as many comes first.
+fn guessed_rank<const WIDTH: usize>(live: &[u64], rows: &Rows<'_>, due: &[u64], guess: usize) -> u64
+    requires live { length live.now ≡ WIDTH }
+    requires words { length rows.now.words.now ≡ WIDTH * rows.now.items }
+{
+    let k = guess / 64;
+    if guess >= rows.items || k >= due.len() || (due[k] >> (guess % 64)) & 1 == 0 {
+        return rank_of(usize::MAX, 0);
+    }
+    let spare = count_all::<WIDTH>(live, row_at(rows.words, WIDTH, rows.items, guess));
+    if spare == 0 {
+        rank_of(0, guess)
+    } else {
+        rank_of(spare.saturating_add(1), guess)
+    }
+}
+
+// The lowest of `rank` and the ranks of the items whose bits are set in the word, or that of an item that has no options. Bit 0
+// is that of the item at `first`.
+fn least_rank_of_word<const WIDTH: usize>(
     live: &[u64],
-    words: &[u64],
-    count: usize,
+    rows: &Rows<'_>,
     first: usize,
     word: u64,
-    best: Scarce,
-) -> Scarce
-    requires words { length live.now * count ≤ length words.now }
-    requires small { first + count < 2 ^ 64 }
+    rank: u64,
+) -> u64
+    requires live { length live.now ≡ WIDTH }
+    requires words { length rows.now.words.now ≡ WIDTH * rows.now.items }
+    requires small { first < 64 * NOTED }
 {
-    let mut rank = rank_of(best.spare, best.index);
+    let mut rank = rank;
     let mut left = word;
     while left != 0 {
-        let b = left.trailing_zeros() as usize;
+        let b = first + left.trailing_zeros() as usize;
         left &= left - 1;
-        if b < count {
-            let spare = count_all(live, row_at(words, live.len(), count, b));
-            rank = rank.min(rank_of(spare, first + b));
+        if b < rows.items {
+            let spare = count_all::<WIDTH>(live, row_at(rows.words, WIDTH, rows.items, b));
+            rank = rank.min(rank_of(spare, b));
             if spare == 0 {
-                return scarce_of(rank);
+                return rank;
             }
         }
     }
-    scarce_of(rank)
+    rank
 }
 
 // A number for each item, which is lower the fewer options the item has to spare, and of two with equally many the lower for the
@@ -221,9 +234,14 @@ fn rank_of(spare: usize, index: usize) -> u64 {
     ((spare as u64).min(MOST_SPARE) << SPARE) | ((index as u64) & 0xffff)
 }
 
+// The options to spare that a rank tells of.
+fn spare_of(rank: u64) -> u64 {
+    rank >> SPARE
+}
+
 // The item of a rank.
 fn scarce_of(rank: u64) -> Scarce {
-    let spare = rank >> SPARE;
+    let spare = spare_of(rank);
     Scarce {
         index: (rank & 0xffff) as usize,
         spare: if spare < MOST_SPARE {
