@@ -9,7 +9,8 @@ Runs the command, passes its output on to standard output, and ends with its exi
 - Every half minute it says on standard error how many crates are proved, which checks run, and the time so far.
 - At the end LOG has one line for each crate and phase, `CRATE PHASE BEGAN ENDED PROCESSOR CHECKS`: when its first
   check began and its last one ended, the user and system time of its checks, all in seconds, and the number of checks.
-  The last line is `all all 0 ENDED PROCESSOR CHECKS` for the whole command and everything that it ran.
+  The last line is `all all BEGAN ENDED PROCESSOR CHECKS` for the whole command and everything that it ran. There BEGAN is the
+  time of day, in seconds since 1970, so that the log can be read beside that of benches/yardstick.py.
 benches/costs.py makes a table of such a log.
 """
 import os
@@ -24,6 +25,7 @@ LOOK_EVERY = 0.5
 SAY_EVERY = 30
 TICKS = os.sysconf("SC_CLK_TCK")
 START = time.monotonic()
+BEGAN = time.time()
 
 
 def processes():
@@ -111,7 +113,7 @@ class Watch:
             yield f"{crate} {phase} {entry['began']:.0f} {entry['ended']:.0f} {processor:.1f} {len(entry['checks'])}\n"
         used = resource.getrusage(resource.RUSAGE_CHILDREN)
         checks = sum(len(it["checks"]) for it in self.phases.values())
-        yield f"all all 0 {time.monotonic() - START:.0f} {used.ru_utime + used.ru_stime:.1f} {checks}\n"
+        yield f"all all {BEGAN:.0f} {time.monotonic() - START:.0f} {used.ru_utime + used.ru_stime:.1f} {checks}\n"
 
 
 def count_crates():

@@ -62,8 +62,8 @@ pub(crate) fn apply_change(parts: &mut Parts, kind: Kind, change: Change) -> Res
     Ok(Done { place, step: told })
 }
 
-// Notes the pending tasks that aren't noted yet.
-fn catch_up(parts: &mut Parts) -> Result<(), Refusal>
+/// Notes the pending tasks that aren't noted yet. Fails only when out of memory.
+pub(crate) fn catch_up(parts: &mut Parts) -> Result<(), Refusal>
     requires { Keeps parts.old }
     ensures stays { parts.new ≡ record parts.old { register = parts.new.register } }
     ensures keeps { Keeps parts.new }

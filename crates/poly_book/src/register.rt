@@ -1,4 +1,5 @@
-//! Which tasks are noted in the maps. Most tasks end before the next change, so a task is noted only when a change comes.
+//! Which tasks are noted in the maps. Most tasks end before the next change, so a task is noted only when a change comes, or when a
+//! search stops before it is through.
 ghost use Rattle.std.specs.Prelude.{◌≡◌, ◌≤◌, IfErr, OnOk, false, length, nat_lt, true};
 ghost use Rattle.std.specs.List.Sorted.{IsNonDecreasingBy, IsPartitionPoint};
 ghost use Rattle.poly_book.specs.Mapped.{AreNoted, AreNotedBelow, KeepsPending};

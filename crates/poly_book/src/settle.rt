@@ -9,6 +9,7 @@ ghost use Rattle.poly_book.specs.Tasks.{AreHopeful};
 ghost use Rattle.poly_tiling.specs.declared.lister.TheConstants.{MAX_TILINGS};
 ghost use Rattle.poly_report.specs.declared.size.TheConstants.{NODES};
 
+use crate::apply::catch_up;
 use crate::book::Book;
 use crate::hand_in::apply_leaves;
 use crate::parts::Parts;
@@ -37,7 +38,24 @@ impl Book {
     }
 }
 
+// Does what `Book::settle` does, and then notes the tasks that are still pending, so that a change after a long search takes less
+// time.
 fn settle_all(parts: &mut Parts, turns: u64, nodes: u32) -> Result<u64, Refusal>
+    requires some { 1 ≤ nodes }
+    requires few { nodes ≤ NODES }
+    requires keeps { Keeps parts.old }
+    ensures keeps { Keeps parts.new }
+    ensures ok { IfOk result (λ n. IsSettled (state_of parts.old) (state_of parts.new) n) }
+    ensures reports { IfOk result (λ n. (n ≤ turns) × AreReported nodes n (state_of parts.old) (state_of parts.new)) }
+    ensures applied { IfErr result (λ e. AreReportedBefore e turns nodes (state_of parts.old) (state_of parts.new)) }
+    ensures why { IfErr result (λ e. IsNotSettled turns (state_of parts.old) (state_of parts.new) e) }
+{
+    let settled = settle_turns(parts, turns, nodes);
+    note_for_change(parts);
+    settled
+}
+
+fn settle_turns(parts: &mut Parts, turns: u64, nodes: u32) -> Result<u64, Refusal>
     requires some { 1 ≤ nodes }
     requires few { nodes ≤ NODES }
     requires keeps { Keeps parts.old }
@@ -61,6 +79,15 @@ fn settle_all(parts: &mut Parts, turns: u64, nodes: u32) -> Result<u64, Refusal>
         return Ok(turns);
     }
     Err(Refusal::Unfinished)
+}
+
+// Notes the pending tasks as the next change needs them. If memory runs out, that change notes them.
+fn note_for_change(parts: &mut Parts)
+    requires { Keeps parts.old }
+    ensures keeps { Keeps parts.new }
+    ensures same { state_of parts.new ≡ state_of parts.old }
+{
+    let _ = catch_up(parts);
 }
 
 // Does one turn, and returns whether there was a task. The leaves that are found are those of a tree that holds. A report needs

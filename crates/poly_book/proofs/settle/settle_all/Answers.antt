@@ -1,42 +1,18 @@
-use Rattle.std.proofs.Common.{arith, inr, length, refl, rules, subst, sym, true, ◌≡◌, ◌≤◌}
+use Rattle.std.proofs.Common.{subst, sym, ◌≤◌}
+use Rattle.std.specs.Prelude.{IfErr, IfOk}
 use Rattle.poly_book.specs.Keeps.{state_of}
-use Rattle.poly_book.specs.Settled.{Cuts, IsNotTurned, IsTurn}
-use Rattle.poly_book.proofs.Hoping.{hopeful_end}
-use Rattle.poly_book.proofs.Nexting.{none_pending}
-use Rattle.poly_book.proofs.Settles.{cuts_none, cuts_on, reported_on}
+use Rattle.poly_book.specs.Settled.{AreReported, AreReportedBefore, IsNotSettled, IsSettled}
+use Rattle.poly_book.specs.States.{State}
 use Rattle.poly_book.proofs.settle.settle_all.Goals as goal
 
-pub loop-applied-init : goal.loop-applied-init
-loop-applied-init c = record {
-  keeps = c.requires.keeps;
-  cuts = cuts_none (state_of c.args.parts.now);
-  reports = refl;
-  sure = hopeful_end c.args.parts.now c.len-unsure.result (omega (arith, c.len-unsure.ensures));
-}
+pub returns-clause-ok : goal.returns-clause-ok
+returns-clause-ok c = subst (λ (z : State). IfOk c.settle_turns-settled.result (λ n. IsSettled (state_of c.args.parts.now) z n)) (sym c.note_for_change.ensures.same) c.settle_turns-settled.ensures.ok
 
-pub returns-in-Err-clause-why : goal.returns-in-Err-clause-why
-returns-in-Err-clause-why c =
-    let same : state_of c.settle_one.new.parts ≡ state_of c.loop-applied.parts = c.in-Err.ensures.err in
-    inr (c.loop-applied.applied, c.loop-applied-test.true, subst (λ z. Cuts (state_of c.args.parts.now) z c.loop-applied.applied) (sym same) c.loop-applied.invariant.cuts, subst (λ z. IsNotTurned z c.in-Err.refusal) (sym same) c.in-Err.ensures.why)
+pub returns-clause-reports : goal.returns-clause-reports
+returns-clause-reports c = subst (λ (z : State). IfOk c.settle_turns-settled.result (λ n. (n ≤ c.args.turns) × AreReported c.args.nodes n (state_of c.args.parts.now) z)) (sym c.note_for_change.ensures.same) c.settle_turns-settled.ensures.reports
 
-pub loop-applied-preserved : goal.loop-applied-preserved
-loop-applied-preserved c =
-    let test : c.in-Ok-true.field-0 ≡ true = search rules in
-    let before = state_of c.loop-applied.parts in
-    let after = state_of c.settle_one.new.parts in
-    let turn = subst (λ b. IsTurn c.args.nodes before after b) test c.in-Ok-true.ensures.ok in
-    record {
-      keeps = c.settle_one.ensures.keeps;
-      cuts = cuts_on (state_of c.args.parts.now) before after c.loop-applied.applied c.loop-applied.invariant.cuts turn.0;
-      reports = reported_on c.args.nodes c.loop-applied.applied (state_of c.args.parts.now) before after c.loop-applied.invariant.reports turn.1;
-      sure = c.in-Ok-true.ensures.sure;
-    }
+pub returns-clause-applied : goal.returns-clause-applied
+returns-clause-applied c = subst (λ (z : State). IfErr c.settle_turns-settled.result (λ e. AreReportedBefore e c.args.turns c.args.nodes (state_of c.args.parts.now) z)) (sym c.note_for_change.ensures.same) c.settle_turns-settled.ensures.applied
 
-pub returns-then-is_empty-clause-ok : goal.returns-then-is_empty-clause-ok
-returns-then-is_empty-clause-ok c =
-    let end : c.loop-applied.applied ≡ c.args.turns = omega (arith, c.loop-applied-test.false, c.loop-applied.auto.applied-end) in
-    let few : length c.loop-applied.parts.tasks.items ≤ 0 = search rules in
-    record {
-      cuts = subst (λ n. Cuts (state_of c.args.parts.now) (state_of c.loop-applied.parts) n) end c.loop-applied.invariant.cuts;
-      none = none_pending c.loop-applied.parts.log c.loop-applied.parts.tasks.items few;
-    }
+pub returns-clause-why : goal.returns-clause-why
+returns-clause-why c = subst (λ (z : State). IfErr c.settle_turns-settled.result (λ e. IsNotSettled c.args.turns (state_of c.args.parts.now) z e)) (sym c.note_for_change.ensures.same) c.settle_turns-settled.ensures.why

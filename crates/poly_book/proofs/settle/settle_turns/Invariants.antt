@@ -1,6 +1,6 @@
 use Rattle.poly_book.specs.Keeps.{Keeps, state_of}
 use Rattle.poly_book.specs.Settled.{AreHopefulFrom, AreReported, Cuts}
-use Rattle.poly_book.proofs.settle.settle_all.Given as goal
+use Rattle.poly_book.proofs.settle.settle_turns.Given as goal
 
 abbrev pub invariant-loop-applied : goal.invariant-loop-applied
 invariant-loop-applied l = record {
