@@ -111,10 +111,20 @@ status=$?
 : >"$room/output"
 judge "a full device as standard output" 3 "$status" $'polybench: write fault\n'
 
+# Waits until the first reply was read and the reader has had time to end, for at most ten seconds.
+until_read() {
+    for _ in {1..100}; do
+        [ -s "$room/output" ] && break
+        sleep 0.1
+    done
+    sleep 0.5
+}
+
 # A pipe that nobody reads any more, whether the signal for it is ignored or has its default disposition, in which it would end
 # the program.
 closed_pipe() {
-    { printf '%s\n' "$dominoes"; sleep 0.5; printf 'count\n'; } | {
+    : >"$room/output"
+    { printf '%s\n' "$dominoes"; until_read; printf 'count\n'; } | {
         python3 -c 'import os, signal, sys; signal.signal(signal.SIGPIPE, getattr(signal, sys.argv[1])); os.execv(sys.argv[2], sys.argv[2:])' \
             "$1" ./polybench 2>"$room/errors"
         echo $? >"$room/status"
