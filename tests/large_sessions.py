@@ -78,6 +78,18 @@ def new_names(size, pairs):
     return [puzzle(["+" * size] * size, []), *lines], accepted(len(lines))
 
 
+def cell_of_thousands(names):
+    """A cell that is blocked and becomes optional again, among many equal pieces of sixteen cells without symmetry. Each of them can
+    cover it with each of its cells in each of 8 orientations, so there is a task for each of these places besides the first one."""
+    cells = [[x, y] for y in range(5) for x in range(4) if (x, y) not in {(0, 0), (1, 0), (3, 2), (0, 4)}]
+    pieces = [{"name": f"A{number}", "cells": cells, "need": "optional"} for number in range(names)]
+    board = json.dumps({"format": 1, "grid": "square", "board": ["+" * 10] * 10, "pieces": pieces})
+    lines = ["cell 5,5 blocked", "cell 5,5 optional", "status", "undo", "status", "redo", "status"]
+    tasks = 1 + names * len(cells) * 8
+    replies = [f"status edition {edition} listed 0 pending {pending}" for edition, pending in ((2, tasks), (3, 1), (4, tasks))]
+    return [board, *lines], ["ok 0", "ok 1", "ok 2", replies[0], "ok 3", replies[1], "ok 4", replies[2]]
+
+
 def wide_edits_and_questions(size, pairs):
     """Changes of whether a piece may be turned over, with a question after each, so that no task is pending. A change has a guard
     for each placement that comes or goes. F lies in (size - 2) squared places in each of 8 orientations, or 4 if it isn't turned
@@ -145,6 +157,7 @@ SESSIONS = {
     "80 undos and redos of a new cell": (undos_and_redos(80), "40M"),
     "a shelf over thousands of tasks": (shelf_over_many_tasks(16, 10), "200M"),
     "300 new names": (new_names(16, 300), "80M"),
+    "a cell that 7,424 places cover": (cell_of_thousands(58), "60M"),
     "2,000 wide changes with a question after each": (wide_edits_and_questions(10, 1000), "18M"),
     "over 1,000,000 tilings of a wide board": (too_many(7), "400M"),
     "an edit after such a question": (narrowed_after_too_many(10), "500M"),

@@ -7,8 +7,9 @@ use Rattle.std.specs.List.{filter, list_any}
 use Rattle.std.proofs.Math.Bool.{beq}
 use Rattle.poly_tiling.specs.Puzzle.{View}
 use Rattle.poly_tiling.proofs.Grown.{grown_self}
-use Rattle.poly_tiling.proofs.Lists.{In, filter_in, in_append_cases, in_append_left, in_append_right}
+use Rattle.poly_tiling.proofs.Lists.{In, filter_in, in_append_cases, in_append_left, in_append_right, in_filter}
 use Rattle.poly_atom.specs.declared.atom.Atom.{Atom}
+use Rattle.poly_atom.specs.declared.atom.Atom.TheVariants.{Has}
 use Rattle.poly_atom.specs.Atoms.{negated}
 use Rattle.poly_atom.specs.Hopeless.{hopeless}
 use Rattle.poly_atom.specs.declared.stair.Stair.{Stair}
@@ -22,7 +23,7 @@ use Rattle.poly_book.specs.declared.task.Pending.{Pending}
 use Rattle.poly_book.specs.declared.task.Own.{Own}
 use Rattle.poly_book.specs.declared.task.Own.TheVariants.{Crossed, Listed, Stair as OfStair}
 use Rattle.poly_book.specs.Meaning.{IsOwn, brief_of, frozen_brief, frozen_of, own_of, tasks_of}
-use Rattle.poly_book.specs.Judged.{AreJudged, AreRuledOut}
+use Rattle.poly_book.specs.Judged.{AreAlone, AreJudged, AreRuledOut}
 use Rattle.poly_book.specs.Opens.{Opening}
 use Rattle.poly_book.specs.Tasks.{hopeful, tasks_from}
 use Rattle.poly_book.proofs.Held.{crossed_from, opening_more, opening_skip, stairs_end}
@@ -50,16 +51,25 @@ judged_more w base g j d fs ends l so e =
 
 brief_in : (log : List (List Atom)) (o : Own) (a : Atom) → In a (brief_of log o) → In a (own_of log o)
 brief_in log (Listed v i) a h = (filter_in is_other (get_or v i []) a h).0
-brief_in log (OfStair s) a h = h
-brief_in log (Crossed v i s) a h = elim (in_append_cases a (filter is_other (get_or v i [])) (stair_of log s) h) [
+brief_in log (OfStair s) a h = (filter_in is_other (stair_of log s) a h).0
+brief_in log (Crossed v i s) a h = elim (in_append_cases a (filter is_other (get_or v i [])) (filter is_other (stair_of log s)) h) [
   | inl e ↦ in_append_left a (get_or v i []) (stair_of log s) (filter_in is_other (get_or v i []) a e).0
-  | inr e ↦ in_append_right a (get_or v i []) (stair_of log s) e
+  | inr e ↦ in_append_right a (get_or v i []) (stair_of log s) (filter_in is_other (stair_of log s) a e).0
 ]
 
-hopeless_within : (w : View) (A B : List Atom) → ((a : Atom) → In a A → In a B) → hopeless w A ≡ true → hopeless w B ≡ true
+-- without each `Lacks`, the own atoms ask for the same placements
+brief_asks : (log : List (List Atom)) (o : Own) (p : ℕ) → In (Has p) (own_of log o) → In (Has p) (brief_of log o)
+brief_asks log (Listed v i) p h = in_filter is_other (get_or v i []) (Has p) h refl
+brief_asks log (OfStair s) p h = in_filter is_other (stair_of log s) (Has p) h refl
+brief_asks log (Crossed v i s) p h = elim (in_append_cases (Has p) (get_or v i []) (stair_of log s) h) [
+  | inl e ↦ in_append_left (Has p) (filter is_other (get_or v i [])) (filter is_other (stair_of log s)) (in_filter is_other (get_or v i []) (Has p) e refl)
+  | inr e ↦ in_append_right (Has p) (filter is_other (get_or v i [])) (filter is_other (stair_of log s)) (in_filter is_other (stair_of log s) (Has p) e refl)
+]
+
+pub hopeless_within : (w : View) (A B : List Atom) → ((a : Atom) → In a A → In a B) → hopeless w A ≡ true → hopeless w B ≡ true
 hopeless_within w A B h e = hopeless_more w w A B (grown_self w) h e
 
--- if the own atoms are hopeless without each `Lacks` of the list, they are hopeless
+-- if the own atoms are hopeless without each `Lacks`, they are hopeless
 pub brief_hopeless : (w : View) (log : List (List Atom)) (o : Own) → hopeless w (brief_of log o) ≡ true → hopeless w (own_of log o) ≡ true
 brief_hopeless w log o h = hopeless_within w (brief_of log o) (own_of log o) (brief_in log o) h
 
@@ -75,6 +85,12 @@ ruled_out w base more g fs h judged i l e =
     let A = get_or (stairs g) i [] in
     let before : hopeless w (base ++ A) ≡ true = not-false (hopeless w (base ++ A)) (sym (judged_at w base g fs i true judged (omega (arith, l, judged_length w base g fs judged))) ∙ e) in
     hopeless_within w (base ++ A) (more ++ A) (in_both base more A h) before
+
+pub frozen_asks : (log : List (List Atom)) (f : Frozen) (p : ℕ) → In (Has p) (frozen_of log f) → In (Has p) (frozen_brief log f)
+frozen_asks log f p i = elim (in_append_cases (Has p) (own_of log f.own) (take f.count (flat (drop f.made log))) i) [
+  | inl e ↦ in_append_left (Has p) (brief_of log f.own) (take f.count (flat (drop f.made log))) (brief_asks log f.own p e)
+  | inr e ↦ in_append_right (Has p) (brief_of log f.own) (take f.count (flat (drop f.made log))) e
+]
 
 pub frozen_in : (log : List (List Atom)) (f : Frozen) (a : Atom) → In a (frozen_brief log f) → In a (frozen_of log f)
 frozen_in log f a i = in_both (brief_of log f.own) (own_of log f.own) (take f.count (flat (drop f.made log))) (brief_in log f.own) a i
@@ -137,3 +153,13 @@ base_more log g next n w base all rest j e own ps le l h reads stands o =
     } in
     opening_more (log ++ g ∷ []) next n w all (crossed_from base g (j + 1) rest) A ps p h refl mine (stands (log ++ g ∷ []) there) (omega (arith, length_push log g, le))
     (subst (λ r. Opening (log ++ g ∷ []) next n w all r ps) (base_next base g j rest l) o)
+
+-- the last atom alone, unless the stair is known to be hopeless
+pub lead_ends : (w : View) (base g : List Atom) (n j : ℕ) (d : Atom) (fs : List Bool) (hope : Bool) → j < n → n ≤ length g → n ≤ length fs → AreRuledOut w base (stairs g) fs → AreAlone w base g n fs → hope ≡ get_or fs j true →
+    (not hope || hopeless w (base ++ negated (get_or g j d) ∷ [])) ≡ hopeless w ((base ++ take j g) ++ negated (get_or g j d) ∷ [])
+lead_ends w base g n j d fs true l m k out alone e = sym (alone j d l (sym e)) ∙ ap (λ A. hopeless w A) (sym (stair_next base g j d (omega (arith, l, m))))
+lead_ends w base g n j d fs false l m k out alone e = sym (ap (λ A. hopeless w A) (stair_next base g j d (omega (arith, l, m))) ∙ out j (omega (arith, l, k)) (sym e))
+
+pub known_or : (known b : Bool) → (known ≡ true → b ≡ true) → (known || b) ≡ b
+known_or true b h = sym (h refl)
+known_or false b h = refl

@@ -44,3 +44,4 @@ pub mod Searched
 pub mod Forgetting
 pub mod Narrowing
 pub mod Judging
+pub mod Lacking

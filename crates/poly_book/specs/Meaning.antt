@@ -25,11 +25,11 @@ own_of log (Listed v i) = slice_index_or v i []
 own_of log (OfStair s) = stair_of log s
 own_of log (Crossed v i s) = slice_index_or v i [] ++ stair_of log s
 
--- the own atoms, but for each `Lacks` of the list
+-- the own atoms, but for each `Lacks`
 abbrev pub brief_of : List (List Atom) → Own → List Atom
 brief_of log (Listed v i) = filter is_other (slice_index_or v i [])
-brief_of log (OfStair s) = stair_of log s
-brief_of log (Crossed v i s) = filter is_other (slice_index_or v i []) ++ stair_of log s
+brief_of log (OfStair s) = filter is_other (stair_of log s)
+brief_of log (Crossed v i s) = filter is_other (slice_index_or v i []) ++ filter is_other (stair_of log s)
 
 -- the own atoms can be read: there is such a list, and the log has the stair that they are or end with
 abbrev pub IsOwn : List (List Atom) → Own → Type 0
@@ -62,7 +62,7 @@ AreFresh n (p ∷ ps) = (p.made ≡ n) × AreFresh n ps
 abbrev pub frozen_of : List (List Atom) → Frozen → List Atom
 frozen_of log f = own_of log f.own ++ take f.count (flat (drop f.made log))
 
--- the frozen task's atoms, but for each `Lacks` of its list
+-- the frozen task's atoms, but for each `Lacks` of its own atoms
 abbrev pub frozen_brief : List (List Atom) → Frozen → List Atom
 frozen_brief log f = brief_of log f.own ++ take f.count (flat (drop f.made log))
 

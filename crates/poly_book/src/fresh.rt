@@ -2,19 +2,19 @@
 //! each stair; and the rests of a report. A hopeless list gets no task.
 ghost use Rattle.std.specs.Prelude.{◌≡◌, ◌≤◌, ◌<◌, ◌++◌, ◌+◌, ◌∷◌, ◌⊎◌, ℕ, [], IfErr, IfOk, List, OnOk, false, length, map, not, option_copied, slice_index_or, true, MatchOption, ⊤};
 ghost use Rattle.poly_atom.specs.declared.atom.Atom.{Atom as AtomOf};
-ghost use Rattle.poly_atom.specs.Atoms.{AllSmall, IsSmall, negated};
+ghost use Rattle.poly_atom.specs.Atoms.{AllSmall};
 ghost use Rattle.poly_atom.specs.Hopeless.{hopeless};
 ghost use Rattle.poly_atom.specs.Logs.{IsStairOf, stair_of};
 ghost use Rattle.poly_atom.specs.Stairs.{stairs};
-ghost use Rattle.std.specs.List.{list_any};
 ghost use Rattle.poly_tiling.specs.Puzzle.{View as ViewOf};
-ghost use Rattle.poly_book.specs.Judged.{AreJudged, AreRuledOut};
+ghost use Rattle.poly_book.specs.Judged.{AreJudged, LackOnce};
 ghost use Rattle.poly_book.specs.Opens.{Opening, Opens};
 ghost use Rattle.poly_book.specs.Meaning.{AreFrozen, IsFrozen, IsHeld, IsOwn, frozen_brief, frozen_of, own_of, stored_of};
 ghost use Rattle.poly_book.specs.Shelves.{crossed, openings};
 ghost use Rattle.poly_book.specs.Tasks.{AreHopeful, hopeful};
 ghost use Rattle.poly_book.specs.declared.prepare.TheConstants.{MAX_CHANGES};
 
+use crate::judge::{judge_first, judge_stairs, lead_of};
 use crate::shelf::{Frozen, Shelf};
 use crate::task::{Own, Pending, read_brief, read_own};
 use poly_atom::{Atom, GuardLog, Stair, hopeless};
@@ -100,15 +100,36 @@ pub(crate) fn opened_stairs(
     requires next { next ≤ 4294967296 }
     requires edition { edition ≤ MAX_CHANGES }
     requires small { AllSmall guards.now }
+    requires once { LackOnce guards.now }
     ensures ok { IfOk result (λ ps. (log : List (List AtomOf)) → length log ≡ edition → Opens (log ++ guards.now ∷ []) next view.now (stairs guards.now) ps.items) }
     ensures few { IfOk result (λ ps. next + length ps.items ≤ 4294967296) }
     ensures why { IfErr result (λ e. ((e ≡ Refusal.Spent) × (4294967296 < next + length (hopeful view.now (stairs guards.now)))) ⊎ (e ≡ Refusal.Memory)) }
 {
+    let mut atoms = Vec::new(alloc);
+    let mut calm = Vec::new(alloc);
+    let mut flags = Vec::new(alloc);
+    judge_first(view, &mut atoms, guards, &mut calm, &mut flags)?;
+    let tasks = flagged_stairs(alloc, &flags, next, edition)?;
+    Ok(tasks)
+}
+
+// The stairs that are flagged, as tasks with the numbers from `next` on. `edition` is the edition before the change.
+fn flagged_stairs(
+    alloc: Global,
+    flags: &[bool],
+    next: u64,
+    edition: u64,
+) -> Result<Vec<Pending>, Refusal>
+    requires next { next ≤ 4294967296 }
+    requires edition { edition ≤ MAX_CHANGES }
+    ensures ok { IfOk result (λ ps. (w : ViewOf) (g : List AtomOf) (log : List (List AtomOf)) → length log ≡ edition → AreJudged w [] (stairs g) flags.now → Opens (log ++ g ∷ []) next w (stairs g) ps.items) }
+    ensures few { IfOk result (λ ps. next + length ps.items ≤ 4294967296) }
+    ensures why { IfErr result (λ e. ((e ≡ Refusal.Spent) × ((w : ViewOf) (g : List AtomOf) → AreJudged w [] (stairs g) flags.now → 4294967296 < next + length (hopeful w (stairs g)))) ⊎ (e ≡ Refusal.Memory)) }
+{
     let mut tasks = Vec::new(alloc);
     let mut number = next;
-    let mut stair: Vec<Atom> = Vec::new(alloc);
-    for index in 0..guards.len() {
-        if next_stair(view, &mut stair, &guards[index], false)? {
+    for index in 0..flags.len() {
+        if !flags[index] {
             continue;
         }
         if number > LAST {
@@ -122,32 +143,6 @@ pub(crate) fn opened_stairs(
         number += 1;
     }
     Ok(tasks)
-}
-
-// Appends the guard to the atoms. Returns whether the atoms before it, followed by its negation, are hopeless. If `known`,
-// this is known to be true, and nothing is judged.
-fn next_stair(
-    view: &View,
-    atoms: &mut Vec<Atom>,
-    guard: &Atom,
-    known: bool,
-) -> Result<bool, Refusal>
-    requires small { IsSmall guard.now }
-    requires known { known ≡ true → hopeless view.now (atoms.old.items ++ negated guard.now ∷ []) ≡ true }
-    ensures ok { IfOk result (λ yes. yes ≡ hopeless view.now (atoms.old.items ++ negated guard.now ∷ [])) }
-    ensures more { IfOk result (λ yes. atoms.new.items ≡ atoms.old.items ++ guard.now ∷ []) }
-    ensures why { IfErr result (λ e. e ≡ Refusal.Memory) }
-{
-    if known {
-        atoms.push(*guard)?;
-        return Ok(true);
-    }
-    let broken = guard.negated();
-    atoms.push(broken)?;
-    let yes = hopeless(view, atoms);
-    let _ = atoms.pop();
-    atoms.push(*guard)?;
-    Ok(yes)
 }
 
 /// The tasks that a change opens: its stairs or, if `stood` is the shelf that was kept for it, each frozen list of the shelf
@@ -165,6 +160,7 @@ pub(crate) fn fresh_tasks(
     requires edition { edition ≤ MAX_CHANGES }
     requires log { length log.now ≡ edition }
     requires small { AllSmall guards.now }
+    requires once { LackOnce guards.now }
     requires held { IsHeld log.now (option_copied stood) }
     ensures ok { IfOk result (λ ps. Opens (log.now ++ guards.now ∷ []) next view.now (openings (stored_of log.now (option_copied stood.entry)) (stairs guards.now)) ps.items) }
     ensures few { IfOk result (λ ps. next + length ps.items ≤ 4294967296) }
@@ -191,6 +187,7 @@ fn opened_crossed(
     requires edition { edition ≤ MAX_CHANGES }
     requires log { length log.now ≡ edition }
     requires small { AllSmall guards.now }
+    requires once { LackOnce guards.now }
     requires frozen { AreFrozen log.now frozen.now }
     ensures ok { IfOk result (λ ps. Opens (log.now ++ guards.now ∷ []) next view.now (crossed (map (λ f. frozen_of log.now f) frozen.now) (stairs guards.now)) ps.items) }
     ensures few { IfOk result (λ ps. next + length ps.items ≤ 4294967296) }
@@ -227,6 +224,7 @@ fn judge_frozen(
     flags: &mut Vec<bool>,
 ) -> Result<bool, Refusal>
     requires small { AllSmall guards.now }
+    requires once { LackOnce guards.now }
     requires frozen { IsFrozen log.now frozen.now }
     ensures none { IfOk result (λ yes. yes ≡ false → hopeful view.now (map (λ B. frozen_of log.now frozen.now ++ B) (stairs guards.now)) ≡ []) }
     ensures atoms { IfOk result (λ yes. yes ≡ true → atoms.new.items ≡ frozen_of log.now frozen.now) }
@@ -234,15 +232,15 @@ fn judge_frozen(
     ensures why { IfErr result (λ e. e ≡ Refusal.Memory) }
 {
     read_frozen_brief(log, frozen, atoms)?;
-    if !judge_stairs(view, atoms, guards, &[], hopes)? {
+    if !judge_first(view, atoms, guards, flags, hopes)? {
         return Ok(false);
     }
     read_frozen(log, frozen, atoms)?;
-    let any = judge_stairs(view, atoms, guards, hopes, flags)?;
+    let any = judge_stairs(view, atoms, guards, lead_of(guards), hopes, flags)?;
     Ok(any)
 }
 
-// Writes the atoms of the frozen task without each `Lacks` of its list to the buffer, in place of what it had.
+// Writes the atoms of the frozen task without each `Lacks` of its own atoms to the buffer, in place of what it had.
 fn read_frozen_brief(log: &GuardLog, frozen: &Frozen, atoms: &mut Vec<Atom>) -> Result<(), Refusal>
     requires { IsFrozen log.now frozen.now }
     ensures atoms { OnOk result (atoms.new.items ≡ frozen_brief log.now frozen.now) }
@@ -264,43 +262,6 @@ fn read_frozen(log: &GuardLog, frozen: &Frozen, atoms: &mut Vec<Atom>) -> Result
     read_own(log, &frozen.own, atoms)?;
     atoms.extend_from_slice(&since[..frozen.count])?;
     Ok(())
-}
-
-// Judges which stairs of the guards aren't hopeless after the atoms. Those that `hopes` rules out are known to be hopeless. The
-// flags come in place of those that were there. If none is true, returns `false`.
-fn judge_stairs(
-    view: &View,
-    atoms: &mut Vec<Atom>,
-    guards: &[Atom],
-    hopes: &[bool],
-    flags: &mut Vec<bool>,
-) -> Result<bool, Refusal>
-    requires small { AllSmall guards.now }
-    requires hopes { AreRuledOut view.now atoms.old.items (stairs guards.now) hopes.now }
-    ensures atoms { OnOk result (atoms.new.items ≡ atoms.old.items) }
-    ensures flags { OnOk result (AreJudged view.now atoms.old.items (stairs guards.now) flags.new.items) }
-    ensures any { IfOk result (λ yes. yes ≡ list_any (λ f. f) flags.new.items) }
-    ensures why { IfErr result (λ e. e ≡ Refusal.Memory) }
-{
-    let count = atoms.len();
-    flags.clear();
-    for index in 0..guards.len() {
-        let known = is_ruled_out(hopes, index);
-        let ends = next_stair(view, atoms, &guards[index], known)?;
-        flags.push(!ends)?;
-    }
-    atoms.truncate(count);
-    Ok(flags.contains(&true))
-}
-
-// Whether there is a flag at the index, and it is false.
-fn is_ruled_out(hopes: &[bool], index: usize) -> bool
-    ensures { result ≡ true → (index < length hopes.now) × (slice_index_or hopes.now index true ≡ false) }
-{
-    if index >= hopes.len() {
-        return false;
-    }
-    !hopes[index]
 }
 
 // Lists and an index, at which they have these atoms, which are those of the frozen task. Only what the task's own list lacks

@@ -28,6 +28,7 @@ mod forget;
 mod found;
 mod fresh;
 mod hand_in;
+mod judge;
 pub mod laws;
 mod maps;
 mod narrowed;

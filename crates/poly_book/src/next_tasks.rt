@@ -7,6 +7,7 @@ ghost use Rattle.poly_atom.specs.Hopeless.{hopeless};
 ghost use Rattle.poly_atom.specs.Stairs.{stairs};
 ghost use Rattle.poly_book.specs.Changing.{AreNext};
 ghost use Rattle.poly_book.specs.Events.{hopeless_endings};
+ghost use Rattle.poly_book.specs.Judged.{LackOnce};
 ghost use Rattle.poly_book.specs.Keeps.{Keeps};
 ghost use Rattle.poly_book.specs.Mapped.{AreNoted};
 ghost use Rattle.poly_book.specs.Meaning.{AreTasks, IsHeld, IsOwn, own_of, stored_of, tasks_of};
@@ -54,6 +55,7 @@ pub(crate) fn next_tasks(
     requires noted { AreNoted parts.now.register.maps parts.now.log parts.now.tasks.items }
     requires made { IsMadeBy parts.now.scene view.now delta.now change.now }
     requires small { AllSmall laid.now }
+    requires once { LackOnce laid.now }
     requires held { IsHeld parts.now.log (option_copied stood) }
     ensures ok { IfOk result (λ t. AreNext view.now parts.now.log parts.now.tasks.items laid.now (stored_of parts.now.log (option_copied stood.entry)) parts.now.next t) }
     ensures why { IfErr result (λ e. ((e ≡ Refusal.Spent) × (4294967296 < parts.now.next + length (hopeful view.now (openings (stored_of parts.now.log (option_copied stood.entry)) (stairs laid.now))))) ⊎ (e ≡ Refusal.Memory)) }

@@ -1,8 +1,10 @@
 //! Pending tasks.
-ghost use Rattle.std.specs.Prelude.{IfErr, IfOk, IsTrue, List, MatchOption, OnOk, length, ◌<◌, ◌≡◌, ◌↔◌, ⊤};
+ghost use Rattle.std.specs.Prelude.{IfErr, IfOk, IsTrue, List, MatchOption, OnOk, [], length, true, ◌++◌, ◌<◌, ◌≡◌, ◌↔◌, ◌∷◌, ⊤};
+ghost use Rattle.std.specs.List.{filter};
 ghost use Rattle.poly_atom.specs.declared.atom.Atom.{Atom as AtomOf};
 ghost use Rattle.poly_atom.specs.Hopeless.{hopeless};
 ghost use Rattle.poly_atom.specs.Logs.{IsStairOf, stair_of};
+ghost use Rattle.poly_report.specs.Words.{is_other};
 ghost use Rattle.poly_book.specs.Meaning.{IsFrozen, IsOwn, IsTask, brief_of, frozen_of, own_of, task_of};
 ghost use Rattle.poly_book.specs.Tasks.{atoms_of};
 
@@ -36,9 +38,9 @@ pub struct Pending {
     pub made: u64,
 }
 
-/// Whether a task's own atoms are hopeless. They are read into the buffer, in place of what it had. Nearly all atoms of a list
-/// are `Lacks`, and most lists that a change makes hopeless are hopeless without them, so the others are judged first. Fails
-/// only when out of memory.
+/// Whether a task's own atoms are hopeless. They are read into the buffer, in place of what it had. Nearly all of them are
+/// `Lacks`, and most of those that a change makes hopeless are hopeless without these, so the last atom of a stair is judged
+/// alone first, and then all that are no `Lacks`. Fails only when out of memory.
 pub(crate) fn is_hopeless(
     view: &View,
     log: &GuardLog,
@@ -49,6 +51,9 @@ pub(crate) fn is_hopeless(
     ensures ok { IfOk result (λ yes. yes ≡ hopeless view.now (own_of log.now own.now)) }
     ensures why { IfErr result (λ e. e ≡ Refusal.Memory) }
 {
+    if ends_by_stair(view, log, own) {
+        return Ok(true);
+    }
     read_brief(log, own, buffer)?;
     if hopeless(view, buffer) {
         return Ok(true);
@@ -57,7 +62,28 @@ pub(crate) fn is_hopeless(
     Ok(hopeless(view, buffer))
 }
 
-/// Writes a task's own atoms without each `Lacks` of its list to the buffer, in place of what it had.
+// Whether the own atoms end with a stair, and its last atom alone is hopeless.
+fn ends_by_stair(view: &View, log: &GuardLog, own: &Own) -> bool
+    requires { IsOwn log.now own.now }
+    ensures { IsTrue result → (hopeless view.now (own_of log.now own.now) ≡ true) }
+{
+    match own {
+        Own::Listed(_, _) => false,
+        Own::Stair(stair) => ends_alone(view, log, stair),
+        Own::Crossed(_, _, stair) => ends_alone(view, log, stair),
+    }
+}
+
+// Whether the last atom of the stair alone is hopeless.
+fn ends_alone(view: &View, log: &GuardLog, stair: &Stair) -> bool
+    requires { IsStairOf log.now stair.now }
+    ensures { IsTrue result → (hopeless view.now (stair_of log.now stair.now) ≡ true) }
+{
+    let last = [log.guards_of(stair.edition)[stair.index].negated()];
+    hopeless(view, &last)
+}
+
+/// Writes a task's own atoms without each `Lacks` to the buffer, in place of what it had.
 pub(crate) fn read_brief(log: &GuardLog, own: &Own, buffer: &mut Vec<Atom>) -> Result<(), Refusal>
     requires { IsOwn log.now own.now }
     ensures ok { OnOk result (buffer.new.items ≡ brief_of log.now own.now) }
@@ -70,14 +96,45 @@ pub(crate) fn read_brief(log: &GuardLog, own: &Own, buffer: &mut Vec<Atom>) -> R
         }
         Own::Stair(stair) => {
             buffer.clear();
-            stair.append_to(log, buffer)?;
+            append_others(log, stair, buffer)?;
             Ok(())
         }
         Own::Crossed(lists, index, stair) => {
             lists.read_others(*index, buffer)?;
-            stair.append_to(log, buffer)?;
+            append_others(log, stair, buffer)?;
             Ok(())
         }
+    }
+}
+
+// Appends the atoms of the stair without each `Lacks`.
+fn append_others(log: &GuardLog, stair: &Stair, buffer: &mut Vec<Atom>) -> Result<(), Refusal>
+    requires { IsStairOf log.now stair.now }
+    ensures ok { OnOk result (buffer.new.items ≡ buffer.old.items ++ filter is_other (stair_of log.now stair.now)) }
+    ensures why { IfErr result (λ e. e ≡ Refusal.Memory) }
+{
+    let guards = log.guards_of(stair.edition);
+    for k in 0..stair.index {
+        if is_other(&guards[k]) {
+            buffer.push(guards[k])?;
+        }
+    }
+    let last = guards[stair.index].negated();
+    if is_other(&last) {
+        buffer.push(last)?;
+    }
+    Ok(())
+}
+
+/// Whether the atom is no `Lacks`.
+pub(crate) fn is_other(atom: &Atom) -> bool
+    ensures { result ≡ is_other atom.now }
+{
+    match atom {
+        Atom::Lacks(_) => false,
+        Atom::Has(_) => true,
+        Atom::AtLeast(_, _) => true,
+        Atom::AtMost(_, _) => true,
     }
 }
 

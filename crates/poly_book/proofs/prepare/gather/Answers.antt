@@ -1,13 +1,18 @@
 use mathlib.Core.Path.{transport}
-use Rattle.std.proofs.Common.{ap, ◌∙◌, ◌≡◌}
+use Rattle.std.proofs.Common.{ap, subst, sym, ◌∙◌, ◌≡◌}
 use Rattle.std.specs.Option.{option_copied}
 use Rattle.poly_book.specs.Changing.{AreNext, shelf_by, stood_by}
+use Rattle.poly_book.specs.Judged.{LackOnce}
 use Rattle.poly_book.specs.Meaning.{stored_of}
 use Rattle.poly_book.specs.Shelves.{returned}
+use Rattle.poly_book.proofs.Lacking.{guards_once}
 use Rattle.poly_book.proofs.prepare.gather.Goals as goal
 
 pub next_tasks-requires-clause-held : goal.next_tasks-requires-clause-held
 next_tasks-requires-clause-held c = c.shelf_ahead-stood.ensures.held c.args.parts.now.log c.requires.keeps.held
+
+pub next_tasks-requires-clause-once : goal.next_tasks-requires-clause-once
+next_tasks-requires-clause-once c = subst LackOnce (sym (c.deref.ensures.value ∙ c.in_ok-guards.ensures.forth)) (guards_once c.args.parts.now.scene c.args.view.now c.requires.made.0.updated.well)
 
 pub returns-clause-ok : goal.returns-clause-ok
 returns-clause-ok c =
