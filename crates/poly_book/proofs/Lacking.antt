@@ -10,7 +10,7 @@ use Rattle.poly_tiling.specs.Names.{WellNamed}
 use Rattle.poly_tiling.specs.Puzzle.{View, conflicts, count, is_piece, items, least, most}
 use Rattle.poly_tiling.proofs.Contained.{at_in}
 use Rattle.poly_tiling.proofs.Listings.{distinct_filter}
-use Rattle.poly_tiling.proofs.Lists.{In, all_append, all_from, all_in, any_append, any_from, any_in, in_append_cases, in_append_left, in_append_right, in_mem, map_in, mem_in, same_truth}
+use Rattle.poly_tiling.proofs.Lists.{In, all_append, all_from, all_in, any_append, any_from, any_in, any_none, in_append_cases, in_append_left, in_append_right, in_mem, map_in, mem_in, same_truth}
 use Rattle.poly_tiling.proofs.Orders.{live_once}
 use Rattle.poly_atom.specs.declared.atom.Atom.{Atom}
 use Rattle.poly_atom.specs.declared.atom.Atom.TheVariants.{AtLeast, AtMost, Has, Lacks}
@@ -24,7 +24,7 @@ use Rattle.poly_atom.proofs.Asked.{asked_append, found_is}
 use Rattle.poly_atom.proofs.Bases.{asked_in, in_asked}
 use Rattle.poly_atom.proofs.Walks.{stairs_at}
 use Rattle.poly_report.specs.Words.{is_other}
-use Rattle.poly_book.specs.Judged.{AreAlone, AreCalm, AreJudged, AreLacks, AreRuledOut, LackOnce}
+use Rattle.poly_book.specs.Judged.{AreAlone, AreCalm, AreJudged, AreLacks, AreRuledOut, IsSpoiler, LackOnce}
 use Rattle.poly_book.proofs.Judging.{hopeless_within, judged_at, stair_next}
 
 -- which atoms are lost or beyond depends only on what a list asks for
@@ -280,3 +280,45 @@ stair_alone w log s a d h e t = last_alone w [] (get_or log s.edition []) s.inde
 -- the atoms of a stair that are no Lacks
 pub stair_others : (g : List Atom) (j : ℕ) (d a : Atom) → j < length g → a ≡ negated (get_or g j d) → filter is_other (take j g) ++ filter is_other (a ∷ []) ≡ filter is_other (get_or (stairs g) j [])
 stair_others g j d a l e = ap (λ b. filter is_other (take j g) ++ filter is_other (b ∷ [])) e ∙ sym (filter-append is_other (take j g) (negated (get_or g j d) ∷ [])) ∙ ap (filter is_other) (sym (stairs_at g j d l))
+
+in_first : (g : List Atom) (k n : ℕ) (d : Atom) → k < n → k < length g → In (get_or g k d) (take n g)
+in_first [] k n d l h = absurd (omega (arith, h))
+in_first (a ∷ g) k zero d l h = absurd (omega (arith, l))
+in_first (a ∷ g) zero (suc n) d l h = inl refl
+in_first (a ∷ g) (suc k) (suc n) d l h = inr (in_first g k n d (omega (arith, l)) (omega (arith, h)))
+
+-- a guard that is hopeless alone makes each later stair of its change hopeless
+pub spoilt_stair : (w : View) (log : List (List Atom)) (s t : Stair) (own base : List Atom) → IsSpoiler w log s → IsStairOf log t → s.edition ≡ t.edition → s.index < t.index → own ≡ base ++ stair_of log t → hopeless w own ≡ true
+spoilt_stair w log s t own base spoiler there e l is =
+    let g = get_or log t.edition [] in
+    let d : Atom = Has 0 in
+    let a = get_or g s.index d in
+    let h : hopeless w (a ∷ []) ≡ true = subst (λ n. hopeless w (get_or (get_or log n []) s.index d ∷ []) ≡ true) e (spoiler.spoils d) in
+    let low : s.index < length g = omega (arith, l, there.index_in) in
+    let stair : stair_of log t ≡ take t.index g ++ negated (get_or g t.index d) ∷ [] = stairs_at g t.index d there.index_in in
+    let inside : In a own = subst (λ A. In a A) (sym (is ∙ ap (λ S. base ++ S) stair)) (in_append_right a base (take t.index g ++ negated (get_or g t.index d) ∷ []) (in_append_left a (take t.index g) (negated (get_or g t.index d) ∷ []) (in_first g s.index t.index d l low))) in
+    hopeless_within w (a ∷ []) own (λ b i. subst (λ x. In x own) (one_in b a i) inside) h
+
+-- a test that fails for the first i atoms and for the next one fails for the first i + 1
+pub none_next : (f : Atom → Bool) (g : List Atom) (i : ℕ) (d : Atom) → i < length g → list_any f (take i g) ≡ false → f (get_or g i d) ≡ false → list_any f (take (i + 1) g) ≡ false
+none_next f g i d l h k = any_next f g i d l ∙ (λ j. h j || (k j || false))
+
+none_first : (f : Atom → Bool) (g : List Atom) (n i : ℕ) → list_any f (take n g) ≡ false → i ≤ n → list_any f (take i g) ≡ false
+none_first f g n zero h l = refl
+none_first f g zero (suc i) h l = absurd (omega (arith, l))
+none_first f [] (suc n) (suc i) h l = refl
+none_first f (a ∷ g) (suc n) (suc i) h l = any_none f (a ∷ take i g) (λ x k t. elim k [
+  | inl e ↦ both_ways (list_any f (a ∷ take n g)) h (or_left (f a) (list_any f (take n g)) (ap f e ∙ t))
+  | inr j ↦ both_ways (list_any f (take i g)) (none_first f g n i (not_right (f a) (list_any f (take n g)) h) (omega (arith, l))) (any_from f (take i g) x j t)
+])
+  where
+    not_right : (a b : Bool) → (a || b) ≡ false → b ≡ false
+    not_right true b h = absurd (true≢false h)
+    not_right false b h = h
+
+-- a test that fails for the first guards and for the last atom of a stair fails for all of its atoms
+pub untouched_stair : (f : Atom → Bool) (log : List (List Atom)) (s : Stair) (n : ℕ) (a d : Atom) → IsStairOf log s → list_any f (take n (get_or log s.edition [])) ≡ false → s.index ≤ n → a ≡ negated (get_or (get_or log s.edition []) s.index d) → f a ≡ false → list_any f (stair_of log s) ≡ false
+untouched_stair f log s n a d there calm low is last =
+    let g = get_or log s.edition [] in
+    ap (list_any f) (stairs_at g s.index d there.index_in) ∙ any_append f (take s.index g) (negated (get_or g s.index d) ∷ [])
+    ∙ (λ j. none_first f g n s.index calm low j || (f (sym is j) || false)) ∙ ap (λ b. b || false) last

@@ -6,7 +6,9 @@ use Rattle.poly_atom.specs.declared.atom.Atom.{Atom}
 use Rattle.poly_atom.specs.declared.atom.Atom.TheVariants.{Lacks}
 use Rattle.poly_atom.specs.Atoms.{negated}
 use Rattle.poly_atom.specs.Hopeless.{hopeless, lacks}
+use Rattle.poly_atom.specs.Logs.{IsStairOf}
 use Rattle.poly_atom.specs.Stairs.{stairs}
+use Rattle.poly_atom.specs.declared.stair.Stair.{Stair}
 use Rattle.poly_report.specs.Words.{is_other}
 
 -- the flags say which of the lists aren't hopeless after the base
@@ -33,3 +35,8 @@ pub record AreCalm (w : View) (base g : List Atom) (fs : List Bool) : Type 0 whe
 -- each of the first n stairs whose flag is true is hopeless after the base exactly if its last atom alone is so
 abbrev pub AreAlone : View → List Atom → List Atom → ℕ → List Bool → Type 0
 AreAlone w base g n fs = (i : ℕ) (d : Atom) → i < n → slice_index_or fs i true ≡ true → hopeless w (base ++ slice_index_or (stairs g) i []) ≡ hopeless w (base ++ negated (slice_index_or g i d) ∷ [])
+
+-- the guard that the stair negates is hopeless alone
+pub record IsSpoiler (w : View) (log : List (List Atom)) (s : Stair) : Type 0 where
+  pub there : IsStairOf log s
+  pub spoils : (d : Atom) → hopeless w (slice_index_or (slice_index_or log s.edition []) s.index d ∷ []) ≡ true

@@ -31,6 +31,12 @@ brief_of log (Listed v i) = filter is_other (slice_index_or v i [])
 brief_of log (OfStair s) = filter is_other (stair_of log s)
 brief_of log (Crossed v i s) = filter is_other (slice_index_or v i []) ++ filter is_other (stair_of log s)
 
+-- the own atoms of a task that is a stair; no atoms for any other task
+abbrev pub stair_only : List (List Atom) → Own → List Atom
+stair_only log (Listed v i) = []
+stair_only log (OfStair s) = stair_of log s
+stair_only log (Crossed v i s) = []
+
 -- the own atoms can be read: there is such a list, and the log has the stair that they are or end with
 abbrev pub IsOwn : List (List Atom) → Own → Type 0
 IsOwn log (Listed v i) = i < length v

@@ -1,6 +1,6 @@
 -- Which pending tasks a change can make hopeless by their own atoms: those with an own atom that the change touches.
 use Rattle.std.specs.List.{list_any}
-use Rattle.std.specs.Prelude.{Bool, List, [], true, ◌∷◌, ◌≡◌}
+use Rattle.std.specs.Prelude.{Bool, List, [], false, slice_index_or, take, true, ◌∷◌, ◌≡◌}
 use Rattle.poly_design.specs.Changes.{changed}
 use Rattle.poly_design.specs.declared.change.Change.{Change}
 use Rattle.poly_tiling.specs.Puzzle.{View}
@@ -11,6 +11,7 @@ use Rattle.poly_atom.specs.Hopeless.{hopeless}
 use Rattle.poly_atom.specs.Newly.{touched}
 use Rattle.poly_book.specs.declared.task.Pending.{Pending}
 use Rattle.poly_book.specs.declared.touch.Touch.{Touch}
+use Rattle.poly_book.specs.declared.untouched.Calm.{Calm}
 use Rattle.poly_book.specs.Meaning.{own_of}
 
 -- the change `y` leads from the view `v` to the view `w`, with the differences `x`
@@ -24,3 +25,7 @@ touches t a = touched t.view.now t.delta.now t.item a
 abbrev pub AreTouched : Touch → List (List Atom) → List Pending → Type 0
 AreTouched t log [] = Unit {0}
 AreTouched t log (p ∷ ps) = (hopeless t.view.now (own_of log p.own) ≡ true → list_any (touches t) (own_of log p.own) ≡ true) × AreTouched t log ps
+
+-- the change touches none of these first guards of the edition
+abbrev pub IsCalm : Touch → List (List Atom) → Calm → Type 0
+IsCalm t log c = list_any (λ a. touches t a) (take c.count (slice_index_or log c.edition [])) ≡ false

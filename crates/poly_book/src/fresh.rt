@@ -14,6 +14,7 @@ ghost use Rattle.poly_book.specs.Shelves.{crossed, openings};
 ghost use Rattle.poly_book.specs.Tasks.{AreHopeful, hopeful};
 ghost use Rattle.poly_book.specs.declared.prepare.TheConstants.{MAX_CHANGES};
 
+use crate::bases::{frozen_list, frozen_stairs};
 use crate::judge::{judge_first, judge_stairs, lead_of};
 use crate::shelf::{Frozen, Shelf};
 use crate::task::{Own, Pending, read_brief, read_own};
@@ -197,22 +198,23 @@ fn opened_crossed(
     if guards.is_empty() {
         return Ok(tasks);
     }
+    let stairs = frozen_stairs(alloc, log, frozen)?;
     let mut atoms = Vec::new(alloc);
     let mut hopes = Vec::new(alloc);
     let mut flags = Vec::new(alloc);
     let mut number = next;
-    for task in frozen {
+    for (i, task) in frozen.iter().enumerate() {
         if !judge_frozen(view, log, task, guards, &mut atoms, &mut hopes, &mut flags)? {
             continue;
         }
-        let (lists, at) = frozen_list(alloc, log, task, &atoms)?;
+        let (lists, at) = frozen_list(alloc, log, task, &stairs, i)?;
         number = add_crossed(&lists, at, &flags, number, edition, &mut tasks)?;
     }
     Ok(tasks)
 }
 
-// Judges which stairs of the guards aren't hopeless after the atoms of the frozen task. Its atoms come into the buffer, and the
-// flags in place of those that were there. If none is true, returns `false`. Nearly all atoms of a list are `Lacks`, so the
+// Judges which stairs of the guards aren't hopeless after the atoms of the frozen task. The flags come in place of those that were
+// there, and the other buffers are overwritten. If no flag is true, returns `false`. Nearly all atoms of a list are `Lacks`, so the
 // stairs are judged without them first, and only those that remain are judged after all atoms.
 fn judge_frozen(
     view: &View,
@@ -227,7 +229,6 @@ fn judge_frozen(
     requires once { LackOnce guards.now }
     requires frozen { IsFrozen log.now frozen.now }
     ensures none { IfOk result (λ yes. yes ≡ false → hopeful view.now (map (λ B. frozen_of log.now frozen.now ++ B) (stairs guards.now)) ≡ []) }
-    ensures atoms { IfOk result (λ yes. yes ≡ true → atoms.new.items ≡ frozen_of log.now frozen.now) }
     ensures flags { IfOk result (λ yes. yes ≡ true → AreJudged view.now (frozen_of log.now frozen.now) (stairs guards.now) flags.new.items) }
     ensures why { IfErr result (λ e. e ≡ Refusal.Memory) }
 {
@@ -262,61 +263,6 @@ fn read_frozen(log: &GuardLog, frozen: &Frozen, atoms: &mut Vec<Atom>) -> Result
     read_own(log, &frozen.own, atoms)?;
     atoms.extend_from_slice(&since[..frozen.count])?;
     Ok(())
-}
-
-// Lists and an index, at which they have these atoms, which are those of the frozen task. Only what the task's own list lacks
-// is stored.
-fn frozen_list(
-    alloc: Global,
-    log: &GuardLog,
-    frozen: &Frozen,
-    atoms: &[Atom],
-) -> Result<(SharedLists, usize), Refusal>
-    requires frozen { IsFrozen log.now frozen.now }
-    requires atoms { atoms.now ≡ frozen_of log.now frozen.now }
-    ensures at { IfOk result (λ r. r.1 < length r.0) }
-    ensures list { IfOk result (λ r. slice_index_or r.0 r.1 [] ≡ atoms.now) }
-    ensures why { IfErr result (λ e. e ≡ Refusal.Memory) }
-{
-    let since = log.since(frozen.made);
-    let laid = &since[..frozen.count];
-    match &frozen.own {
-        Own::Listed(lists, index) => list_after(alloc, lists, *index, laid),
-        Own::Stair(_) => list_alone(alloc, atoms),
-        Own::Crossed(lists, index, stair) => {
-            let mut more = Vec::new(alloc);
-            stair.append_to(log, &mut more)?;
-            more.extend_from_slice(laid)?;
-            list_after(alloc, lists, *index, &more)
-        }
-    }
-}
-
-// Lists and an index, at which they have the list at the index followed by these atoms.
-fn list_after(
-    alloc: Global,
-    lists: &SharedLists,
-    index: usize,
-    more: &[Atom],
-) -> Result<(SharedLists, usize), Refusal>
-    requires { index < length lists.now }
-    ensures at { IfOk result (λ r. r.1 < length r.0) }
-    ensures list { IfOk result (λ r. slice_index_or r.0 r.1 [] ≡ slice_index_or lists.now index [] ++ more.now) }
-    ensures why { IfErr result (λ e. e ≡ Refusal.Memory) }
-{
-    if more.is_empty() {
-        return Ok((lists.try_clone()?, index));
-    }
-    Ok((lists.after(alloc, index, more)?, 0))
-}
-
-// Lists and an index, at which they have this list.
-fn list_alone(alloc: Global, atoms: &[Atom]) -> Result<(SharedLists, usize), Refusal>
-    ensures at { IfOk result (λ r. r.1 < length r.0) }
-    ensures list { IfOk result (λ r. slice_index_or r.0 r.1 [] ≡ atoms.now) }
-    ensures why { IfErr result (λ e. e ≡ Refusal.Memory) }
-{
-    Ok((SharedLists::one(alloc, atoms)?, 0))
 }
 
 // The list at the index, which is shared, followed by the stair.

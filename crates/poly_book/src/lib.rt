@@ -21,6 +21,7 @@
 #![tactic(auto)]
 
 mod apply;
+mod bases;
 mod begin;
 mod book;
 mod edit;
@@ -43,11 +44,13 @@ mod rows;
 mod scene;
 mod settle;
 mod shelf;
+mod spoilt;
 mod step;
 mod take;
 mod task;
 mod touch;
 mod touching;
+mod untouched;
 mod vouch;
 
 pub use book::{Book, Numbers};

@@ -1,8 +1,9 @@
 //! Maps from placements and items to the pending tasks that have an own atom about them. Through these maps a change finds
 //! the tasks that it may make hopeless, and needs to check no others.
 //!
-//! `Lacks` atoms aren't noted. Only a pin can make one hopeless, and a change that pins a placement checks all tasks. On a wide
-//! board nearly all atoms of a task are of this kind, thousands for each of thousands of tasks.
+//! `Lacks` atoms aren't noted. Only a pin can make one hopeless, and a change that pins a placement checks all tasks; most of them
+//! needn't be read for that (`untouched.rt`, `spoilt.rt`). On a wide board nearly all atoms of a task are of this kind, thousands
+//! for each of thousands of tasks.
 //!
 //! Successive tasks with a list of their own are mostly rests of one report, and their lists begin with the same atoms. So an
 //! atom that successive tasks share together with all atoms before it is noted once, for a span from the first of these tasks

@@ -1,5 +1,5 @@
 //! The tasks after a change: which of the pending ones go on, and which are new.
-ghost use Rattle.std.specs.Prelude.{◌≡◌, ◌≤◌, ◌<◌, ◌+◌, ◌⊎◌, IfErr, IfOk, List, length, map, not, option_copied, true};
+ghost use Rattle.std.specs.Prelude.{◌≡◌, ◌≤◌, ◌<◌, ◌+◌, ◌⊎◌, IfErr, IfOk, List, MatchOption, OnOk, length, map, not, option_copied, true, ⊤};
 ghost use Rattle.poly_tiling.specs.Puzzle.{View as ViewOf};
 ghost use Rattle.poly_atom.specs.declared.atom.Atom.{Atom as AtomOf};
 ghost use Rattle.poly_atom.specs.Atoms.{AllSmall};
@@ -7,23 +7,26 @@ ghost use Rattle.poly_atom.specs.Hopeless.{hopeless};
 ghost use Rattle.poly_atom.specs.Stairs.{stairs};
 ghost use Rattle.poly_book.specs.Changing.{AreNext};
 ghost use Rattle.poly_book.specs.Events.{hopeless_endings};
-ghost use Rattle.poly_book.specs.Judged.{LackOnce};
+ghost use Rattle.poly_book.specs.Judged.{IsSpoiler, LackOnce};
 ghost use Rattle.poly_book.specs.Keeps.{Keeps};
 ghost use Rattle.poly_book.specs.Mapped.{AreNoted};
 ghost use Rattle.poly_book.specs.Meaning.{AreTasks, IsHeld, IsOwn, own_of, stored_of, tasks_of};
 ghost use Rattle.poly_book.specs.Shelves.{openings};
 ghost use Rattle.poly_book.specs.Tasks.{hopeful};
 ghost use Rattle.poly_book.specs.Reaching.{AreEndsReached};
-ghost use Rattle.poly_book.specs.Touching.{IsMadeBy};
+ghost use Rattle.std.specs.List.{list_any};
+ghost use Rattle.poly_book.specs.Touching.{AreTouched, IsCalm, IsMadeBy, touches};
 
 use crate::fresh::fresh_tasks;
 use crate::parts::Parts;
 use crate::reach::reached;
 use crate::shelf::Shelf;
+use crate::spoilt::{is_spoilt, spoiler_of};
 use crate::step::Ending;
-use crate::task::{Pending, is_hopeless};
+use crate::task::{Pending, ends_by_stair, is_hopeless};
 use crate::touch::Touch;
-use poly_atom::{Atom, GuardLog};
+use crate::untouched::{Calm, is_untouched};
+use poly_atom::{Atom, GuardLog, Stair};
 use poly_design::Change;
 use poly_grid::Refusal;
 use poly_place::Delta;
@@ -87,7 +90,7 @@ fn going_on(
 {
     let touch = Touch::new(parts.alloc, view, delta, change)?;
     let reach = reached(parts.alloc, &touch, &parts.register.maps, &parts.tasks)?;
-    let flags = surviving(parts.alloc, view, &parts.log, &parts.tasks, &reach)?;
+    let flags = surviving(parts.alloc, &touch, &parts.log, &parts.tasks, &reach)?;
     Ok(flags)
 }
 
@@ -95,45 +98,64 @@ fn going_on(
 // index or at an earlier one.
 fn surviving(
     alloc: Global,
-    view: &View,
+    touch: &Touch<'_>,
     log: &GuardLog,
     tasks: &[Pending],
     reach: &[u32],
 ) -> Result<Vec<bool>, Refusal>
     requires tasks { AreTasks log.now tasks.now }
     requires len { length reach.now ≡ length tasks.now }
-    requires reached { AreEndsReached view.now log.now tasks.now reach.now }
-    ensures ok { IfOk result (λ v. v.items ≡ map (λ p. not (hopeless view.now (own_of log.now p.own))) tasks.now) }
+    requires reached { AreEndsReached touch.now.view.now log.now tasks.now reach.now }
+    requires touched { AreTouched touch.now log.now tasks.now }
+    ensures ok { IfOk result (λ v. v.items ≡ map (λ p. not (hopeless touch.now.view.now (own_of log.now p.own))) tasks.now) }
     ensures why { IfErr result (λ e. e ≡ Refusal.Memory) }
 {
     let mut flags = Vec::new(alloc);
     let mut buffer = Vec::new(alloc);
+    let mut calm = Calm::none();
+    let mut spoiler = None;
     let mut far = 0;
     for (i, task) in tasks.iter().enumerate() {
         far = reach[i].max(far);
-        let ends = ends_by(view, log, task, far, &mut buffer)?;
+        let ends = ends_by(touch, log, task, far, &mut calm, &mut spoiler, &mut buffer)?;
         flags.push(!ends)?;
     }
     Ok(flags)
 }
 
-// Whether the task's own atoms are hopeless after the change. They aren't if the task's number is over `far`.
+// Whether the task's own atoms are hopeless after the change. They aren't if the task's number is over `far`, or if the change
+// touches none of them. `calm` and `spoiler` have what is known of the first guards of one change, and may be overwritten.
 fn ends_by(
-    view: &View,
+    touch: &Touch<'_>,
     log: &GuardLog,
     task: &Pending,
     far: u32,
+    calm: &mut Calm,
+    spoiler: &mut Option<Stair>,
     buffer: &mut Vec<Atom>,
 ) -> Result<bool, Refusal>
     requires own { IsOwn log.now task.now.own }
-    requires reached { hopeless view.now (own_of log.now task.now.own) ≡ true → task.now.number ≤ far }
-    ensures ok { IfOk result (λ yes. yes ≡ hopeless view.now (own_of log.now task.now.own)) }
+    requires reached { hopeless touch.now.view.now (own_of log.now task.now.own) ≡ true → task.now.number ≤ far }
+    requires touched { hopeless touch.now.view.now (own_of log.now task.now.own) ≡ true → list_any (λ a. touches touch.now a) (own_of log.now task.now.own) ≡ true }
+    requires calm { IsCalm touch.now log.now calm.old }
+    requires spoiler { MatchOption spoiler.old ⊤ (λ s. IsSpoiler touch.now.view.now log.now s) }
+    ensures ok { IfOk result (λ yes. yes ≡ hopeless touch.now.view.now (own_of log.now task.now.own)) }
+    ensures calm { OnOk result (IsCalm touch.now log.now calm.new) }
+    ensures spoiler { OnOk result (MatchOption spoiler.new ⊤ (λ s. IsSpoiler touch.now.view.now log.now s)) }
     ensures why { IfErr result (λ e. e ≡ Refusal.Memory) }
 {
-    if task.number > far {
+    if task.number > far || is_untouched(touch, log, &task.own, calm) {
         return Ok(false);
     }
-    is_hopeless(view, log, &task.own, buffer)
+    let view = touch.view;
+    if is_spoilt(view, log, &task.own, *spoiler) || ends_by_stair(view, log, &task.own) {
+        return Ok(true);
+    }
+    let ends = is_hopeless(view, log, &task.own, buffer)?;
+    if ends {
+        *spoiler = spoiler_of(view, log, &task.own);
+    }
+    Ok(ends)
 }
 
 // The endings of the tasks that don't go on.

@@ -9,6 +9,7 @@ ghost use Rattle.poly_book.specs.Meaning.{IsFrozen, IsOwn, IsTask, brief_of, fro
 ghost use Rattle.poly_book.specs.Tasks.{atoms_of};
 
 use crate::shelf::Frozen;
+use crate::spoilt::last_stair;
 use poly_atom::{Atom, GuardLog, Stair, hopeless};
 use poly_grid::Refusal;
 use poly_report::SharedLists;
@@ -39,8 +40,8 @@ pub struct Pending {
 }
 
 /// Whether a task's own atoms are hopeless. They are read into the buffer, in place of what it had. Nearly all of them are
-/// `Lacks`, and most of those that a change makes hopeless are hopeless without these, so the last atom of a stair is judged
-/// alone first, and then all that are no `Lacks`. Fails only when out of memory.
+/// `Lacks`, and most of those that a change makes hopeless are hopeless without these, so the others are judged first. Fails
+/// only when out of memory.
 pub(crate) fn is_hopeless(
     view: &View,
     log: &GuardLog,
@@ -51,9 +52,6 @@ pub(crate) fn is_hopeless(
     ensures ok { IfOk result (λ yes. yes ≡ hopeless view.now (own_of log.now own.now)) }
     ensures why { IfErr result (λ e. e ≡ Refusal.Memory) }
 {
-    if ends_by_stair(view, log, own) {
-        return Ok(true);
-    }
     read_brief(log, own, buffer)?;
     if hopeless(view, buffer) {
         return Ok(true);
@@ -62,15 +60,14 @@ pub(crate) fn is_hopeless(
     Ok(hopeless(view, buffer))
 }
 
-// Whether the own atoms end with a stair, and its last atom alone is hopeless.
-fn ends_by_stair(view: &View, log: &GuardLog, own: &Own) -> bool
+/// Whether the own atoms end with a stair whose last atom alone is hopeless. Then they are hopeless.
+pub(crate) fn ends_by_stair(view: &View, log: &GuardLog, own: &Own) -> bool
     requires { IsOwn log.now own.now }
     ensures { IsTrue result → (hopeless view.now (own_of log.now own.now) ≡ true) }
 {
-    match own {
-        Own::Listed(_, _) => false,
-        Own::Stair(stair) => ends_alone(view, log, stair),
-        Own::Crossed(_, _, stair) => ends_alone(view, log, stair),
+    match last_stair(own) {
+        None => false,
+        Some(stair) => ends_alone(view, log, &stair),
     }
 }
 

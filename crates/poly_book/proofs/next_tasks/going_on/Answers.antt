@@ -5,6 +5,7 @@ use Rattle.poly_book.specs.declared.task.Pending.{Pending}
 use Rattle.poly_book.specs.Mapped.{under}
 use Rattle.poly_book.specs.Meaning.{own_of}
 use Rattle.poly_book.specs.Reaching.{AreEndsReached, IsReached}
+use Rattle.poly_book.specs.Touching.{AreTouched}
 use Rattle.poly_book.proofs.Halving.{numbers_rise}
 use Rattle.poly_book.proofs.Reached.{ends_reached}
 use Rattle.poly_book.proofs.Touched.{all_touched}
@@ -30,7 +31,17 @@ surviving-requires-clause-reached c =
     let r = c.in_ok-reach.reach.items in
     let touched = all_touched t a.scene w c.args.delta.now c.args.change.now a.log a.tasks.items c.requires.made e.view e.delta e.item c.requires.keeps.alive in
     let all = ends_reached t w a.register.maps a.log a.tasks.items r e.view c.requires.noted touched (λ x h. subst (λ ps. IsReached r ps (λ n. under a.register.maps x n)) c.deref.ensures.value (c.in_ok-reach.ensures.ok x h)) in
-    subst (λ ps. AreEndsReached w a.log ps c.deref-3.result.now) (sym c.deref-2.ensures.value) (subst (λ y. AreEndsReached w a.log a.tasks.items y) (sym c.deref-3.ensures.value) all)
+    subst (λ v. AreEndsReached v a.log c.deref-2.result.now c.deref-3.result.now) (sym e.view)
+    (subst (λ ps. AreEndsReached w a.log ps c.deref-3.result.now) (sym c.deref-2.ensures.value) (subst (λ y. AreEndsReached w a.log a.tasks.items y) (sym c.deref-3.ensures.value) all))
+
+pub surviving-requires-clause-touched : goal.surviving-requires-clause-touched
+surviving-requires-clause-touched c =
+    let a = c.args.parts.now in
+    let t = c.in_ok-touch.touch in
+    let e = c.in_ok-touch.ensures in
+    subst (λ ps. AreTouched t a.log ps) (sym c.deref-2.ensures.value) (all_touched t a.scene c.args.view.now c.args.delta.now c.args.change.now a.log a.tasks.items c.requires.made e.view e.delta e.item c.requires.keeps.alive)
 
 pub returns-clause-ok : goal.returns-clause-ok
-returns-clause-ok c = c.in_ok-flags.ensures.ok ∙ ap (λ ps. map (λ p. not (hopeless c.args.view.now (own_of c.args.parts.now.log p.own))) ps) c.deref-2.ensures.value
+returns-clause-ok c =
+    let log = c.args.parts.now.log in
+    c.in_ok-flags.ensures.ok ∙ (λ i. map (λ p. not (hopeless (c.in_ok-touch.ensures.view i) (own_of log p.own))) (c.deref-2.ensures.value i))
