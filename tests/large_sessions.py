@@ -72,6 +72,17 @@ def shelf_over_many_tasks(size, rounds):
     return [board, *changes], accepted(len(changes))
 
 
+def undos_after_wide_changes(size, wide, rounds):
+    """Undos of a change that narrows, while hundreds of tasks are pending that wide changes came after. Each undo opens tasks that stand
+    on those before it. At the end one piece is left, with (size - 2) squared places in each of 4 orientations."""
+    f = words(PENTOMINOES["F"])
+    lines = [f"add F optional off {f}", f"add G optional off {f}"]
+    lines += [line for _ in range(wide) for line in (f"add H optional off {f}", "drop H")]
+    lines += ["cell 0,0 required", "undo"] * rounds
+    lines += ["drop G", "count"]
+    return [puzzle(["+" * size] * size, []), *lines], [*accepted(len(lines) - 1), f"tilings {4 * (size - 2) ** 2 + 1}"]
+
+
 def new_names(size, pairs):
     """A piece that is added and dropped under one new name after another, each with a number for every placement."""
     lines = [line for pair in range(pairs) for line in (f"add N{pair} optional on 0,0 1,0 2,0", f"drop N{pair}")]
@@ -155,7 +166,8 @@ SESSIONS = {
     "wide undos and redos": (wide_undos(10, 20), "100M"),
     "20,000 edits without a question": (many_edits(20_000), "60M"),
     "80 undos and redos of a new cell": (undos_and_redos(80), "40M"),
-    "a shelf over thousands of tasks": (shelf_over_many_tasks(16, 10), "200M"),
+    "a shelf over thousands of tasks": (shelf_over_many_tasks(16, 10), "30M"),
+    "undos after wide changes": (undos_after_wide_changes(10, 10, 20), "30M"),
     "300 new names": (new_names(16, 300), "80M"),
     "a cell that 7,424 places cover": (cell_of_thousands(58), "60M"),
     "2,000 wide changes with a question after each": (wide_edits_and_questions(10, 1000), "18M"),

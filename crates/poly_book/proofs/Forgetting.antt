@@ -3,6 +3,7 @@ use Rattle.std.proofs.Common.{List, None, Option, Some, [], ap, arith, drop, get
 use Rattle.std.proofs.lemmas.Bool.{cases_lt}
 use Rattle.std.proofs.lemmas.List.{get_or_default}
 use Rattle.std.proofs.lemmas.Option.{slice_get-get_or}
+use Rattle.std.specs.Arc.{arc_value}
 use Rattle.std.specs.List.{All, list_all, slice_get}
 use Rattle.poly_design.specs.Layout.{Layout}
 use Rattle.poly_design.specs.declared.change.Change.{Change}
@@ -29,13 +30,14 @@ use Rattle.poly_book.specs.Needed.{AreKeptFrom, ArePendingFrom, IsFrozenFrom, Is
 use Rattle.poly_book.specs.States.{State, Stored, Way}
 use Rattle.poly_book.specs.Tasks.{AreAlive, Task}
 use Rattle.poly_book.specs.Whole.{Whole}
+use Rattle.poly_book.proofs.Basing.{all_head, all_tail, base_same, is_base_still}
 use Rattle.poly_book.proofs.Holding.{map_reverse}
 
 -- what is read from no edition before e is read from no edition before an earlier one
 own_earlier : (d e : ℕ) (o : Own) → d ≤ e → IsOwnFrom e o → IsOwnFrom d o
 own_earlier d e (Listed v i) l h = tt
 own_earlier d e (OfStair s) l h = omega (arith, l, h)
-own_earlier d e (Crossed v i s) l h = omega (arith, l, h)
+own_earlier d e (Crossed b s) l h = ((λ k x within. let m = h.0 k x within in omega (arith, l, m)), omega (arith, l, h.1))
 
 pub task_earlier : (d e : ℕ) (o : Own) (made : ℕ) → d ≤ e → IsTaskFrom e o made → IsTaskFrom d o made
 task_earlier d e o made l h = record { own_from = own_earlier d e o l h.own_from; made_from = let m = h.made_from in omega (arith, l, m) }
@@ -67,12 +69,15 @@ step_at e ss i d o within is h = subst (λ x. IsStepFrom e x) (is ∙ slice_get-
 own_same : (e : ℕ) (log : List (List Atom)) (o : Own) → IsOwnFrom e o → own_of (forgotten e log) o ≡ own_of log o
 own_same e log (Listed v i) h = refl
 own_same e log (OfStair s) h = stair_of-forgotten e s log h
-own_same e log (Crossed v i s) h = ap (λ bs. own_of log (Listed v i) ++ bs) (stair_of-forgotten e s log h)
+own_same e log (Crossed b s) h =
+    let base = base_same e log (arc_value b) h.0 in
+    let stair = stair_of-forgotten e s log h.1 in
+    λ i. base i ++ stair i
 
 is_own_still : (e : ℕ) (log : List (List Atom)) (o : Own) → IsOwnFrom e o → IsOwn log o → IsOwn (forgotten e log) o
 is_own_still e log (Listed v i) h k = k
 is_own_still e log (OfStair s) h k = is_stair-forgotten e s log h k
-is_own_still e log (Crossed v i s) h k = (k.0, is_stair-forgotten e s log h k.1)
+is_own_still e log (Crossed b s) h k = (is_base_still e log (arc_value b) h.0 k.0, is_stair-forgotten e s log h.1 k.1)
 
 since_same : (e made : ℕ) (log : List (List Atom)) → e ≤ made → flat (drop made (forgotten e log)) ≡ flat (drop made log)
 since_same e made log h = ap flat (drop-forgotten e made log h)
@@ -88,13 +93,6 @@ is_task_still e log p h k = record {
   own = is_own_still e log p.own h.own_from k.own;
   made = let m = k.made in omega (arith, m, length-forgotten e log);
 }
-
--- what holds of each element holds of the first one, and of each of the others
-all_head : {X : Type 0} (P : X → Type 0) (x : X) (xs : List X) → All P (x ∷ xs) → P x
-all_head P x xs h = h 0 x (omega (arith))
-
-all_tail : {X : Type 0} (P : X → Type 0) (x : X) (xs : List X) → All P (x ∷ xs) → All P xs
-all_tail P x xs h = λ k d l. h (suc k) d (omega (arith, l))
 
 tasks_same : (e : ℕ) (log : List (List Atom)) (ps : List Pending) → ArePendingFrom e ps → tasks_of (forgotten e log) ps ≡ tasks_of log ps
 tasks_same e log [] h = refl

@@ -2,6 +2,7 @@
 use Rattle.std.proofs.Common.{Bool, List, [], ap, append_assoc, arith, cond, drop, false, get_or, length, map, not, refl, subst, suc, sym, take, true, zero, ℕ, ◌++◌, ◌+◌, ◌<◌, ◌∙◌, ◌∷◌, ◌≡◌, ◌≤◌}
 use Rattle.std.proofs.lemmas.Bool.{cond_both, not-true}
 use Rattle.std.proofs.lemmas.List.{append-nil, drop_all, drop_more, get_or_push, length-append, length_push, take_more}
+use Rattle.std.specs.Arc.{arc_value}
 use Rattle.std.specs.List.{filter, items_where_true}
 use Rattle.poly_tiling.specs.Puzzle.{View}
 use Rattle.poly_atom.specs.declared.atom.Atom.{Atom}
@@ -10,7 +11,6 @@ use Rattle.poly_atom.specs.Atoms.{negated}
 use Rattle.poly_atom.specs.Hopeless.{hopeless}
 use Rattle.poly_atom.specs.Logs.{IsStairOf, flat, stair_of}
 use Rattle.poly_atom.specs.Stairs.{stairs}
-use Rattle.poly_atom.proofs.Offsets.{flat_push}
 use Rattle.poly_atom.proofs.Walks.{is_stair_stays, length-stairs, stair_stays, stairs_at}
 use Rattle.poly_book.specs.declared.step.Ending.{Ending}
 use Rattle.poly_book.specs.declared.step.Ending.TheVariants.{Hopeless}
@@ -21,28 +21,20 @@ use Rattle.poly_book.specs.declared.task.Pending.{Pending}
 use Rattle.poly_book.specs.Tasks.{Task, hopeful, lay, tasks_from}
 use Rattle.poly_book.specs.Meaning.{AreTasks, IsOwn, IsTask, own_of, task_of, tasks_of}
 use Rattle.poly_book.specs.Opens.{Opening, Opens}
-
-flat_none : (n : ℕ) (log : List (List Atom)) → length log ≤ n → flat (drop n log) ≡ []
-flat_none zero [] h = refl
-flat_none zero (g ∷ gs) h = absurd (omega (arith, h))
-flat_none (suc n) [] h = refl
-flat_none (suc n) (g ∷ gs) h = flat_none n gs (omega (arith, h))
-
--- one more change puts its guards after those that the log has from an index on
-pub since_push : (n : ℕ) (log : List (List Atom)) (g : List Atom) → n ≤ length log → flat (drop n (log ++ g ∷ [])) ≡ flat (drop n log) ++ g
-since_push zero log g h = flat_push log g
-since_push (suc n) [] g h = absurd (omega (arith, h))
-since_push (suc n) (x ∷ log) g h = since_push n log g (omega (arith, h))
+use Rattle.poly_book.proofs.Basing.{base_push, flat_none, is_base_push, since_push}
 
 pub own_push : (log : List (List Atom)) (g : List Atom) (o : Own) → IsOwn log o → own_of (log ++ g ∷ []) o ≡ own_of log o
 own_push log g (Listed v i) h = refl
 own_push log g (OfStair s) h = stair_stays log g s h.edition_in
-own_push log g (Crossed v i s) h = ap (λ bs. get_or v i [] ++ bs) (stair_stays log g s h.1.edition_in)
+own_push log g (Crossed b s) h =
+    let base = base_push log g (arc_value b) h.0 in
+    let stair = stair_stays log g s h.1.edition_in in
+    λ i. base i ++ stair i
 
 pub is_own_push : (log : List (List Atom)) (g : List Atom) (o : Own) → IsOwn log o → IsOwn (log ++ g ∷ []) o
 is_own_push log g (Listed v i) h = h
 is_own_push log g (OfStair s) h = is_stair_stays log g s h
-is_own_push log g (Crossed v i s) h = (h.0, is_stair_stays log g s h.1)
+is_own_push log g (Crossed b s) h = (is_base_push log g (arc_value b) h.0, is_stair_stays log g s h.1)
 
 task_push : (log : List (List Atom)) (g : List Atom) (p : Pending) → IsTask log p → task_of (log ++ g ∷ []) p ≡ lay g (task_of log p)
 task_push log g p h =

@@ -21,7 +21,8 @@ use Rattle.poly_book.specs.Shelves.{crossed}
 use Rattle.poly_book.specs.States.{Stored, Way}
 use Rattle.poly_book.specs.Tasks.{atoms_of, hopeful, tasks_from}
 use Rattle.poly_book.specs.declared.task.Pending.{Pending}
-use Rattle.poly_book.proofs.Held.{is_own_push, own_push, since_push, tasks_append}
+use Rattle.poly_book.proofs.Basing.{since_push}
+use Rattle.poly_book.proofs.Held.{is_own_push, own_push, tasks_append}
 
 frozen_push : (log : List (List Atom)) (g : List Atom) (f : Frozen) → IsFrozen log f → frozen_of (log ++ g ∷ []) f ≡ frozen_of log f
 frozen_push log g f h =

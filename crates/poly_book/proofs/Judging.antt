@@ -1,19 +1,18 @@
 -- Which stairs of a change are opened after a base.
-use Rattle.std.proofs.Common.{Bool, List, [], ap, append_assoc, arith, cond, drop, false, get_or, inl, inr, length, map, not, refl, subst, sym, take, true, ℕ, ◌++◌, ◌+◌, ◌<◌, ◌≤◌, ◌∙◌, ◌∷◌, ◌≡◌, ◌||◌}
-use Rattle.std.proofs.lemmas.Bool.{not-false}
+use Rattle.std.proofs.Common.{Bool, List, [], ap, append_assoc, arith, cond, false, get_or, inl, inr, length, map, not, refl, subst, sym, take, true, ℕ, ◌++◌, ◌+◌, ◌<◌, ◌≤◌, ◌∙◌, ◌∷◌, ◌≡◌, ◌||◌}
+use Rattle.std.proofs.lemmas.Bool.{both_ways, not-false}
 use Rattle.std.proofs.lemmas.List.{drop_more, get_or_push, get_or-map, length-map, length_push, map-append, take_all, take_more}
 use Rattle.std.proofs.lemmas.List.Elements.{filter-append}
 use Rattle.std.specs.List.{filter, list_any}
 use Rattle.std.proofs.Math.Bool.{beq}
 use Rattle.poly_tiling.specs.Puzzle.{View}
 use Rattle.poly_tiling.proofs.Grown.{grown_self}
-use Rattle.poly_tiling.proofs.Lists.{In, filter_in, in_append_cases, in_append_left, in_append_right, in_filter}
+use Rattle.poly_tiling.proofs.Lists.{In, filter_in, in_append_cases, in_append_left, in_append_right}
 use Rattle.poly_atom.specs.declared.atom.Atom.{Atom}
-use Rattle.poly_atom.specs.declared.atom.Atom.TheVariants.{Has}
 use Rattle.poly_atom.specs.Atoms.{negated}
 use Rattle.poly_atom.specs.Hopeless.{hopeless}
 use Rattle.poly_atom.specs.declared.stair.Stair.{Stair}
-use Rattle.poly_atom.specs.Logs.{IsStairOf, flat, stair_of}
+use Rattle.poly_atom.specs.Logs.{IsStairOf, stair_of}
 use Rattle.poly_atom.specs.Stairs.{stairs}
 use Rattle.poly_atom.proofs.Stays.{hopeless_more}
 use Rattle.poly_atom.proofs.Walks.{length-stairs, stairs_at}
@@ -21,8 +20,7 @@ use Rattle.poly_report.specs.Words.{is_other}
 use Rattle.poly_book.specs.declared.shelf.Frozen.{Frozen}
 use Rattle.poly_book.specs.declared.task.Pending.{Pending}
 use Rattle.poly_book.specs.declared.task.Own.{Own}
-use Rattle.poly_book.specs.declared.task.Own.TheVariants.{Crossed, Listed, Stair as OfStair}
-use Rattle.poly_book.specs.Meaning.{IsOwn, brief_of, frozen_brief, frozen_of, own_of, tasks_of}
+use Rattle.poly_book.specs.Meaning.{IsOwn, brief_of, frozen_brief, frozen_of, laid_of, own_of, tasks_of}
 use Rattle.poly_book.specs.Judged.{AreAlone, AreJudged, AreRuledOut}
 use Rattle.poly_book.specs.Opens.{Opening}
 use Rattle.poly_book.specs.Tasks.{hopeful, tasks_from}
@@ -50,21 +48,7 @@ judged_more w base g j d fs ends l so e =
     (λ i. so i ++ one i ∷ []) ∙ sym (ap (λ As. map F As) next ∙ map-append F (take j S) (B ∷ []))
 
 brief_in : (log : List (List Atom)) (o : Own) (a : Atom) → In a (brief_of log o) → In a (own_of log o)
-brief_in log (Listed v i) a h = (filter_in is_other (get_or v i []) a h).0
-brief_in log (OfStair s) a h = (filter_in is_other (stair_of log s) a h).0
-brief_in log (Crossed v i s) a h = elim (in_append_cases a (filter is_other (get_or v i [])) (filter is_other (stair_of log s)) h) [
-  | inl e ↦ in_append_left a (get_or v i []) (stair_of log s) (filter_in is_other (get_or v i []) a e).0
-  | inr e ↦ in_append_right a (get_or v i []) (stair_of log s) (filter_in is_other (stair_of log s) a e).0
-]
-
--- without each `Lacks`, the own atoms ask for the same placements
-brief_asks : (log : List (List Atom)) (o : Own) (p : ℕ) → In (Has p) (own_of log o) → In (Has p) (brief_of log o)
-brief_asks log (Listed v i) p h = in_filter is_other (get_or v i []) (Has p) h refl
-brief_asks log (OfStair s) p h = in_filter is_other (stair_of log s) (Has p) h refl
-brief_asks log (Crossed v i s) p h = elim (in_append_cases (Has p) (get_or v i []) (stair_of log s) h) [
-  | inl e ↦ in_append_left (Has p) (filter is_other (get_or v i [])) (filter is_other (stair_of log s)) (in_filter is_other (get_or v i []) (Has p) e refl)
-  | inr e ↦ in_append_right (Has p) (filter is_other (get_or v i [])) (filter is_other (stair_of log s)) (in_filter is_other (stair_of log s) (Has p) e refl)
-]
+brief_in log o a h = (filter_in is_other (own_of log o) a h).0
 
 pub hopeless_within : (w : View) (A B : List Atom) → ((a : Atom) → In a A → In a B) → hopeless w A ≡ true → hopeless w B ≡ true
 hopeless_within w A B h e = hopeless_more w w A B (grown_self w) h e
@@ -72,6 +56,16 @@ hopeless_within w A B h e = hopeless_more w w A B (grown_self w) h e
 -- if the own atoms are hopeless without each `Lacks`, they are hopeless
 pub brief_hopeless : (w : View) (log : List (List Atom)) (o : Own) → hopeless w (brief_of log o) ≡ true → hopeless w (own_of log o) ≡ true
 brief_hopeless w log o h = hopeless_within w (brief_of log o) (own_of log o) (brief_in log o) h
+
+-- the own atoms are hopeless exactly if they are so without each `Lacks`, if they are, or if nothing else needs to be judged
+pub brief_tells : (w : View) (log : List (List Atom)) (o : Own) (ends brief : Bool) → (ends || brief) ≡ true → ends ≡ hopeless w (brief_of log o) →
+    (brief ≡ true → hopeless w (own_of log o) ≡ true → hopeless w (brief_of log o) ≡ true) → ends ≡ hopeless w (own_of log o)
+brief_tells w log o true brief e is only = sym (brief_hopeless w log o (sym is))
+brief_tells w log o false brief e is only = sym (none (hopeless w (own_of log o)) (λ h. both_ways (hopeless w (brief_of log o)) (sym is) (only e h)))
+  where
+    none : (b : Bool) → (b ≡ true → ⊥) → b ≡ false
+    none true h = absurd (h refl)
+    none false h = refl
 
 in_both : (A B C : List Atom) → ((a : Atom) → In a A → In a B) → (a : Atom) → In a (A ++ C) → In a (B ++ C)
 in_both A B C h a i = elim (in_append_cases a A C i) [
@@ -86,14 +80,12 @@ ruled_out w base more g fs h judged i l e =
     let before : hopeless w (base ++ A) ≡ true = not-false (hopeless w (base ++ A)) (sym (judged_at w base g fs i true judged (omega (arith, l, judged_length w base g fs judged))) ∙ e) in
     hopeless_within w (base ++ A) (more ++ A) (in_both base more A h) before
 
-pub frozen_asks : (log : List (List Atom)) (f : Frozen) (p : ℕ) → In (Has p) (frozen_of log f) → In (Has p) (frozen_brief log f)
-frozen_asks log f p i = elim (in_append_cases (Has p) (own_of log f.own) (take f.count (flat (drop f.made log))) i) [
-  | inl e ↦ in_append_left (Has p) (brief_of log f.own) (take f.count (flat (drop f.made log))) (brief_asks log f.own p e)
-  | inr e ↦ in_append_right (Has p) (brief_of log f.own) (take f.count (flat (drop f.made log))) e
-]
+-- without each `Lacks`, a frozen task's atoms are fewer
+pub frozen_brief_is : (log : List (List Atom)) (f : Frozen) → frozen_brief log f ≡ filter is_other (frozen_of log f)
+frozen_brief_is log f = sym (filter-append is_other (own_of log f.own) (laid_of log f))
 
 pub frozen_in : (log : List (List Atom)) (f : Frozen) (a : Atom) → In a (frozen_brief log f) → In a (frozen_of log f)
-frozen_in log f a i = in_both (brief_of log f.own) (own_of log f.own) (take f.count (flat (drop f.made log))) (brief_in log f.own) a i
+frozen_in log f a i = (filter_in is_other (frozen_of log f) a (subst (λ A. In a A) (frozen_brief_is log f) i)).0
 
 none_step : (w : View) (A B : List Atom) (As : List (List Atom)) (any b : Bool) → hopeless w A ≡ b → (hopeless w A ≡ true → hopeless w B ≡ true) → (not b || any) ≡ false → (any ≡ false → hopeful w As ≡ []) → hopeful w (B ∷ As) ≡ []
 none_step w A B As any true e more h rest = ap (λ b. cond (not b) (B ∷ hopeful w As) (hopeful w As)) (more e) ∙ rest h
@@ -138,7 +130,7 @@ base_skip log g next n w base all rest j ps l h o =
 
 -- `own` is the base followed by the stair at the index
 pub base_more : (log : List (List Atom)) (g : List Atom) (next n : ℕ) (w : View) (base : List Atom) (all rest : List (List Atom)) (j e : ℕ) (own : Own) (ps : List Pending) → length log ≡ e → j < length g → hopeless w (base ++ get_or (stairs g) j []) ≡ false →
-    ((L : List (List Atom)) → own_of L own ≡ base ++ stair_of L (record { edition = e; index = j })) → ((L : List (List Atom)) → IsStairOf L (record { edition = e; index = j }) → IsOwn L own) →
+    own_of (log ++ g ∷ []) own ≡ base ++ stair_of (log ++ g ∷ []) (record { edition = e; index = j }) → (IsStairOf (log ++ g ∷ []) (record { edition = e; index = j }) → IsOwn (log ++ g ∷ []) own) →
     Opening (log ++ g ∷ []) next n w all (crossed_from base g j rest) ps →
     Opening (log ++ g ∷ []) next (n + 1) w all (crossed_from base g (j + 1) rest) (ps ++ record { number = n; own = own; made = e + 1 } ∷ [])
 base_more log g next n w base all rest j e own ps le l h reads stands o =
@@ -146,12 +138,12 @@ base_more log g next n w base all rest j e own ps le l h reads stands o =
     let A = base ++ get_or (stairs g) j [] in
     let last = get_or_push log g [] e le in
     let p : Pending = record { number = n; own = own; made = e + 1 } in
-    let mine : own_of (log ++ g ∷ []) own ≡ A = reads (log ++ g ∷ []) ∙ ap (λ x. base ++ get_or (stairs x) j []) last in
+    let mine : own_of (log ++ g ∷ []) own ≡ A = reads ∙ ap (λ x. base ++ get_or (stairs x) j []) last in
     let there : IsStairOf (log ++ g ∷ []) s = record {
       edition_in = omega (arith, length_push log g, le);
       index_in = subst (λ x. j < length x) (sym last) l;
     } in
-    opening_more (log ++ g ∷ []) next n w all (crossed_from base g (j + 1) rest) A ps p h refl mine (stands (log ++ g ∷ []) there) (omega (arith, length_push log g, le))
+    opening_more (log ++ g ∷ []) next n w all (crossed_from base g (j + 1) rest) A ps p h refl mine (stands there) (omega (arith, length_push log g, le))
     (subst (λ r. Opening (log ++ g ∷ []) next n w all r ps) (base_next base g j rest l) o)
 
 -- the last atom alone, unless the stair is known to be hopeless

@@ -1,7 +1,7 @@
 -- What Lacks atoms do to a list: they make it hopeless only by what it asks for, and by pins.
 use Rattle.std.proofs.Common.{Bool, List, [], ap, arith, false, get_or, inl, inr, length, map, not, refl, subst, suc, sym, take, true, zero, ℕ, ◌&&◌, ◌++◌, ◌+◌, ◌<◌, ◌==◌, ◌∙◌, ◌∷◌, ◌≡◌, ◌≤◌, ◌||◌, ◌⊎◌}
-use Rattle.std.proofs.lemmas.Bool.{and_from, and_parts, both_ways, cases_lt, eq-eqb, not-false, not-true, or_cases, or_left, or_right, true≢false}
-use Rattle.std.proofs.lemmas.List.{append-nil, get_or_append_left, get_or_push, length-take-le, take-take, take_more}
+use Rattle.std.proofs.lemmas.Bool.{and_from, and_parts, both_ways, eq-eqb, not-false, not-true, or_cases, or_left, or_right, true≢false}
+use Rattle.std.proofs.lemmas.List.{append-nil, length-take-le, take-take, take_more}
 use Rattle.std.proofs.lemmas.List.Elements.{filter-append}
 use Rattle.std.specs.List.{filter, list_all, list_any}
 use Rattle.std.specs.Prelude.{cond, nat_lt}
@@ -41,11 +41,26 @@ beyond_same w A B (Lacks p) e = ap (λ ps. mem w.pins p || mem ps p) e
 beyond_same w A B (AtLeast i n) e = refl
 beyond_same w A B (AtMost i n) e = refl
 
-by_lost : (w : View) (A B : List Atom) (a : Atom) → asked A ≡ asked B → In a B → lost w A a ≡ true → hopeless w B ≡ true
+pub by_lost : (w : View) (A B : List Atom) (a : Atom) → asked A ≡ asked B → In a B → lost w A a ≡ true → hopeless w B ≡ true
 by_lost w A B a e i h = sym (found_is w B B (λ p. refl)) ∙ or_left (list_any (λ b. lost w B b) B) (list_any (λ b. beyond w B b) B) (any_from (λ b. lost w B b) B a i (sym (lost_same w A B a e) ∙ h))
 
-by_beyond : (w : View) (A B : List Atom) (a : Atom) → asked A ≡ asked B → In a B → beyond w A a ≡ true → hopeless w B ≡ true
+pub by_beyond : (w : View) (A B : List Atom) (a : Atom) → asked A ≡ asked B → In a B → beyond w A a ≡ true → hopeless w B ≡ true
 by_beyond w A B a e i h = sym (found_is w B B (λ p. refl)) ∙ or_right (list_any (λ b. lost w B b) B) (list_any (λ b. beyond w B b) B) (any_from (λ b. beyond w B b) B a i (sym (beyond_same w A B a e) ∙ h))
+
+-- without each Lacks, a list asks for the same
+pub filter_asks : (A : List Atom) → asked (filter is_other A) ≡ asked A
+filter_asks [] = refl
+filter_asks (Has p ∷ A) = ap (λ ps. p ∷ ps) (filter_asks A)
+filter_asks (Lacks p ∷ A) = filter_asks A
+filter_asks (AtLeast i n ∷ A) = filter_asks A
+filter_asks (AtMost i n ∷ A) = filter_asks A
+
+-- an atom is another one, or a Lacks
+pub other_or : (a : Atom) → (is_other a ≡ true) ⊎ ((p : ℕ) × (a ≡ Lacks p))
+other_or (Has p) = inl refl
+other_or (Lacks p) = inr (p, refl)
+other_or (AtLeast i n) = inl refl
+other_or (AtMost i n) = inl refl
 
 none_asked : (B : List Atom) → AreLacks B → asked B ≡ []
 none_asked [] h = refl
@@ -60,7 +75,7 @@ not_lost w D (Lacks p) n h = true≢false (sym h)
 not_lost w D (AtLeast i k) n h = true≢false (sym n)
 not_lost w D (AtMost i k) n h = true≢false (sym n)
 
-one_in : {X : Type 0} (x y : X) → In x (y ∷ []) → y ≡ x
+pub one_in : {X : Type 0} (x y : X) → In x (y ∷ []) → y ≡ x
 one_in x y (inl e) = e
 one_in x y (inr i) = absurd i
 
@@ -252,26 +267,8 @@ guards_once v w well =
     once_from (filter (λ p. not (mem v.live p)) w.live) (guards_least v w ++ (guards_most v w ++ guards_pins v w)) (distinct_filter (λ p. not (mem v.live p)) w.live (live_once w well))
     (both_others (guards_least v w) (guards_most v w ++ guards_pins v w) (least_others v w) (both_others (guards_most v w) (guards_pins v w) (most_others v w) (pins_others v w)))
 
--- the flag of the next guard
-pub calm_each : (C : ℕ → Bool) (fs : List Bool) (i j : ℕ) (stays : Bool) → length fs ≡ i → ((k : ℕ) → k < i → get_or fs k true ≡ C k) → stays ≡ C i → j < i + 1 → get_or (fs ++ stays ∷ []) j true ≡ C j
-calm_each C fs i j stays long each last l = elim (cases_lt j i) [
-  | inl k ↦ get_or_append_left fs (stays ∷ []) true j (omega (arith, k, long)) ∙ each j k
-  | inr k ↦ let same : j ≡ i = omega (arith, k, l) in get_or_push fs stays true j (long ∙ sym same) ∙ last ∙ ap C (sym same)
-]
-
 any_next : (f : Atom → Bool) (g : List Atom) (i : ℕ) (d : Atom) → i < length g → list_any f (take (i + 1) g) ≡ (list_any f (take i g) || (f (get_or g i d) || false))
 any_next f g i d l = ap (list_any f) (take_more g i d l) ∙ any_append f (take i g) (get_or g i d ∷ [])
-
--- whether the base goes on with each of the first i + 1 guards
-pub calm_more : (f : Atom → Bool) (g : List Atom) (i : ℕ) (d : Atom) (ends : Bool) → i < length g → true ≡ not (list_any f (take i g)) → ends ≡ f (get_or g i d) → not ends ≡ not (list_any f (take (i + 1) g))
-calm_more f g i d ends l h e = ap not (e ∙ sym (any_next f g i d l ∙ ap (λ b. b || (f (get_or g i d) || false)) (not-true _ (sym h)) ∙ either (f (get_or g i d))))
-  where
-    either : (b : Bool) → (false || (b || false)) ≡ b
-    either true = refl
-    either false = refl
-
-pub calm_over : (f : Atom → Bool) (g : List Atom) (i : ℕ) (d : Atom) → i < length g → false ≡ not (list_any f (take i g)) → false ≡ not (list_any f (take (i + 1) g))
-calm_over f g i d l h = ap not (sym (any_next f g i d l ∙ ap (λ b. b || (f (get_or g i d) || false)) (not-false _ (sym h))))
 
 -- the last atom of a stair of the log
 pub stair_alone : (w : View) (log : List (List Atom)) (s : Stair) (a d : Atom) → IsStairOf log s → a ≡ negated (get_or (get_or log s.edition []) s.index d) → hopeless w (a ∷ []) ≡ true → hopeless w (stair_of log s) ≡ true
@@ -318,7 +315,7 @@ none_first f (a ∷ g) (suc n) (suc i) h l = any_none f (a ∷ take i g) (λ x k
 
 -- a test that fails for the first guards and for the last atom of a stair fails for all of its atoms
 pub untouched_stair : (f : Atom → Bool) (log : List (List Atom)) (s : Stair) (n : ℕ) (a d : Atom) → IsStairOf log s → list_any f (take n (get_or log s.edition [])) ≡ false → s.index ≤ n → a ≡ negated (get_or (get_or log s.edition []) s.index d) → f a ≡ false → list_any f (stair_of log s) ≡ false
-untouched_stair f log s n a d there calm low is last =
+untouched_stair f log s n a d there first low is last =
     let g = get_or log s.edition [] in
     ap (list_any f) (stairs_at g s.index d there.index_in) ∙ any_append f (take s.index g) (negated (get_or g s.index d) ∷ [])
-    ∙ (λ j. none_first f g n s.index calm low j || (f (sym is j) || false)) ∙ ap (λ b. b || false) last
+    ∙ (λ j. none_first f g n s.index first low j || (f (sym is j) || false)) ∙ ap (λ b. b || false) last

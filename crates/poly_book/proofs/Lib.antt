@@ -14,6 +14,7 @@ pub mod Stillness
 pub mod Regained
 pub mod Accounting
 pub mod Proved
+pub mod Basing
 pub mod Held
 pub mod Holding
 pub mod Changes
@@ -45,3 +46,4 @@ pub mod Forgetting
 pub mod Narrowing
 pub mod Judging
 pub mod Lacking
+pub mod Harming

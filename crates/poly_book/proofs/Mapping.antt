@@ -20,17 +20,8 @@ use Rattle.poly_report.specs.Words.{is_other}
 use Rattle.poly_book.specs.declared.maps.Maps.{Maps}
 use Rattle.poly_book.specs.declared.maps.Prefix.{Prefix}
 use Rattle.poly_book.specs.declared.rows.Span.{Span}
-use Rattle.poly_book.specs.declared.task.Own.{Own}
-use Rattle.poly_book.specs.declared.task.Own.TheVariants.{Crossed, Listed, Stair as OfStair}
 use Rattle.poly_book.specs.declared.task.Pending.{Pending}
-use Rattle.poly_book.specs.Mapped.{HasBase, IsPrefix, IsWider, has_pending, in_span, is_pending, under}
-use Rattle.poly_book.specs.Meaning.{IsOwn}
-
--- if the own atoms can be read, the base can
-pub has_base_of : (log : List (List Atom)) (o : Own) → IsOwn log o → HasBase o
-has_base_of log (Listed v i) h = tt
-has_base_of log (OfStair s) h = tt
-has_base_of log (Crossed v i s) h = h.0
+use Rattle.poly_book.specs.Mapped.{IsPrefix, IsWider, has_pending, in_span, is_pending, under}
 
 -- what holds of each `Lacks` and of the other atoms of a list holds of all
 pub all_others : (f : Atom → Bool) (A : List Atom) → ((p : ℕ) → f (Lacks p) ≡ true) → list_all f (filter is_other A) ≡ true → list_all f A ≡ true

@@ -1,9 +1,10 @@
 -- Which lists of atoms aren't hopeless after a base.
 use Rattle.std.specs.List.{list_all, list_any}
 use Rattle.std.specs.Prelude.{Bool, List, [], false, length, map, not, slice_index_or, take, true, ℕ, ◌++◌, ◌<◌, ◌∷◌, ◌≡◌}
+use Rattle.poly_tiling.specs.Lists.{mem}
 use Rattle.poly_tiling.specs.Puzzle.{View}
 use Rattle.poly_atom.specs.declared.atom.Atom.{Atom}
-use Rattle.poly_atom.specs.declared.atom.Atom.TheVariants.{Lacks}
+use Rattle.poly_atom.specs.declared.atom.Atom.TheVariants.{AtLeast, AtMost, Has, Lacks}
 use Rattle.poly_atom.specs.Atoms.{negated}
 use Rattle.poly_atom.specs.Hopeless.{hopeless, lacks}
 use Rattle.poly_atom.specs.Logs.{IsStairOf}
@@ -40,3 +41,18 @@ AreAlone w base g n fs = (i : ℕ) (d : Atom) → i < n → slice_index_or fs i 
 pub record IsSpoiler (w : View) (log : List (List Atom)) (s : Stair) : Type 0 where
   pub there : IsStairOf log s
   pub spoils : (d : Atom) → hopeless w (slice_index_or (slice_index_or log s.edition []) s.index d ∷ []) ≡ true
+
+-- the placements that the atoms ask for or lack
+abbrev pub named : List Atom → List ℕ
+named [] = []
+named (Has p ∷ A) = p ∷ named A
+named (Lacks p ∷ A) = p ∷ named A
+named (AtLeast i n ∷ A) = named A
+named (AtMost i n ∷ A) = named A
+
+-- the atom is a Lacks of one of the placements
+abbrev pub is_harmful : List ℕ → Atom → Bool
+is_harmful ps (Has p) = false
+is_harmful ps (Lacks p) = mem ps p
+is_harmful ps (AtLeast i n) = false
+is_harmful ps (AtMost i n) = false

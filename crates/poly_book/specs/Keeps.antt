@@ -23,7 +23,7 @@ use Rattle.poly_book.specs.Whole.{Whole}
 
 -- `Whole` holds of what the fields show; the table is right for the design and has at least the view's numbers; each task
 -- was made at an edition that the log has, is noted in the maps under each of its own atoms if its number is less than
--- `m.below`, and isn't hopeless by its own atoms; if these are a stair, or end with one, the log has it; `m.below` is at most
+-- `m.below`, and isn't hopeless by its own atoms; the log has what these are read from; `m.below` is at most
 -- the number of the next task; the log has one list of guards for each step; numbers and editions are within their limits;
 -- endings and pending tasks together are fewer than the number of the next task; the log has what the frozen tasks of the
 -- history's shelves are read from; the history has at most 256 steps.

@@ -1,16 +1,17 @@
 -- Which tasks the maps have noted under which atoms.
+use Rattle.std.specs.Arc.{arc_value}
 use Rattle.std.specs.BTreeMap.{is_at}
 use Rattle.std.specs.List.{list_all, list_any}
 use Rattle.std.specs.Map.{lookup}
 use Rattle.std.specs.Option.{unwrap_or}
 use Rattle.std.specs.Ordering.{nat_cmp}
-use Rattle.std.specs.Prelude.{Bool, List, [], length, nat_le, nat_lt, slice_index_or, take, true, ℕ, ◌&&◌, ◌*◌, ◌+◌, ◌-◌, ◌<◌, ◌==◌, ◌||◌, ◌≡◌, ◌≤◌}
+use Rattle.std.specs.Prelude.{Bool, List, [], length, nat_le, nat_lt, slice_index_or, take, true, ℕ, ◌&&◌, ◌*◌, ◌+◌, ◌-◌, ◌==◌, ◌||◌, ◌≡◌, ◌≤◌}
 use Rattle.poly_tiling.specs.declared.item.Item.{Item}
 use Rattle.poly_tiling.specs.declared.item.Item.TheVariants.{Cell, Piece}
 use Rattle.poly_atom.specs.declared.atom.Atom.{Atom}
 use Rattle.poly_atom.specs.declared.atom.Atom.TheVariants.{AtLeast, AtMost, Has, Lacks}
 use Rattle.poly_book.specs.declared.maps.TheConstants.{FIRST_NAME}
-use Rattle.poly_book.specs.declared.maps.Base.{Base}
+use Rattle.poly_book.specs.declared.maps.NotedBase.{NotedBase}
 use Rattle.poly_book.specs.declared.maps.Maps.{Maps}
 use Rattle.poly_book.specs.declared.maps.Prefix.{Prefix}
 use Rattle.poly_book.specs.declared.maps.Run.{Run}
@@ -20,7 +21,7 @@ use Rattle.poly_book.specs.declared.rows.Span.{Span}
 use Rattle.poly_book.specs.declared.task.Own.{Own}
 use Rattle.poly_book.specs.declared.task.Own.TheVariants.{Crossed, Listed, Stair as OfStair}
 use Rattle.poly_book.specs.declared.task.Pending.{Pending}
-use Rattle.poly_book.specs.Meaning.{own_of}
+use Rattle.poly_book.specs.Meaning.{base_of, own_of}
 use Rattle.poly_grid.specs.declared.cell.TheConstants.{SIDE}
 
 abbrev pub key_of_name : List ℕ → ℕ
@@ -71,20 +72,14 @@ under m (AtMost i k) n = spanned m.at_most.entries (key_of i) n
 abbrev pub IsWider : Maps → Maps → Type 0
 IsWider old new = (a : Atom) (n : ℕ) → under old a n ≡ true → under new a n ≡ true
 
--- the list that a crossed task's stair follows
-abbrev pub base_of : Own → List Atom
-base_of (Listed v i) = []
-base_of (OfStair s) = []
-base_of (Crossed v i s) = slice_index_or v i []
-
--- there is such a list
-abbrev pub HasBase : Own → Type 0
-HasBase (Listed v i) = Unit {0}
-HasBase (OfStair s) = Unit {0}
-HasBase (Crossed v i s) = i < length v
+-- the atoms of the base that the own atoms begin with, if there is one
+abbrev pub below : List (List Atom) → Own → List Atom
+below log (Listed v i) = []
+below log (OfStair s) = []
+below log (Crossed b s) = base_of log (arc_value b)
 
 -- each of the base's atoms is noted for all tasks of the span
-abbrev pub IsNotedBase : Maps → Base → Type 0
+abbrev pub IsNotedBase : Maps → NotedBase → Type 0
 IsNotedBase m b = (n : ℕ) → in_span b.span n ≡ true → list_all (λ a. under m a n) b.others.items ≡ true
 
 -- each task is noted under each of its own atoms

@@ -1,4 +1,5 @@
 -- What a book's fields mean.
+use Rattle.std.specs.Arc.{arc_value}
 use Rattle.std.specs.List.{filter}
 use Rattle.std.specs.Prelude.{List, None, Option, Some, [], drop, length, map, reverse, slice_index_or, take, ℕ, ◌++◌, ◌<◌, ◌∷◌, ◌≡◌, ◌≤◌}
 use Rattle.poly_design.specs.Layout.{Layout}
@@ -9,6 +10,10 @@ use Rattle.poly_atom.specs.Logs.{IsStairOf, flat, stair_of}
 use Rattle.poly_report.specs.Words.{is_other}
 use Rattle.poly_undo.specs.declared.step.Step.{Step as Kept_step}
 use Rattle.poly_undo.specs.Steps.{Steps}
+use Rattle.poly_book.specs.declared.base.Base.{Base}
+use Rattle.poly_book.specs.declared.excerpt.Excerpt.{Excerpt}
+use Rattle.poly_book.specs.declared.excerpt.Excerpt.TheVariants.{Guards, Stair as StairExcerpt}
+use Rattle.poly_book.specs.declared.base.Laid.{Laid}
 use Rattle.poly_book.specs.declared.shelf.Frozen.{Frozen}
 use Rattle.poly_book.specs.declared.shelf.Kept.{Kept}
 use Rattle.poly_book.specs.declared.shelf.Shelf.{Shelf}
@@ -20,28 +25,54 @@ use Rattle.poly_book.specs.declared.task.Pending.{Pending}
 use Rattle.poly_book.specs.Tasks.{Task}
 use Rattle.poly_book.specs.States.{State, Stored, Way}
 
+-- the atoms of an excerpt of the log
+abbrev pub excerpt_of : List (List Atom) → Excerpt → List Atom
+excerpt_of log (Guards e n) = take n (flat (drop e log))
+excerpt_of log (StairExcerpt s) = stair_of log s
+
+-- the atoms of the excerpts, one after another
+abbrev pub excerpts_of : List (List Atom) → List Excerpt → List Atom
+excerpts_of log [] = []
+excerpts_of log (x ∷ xs) = excerpt_of log x ++ excerpts_of log xs
+
+-- the log has what the excerpt is read from
+abbrev pub IsExcerpt : List (List Atom) → Excerpt → Type 0
+IsExcerpt log (Guards e n) = (e ≤ length log) × (n ≤ length (flat (drop e log)))
+IsExcerpt log (StairExcerpt s) = IsStairOf log s
+
+abbrev pub AreExcerpts : List (List Atom) → List Excerpt → Type 0
+AreExcerpts log [] = Unit {0}
+AreExcerpts log (x ∷ xs) = IsExcerpt log x × AreExcerpts log xs
+
+-- the first edition that the excerpt is read from
+abbrev pub edition_of : Excerpt → ℕ
+edition_of (Guards e n) = e
+edition_of (StairExcerpt s) = s.edition
+
+-- the atoms of the base
+abbrev pub base_of : List (List Atom) → Base → List Atom
+base_of log b = slice_index_or b.lists b.index [] ++ excerpts_of log b.excerpts.items
+
+-- the base's atoms can be read, and it has those of them that are no `Lacks`
+pub record IsBase (log : List (List Atom)) (b : Base) : Type 0 where
+  pub index : b.index < length b.lists
+  pub excerpts : AreExcerpts log b.excerpts.items
+  pub others : b.others.items ≡ filter is_other (base_of log b)
+
 abbrev pub own_of : List (List Atom) → Own → List Atom
 own_of log (Listed v i) = slice_index_or v i []
 own_of log (OfStair s) = stair_of log s
-own_of log (Crossed v i s) = slice_index_or v i [] ++ stair_of log s
+own_of log (Crossed b s) = base_of log (arc_value b) ++ stair_of log s
 
 -- the own atoms, but for each `Lacks`
 abbrev pub brief_of : List (List Atom) → Own → List Atom
-brief_of log (Listed v i) = filter is_other (slice_index_or v i [])
-brief_of log (OfStair s) = filter is_other (stair_of log s)
-brief_of log (Crossed v i s) = filter is_other (slice_index_or v i []) ++ filter is_other (stair_of log s)
+brief_of log o = filter is_other (own_of log o)
 
--- the own atoms of a task that is a stair; no atoms for any other task
-abbrev pub stair_only : List (List Atom) → Own → List Atom
-stair_only log (Listed v i) = []
-stair_only log (OfStair s) = stair_of log s
-stair_only log (Crossed v i s) = []
-
--- the own atoms can be read: there is such a list, and the log has the stair that they are or end with
+-- the own atoms can be read: there is such a list or base, and the log has the stair that they are or end with
 abbrev pub IsOwn : List (List Atom) → Own → Type 0
 IsOwn log (Listed v i) = i < length v
 IsOwn log (OfStair s) = IsStairOf log s
-IsOwn log (Crossed v i s) = (i < length v) × IsStairOf log s
+IsOwn log (Crossed b s) = IsBase log (arc_value b) × IsStairOf log s
 
 -- the task, with the guards of every change since it was made
 abbrev pub task_of : List (List Atom) → Pending → Task
@@ -64,13 +95,21 @@ abbrev pub AreFresh : ℕ → List Pending → Type 0
 AreFresh n [] = Unit {0}
 AreFresh n (p ∷ ps) = (p.made ≡ n) × AreFresh n ps
 
--- the frozen task's own atoms, and the first `f.count` guards that the log has since the task was made
-abbrev pub frozen_of : List (List Atom) → Frozen → List Atom
-frozen_of log f = own_of log f.own ++ take f.count (flat (drop f.made log))
+-- the guards that were laid on the frozen task: the first `f.count` ones that the log has since the task was made
+abbrev pub laid_of : List (List Atom) → Frozen → List Atom
+laid_of log f = take f.count (flat (drop f.made log))
 
--- the frozen task's atoms, but for each `Lacks` of its own atoms
+-- the frozen task's own atoms, and the guards that were laid on it
+abbrev pub frozen_of : List (List Atom) → Frozen → List Atom
+frozen_of log f = own_of log f.own ++ laid_of log f
+
+-- the frozen task's atoms, but for each `Lacks`
 abbrev pub frozen_brief : List (List Atom) → Frozen → List Atom
-frozen_brief log f = brief_of log f.own ++ take f.count (flat (drop f.made log))
+frozen_brief log f = brief_of log f.own ++ filter is_other (laid_of log f)
+
+-- these are the guards that the log has, but for each `Lacks`
+abbrev pub IsLaid : List (List Atom) → Laid → Type 0
+IsLaid log l = l.others.items ≡ filter is_other (take l.count (flat (drop l.made log)))
 
 -- the log has what the frozen task's atoms are read from
 pub record IsFrozen (log : List (List Atom)) (f : Frozen) : Type 0 where

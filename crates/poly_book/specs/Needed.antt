@@ -1,8 +1,11 @@
 -- Which guards of the log are still read.
+use Rattle.std.specs.Arc.{arc_value}
 use Rattle.std.specs.List.{All}
 use Rattle.std.specs.Prelude.{List, None, Option, Some, ℕ, ◌<◌, ◌≤◌}
 use Rattle.poly_design.specs.declared.change.Change.{Change}
 use Rattle.poly_undo.specs.declared.step.Step.{Step as Beside}
+use Rattle.poly_book.specs.Meaning.{edition_of}
+use Rattle.poly_book.specs.declared.excerpt.Excerpt.{Excerpt}
 use Rattle.poly_book.specs.declared.shelf.Frozen.{Frozen}
 use Rattle.poly_book.specs.declared.shelf.Kept.{Kept}
 use Rattle.poly_book.specs.declared.shelf.Shelf.{Shelf}
@@ -10,11 +13,15 @@ use Rattle.poly_book.specs.declared.task.Own.{Own}
 use Rattle.poly_book.specs.declared.task.Own.TheVariants.{Crossed, Listed, Stair as OfStair}
 use Rattle.poly_book.specs.declared.task.Pending.{Pending}
 
--- if the own atoms are a stair, or end with one, its edition is e or a later one
+-- the excerpts are read from no edition before e
+abbrev pub AreExcerptsFrom : ℕ → List Excerpt → Type 0
+AreExcerptsFrom e xs = All (λ x. e ≤ edition_of x) xs
+
+-- the own atoms are read from no edition before e
 abbrev pub IsOwnFrom : ℕ → Own → Type 0
 IsOwnFrom e (Listed v i) = Unit {0}
 IsOwnFrom e (OfStair s) = e ≤ s.edition
-IsOwnFrom e (Crossed v i s) = e ≤ s.edition
+IsOwnFrom e (Crossed b s) = AreExcerptsFrom e (arc_value b).excerpts.items × (e ≤ s.edition)
 
 -- the atoms of a task with these own atoms that was made at this edition are read from no edition before e
 pub record IsTaskFrom (e : ℕ) (own : Own) (made : ℕ) : Type 0 where

@@ -9,10 +9,11 @@ use Rattle.poly_place.specs.declared.delta.Delta.{Delta}
 use Rattle.poly_atom.specs.declared.atom.Atom.{Atom}
 use Rattle.poly_atom.specs.Hopeless.{hopeless}
 use Rattle.poly_atom.specs.Newly.{touched}
+use Rattle.poly_book.specs.declared.task.Own.{Own}
 use Rattle.poly_book.specs.declared.task.Pending.{Pending}
 use Rattle.poly_book.specs.declared.touch.Touch.{Touch}
-use Rattle.poly_book.specs.declared.untouched.Calm.{Calm}
-use Rattle.poly_book.specs.Meaning.{own_of}
+use Rattle.poly_book.specs.declared.untouched.Untouched.{Untouched}
+use Rattle.poly_book.specs.Meaning.{brief_of, own_of}
 
 -- the change `y` leads from the view `v` to the view `w`, with the differences `x`
 abbrev pub IsMadeBy : View → View → Delta → Change → Type 0
@@ -26,6 +27,14 @@ abbrev pub AreTouched : Touch → List (List Atom) → List Pending → Type 0
 AreTouched t log [] = Unit {0}
 AreTouched t log (p ∷ ps) = (hopeless t.view.now (own_of log p.own) ≡ true → list_any (touches t) (own_of log p.own) ≡ true) × AreTouched t log ps
 
+-- if the change pins nothing, the task's own atoms are hopeless after it only if they are so without each `Lacks`
+abbrev pub IsBrief : Touch → List (List Atom) → Own → Type 0
+IsBrief t log o = t.delta.now.pinned.items ≡ [] → hopeless t.view.now (own_of log o) ≡ true → hopeless t.view.now (brief_of log o) ≡ true
+
+abbrev pub AreBrief : Touch → List (List Atom) → List Pending → Type 0
+AreBrief t log [] = Unit {0}
+AreBrief t log (p ∷ ps) = IsBrief t log p.own × AreBrief t log ps
+
 -- the change touches none of these first guards of the edition
-abbrev pub IsCalm : Touch → List (List Atom) → Calm → Type 0
-IsCalm t log c = list_any (λ a. touches t a) (take c.count (slice_index_or log c.edition [])) ≡ false
+abbrev pub AreUntouched : Touch → List (List Atom) → Untouched → Type 0
+AreUntouched t log u = list_any (λ a. touches t a) (take u.count (slice_index_or log u.edition [])) ≡ false

@@ -1,8 +1,9 @@
 //! Drops guards that nothing reads any more, so that a long session with few pending tasks needs little memory.
 //!
-//! The atoms of a pending task are read from the guards of the changes since it was made, and of the change whose stair it is.
-//! The atoms of a frozen task are read in the same way. The guards of the changes before the first of these can go. They are
-//! dropped only when the log has doubled since the last time, so looking for them costs little on average.
+//! The atoms of a pending task are read from the guards of the changes since it was made, of the change whose stair it is, and of
+//! those that its base is read from. The atoms of a frozen task are read in the same way. The guards of the changes before the
+//! first of these can go. They are dropped only when the log has doubled since the last time, so looking for them costs little on
+//! average.
 ghost use Rattle.std.specs.Prelude.{◌≡◌, ◌≤◌, option_copied};
 ghost use Rattle.std.specs.List.{All};
 ghost use Rattle.poly_book.specs.Keeps.{Keeps, state_of};
@@ -130,6 +131,6 @@ fn first_of(own: &Own, made: u64, end: u64) -> u64
     match own {
         Own::Listed(_, _) => made.min(end),
         Own::Stair(stair) => stair.edition.min(made).min(end),
-        Own::Crossed(_, _, stair) => stair.edition.min(made).min(end),
+        Own::Crossed(base, stair) => base.first_edition(stair.edition.min(made).min(end)),
     }
 }

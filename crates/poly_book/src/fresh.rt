@@ -1,5 +1,7 @@
 //! New tasks: the stairs of a change or, if a shelf was kept for this undo or redo, each frozen list of the shelf followed by
 //! each stair; and the rests of a report. A hopeless list gets no task.
+ghost use Rattle.std.specs.Arc.{arc_value};
+ghost use Rattle.std.specs.List.{filter};
 ghost use Rattle.std.specs.Prelude.{◌≡◌, ◌≤◌, ◌<◌, ◌++◌, ◌+◌, ◌∷◌, ◌⊎◌, ℕ, [], IfErr, IfOk, List, OnOk, false, length, map, not, option_copied, slice_index_or, true, MatchOption, ⊤};
 ghost use Rattle.poly_atom.specs.declared.atom.Atom.{Atom as AtomOf};
 ghost use Rattle.poly_atom.specs.Atoms.{AllSmall};
@@ -7,14 +9,16 @@ ghost use Rattle.poly_atom.specs.Hopeless.{hopeless};
 ghost use Rattle.poly_atom.specs.Logs.{IsStairOf, stair_of};
 ghost use Rattle.poly_atom.specs.Stairs.{stairs};
 ghost use Rattle.poly_tiling.specs.Puzzle.{View as ViewOf};
+ghost use Rattle.poly_report.specs.Words.{is_other};
 ghost use Rattle.poly_book.specs.Judged.{AreJudged, LackOnce};
 ghost use Rattle.poly_book.specs.Opens.{Opening, Opens};
-ghost use Rattle.poly_book.specs.Meaning.{AreFrozen, IsFrozen, IsHeld, IsOwn, frozen_brief, frozen_of, own_of, stored_of};
+ghost use Rattle.poly_book.specs.Meaning.{AreFrozen, IsBase, IsFrozen, IsHeld, IsOwn, base_of, frozen_brief, frozen_of, laid_of, own_of, stored_of};
 ghost use Rattle.poly_book.specs.Shelves.{crossed, openings};
 ghost use Rattle.poly_book.specs.Tasks.{AreHopeful, hopeful};
 ghost use Rattle.poly_book.specs.declared.prepare.TheConstants.{MAX_CHANGES};
 
-use crate::bases::{frozen_list, frozen_stairs};
+use crate::base::{Base, Laid, base_over};
+use crate::harm::append_harmful;
 use crate::judge::{judge_first, judge_stairs, lead_of};
 use crate::shelf::{Frozen, Shelf};
 use crate::task::{Own, Pending, read_brief, read_own};
@@ -23,9 +27,34 @@ use poly_grid::Refusal;
 use poly_report::{Rests, SharedLists};
 use poly_tiling::View;
 use std::alloc::Global;
+use std::sync::Arc;
 
 /// The greatest task number.
 const LAST: u64 = 4_294_967_295;
+
+// What is used again for each frozen task that is judged.
+#[derive(Drop)]
+struct Buffers {
+    // Atoms of the task after which stairs are judged.
+    atoms: Vec<Atom>,
+    // All atoms of the task.
+    all: Vec<Atom>,
+    // Placements whose `Lacks` can do harm.
+    placements: Vec<u32>,
+    // Which stairs aren't hopeless after the atoms without each `Lacks`.
+    hopes: Vec<bool>,
+}
+
+impl Buffers {
+    fn new(alloc: Global) -> Buffers {
+        Buffers {
+            atoms: Vec::new(alloc),
+            all: Vec::new(alloc),
+            placements: Vec::new(alloc),
+            hopes: Vec::new(alloc),
+        }
+    }
+}
 
 /// The lists that aren't hopeless, as tasks with the numbers from `next` on, which share the lists. If the lists begin with the
 /// list of `base`, they are kept over it as far as this pays. If `sure`, none of the lists is hopeless, and none is read.
@@ -198,58 +227,69 @@ fn opened_crossed(
     if guards.is_empty() {
         return Ok(tasks);
     }
-    let stairs = frozen_stairs(alloc, log, frozen)?;
-    let mut atoms = Vec::new(alloc);
-    let mut hopes = Vec::new(alloc);
+    let none = SharedLists::one(alloc, &[])?;
+    let mut laid = Laid::none(alloc);
+    let mut buffers = Buffers::new(alloc);
     let mut flags = Vec::new(alloc);
     let mut number = next;
-    for (i, task) in frozen.iter().enumerate() {
-        if !judge_frozen(view, log, task, guards, &mut atoms, &mut hopes, &mut flags)? {
+    for task in frozen {
+        laid.read(log, task)?;
+        if !judge_frozen(view, log, task, &laid, guards, &mut buffers, &mut flags)? {
             continue;
         }
-        let (lists, at) = frozen_list(alloc, log, task, &stairs, i)?;
-        number = add_crossed(&lists, at, &flags, number, edition, &mut tasks)?;
+        let base = base_over(alloc, log, task, &laid, &none)?;
+        let shared = Arc::new(alloc, base)?;
+        number = add_crossed(&shared, &flags, number, edition, &mut tasks)?;
     }
     Ok(tasks)
 }
 
 // Judges which stairs of the guards aren't hopeless after the atoms of the frozen task. The flags come in place of those that were
-// there, and the other buffers are overwritten. If no flag is true, returns `false`. Nearly all atoms of a list are `Lacks`, so the
-// stairs are judged without them first, and only those that remain are judged after all atoms.
+// there, and the buffers are overwritten. If no flag is true, returns `false`. Nearly all atoms of a list are `Lacks`, so the stairs
+// are judged without them first, and those that remain are judged after those `Lacks` that can do harm.
 fn judge_frozen(
     view: &View,
     log: &GuardLog,
     frozen: &Frozen,
+    laid: &Laid,
     guards: &[Atom],
-    atoms: &mut Vec<Atom>,
-    hopes: &mut Vec<bool>,
+    buffers: &mut Buffers,
     flags: &mut Vec<bool>,
 ) -> Result<bool, Refusal>
     requires small { AllSmall guards.now }
     requires once { LackOnce guards.now }
     requires frozen { IsFrozen log.now frozen.now }
+    requires laid { laid.now.others.items ≡ filter is_other (laid_of log.now frozen.now) }
     ensures none { IfOk result (λ yes. yes ≡ false → hopeful view.now (map (λ B. frozen_of log.now frozen.now ++ B) (stairs guards.now)) ≡ []) }
     ensures flags { IfOk result (λ yes. yes ≡ true → AreJudged view.now (frozen_of log.now frozen.now) (stairs guards.now) flags.new.items) }
     ensures why { IfErr result (λ e. e ≡ Refusal.Memory) }
 {
-    read_frozen_brief(log, frozen, atoms)?;
+    let atoms = &mut buffers.atoms;
+    let hopes = &mut buffers.hopes;
+    read_frozen_brief(log, frozen, laid, atoms)?;
     if !judge_first(view, atoms, guards, flags, hopes)? {
         return Ok(false);
     }
-    read_frozen(log, frozen, atoms)?;
+    read_frozen(log, frozen, &mut buffers.all)?;
+    append_harmful(view, &buffers.all, guards, &mut buffers.placements, atoms)?;
     let any = judge_stairs(view, atoms, guards, lead_of(guards), hopes, flags)?;
     Ok(any)
 }
 
-// Writes the atoms of the frozen task without each `Lacks` of its own atoms to the buffer, in place of what it had.
-fn read_frozen_brief(log: &GuardLog, frozen: &Frozen, atoms: &mut Vec<Atom>) -> Result<(), Refusal>
-    requires { IsFrozen log.now frozen.now }
+// Writes the atoms of the frozen task without each `Lacks` to the buffer, in place of what it had.
+fn read_frozen_brief(
+    log: &GuardLog,
+    frozen: &Frozen,
+    laid: &Laid,
+    atoms: &mut Vec<Atom>,
+) -> Result<(), Refusal>
+    requires frozen { IsFrozen log.now frozen.now }
+    requires laid { laid.now.others.items ≡ filter is_other (laid_of log.now frozen.now) }
     ensures atoms { OnOk result (atoms.new.items ≡ frozen_brief log.now frozen.now) }
     ensures why { IfErr result (λ e. e ≡ Refusal.Memory) }
 {
-    let since = log.since(frozen.made);
     read_brief(log, &frozen.own, atoms)?;
-    atoms.extend_from_slice(&since[..frozen.count])?;
+    atoms.extend_from_slice(laid.others())?;
     Ok(())
 }
 
@@ -265,34 +305,30 @@ fn read_frozen(log: &GuardLog, frozen: &Frozen, atoms: &mut Vec<Atom>) -> Result
     Ok(())
 }
 
-// The list at the index, which is shared, followed by the stair.
-fn stair_after(bases: &SharedLists, index: usize, stair: Stair) -> Result<Own, Refusal>
-    requires { index < length bases.now }
-    ensures reads { IfOk result (λ o. (log : List (List AtomOf)) → own_of log o ≡ slice_index_or bases.now index [] ++ stair_of log stair) }
-    ensures stands { IfOk result (λ o. (log : List (List AtomOf)) → IsStairOf log stair → IsOwn log o) }
+// The base followed by the stair.
+fn stair_after(base: &Arc<Base>, stair: Stair) -> Result<Own, Refusal>
+    ensures reads { IfOk result (λ o. (log : List (List AtomOf)) → own_of log o ≡ base_of log (arc_value base.now) ++ stair_of log stair) }
+    ensures stands { IfOk result (λ o. (log : List (List AtomOf)) → IsBase log (arc_value base.now) → IsStairOf log stair → IsOwn log o) }
     ensures why { IfErr result (λ e. e ≡ Refusal.Memory) }
 {
-    let shared = bases.try_clone()?;
-    Ok(Own::Crossed(shared, index, stair))
+    Ok(Own::Crossed(Arc::try_clone(base)?, stair))
 }
 
-// Appends a base followed by each stair that is flagged, as tasks with the numbers from `start` on. The base is the list at the
-// index. Returns the number after that of the last task.
+// Appends the base followed by each stair that is flagged, as tasks with the numbers from `start` on. Returns the number after
+// that of the last task.
 fn add_crossed(
-    bases: &SharedLists,
-    at: usize,
+    base: &Arc<Base>,
     flags: &[bool],
     start: u64,
     edition: u64,
     tasks: &mut Vec<Pending>,
 ) -> Result<u64, Refusal>
-    requires at { at < length bases.now }
     requires start { start ≤ 4294967296 }
     requires edition { edition ≤ MAX_CHANGES }
-    ensures ok { IfOk result (λ n. (w : ViewOf) (g : List AtomOf) (log : List (List AtomOf)) (next : ℕ) (all rest : List (List AtomOf)) → length log ≡ edition → AreJudged w (slice_index_or bases.now at []) (stairs g) flags.now → Opening (log ++ g ∷ []) next start w all (map (λ B. slice_index_or bases.now at [] ++ B) (stairs g) ++ rest) tasks.old.items → Opening (log ++ g ∷ []) next n w all rest tasks.new.items) }
+    ensures ok { IfOk result (λ n. (w : ViewOf) (g : List AtomOf) (log : List (List AtomOf)) (next : ℕ) (all rest : List (List AtomOf)) → length log ≡ edition → IsBase log (arc_value base.now) → AreJudged w (base_of log (arc_value base.now)) (stairs g) flags.now → Opening (log ++ g ∷ []) next start w all (map (λ B. base_of log (arc_value base.now) ++ B) (stairs g) ++ rest) tasks.old.items → Opening (log ++ g ∷ []) next n w all rest tasks.new.items) }
     ensures count { IfOk result (λ n. start + length tasks.new.items ≡ n + length tasks.old.items) }
     ensures few { IfOk result (λ n. n ≤ 4294967296) }
-    ensures why { IfErr result (λ e. ((e ≡ Refusal.Spent) × ((w : ViewOf) (g : List AtomOf) (log : List (List AtomOf)) (next : ℕ) (all rest : List (List AtomOf)) → length log ≡ edition → AreJudged w (slice_index_or bases.now at []) (stairs g) flags.now → next + length tasks.old.items ≡ start → Opening (log ++ g ∷ []) next start w all (map (λ B. slice_index_or bases.now at [] ++ B) (stairs g) ++ rest) tasks.old.items → 4294967296 < next + length (hopeful w all))) ⊎ (e ≡ Refusal.Memory)) }
+    ensures why { IfErr result (λ e. ((e ≡ Refusal.Spent) × ((w : ViewOf) (g : List AtomOf) (log : List (List AtomOf)) (next : ℕ) (all rest : List (List AtomOf)) → length log ≡ edition → IsBase log (arc_value base.now) → AreJudged w (base_of log (arc_value base.now)) (stairs g) flags.now → next + length tasks.old.items ≡ start → Opening (log ++ g ∷ []) next start w all (map (λ B. base_of log (arc_value base.now) ++ B) (stairs g) ++ rest) tasks.old.items → 4294967296 < next + length (hopeful w all))) ⊎ (e ≡ Refusal.Memory)) }
 {
     let mut number = start;
     for index in 0..flags.len() {
@@ -302,7 +338,7 @@ fn add_crossed(
         if number > LAST {
             return Err(Refusal::Spent);
         }
-        let own = stair_after(bases, at, Stair { edition, index })?;
+        let own = stair_after(base, Stair { edition, index })?;
         tasks.push(Pending {
             number: number as u32,
             own,

@@ -21,14 +21,16 @@
 #![tactic(auto)]
 
 mod apply;
-mod bases;
+mod base;
 mod begin;
 mod book;
 mod edit;
+mod excerpt;
 mod forget;
 mod found;
 mod fresh;
 mod hand_in;
+mod harm;
 mod judge;
 pub mod laws;
 mod maps;

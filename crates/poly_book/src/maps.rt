@@ -15,7 +15,7 @@ ghost use Rattle.std.specs.Prelude.{◌≡◌, ◌++◌, ◌<◌, ◌≤◌, ◌
 ghost use Rattle.std.specs.List.{list_all};
 ghost use Rattle.std.specs.List.Sorted.{IsNonDecreasingBy};
 ghost use Rattle.poly_atom.specs.Logs.{IsStairOf, stair_of};
-ghost use Rattle.poly_book.specs.Mapped.{AreNoted, AreRunsNoted, HasBase, IsNotedBase, IsPrefix, IsWider, KeepsPending, KeepsRuns, WillHave, base_of, in_span, key_of, key_of_name, run_from, under};
+ghost use Rattle.poly_book.specs.Mapped.{AreNoted, AreRunsNoted, IsNotedBase, IsPrefix, IsWider, KeepsPending, KeepsRuns, WillHave, below, in_span, key_of, key_of_name, run_from, under};
 ghost use Rattle.poly_book.specs.Meaning.{AreTasks, IsOwn, own_of};
 
 use crate::placed::PlacedRows;
@@ -55,7 +55,7 @@ pub(crate) struct Prefix {
 
 /// A base, but for its `Lacks`, and the tasks for which it is noted.
 #[derive(Debug, Drop)]
-pub(crate) struct Base {
+pub(crate) struct NotedBase {
     /// The atoms of the base that are no `Lacks`.
     others: Vec<Atom>,
     /// The tasks for which each of them is noted.
@@ -109,7 +109,7 @@ impl Maps {
             count: 0,
             span: Span { from: 0, to: 0 },
         };
-        let mut base = Base {
+        let mut base = NotedBase {
             others: Vec::new(self.alloc),
             span: Span { from: 1, to: 0 },
         };
@@ -118,9 +118,8 @@ impl Maps {
             last: 0,
             others: Vec::new(self.alloc),
         };
-        let mut buffer = Vec::new(self.alloc);
         for (i, task) in tasks.iter().enumerate() {
-            self.note_base(&task.own, &mut base, task.number, &tasks[i..], &mut buffer)?;
+            self.note_base(log, &task.own, &mut base, task.number, &tasks[i..])?;
             self.note_task(log, &task.own, task.number, last, &mut prefix, &mut runs)?;
         }
         self.note_runs(&runs.begun, runs.last)
@@ -149,7 +148,7 @@ impl Maps {
         runs: &mut Runs,
     ) -> Result<(), Refusal>
         requires own { IsOwn log.now own.now }
-        requires base { list_all (λ a. under self.old a number) (base_of own.now) ≡ true }
+        requires base { list_all (λ a. under self.old a number) (below log.now own.now) ≡ true }
         requires prefix { IsPrefix self.old log.now prefix.old }
         ensures prefix { OnOk result (IsPrefix self.new log.now prefix.new) }
         ensures runs { OnOk result (KeepsRuns self.old runs.old self.new runs.new) }
@@ -160,7 +159,7 @@ impl Maps {
         match own {
             Own::Listed(lists, index) => self.note_listed(lists, *index, number, runs),
             Own::Stair(stair) => self.note_stair(log, stair, number, last, prefix),
-            Own::Crossed(_, _, stair) => self.note_stair(log, stair, number, last, prefix),
+            Own::Crossed(_, stair) => self.note_stair(log, stair, number, last, prefix),
         }
     }
 
@@ -208,31 +207,32 @@ impl Maps {
 
     // Notes the base of a crossed task for this task and the next ones that have the same, and nothing for another task. `known`
     // is the base that was noted last; if it is the same and noted for this task, nothing is left to note. `rest` are the tasks
-    // from this one on. The base is read into the buffer.
+    // from this one on.
     fn note_base(
         &mut self,
+        log: &GuardLog,
         own: &Own,
-        known: &mut Base,
+        known: &mut NotedBase,
         number: u32,
         rest: &[Pending],
-        buffer: &mut Vec<Atom>,
     ) -> Result<(), Refusal>
-        requires own { HasBase own.now }
+        requires own { IsOwn log.now own.now }
         requires known { IsNotedBase self.old known.old }
         ensures known { OnOk result (IsNotedBase self.new known.new) }
-        ensures ok { OnOk result (list_all (λ a. under self.new a number) (base_of own.now) ≡ true) }
+        ensures ok { OnOk result (list_all (λ a. under self.new a number) (below log.now own.now) ≡ true) }
         ensures wider { IsWider self.old self.new }
         ensures why { IfErr result (λ e. e ≡ Refusal.Memory) }
     {
+        let _ = log;
         match own {
             Own::Listed(_, _) => Ok(()),
             Own::Stair(_) => Ok(()),
-            Own::Crossed(lists, index, _) => {
-                lists.read_others(*index, buffer)?;
-                if is_noted(known, buffer, number) {
+            Own::Crossed(base, _) => {
+                let others = base.others();
+                if is_noted(known, others, number) {
                     return Ok(());
                 }
-                self.note_new_base(known, number, rest, buffer)
+                self.note_new_base(known, number, rest, others)
             }
         }
     }
@@ -241,7 +241,7 @@ impl Maps {
     // have the same. `rest` are the tasks from this one on. The base becomes the known one.
     fn note_new_base(
         &mut self,
-        known: &mut Base,
+        known: &mut NotedBase,
         number: u32,
         rest: &[Pending],
         others: &[Atom],
@@ -253,7 +253,7 @@ impl Maps {
     {
         let span = Span {
             from: number,
-            to: last_with(self.alloc, rest, others)?.max(number),
+            to: last_with(rest, others).max(number),
         };
         self.note_list(others, span)?;
         known.others.clear();
@@ -380,7 +380,7 @@ fn begin_runs(runs: &mut Vec<Run>, atoms: &[Atom], number: u32) -> Result<(), Re
 }
 
 // Whether the base, of which `others` are the atoms that are no `Lacks`, is noted for the task with the number.
-fn is_noted(known: &Base, others: &[Atom], number: u32) -> bool
+fn is_noted(known: &NotedBase, others: &[Atom], number: u32) -> bool
     ensures { result ≡ true → (others.now ≡ known.now.others.items) × (in_span known.now.span number ≡ true) }
 {
     if number < known.span.from || known.span.to < number {
@@ -389,36 +389,24 @@ fn is_noted(known: &Base, others: &[Atom], number: u32) -> bool
     is_same_list(others, &known.others)
 }
 
-// The number of the last of the first tasks whose base has these atoms besides its `Lacks`; 0 if there is none. Fails only when
-// out of memory.
-fn last_with(alloc: Global, tasks: &[Pending], others: &[Atom]) -> Result<u32, Refusal>
-    ensures { IfErr result (λ e. e ≡ Refusal.Memory) }
-{
+// The number of the last of the first tasks whose base has these atoms besides its `Lacks`; 0 if there is none.
+fn last_with(tasks: &[Pending], others: &[Atom]) -> u32 {
     let mut last = 0;
-    let mut buffer = Vec::new(alloc);
     for task in tasks {
-        if !has_base(&task.own, others, &mut buffer)? {
-            return Ok(last);
+        if !has_base(&task.own, others) {
+            return last;
         }
         last = task.number;
     }
-    Ok(last)
+    last
 }
 
-// Whether the task's base has these atoms besides its `Lacks`. The base is read into the buffer. Fails only when out of memory.
-fn has_base(own: &Own, others: &[Atom], buffer: &mut Vec<Atom>) -> Result<bool, Refusal>
-    ensures { IfErr result (λ e. e ≡ Refusal.Memory) }
-{
+// Whether the task has a base, and the base has these atoms besides its `Lacks`.
+fn has_base(own: &Own, others: &[Atom]) -> bool {
     match own {
-        Own::Listed(_, _) => Ok(false),
-        Own::Stair(_) => Ok(false),
-        Own::Crossed(lists, index, _) => {
-            if *index >= lists.len() {
-                return Ok(false);
-            }
-            lists.read_others(*index, buffer)?;
-            Ok(is_same_list(others, buffer))
-        }
+        Own::Listed(_, _) => false,
+        Own::Stair(_) => false,
+        Own::Crossed(base, _) => is_same_list(others, base.others()),
     }
 }
 

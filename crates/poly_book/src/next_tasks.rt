@@ -15,7 +15,7 @@ ghost use Rattle.poly_book.specs.Shelves.{openings};
 ghost use Rattle.poly_book.specs.Tasks.{hopeful};
 ghost use Rattle.poly_book.specs.Reaching.{AreEndsReached};
 ghost use Rattle.std.specs.List.{list_any};
-ghost use Rattle.poly_book.specs.Touching.{AreTouched, IsCalm, IsMadeBy, touches};
+ghost use Rattle.poly_book.specs.Touching.{AreBrief, AreTouched, AreUntouched, IsBrief, IsMadeBy, touches};
 
 use crate::fresh::fresh_tasks;
 use crate::parts::Parts;
@@ -25,7 +25,7 @@ use crate::spoilt::{is_spoilt, spoiler_of};
 use crate::step::Ending;
 use crate::task::{Pending, ends_by_stair, is_hopeless};
 use crate::touch::Touch;
-use crate::untouched::{Calm, is_untouched};
+use crate::untouched::{Untouched, is_untouched};
 use poly_atom::{Atom, GuardLog, Stair};
 use poly_design::Change;
 use poly_grid::Refusal;
@@ -107,51 +107,63 @@ fn surviving(
     requires len { length reach.now ≡ length tasks.now }
     requires reached { AreEndsReached touch.now.view.now log.now tasks.now reach.now }
     requires touched { AreTouched touch.now log.now tasks.now }
+    requires brief { AreBrief touch.now log.now tasks.now }
     ensures ok { IfOk result (λ v. v.items ≡ map (λ p. not (hopeless touch.now.view.now (own_of log.now p.own))) tasks.now) }
     ensures why { IfErr result (λ e. e ≡ Refusal.Memory) }
 {
     let mut flags = Vec::new(alloc);
     let mut buffer = Vec::new(alloc);
-    let mut calm = Calm::none();
+    let mut untouched = Untouched::none();
     let mut spoiler = None;
     let mut far = 0;
     for (i, task) in tasks.iter().enumerate() {
         far = reach[i].max(far);
-        let ends = ends_by(touch, log, task, far, &mut calm, &mut spoiler, &mut buffer)?;
+        let ends = ends_by(
+            touch,
+            log,
+            task,
+            far,
+            &mut untouched,
+            &mut spoiler,
+            &mut buffer,
+        )?;
         flags.push(!ends)?;
     }
     Ok(flags)
 }
 
 // Whether the task's own atoms are hopeless after the change. They aren't if the task's number is over `far`, or if the change
-// touches none of them. `calm` and `spoiler` have what is known of the first guards of one change, and may be overwritten.
+// touches none of them. `untouched` and `spoiler` have what is known of the first guards of one change, and may be overwritten.
 fn ends_by(
     touch: &Touch<'_>,
     log: &GuardLog,
     task: &Pending,
     far: u32,
-    calm: &mut Calm,
+    untouched: &mut Untouched,
     spoiler: &mut Option<Stair>,
     buffer: &mut Vec<Atom>,
 ) -> Result<bool, Refusal>
     requires own { IsOwn log.now task.now.own }
     requires reached { hopeless touch.now.view.now (own_of log.now task.now.own) ≡ true → task.now.number ≤ far }
     requires touched { hopeless touch.now.view.now (own_of log.now task.now.own) ≡ true → list_any (λ a. touches touch.now a) (own_of log.now task.now.own) ≡ true }
-    requires calm { IsCalm touch.now log.now calm.old }
+    requires brief { IsBrief touch.now log.now task.now.own }
+    requires untouched { AreUntouched touch.now log.now untouched.old }
     requires spoiler { MatchOption spoiler.old ⊤ (λ s. IsSpoiler touch.now.view.now log.now s) }
     ensures ok { IfOk result (λ yes. yes ≡ hopeless touch.now.view.now (own_of log.now task.now.own)) }
-    ensures calm { OnOk result (IsCalm touch.now log.now calm.new) }
+    ensures untouched { OnOk result (AreUntouched touch.now log.now untouched.new) }
     ensures spoiler { OnOk result (MatchOption spoiler.new ⊤ (λ s. IsSpoiler touch.now.view.now log.now s)) }
     ensures why { IfErr result (λ e. e ≡ Refusal.Memory) }
 {
-    if task.number > far || is_untouched(touch, log, &task.own, calm) {
+    if task.number > far || is_untouched(touch, log, &task.own, untouched) {
         return Ok(false);
     }
     let view = touch.view;
     if is_spoilt(view, log, &task.own, *spoiler) || ends_by_stair(view, log, &task.own) {
         return Ok(true);
     }
-    let ends = is_hopeless(view, log, &task.own, buffer)?;
+    // A `Lacks` that harmed nothing before the change can be hopeless after it only by a new pin.
+    let brief = touch.delta.pinned.is_empty();
+    let ends = is_hopeless(view, log, &task.own, brief, buffer)?;
     if ends {
         *spoiler = spoiler_of(view, log, &task.own);
     }

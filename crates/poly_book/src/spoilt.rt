@@ -71,6 +71,6 @@ pub(crate) fn last_stair(own: &Own) -> Option<Stair>
     match own {
         Own::Listed(_, _) => None,
         Own::Stair(stair) => Some(*stair),
-        Own::Crossed(_, _, stair) => Some(*stair),
+        Own::Crossed(_, stair) => Some(*stair),
     }
 }

@@ -8,6 +8,7 @@ ghost use Rattle.poly_report.specs.Words.{is_other};
 ghost use Rattle.poly_book.specs.Meaning.{IsFrozen, IsOwn, IsTask, brief_of, frozen_of, own_of, task_of};
 ghost use Rattle.poly_book.specs.Tasks.{atoms_of};
 
+use crate::base::Base;
 use crate::shelf::Frozen;
 use crate::spoilt::last_stair;
 use poly_atom::{Atom, GuardLog, Stair, hopeless};
@@ -15,6 +16,7 @@ use poly_grid::Refusal;
 use poly_report::SharedLists;
 use poly_tiling::View;
 use std::alloc::Global;
+use std::sync::Arc;
 
 /// A task's own atoms.
 #[derive(Debug, Drop)]
@@ -23,9 +25,9 @@ pub enum Own {
     Listed(SharedLists, usize),
     /// A stair of a change. Its atoms are read from the guard log.
     Stair(Stair),
-    /// The list at this index, followed by a stair of the change that opened the task. The tasks that were opened for one frozen
-    /// task share its list.
-    Crossed(SharedLists, usize, Stair),
+    /// A base, followed by a stair of the change that opened the task. The tasks that were opened for one frozen task share its
+    /// atoms as their base.
+    Crossed(Arc<Base>, Stair),
 }
 
 /// A pending task.
@@ -40,21 +42,24 @@ pub struct Pending {
 }
 
 /// Whether a task's own atoms are hopeless. They are read into the buffer, in place of what it had. Nearly all of them are
-/// `Lacks`, and most of those that a change makes hopeless are hopeless without these, so the others are judged first. Fails
-/// only when out of memory.
+/// `Lacks`, and most of those that a change makes hopeless are hopeless without these, so the others are judged first. If `brief`,
+/// nothing else needs to be judged. Fails only when out of memory.
 pub(crate) fn is_hopeless(
     view: &View,
     log: &GuardLog,
     own: &Own,
+    brief: bool,
     buffer: &mut Vec<Atom>,
 ) -> Result<bool, Refusal>
-    requires { IsOwn log.now own.now }
+    requires own { IsOwn log.now own.now }
+    requires brief { brief ≡ true → hopeless view.now (own_of log.now own.now) ≡ true → hopeless view.now (brief_of log.now own.now) ≡ true }
     ensures ok { IfOk result (λ yes. yes ≡ hopeless view.now (own_of log.now own.now)) }
     ensures why { IfErr result (λ e. e ≡ Refusal.Memory) }
 {
     read_brief(log, own, buffer)?;
-    if hopeless(view, buffer) {
-        return Ok(true);
+    let ends = hopeless(view, buffer);
+    if ends || brief {
+        return Ok(ends);
     }
     read_own(log, own, buffer)?;
     Ok(hopeless(view, buffer))
@@ -96,29 +101,43 @@ pub(crate) fn read_brief(log: &GuardLog, own: &Own, buffer: &mut Vec<Atom>) -> R
             append_others(log, stair, buffer)?;
             Ok(())
         }
-        Own::Crossed(lists, index, stair) => {
-            lists.read_others(*index, buffer)?;
+        Own::Crossed(base, stair) => {
+            buffer.clear();
+            buffer.extend_from_slice(base.others())?;
             append_others(log, stair, buffer)?;
             Ok(())
         }
     }
 }
 
-// Appends the atoms of the stair without each `Lacks`.
-fn append_others(log: &GuardLog, stair: &Stair, buffer: &mut Vec<Atom>) -> Result<(), Refusal>
+/// Appends the atoms of the stair without each `Lacks`.
+pub(crate) fn append_others(
+    log: &GuardLog,
+    stair: &Stair,
+    buffer: &mut Vec<Atom>,
+) -> Result<(), Refusal>
     requires { IsStairOf log.now stair.now }
     ensures ok { OnOk result (buffer.new.items ≡ buffer.old.items ++ filter is_other (stair_of log.now stair.now)) }
     ensures why { IfErr result (λ e. e ≡ Refusal.Memory) }
 {
     let guards = log.guards_of(stair.edition);
-    for k in 0..stair.index {
-        if is_other(&guards[k]) {
-            buffer.push(guards[k])?;
-        }
-    }
+    append_others_of(&guards[..stair.index], buffer)?;
     let last = guards[stair.index].negated();
     if is_other(&last) {
         buffer.push(last)?;
+    }
+    Ok(())
+}
+
+/// Appends those of the atoms that are no `Lacks`.
+pub(crate) fn append_others_of(atoms: &[Atom], buffer: &mut Vec<Atom>) -> Result<(), Refusal>
+    ensures ok { OnOk result (buffer.new.items ≡ buffer.old.items ++ filter is_other atoms.now) }
+    ensures why { IfErr result (λ e. e ≡ Refusal.Memory) }
+{
+    for atom in atoms {
+        if is_other(atom) {
+            buffer.push(*atom)?;
+        }
     }
     Ok(())
 }
@@ -151,8 +170,8 @@ pub(crate) fn read_own(log: &GuardLog, own: &Own, buffer: &mut Vec<Atom>) -> Res
             stair.append_to(log, buffer)?;
             Ok(())
         }
-        Own::Crossed(lists, index, stair) => {
-            lists.read(*index, buffer)?;
+        Own::Crossed(base, stair) => {
+            base.read(log, buffer)?;
             stair.append_to(log, buffer)?;
             Ok(())
         }
@@ -168,11 +187,11 @@ pub(crate) fn list_of<'a>(log: &GuardLog, own: &'a Own) -> Option<(&'a SharedLis
     match own {
         Own::Listed(lists, index) => Some((lists, *index)),
         Own::Stair(_) => None,
-        Own::Crossed(lists, index, _) => Some((lists, *index)),
+        Own::Crossed(base, _) => Some(base.list()),
     }
 }
 
-// The same own atoms. Lists are shared.
+// The same own atoms. Lists and bases are shared.
 fn share(own: &Own) -> Result<Own, Refusal>
     ensures same { IfOk result (λ o. (log : List (List AtomOf)) → own_of log o ≡ own_of log own.now) }
     ensures own { IfOk result (λ o. (log : List (List AtomOf)) → IsOwn log own.now → IsOwn log o) }
@@ -184,10 +203,7 @@ fn share(own: &Own) -> Result<Own, Refusal>
             Ok(Own::Listed(shared, *index))
         }
         Own::Stair(stair) => Ok(Own::Stair(*stair)),
-        Own::Crossed(lists, index, stair) => {
-            let shared = lists.try_clone()?;
-            Ok(Own::Crossed(shared, *index, *stair))
-        }
+        Own::Crossed(base, stair) => Ok(Own::Crossed(Arc::try_clone(base)?, *stair)),
     }
 }
 
@@ -228,18 +244,18 @@ fn is_own(log: &GuardLog, own: &Own, atoms: &[Atom]) -> bool
     match own {
         Own::Listed(lists, index) => lists.matches(*index, atoms),
         Own::Stair(stair) => is_stair(log, stair, atoms),
-        Own::Crossed(lists, index, stair) => {
+        Own::Crossed(base, stair) => {
             if atoms.len() <= stair.index {
                 return false;
             }
             let count = atoms.len() - stair.index - 1;
-            lists.matches(*index, &atoms[..count]) && is_stair(log, stair, &atoms[count..])
+            base.matches(log, &atoms[..count]) && is_stair(log, stair, &atoms[count..])
         }
     }
 }
 
-// If this is true, the atoms of the stair are exactly these.
-fn is_stair(log: &GuardLog, stair: &Stair, atoms: &[Atom]) -> bool
+/// If this is true, the atoms of the stair are exactly these.
+pub(crate) fn is_stair(log: &GuardLog, stair: &Stair, atoms: &[Atom]) -> bool
     requires { IsStairOf log.now stair.now }
     ensures { IsTrue result → (atoms.now ≡ stair_of log.now stair.now) }
 {

@@ -1,12 +1,12 @@
 //! Stairs that a change doesn't touch.
 //!
-//! The stairs of one change share their first guards. So it is enough to look once for the first of these guards that a later change
-//! touches. A stair up to there isn't touched if its last atom isn't, and then its task goes on and needn't be read.
+//! The stairs of one change share their first guards. So it is enough to look once for the first of these guards that a later
+//! change touches. A stair up to there isn't touched if its last atom isn't, and then its task goes on and needn't be read.
 ghost use Rattle.std.specs.Prelude.{IsTrue, false, length, ◌<◌, ◌≡◌};
 ghost use Rattle.std.specs.List.{list_any};
 ghost use Rattle.poly_tiling.specs.Lists.{mem};
 ghost use Rattle.poly_book.specs.Meaning.{IsOwn, own_of};
-ghost use Rattle.poly_book.specs.Touching.{IsCalm, touches};
+ghost use Rattle.poly_book.specs.Touching.{AreUntouched, touches};
 
 use crate::task::Own;
 use crate::touch::Touch;
@@ -15,71 +15,76 @@ use poly_tiling::has_number;
 
 /// The first guards of an edition, none of which the change touches.
 #[derive(Clone, Copy, Debug)]
-pub(crate) struct Calm {
+pub(crate) struct Untouched {
     /// The edition before the change that laid the guards.
     pub edition: u64,
     /// How many guards these are.
     pub count: usize,
 }
 
-impl Calm {
+impl Untouched {
     /// No guards.
-    pub(crate) fn none() -> Calm
+    pub(crate) fn none() -> Untouched
         ensures { result.count ≡ 0 }
     {
-        Calm {
+        Untouched {
             edition: u64::MAX,
             count: 0,
         }
     }
 }
 
-/// Whether the own atoms are a stair, and none of them is touched. `calm` has the first guards of an edition, or is overwritten with
-/// those of the stair's edition.
-pub(crate) fn is_untouched(touch: &Touch<'_>, log: &GuardLog, own: &Own, calm: &mut Calm) -> bool
+/// Whether the own atoms are a stair, and none of them is touched. `known` has the first guards of an edition, or is overwritten
+/// with those of the stair's edition.
+pub(crate) fn is_untouched(
+    touch: &Touch<'_>,
+    log: &GuardLog,
+    own: &Own,
+    known: &mut Untouched,
+) -> bool
     requires own { IsOwn log.now own.now }
-    requires calm { IsCalm touch.now log.now calm.old }
-    ensures calm { IsCalm touch.now log.now calm.new }
+    requires known { AreUntouched touch.now log.now known.old }
+    ensures known { AreUntouched touch.now log.now known.new }
     ensures untouched { IsTrue result → (list_any (λ a. touches touch.now a) (own_of log.now own.now) ≡ false) }
 {
     let Own::Stair(stair) = own else {
         return false;
     };
-    let known = calm_for(touch, log, stair.edition, *calm);
-    *calm = known;
-    if stair.index > known.count {
+    let first = first_of_edition(touch, log, stair.edition, *known);
+    *known = first;
+    if stair.index > first.count {
         return false;
     }
     let last = log.guards_of(stair.edition)[stair.index].negated();
     !may_touch(touch, &last)
 }
 
-// The first guards of the edition, none of which is touched. These are the given ones if they are of this edition.
-fn calm_for(touch: &Touch<'_>, log: &GuardLog, edition: u64, calm: Calm) -> Calm
+// The first guards of the edition, none of which is touched. These are the known ones if they are of this edition.
+fn first_of_edition(touch: &Touch<'_>, log: &GuardLog, edition: u64, known: Untouched) -> Untouched
     requires edition { edition < length log.now }
-    requires calm { IsCalm touch.now log.now calm }
-    ensures calm { IsCalm touch.now log.now result }
+    requires known { AreUntouched touch.now log.now known }
+    ensures untouched { AreUntouched touch.now log.now result }
     ensures edition { result.edition ≡ edition }
 {
-    if calm.edition == edition {
-        return calm;
+    if known.edition == edition {
+        return known;
     }
-    calm_of(touch, log, edition)
+    first_untouched(touch, log, edition)
 }
 
 // The first guards of the edition up to one that may be touched.
-fn calm_of(touch: &Touch<'_>, log: &GuardLog, edition: u64) -> Calm
+fn first_untouched(touch: &Touch<'_>, log: &GuardLog, edition: u64) -> Untouched
     requires { edition < length log.now }
-    ensures calm { IsCalm touch.now log.now result }
+    ensures untouched { AreUntouched touch.now log.now result }
     ensures edition { result.edition ≡ edition }
 {
     let guards = log.guards_of(edition);
     for count in 0..guards.len() {
         if may_touch(touch, &guards[count]) {
-            return Calm { edition, count };
+            return Untouched { edition, count };
         }
     }
-    Calm {
+    Untouched {
         edition,
         count: guards.len(),
     }

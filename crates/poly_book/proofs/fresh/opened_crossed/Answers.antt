@@ -1,8 +1,9 @@
-use Rattle.std.proofs.Common.{[], ap, arith, drop, get_or, inl, inr, length, map, not, refl, rules, subst, sym, ◌++◌, ◌+◌, ◌∙◌, ◌∷◌, ◌≡◌}
+use Rattle.std.specs.Arc.{arc_value}
+use Rattle.std.proofs.Common.{[], ap, arith, drop, inl, inr, length, map, not, refl, rules, subst, sym, ◌++◌, ◌+◌, ◌∙◌, ◌∷◌, ◌≡◌}
 use Rattle.std.proofs.lemmas.Result.{err_from_is_err_and}
 use Rattle.poly_atom.specs.Hopeless.{hopeless}
 use Rattle.poly_atom.specs.Stairs.{stairs}
-use Rattle.poly_book.specs.Meaning.{IsFrozen, frozen_of}
+use Rattle.poly_book.specs.Meaning.{IsBase, IsFrozen, base_of, frozen_of}
 use Rattle.poly_book.specs.Judged.{AreJudged}
 use Rattle.poly_book.specs.Opens.{Opening}
 use Rattle.poly_book.specs.Shelves.{crossed}
@@ -10,11 +11,14 @@ use Rattle.poly_book.proofs.Holding.{frozen_at, frozen_head, opens_none}
 use Rattle.poly_book.proofs.Judging.{opening_none}
 use Rattle.poly_book.proofs.fresh.opened_crossed.Goals as goal
 
-pub judge_frozen-requires-clause-frozen : goal.judge_frozen-requires-clause-frozen
-judge_frozen-requires-clause-frozen c = subst (λ f. IsFrozen c.args.log.now f) (sym c.index-frozen-i.is) (frozen_at c.args.log.now c.args.frozen.now c.loop-i.i c.index-frozen-i.result c.requires.frozen c.loop-i-test.true)
+pub read-requires-clause-frozen : goal.read-requires-clause-frozen
+read-requires-clause-frozen c = subst (λ f. IsFrozen c.args.log.now f) (sym c.task-item.is) (frozen_at c.args.log.now c.args.frozen.now c.loop-task.task-index c.task-item.result c.requires.frozen c.loop-task-test.true)
 
-pub frozen_list-requires-clause-frozen : goal.frozen_list-requires-clause-frozen
-frozen_list-requires-clause-frozen c = subst (λ f. IsFrozen c.args.log.now f) (sym c.index-frozen-i.is) (frozen_at c.args.log.now c.args.frozen.now c.loop-i.i c.index-frozen-i.result c.requires.frozen c.loop-i-test.true)
+pub judge_frozen-requires-clause-frozen : goal.judge_frozen-requires-clause-frozen
+judge_frozen-requires-clause-frozen c = subst (λ f. IsFrozen c.args.log.now f) (sym c.task-item.is) (frozen_at c.args.log.now c.args.frozen.now c.loop-task.task-index c.task-item.result c.requires.frozen c.loop-task-test.true)
+
+pub base_over-requires-clause-frozen : goal.base_over-requires-clause-frozen
+base_over-requires-clause-frozen c = subst (λ f. IsFrozen c.args.log.now f) (sym c.task-item.is) (frozen_at c.args.log.now c.args.frozen.now c.loop-task.task-index c.task-item.result c.requires.frozen c.loop-task-test.true)
 
 pub returns-then-is_empty-clause-ok : goal.returns-then-is_empty-clause-ok
 returns-then-is_empty-clause-ok c =
@@ -23,45 +27,48 @@ returns-then-is_empty-clause-ok c =
     let none : length g ≡ 0 = search rules in
     rw c.new-tasks.ensures.items (opens_none (log ++ g ∷ []) c.args.next c.args.view.now (map (λ f. frozen_of log f) c.args.frozen.now) g none)
 
-pub loop-i-preserved-then-not-branch : goal.loop-i-preserved-then-not-branch
-loop-i-preserved-then-not-branch c =
+pub loop-task-preserved-then-not-branch : goal.loop-task-preserved-then-not-branch
+loop-task-preserved-then-not-branch c =
     let log = c.args.log.now in
     let g = c.args.guards.now in
     let w = c.args.view.now in
     let fs = c.args.frozen.now in
     let L = map (λ f. frozen_of log f) fs in
     let S = stairs g in
-    let i = c.loop-i.i in
+    let i = c.loop-task.task-index in
     let rest = crossed (drop (i + 1) L) S in
-    let base = frozen_of log c.index-frozen-i.result in
-    let head = frozen_head log S fs i c.index-frozen-i.result base c.loop-i-test.true c.index-frozen-i.is refl in
+    let base = frozen_of log c.task-item.result in
+    let head = frozen_head log S fs i c.task-item.result base c.loop-task-test.true c.task-item.is refl in
     record {
-      same = opening_none (log ++ g ∷ []) c.args.next c.loop-i.number w (crossed L S) (map (λ B. base ++ B) S) rest c.loop-i.tasks.items
+      same = opening_none (log ++ g ∷ []) c.args.next c.loop-task.number w (crossed L S) (map (λ B. base ++ B) S) rest c.loop-task.tasks.items
           (c.in_ok-judge_frozen.ensures.none c.if-not-branch.true)
-          (subst (λ r. Opening (log ++ g ∷ []) c.args.next c.loop-i.number w (crossed L S) r c.loop-i.tasks.items) head c.loop-i.invariant.same);
-      number = c.loop-i.invariant.number;
-      few = c.loop-i.invariant.few;
+          (subst (λ r. Opening (log ++ g ∷ []) c.args.next c.loop-task.number w (crossed L S) r c.loop-task.tasks.items) head c.loop-task.invariant.same);
+      number = c.loop-task.invariant.number;
+      few = c.loop-task.invariant.few;
+      laid = c.in_ok-read.ensures.laid;
     }
 
-pub loop-i-preserved : goal.loop-i-preserved
-loop-i-preserved c =
+pub loop-task-preserved : goal.loop-task-preserved
+loop-task-preserved c =
     let log = c.args.log.now in
     let g = c.args.guards.now in
     let w = c.args.view.now in
     let fs = c.args.frozen.now in
     let L = map (λ f. frozen_of log f) fs in
     let S = stairs g in
-    let i = c.loop-i.i in
+    let i = c.loop-task.task-index in
     let rest = crossed (drop (i + 1) L) S in
-    let base = get_or c.in_ok-lists.lists c.in_ok-lists.at [] in
-    let is : base ≡ frozen_of log c.index-frozen-i.result = c.in_ok-lists.ensures.list in
+    let shared : arc_value c.in_ok-shared.shared ≡ c.in_ok-base.base = c.in_ok-shared.ensures.ok in
+    let base = base_of log (arc_value c.in_ok-shared.shared) in
+    let is : base ≡ frozen_of log c.task-item.result = ap (λ b. base_of log b) shared ∙ c.in_ok-base.ensures.base in
     let judged : AreJudged w base S c.deref.result.now = c.deref.ensures.value ∙ c.in_ok-judge_frozen.ensures.flags c.if-not-branch.false ∙ ap (λ b. map (λ A. not (hopeless w (b ++ A))) S) (sym is) in
-    let head = frozen_head log S fs i c.index-frozen-i.result base c.loop-i-test.true c.index-frozen-i.is is in
+    let head = frozen_head log S fs i c.task-item.result base c.loop-task-test.true c.task-item.is is in
     record {
-      same = c.in_ok-number.ensures.ok w g log c.args.next (crossed L S) rest c.requires.log judged
-          (subst (λ r. Opening (log ++ g ∷ []) c.args.next c.loop-i.number w (crossed L S) r c.loop-i.tasks.items) head c.loop-i.invariant.same);
-      number = let a = c.loop-i.invariant.number in let b = c.in_ok-number.ensures.count in omega (arith, a, b);
+      same = c.in_ok-number.ensures.ok w g log c.args.next (crossed L S) rest c.requires.log (subst (λ b. IsBase log b) (sym shared) c.in_ok-base.ensures.is) judged
+          (subst (λ r. Opening (log ++ g ∷ []) c.args.next c.loop-task.number w (crossed L S) r c.loop-task.tasks.items) head c.loop-task.invariant.same);
+      number = let a = c.loop-task.invariant.number in let b = c.in_ok-number.ensures.count in omega (arith, a, b);
       few = c.in_ok-number.ensures.few;
+      laid = c.in_ok-read.ensures.laid;
     }
 
 pub returns-in_err-number-clause-why : goal.returns-in_err-number-clause-why
@@ -73,16 +80,17 @@ returns-in_err-number-clause-why c =
     let fs = c.args.frozen.now in
     let L = map (λ f. frozen_of log f) fs in
     let S = stairs g in
-    let i = c.loop-i.i in
+    let i = c.loop-task.task-index in
     let rest = crossed (drop (i + 1) L) S in
-    let base = get_or c.in_ok-lists.lists c.in_ok-lists.at [] in
-    let is : base ≡ frozen_of log c.index-frozen-i.result = c.in_ok-lists.ensures.list in
+    let shared : arc_value c.in_ok-shared.shared ≡ c.in_ok-base.base = c.in_ok-shared.ensures.ok in
+    let base = base_of log (arc_value c.in_ok-shared.shared) in
+    let is : base ≡ frozen_of log c.task-item.result = ap (λ b. base_of log b) shared ∙ c.in_ok-base.ensures.base in
     let judged : AreJudged w base S c.deref.result.now = c.deref.ensures.value ∙ c.in_ok-judge_frozen.ensures.flags c.if-not-branch.false ∙ ap (λ b. map (λ A. not (hopeless w (b ++ A))) S) (sym is) in
-    let head = frozen_head log S fs i c.index-frozen-i.result base c.loop-i-test.true c.index-frozen-i.is is in
+    let head = frozen_head log S fs i c.task-item.result base c.loop-task-test.true c.task-item.is is in
     rw (p.1, p.2) (elim c.in_err-number.ensures.why [
       | inl m ↦ inl (
         m.0,
-        m.1 w g log c.args.next (crossed L S) rest c.requires.log judged c.loop-i.invariant.number (subst (λ r. Opening (log ++ g ∷ []) c.args.next c.loop-i.number w (crossed L S) r c.loop-i.tasks.items) head c.loop-i.invariant.same),
+        m.1 w g log c.args.next (crossed L S) rest c.requires.log (subst (λ b. IsBase log b) (sym shared) c.in_ok-base.ensures.is) judged c.loop-task.invariant.number (subst (λ r. Opening (log ++ g ∷ []) c.args.next c.loop-task.number w (crossed L S) r c.loop-task.tasks.items) head c.loop-task.invariant.same),
       )
       | inr m ↦ inr m
     ])

@@ -1,4 +1,4 @@
-use Rattle.std.proofs.Common.{[], ap, append_assoc, arith, cond, get_or, length, subst, sym, take, ◌++◌, ◌<◌, ◌∙◌, ◌∷◌, ◌≡◌}
+use Rattle.std.proofs.Common.{[], ap, append_assoc, cond, get_or, length, subst, sym, take, ◌++◌, ◌<◌, ◌∙◌, ◌∷◌, ◌≡◌}
 use Rattle.std.proofs.lemmas.List.{append-nil}
 use Rattle.std.specs.List.{filter}
 use Rattle.poly_atom.specs.Atoms.{IsSmall, negated}
@@ -15,27 +15,25 @@ negated-last-requires c =
     let low : j < length g = subst (λ x. j < length x) (sym c.guards_of-guards.ensures.value) c.requires.index_in in
     subst IsSmall (sym c.index-guards-stair.is) (small_at g j c.index-guards-stair.result c.guards_of-guards.ensures.small low)
 
-pub returns-in_ok-push-2-clause-ok : goal.returns-in_ok-push-2-clause-ok
-returns-in_ok-push-2-clause-ok c =
+pub returns-in_ok-push-clause-ok : goal.returns-in_ok-push-clause-ok
+returns-in_ok-push-clause-ok c =
     let g = c.guards_of-guards.result.now in
     let j = c.args.stair.now.index in
     let a = c.negated-last.result in
     let old = c.args.buffer.now.items in
     let low : j < length g = subst (λ x. j < length x) (sym c.guards_of-guards.ensures.value) c.requires.index_in in
-    let end : c.loop-k.k ≡ j = omega (arith, c.loop-k-test.false, c.loop-k.auto.k-end) in
-    let last : a ∷ [] ≡ filter is_other (a ∷ []) = ap (λ b. cond b (a ∷ []) []) (sym (sym c.is_other-2.ensures ∙ c.if-is_other-2.true)) in
-    c.in_ok-push-2.ensures.items ∙ ap (λ B. B ++ a ∷ []) (c.loop-k.invariant ∙ ap (λ k. old ++ filter is_other (take k g)) end)
+    let last : a ∷ [] ≡ filter is_other (a ∷ []) = ap (λ b. cond b (a ∷ []) []) (sym (sym c.is_other.ensures ∙ c.if-is_other.true)) in
+    c.in_ok-push.ensures.items ∙ ap (λ B. B ++ a ∷ []) c.in_ok-append_others_of.ensures.ok
     ∙ append_assoc old (filter is_other (take j g)) (a ∷ [])
     ∙ ap (λ B. old ++ B) (ap (λ B. filter is_other (take j g) ++ B) last ∙ stair_others g j c.index-guards-stair.result a low (c.negated-last.ensures ∙ ap negated c.index-guards-stair.is) ∙ ap (λ x. filter is_other (get_or (stairs x) j [])) c.guards_of-guards.ensures.value)
 
-pub returns-else-is_other-2-clause-ok : goal.returns-else-is_other-2-clause-ok
-returns-else-is_other-2-clause-ok c =
+pub returns-else-is_other-clause-ok : goal.returns-else-is_other-clause-ok
+returns-else-is_other-clause-ok c =
     let g = c.guards_of-guards.result.now in
     let j = c.args.stair.now.index in
     let a = c.negated-last.result in
     let old = c.args.buffer.now.items in
     let low : j < length g = subst (λ x. j < length x) (sym c.guards_of-guards.ensures.value) c.requires.index_in in
-    let end : c.loop-k.k ≡ j = omega (arith, c.loop-k-test.false, c.loop-k.auto.k-end) in
-    let none : [] ≡ filter is_other (a ∷ []) = ap (λ b. cond b (a ∷ []) []) (sym (sym c.is_other-2.ensures ∙ c.if-is_other-2.false)) in
-    c.loop-k.invariant ∙ ap (λ k. old ++ filter is_other (take k g)) end
+    let none : [] ≡ filter is_other (a ∷ []) = ap (λ b. cond b (a ∷ []) []) (sym (sym c.is_other.ensures ∙ c.if-is_other.false)) in
+    c.in_ok-append_others_of.ensures.ok
     ∙ ap (λ B. old ++ B) (sym (append-nil (filter is_other (take j g))) ∙ ap (λ B. filter is_other (take j g) ++ B) none ∙ stair_others g j c.index-guards-stair.result a low (c.negated-last.ensures ∙ ap negated c.index-guards-stair.is) ∙ ap (λ x. filter is_other (get_or (stairs x) j [])) c.guards_of-guards.ensures.value)

@@ -1,9 +1,15 @@
-use Rattle.std.proofs.Common.{ap, sym, ◌∙◌}
+use Rattle.std.proofs.Common.{ap, rules, true, ◌∙◌, ◌≡◌, ◌||◌}
 use Rattle.poly_atom.specs.Hopeless.{hopeless}
-use Rattle.poly_book.proofs.Judging.{brief_hopeless}
+use Rattle.poly_book.specs.Meaning.{brief_of}
+use Rattle.poly_book.proofs.Judging.{brief_tells}
 use Rattle.poly_book.proofs.task.is_hopeless.Goals as goal
 
-pub returns-then-hopeless-clause-ok : goal.returns-then-hopeless-clause-ok
-returns-then-hopeless-clause-ok c =
-    let brief = c.deref.ensures.value ∙ c.in_ok-read_brief.ensures.ok in
-    sym (brief_hopeless c.args.view.now c.args.log.now c.args.own.now (ap (λ A. hopeless c.args.view.now A) (sym brief) ∙ sym c.hopeless.ensures ∙ c.if-hopeless.true))
+pub returns-then-ends-clause-ok : goal.returns-then-ends-clause-ok
+returns-then-ends-clause-ok c =
+    let w = c.args.view.now in
+    let log = c.args.log.now in
+    let o = c.args.own.now in
+    let ends = c.hopeless-ends.result in
+    let is : ends ≡ hopeless w (brief_of log o) = c.hopeless-ends.ensures ∙ ap (λ A. hopeless w A) (c.deref.ensures.value ∙ c.in_ok-read_brief.ensures.ok) in
+    let either : (ends || c.args.brief) ≡ true = search rules in
+    brief_tells w log o ends c.args.brief either is c.requires.brief

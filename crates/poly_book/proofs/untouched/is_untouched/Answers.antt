@@ -25,9 +25,9 @@ returns-clause-untouched c = λ so.
     let s = c.in-Stair.stair in
     let there : IsStairOf log s = subst (λ o. IsOwn log o) c.in-Stair.is c.requires.own in
     let f : Atom → Bool = λ a. touches c.args.touch.now a in
-    let known = c.calm_for-known.result in
+    let first = c.first_of_edition-first.result in
     let d = c.index-guards_of-stair.result in
-    let calm : list_any f (take known.count (get_or log s.edition [])) ≡ false = subst (λ e. list_any f (take known.count (get_or log e [])) ≡ false) c.calm_for-known.ensures.edition c.calm_for-known.ensures.calm in
+    let untouched : list_any f (take first.count (get_or log s.edition [])) ≡ false = subst (λ e. list_any f (take first.count (get_or log e [])) ≡ false) c.first_of_edition-first.ensures.edition c.first_of_edition-first.ensures.untouched in
     ap (λ o. list_any f (own_of log o)) c.in-Stair.is
-    ∙ untouched_stair f log s known.count c.negated-last.result d there calm c.if-stair-known.false
+    ∙ untouched_stair f log s first.count c.negated-last.result d there untouched c.if-stair-first.false
     (c.negated-last.ensures ∙ ap negated (c.index-guards_of-stair.is ∙ ap (λ g. get_or g s.index d) c.guards_of.ensures.value)) (c.may_touch.ensures (not-true _ so))

@@ -4,13 +4,13 @@ use Rattle.std.specs.List.{list_all}
 use Rattle.poly_book.specs.Mapped.{AreNoted, AreRunsNoted, under}
 use Rattle.poly_book.specs.Meaning.{IsTask, own_of}
 use Rattle.poly_book.proofs.Held.{task_at}
-use Rattle.poly_book.proofs.Mapping.{all_more, has_base_of, on_ok_then, wide_atoms}
+use Rattle.poly_book.proofs.Mapping.{all_more, on_ok_then, wide_atoms}
 use Rattle.poly_book.proofs.maps.Maps.note_all.Goals as goal
 
 pub note_base-requires : goal.note_base-requires
 note_base-requires c = record {
   known = c.loop-i.invariant.base;
-  own = has_base_of c.args.log.now c.index-tasks-i.result.own (subst (λ p. IsTask c.args.log.now p) (sym c.index-tasks-i.is) (task_at c.args.log.now c.args.tasks.now c.loop-i.i c.index-tasks-i.result c.requires c.loop-i-test.true)).own;
+  own = (subst (λ p. IsTask c.args.log.now p) (sym c.index-tasks-i.is) (task_at c.args.log.now c.args.tasks.now c.loop-i.i c.index-tasks-i.result c.requires c.loop-i-test.true)).own;
 }
 
 pub note_task-requires-clause-own : goal.note_task-requires-clause-own

@@ -1,3 +1,4 @@
+use Rattle.std.specs.Arc.{arc_value}
 use Rattle.std.proofs.Common.{Bool, [], ap, slice_index_or, subst, sym, take, true, ◌++◌, ◌∙◌, ◌≡◌}
 use Rattle.std.proofs.lemmas.Bool.{and_from}
 use Rattle.std.specs.List.{list_all}
@@ -5,8 +6,8 @@ use Rattle.std.specs.Prelude.{OnOk}
 use Rattle.poly_tiling.proofs.Lists.{all_append}
 use Rattle.poly_atom.specs.declared.atom.Atom.{Atom}
 use Rattle.poly_atom.specs.Logs.{stair_of}
-use Rattle.poly_book.specs.Mapped.{IsPrefix, KeepsRuns, WillHave, base_of, under}
-use Rattle.poly_book.specs.Meaning.{own_of}
+use Rattle.poly_book.specs.Mapped.{IsPrefix, KeepsRuns, WillHave, below, under}
+use Rattle.poly_book.specs.Meaning.{base_of, own_of}
 use Rattle.poly_book.proofs.Mapping.{on_ok_all, on_ok_then, wide_atoms}
 use Rattle.poly_book.proofs.Spanning.{runs_stay, will_have}
 use Rattle.poly_book.proofs.maps.Maps.note_task.Goals as goal
@@ -51,12 +52,12 @@ returns-in-Crossed-clause-ok c =
     let k = c.args.number in
     let log = c.args.log.now in
     let own = c.args.own.now in
-    let base = slice_index_or c.in-Crossed.field-0 c.in-Crossed.field-1 [] in
+    let base = base_of log (arc_value c.in-Crossed.field-0) in
     let stair = stair_of log c.in-Crossed.stair in
     let m = c.note_stair-in-Crossed.new.self in
     let f : Atom → Bool = λ a. under m a k in
     let is : own_of log own ≡ base ++ stair = ap (λ o. own_of log o) c.in-Crossed.is in
-    let first = wide_atoms c.args.self.now m k base c.note_stair-in-Crossed.ensures.wider (subst (λ o. list_all (λ a. under c.args.self.now a k) (base_of o) ≡ true) c.in-Crossed.is c.requires.base) in
+    let first = wide_atoms c.args.self.now m k base c.note_stair-in-Crossed.ensures.wider (subst (λ o. list_all (λ a. under c.args.self.now a k) (below log o) ≡ true) c.in-Crossed.is c.requires.base) in
     let r = c.args.runs.now in
     on_ok_then c.note_stair-in-Crossed.result (list_all f stair ≡ true) (WillHave m r k (own_of log own))
     (λ e. will_have m r k (own_of log own) (ap (list_all f) is ∙ all_append f base stair ∙ and_from (list_all f base) (list_all f stair) first e))

@@ -1,7 +1,7 @@
 use Rattle.std.proofs.Common.{false, subst, ◌≡◌}
 use Rattle.poly_book.specs.Touching.{touches}
 use Rattle.poly_book.proofs.Lacking.{none_next}
-use Rattle.poly_book.proofs.untouched.calm_of.Goals as goal
+use Rattle.poly_book.proofs.untouched.first_untouched.Goals as goal
 
 pub loop-count-preserved : goal.loop-count-preserved
 loop-count-preserved c =
