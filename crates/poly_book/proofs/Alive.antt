@@ -1,5 +1,5 @@
--- If no pending task is hopeless by its own atoms before an event, the same is true after it.
-use Rattle.std.proofs.Common.{Bool, List, None, Option, Some, [], map, refl, true, ℕ, ◌++◌, ◌+◌, ◌∙◌, ◌∷◌, ◌≡◌}
+-- If no pending task is hopeless by its own atoms before an event, or lacks a placement that these ask for, the same is true after it.
+use Rattle.std.proofs.Common.{Bool, List, None, Option, Some, [], map, refl, subst, sym, true, ℕ, ◌++◌, ◌+◌, ◌∙◌, ◌∷◌, ◌≡◌}
 use Rattle.std.proofs.lemmas.Bool.{and_from, and_parts, cond_both}
 use Rattle.std.specs.List.{filter, list_all}
 use Rattle.std.specs.Prelude.{not, ◌&&◌, ◌==◌}
@@ -17,11 +17,8 @@ use Rattle.poly_book.specs.Events.{Edit, Event, Redo, Report, Undo, cut, handed_
 use Rattle.poly_book.specs.Partition.{Becomes}
 use Rattle.poly_book.specs.Shelves.{openings}
 use Rattle.poly_book.specs.States.{State, Stored, Way}
-use Rattle.poly_book.specs.Tasks.{AreAlive, Task, atoms_of, drop_task, find_task, hopeful, lay, tasks_from}
-
-all_filter : {X : Type 0} (f : X → Bool) (xs : List X) → list_all f (filter f xs) ≡ true
-all_filter f [] = refl
-all_filter f (x ∷ xs) = cond_both (f x) (x ∷ filter f xs) (filter f xs) (λ ys. list_all f ys ≡ true) (λ e. and_from (f x) (list_all f (filter f xs)) e (all_filter f xs)) (λ e. all_filter f xs)
+use Rattle.poly_book.specs.Tasks.{AreAlive, AreSparing, Task, atoms_of, drop_task, find_task, hopeful, lay, tasks_from}
+use Rattle.poly_book.proofs.Sparing.{all_filter, cut_sparing, moved_sparing}
 
 from_alive : (v : View) (n : ℕ) (As : List (List Atom)) → list_all (λ A. not (hopeless v A)) As ≡ true → AreAlive v (tasks_from n As)
 from_alive v n [] h = refl
@@ -42,39 +39,40 @@ drop_alive v k (t ∷ ts) h =
     let hs = and_parts (f t) (list_all f ts) h in
     cond_both (t.number == k) ts (t ∷ drop_task k ts) (λ us. AreAlive v us) (λ e. hs.1) (λ e. and_from (f t) (list_all f (drop_task k ts)) hs.0 (drop_alive v k ts hs.1))
 
-abbrev Lives : State → Type 0
-Lives s = AreAlive s.view s.pending
+abbrev pub Lives : State → Type 0
+Lives s = AreAlive s.view s.pending × AreSparing s.pending
 
-moved_lives : (s : State) (w : View) (h : Option Stored) → AreAlive w (filter (λ t. not (hopeless w t.own)) (map (λ t. lay (guards s.view w) t) s.pending) ++ tasks_from s.next (hopeful w (openings h (stairs (guards s.view w)))))
-moved_lives s w h =
+moved_lives : (s : State) (w : View) (h : Option Stored) → Lives s →
+    (AreAlive w (filter (λ t. not (hopeless w t.own)) (map (λ t. lay (guards s.view w) t) s.pending) ++ tasks_from s.next (hopeful w (openings h (stairs (guards s.view w))))))
+    × AreSparing (filter (λ t. not (hopeless w t.own)) (map (λ t. lay (guards s.view w) t) s.pending) ++ tasks_from s.next (hopeful w (openings h (stairs (guards s.view w)))))
+moved_lives s w h lives =
     let f : Task → Bool = λ t. not (hopeless w t.own) in
     let all = map (λ t. lay (guards s.view w) t) s.pending in
     let opened = openings h (stairs (guards s.view w)) in
-    append_alive w (filter f all) (tasks_from s.next (hopeful w opened)) (all_filter f all) (fresh_alive w s.next opened)
+    (append_alive w (filter f all) (tasks_from s.next (hopeful w opened)) (all_filter f all) (fresh_alive w s.next opened), moved_sparing s.view w s.next s.pending opened lives.0 lives.1)
 
 undone_lives : (s : State) (w : View) (ways : List Way) → Lives s → Lives (undone s w ways)
 undone_lives s w [] h = h
-undone_lives s w (b ∷ ways) h = moved_lives s w b.shelf
+undone_lives s w (b ∷ ways) h = moved_lives s w b.shelf h
 
 redone_lives : (s : State) (w : View) (ways : List Way) → Lives s → Lives (redone s w ways)
 redone_lives s w [] h = h
-redone_lives s w (b ∷ ways) h = moved_lives s w b.shelf
+redone_lives s w (b ∷ ways) h = moved_lives s w b.shelf h
 
 cut_lives : (s : State) (k : ℕ) (t : Task) (tree : Plan) → Lives s → Lives (cut s k t tree)
-cut_lives s k t tree h = append_alive s.view (drop_task k s.pending) (tasks_from s.next (hopeful s.view (rests s.view (atoms_of t) tree))) (drop_alive s.view k s.pending h) (fresh_alive s.view s.next (rests s.view (atoms_of t) tree))
+cut_lives s k t tree h =
+    let opened = rests s.view (atoms_of t) tree in
+    (append_alive s.view (drop_task k s.pending) (tasks_from s.next (hopeful s.view opened)) (drop_alive s.view k s.pending h.0) (fresh_alive s.view s.next opened), cut_sparing s.view k s.next s.pending opened h.1)
 
 handed_lives : (s : State) (k : ℕ) (o : Option Task) (tree : Plan) → Lives s → Lives (handed_in s k o tree)
 handed_lives s k None tree h = h
 handed_lives s k (Some t) tree h = cond_both (fits tree && holds s.view (atoms_of t) tree) (cut s k t tree) s (λ z. Lives z) (λ e. cut_lives s k t tree h) (λ e. h)
 
 step_lives : (s : State) (e : Event) → Lives s → Lives (step s e)
-step_lives s (Edit x w) h = moved_lives s w None
+step_lives s (Edit x w) h = moved_lives s w None h
 step_lives s (Undo w) h = undone_lives s w s.back h
 step_lives s (Redo w) h = redone_lives s w s.forth h
 step_lives s (Report k tree) h = handed_lives s k (find_task k s.pending) tree h
 
-pub becomes_lives : (s t : State) (e : Event) → Becomes (step s e) t → AreAlive s.view s.pending → AreAlive t.view t.pending
-becomes_lives s t e b h =
-    let same = b.same in
-    let is : list_all (λ u. not (hopeless t.view u.own)) t.pending ≡ list_all (λ u. not (hopeless (step s e).view u.own)) (step s e).pending = λ i. list_all (λ u. not (hopeless (same i).view u.own)) (same i).pending in
-    is ∙ step_lives s e h
+pub becomes_lives : (s t : State) (e : Event) → Becomes (step s e) t → Lives s → Lives t
+becomes_lives s t e b h = subst (λ z. Lives z) (sym b.same) (step_lives s e h)

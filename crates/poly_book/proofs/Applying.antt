@@ -156,6 +156,7 @@ did_keeps {m} {o} {d} {d2} {v} {t} {w} {t2} {ls} {ls2} {log} {log2} {ps} {ps2} {
     let s = shown o d v ls log ps n h ss es in
     let g = leads_top log k s h x w refl refl top (did_leads k c has is) in
     let b = did_becomes k c p.tasks p.log_length top in
+    let lives = becomes_lives s (shown o d2 w ls2 log2 ps2 n2 h2 ss2 es2) (event_of k x w) b (p.alive, p.sparing) in
     record {
       whole = steps_keep_whole_lem s (shown o d2 w ls2 log2 ps2 n2 h2 ss2 es2) (event_of k x w) p.whole g b;
       right = subst (λ z. IsRight t2 z) (sym c.design_is) c.right;
@@ -163,7 +164,8 @@ did_keeps {m} {o} {d} {d2} {v} {t} {w} {t2} {ls} {ls2} {log} {log2} {ps} {ps2} {
       tasks = new_tasks c p.tasks;
       mapped = did_noted m.below m.maps c p.tasks p.below p.mapped;
       below = (let low = p.below in omega (arith, low, c.next_is));
-      alive = becomes_lives s (shown o d2 w ls2 log2 ps2 n2 h2 ss2 es2) (event_of k x w) b p.alive;
+      alive = lives.0;
+      sparing = lives.1;
       log_length = ap length c.log_is ∙ length_push log (guards v w) ∙ ap (λ m. m + 1) p.log_length ∙ sym (ap length c.steps_are ∙ length_push ss _);
       few_steps = omega (arith, c.few_steps, ap length c.steps_are ∙ length_push ss _);
       few_tasks = c.few_tasks;
@@ -176,4 +178,4 @@ did_keeps {m} {o} {d} {d2} {v} {t} {w} {t2} {ls} {ls2} {log} {log2} {ps} {ps2} {
 -- is still right for the design and nothing else has changed
 pub still_keeps : {m : Register} {o d : Layout} {v t t2 : View} {ls : List (List ℕ)} {log : List (List Atom)} {ps : List Pending} {n : ℕ} {h : Steps Change Kept} {ss : List Step} {es : List Ending} →
     KeepsOf m o d v t ls log ps n h ss es → Grown v t2 → IsRight t2 d → KeepsOf m o d v t2 ls log ps n h ss es
-still_keeps p g r = record { whole = p.whole; right = r; grown = g; tasks = p.tasks; alive = p.alive; mapped = p.mapped; below = p.below; log_length = p.log_length; few_steps = p.few_steps; few_tasks = p.few_tasks; numbered = p.numbered; held = p.held; few_ways = p.few_ways }
+still_keeps p g r = record { whole = p.whole; right = r; grown = g; tasks = p.tasks; alive = p.alive; sparing = p.sparing; mapped = p.mapped; below = p.below; log_length = p.log_length; few_steps = p.few_steps; few_tasks = p.few_tasks; numbered = p.numbered; held = p.held; few_ways = p.few_ways }

@@ -28,10 +28,11 @@ use Rattle.poly_book.specs.Mapped.{under}
 use Rattle.poly_book.specs.Meaning.{AreFrozen, AreHeldBy, AreTasks, IsFrozen, IsHeld, IsHeldBy, IsOwn, IsTask, frozen_of, own_of, shown, stored_of, task_of, tasks_of, way_by, way_of, ways_of}
 use Rattle.poly_book.specs.Needed.{AreKeptFrom, ArePendingFrom, IsFrozenFrom, IsKeptFrom, IsOwnFrom, IsShelfFrom, IsStepFrom, IsTaskFrom}
 use Rattle.poly_book.specs.States.{State, Stored, Way}
-use Rattle.poly_book.specs.Tasks.{AreAlive, Task}
+use Rattle.poly_book.specs.Tasks.{AreAlive, AreSparing, Task}
 use Rattle.poly_book.specs.Whole.{Whole}
 use Rattle.poly_book.proofs.Basing.{all_head, all_tail, base_same, is_base_still}
 use Rattle.poly_book.proofs.Holding.{map_reverse}
+use Rattle.poly_book.proofs.Sparing.{spares_same}
 
 -- what is read from no edition before e is read from no edition before an earlier one
 own_earlier : (d e : ℕ) (o : Own) → d ≤ e → IsOwnFrom e o → IsOwnFrom d o
@@ -132,6 +133,7 @@ is_frozen_still e log f h k = record {
   own = is_own_still e log f.own h.own_from k.own;
   made = let m = k.made in omega (arith, m, length-forgotten e log);
   count = count_still f.count e f.made log h.made_from k.count;
+  spares = spares_same (own_of log f.own) (frozen_of log f) (own_of (forgotten e log) f.own) (frozen_of (forgotten e log) f) (sym (own_same e log f.own h.own_from)) (sym (frozen_same e log f h)) k.spares;
 }
 
 all_frozen_same : (e : ℕ) (log : List (List Atom)) (fs : List Frozen) → All (λ f. IsFrozenFrom e f) fs → map (λ f. frozen_of (forgotten e log) f) fs ≡ map (λ f. frozen_of log f) fs
@@ -193,6 +195,7 @@ forgotten_keeps {m} {o} {d} {v} {t} {ls} {log} {ps} {n} {h} {ss} {es} e k p undo
   grown = k.grown;
   tasks = tasks_still e log ps p k.tasks;
   alive = subst (λ ts. AreAlive v ts) (sym (tasks_same e log ps p)) k.alive;
+  sparing = subst (λ ts. AreSparing ts) (sym (tasks_same e log ps p)) k.sparing;
   mapped = noted_same e m.below m.maps log ps p ∙ k.mapped;
   below = k.below;
   log_length = length-forgotten e log ∙ k.log_length;

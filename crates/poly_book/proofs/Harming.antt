@@ -15,9 +15,13 @@ use Rattle.poly_atom.proofs.Asked.{asked_append, found_is}
 use Rattle.poly_atom.proofs.Bases.{asked_in}
 use Rattle.poly_atom.proofs.Walks.{length-stairs, stairs_at}
 use Rattle.poly_report.specs.Words.{is_other}
+use Rattle.poly_book.specs.declared.shelf.Frozen.{Frozen}
 use Rattle.poly_book.specs.Judged.{AreJudged, is_harmful, named}
-use Rattle.poly_book.proofs.Judging.{hopeless_within}
+use Rattle.poly_book.specs.Meaning.{frozen_brief, frozen_of, laid_of, own_of}
+use Rattle.poly_book.specs.Tasks.{Spares}
+use Rattle.poly_book.proofs.Judging.{frozen_brief_is, hopeless_within}
 use Rattle.poly_book.proofs.Lacking.{by_beyond, by_lost, filter_asks, other_or}
+use Rattle.poly_book.proofs.Sparing.{spared}
 
 named_append : (A B : List Atom) → named (A ++ B) ≡ named A ++ named B
 named_append [] B = refl
@@ -95,36 +99,52 @@ harmful_asks ps (Lacks p ∷ A) = either (mem ps p) p (filter (is_harmful ps) A)
 harmful_asks ps (AtLeast i n ∷ A) = harmful_asks ps A
 harmful_asks ps (AtMost i n ∷ A) = harmful_asks ps A
 
--- a list's atoms that are no Lacks, and those of its Lacks that can do harm
-abbrev pub harm_of : View → List Atom → List Atom → List Atom
-harm_of w g A = filter is_other A ++ filter (is_harmful (w.pins ++ (named g ++ named (filter is_other A)))) A
+-- the pins, what the guards name, and what the atoms laid on a task ask for
+abbrev pub harmed : View → List Atom → List Atom → List ℕ
+harmed w g L = (w.pins ++ named g) ++ named (filter is_other L)
+
+-- a task's atoms that are no Lacks, and those of its Lacks that can do harm
+abbrev pub harm_of : View → List Atom → List Atom → List Atom → List Atom
+harm_of w g L A = filter is_other A ++ filter (is_harmful (harmed w g L)) A
 
 -- these are all from the list
-pub harm_in : (w : View) (g A : List Atom) (a : Atom) → In a (harm_of w g A) → In a A
-harm_in w g A a i = elim (in_append_cases a (filter is_other A) (filter (is_harmful (w.pins ++ (named g ++ named (filter is_other A)))) A) i) [
+pub harm_in : (w : View) (g L A : List Atom) (a : Atom) → In a (harm_of w g L A) → In a A
+harm_in w g L A a i = elim (in_append_cases a (filter is_other A) (filter (is_harmful (harmed w g L)) A) i) [
   | inl j ↦ (filter_in is_other A a j).0
-  | inr j ↦ (filter_in (is_harmful (w.pins ++ (named g ++ named (filter is_other A)))) A a j).0
+  | inr j ↦ (filter_in (is_harmful (harmed w g L)) A a j).0
 ]
 
-pub harm_first : (w : View) (g A : List Atom) (a : Atom) → In a (filter is_other A) → In a (harm_of w g A)
-harm_first w g A a i = in_append_left a (filter is_other A) (filter (is_harmful (w.pins ++ (named g ++ named (filter is_other A)))) A) i
+pub harm_first : (w : View) (g L A : List Atom) (a : Atom) → In a (filter is_other A) → In a (harm_of w g L A)
+harm_first w g L A a i = in_append_left a (filter is_other A) (filter (is_harmful (harmed w g L)) A) i
 
 -- they ask for what the list asks for
-pub harm_has : (w : View) (g A : List Atom) (p : ℕ) → In (Has p) (harm_of w g A) → In (Has p) (filter is_other A)
-harm_has w g A p i = elim (in_append_cases (Has p) (filter is_other A) (filter (is_harmful (w.pins ++ (named g ++ named (filter is_other A)))) A) i) [
+pub harm_has : (w : View) (g L A : List Atom) (p : ℕ) → In (Has p) (harm_of w g L A) → In (Has p) (filter is_other A)
+harm_has w g L A p i = elim (in_append_cases (Has p) (filter is_other A) (filter (is_harmful (harmed w g L)) A) i) [
   | inl j ↦ j
-  | inr j ↦ absurd (true≢false (sym (filter_in (is_harmful (w.pins ++ (named g ++ named (filter is_other A)))) A (Has p) j).1))
+  | inr j ↦ absurd (true≢false (sym (filter_in (is_harmful (harmed w g L)) A (Has p) j).1))
 ]
 
-pub harm_is : (w : View) (g A B L : List Atom) → B ≡ filter is_other A → L ≡ A → B ++ filter (is_harmful (w.pins ++ (named g ++ named B))) L ≡ harm_of w g A
-harm_is w g A B L b l = λ i. b i ++ filter (is_harmful (w.pins ++ (named g ++ named (b i)))) (l i)
+pub harm_is : (w : View) (g L A B C : List Atom) (ps : List ℕ) → B ≡ filter is_other A → C ≡ A → ps ≡ harmed w g L → B ++ filter (is_harmful ps) C ≡ harm_of w g L A
+harm_is w g L A B C ps b c e = λ i. b i ++ filter (is_harmful (e i)) (c i)
 
--- a stair is hopeless after the list exactly if it is so after these
-pub harm_decides : (w : View) (g A : List Atom) (i : ℕ) → i < length g → hopeless w (harm_of w g A ++ get_or (stairs g) i []) ≡ hopeless w (A ++ get_or (stairs g) i [])
-harm_decides w g A i l =
+-- if no placement can be harmed, no Lacks is among them
+pub harm_none : (w : View) (g L A : List Atom) → harmed w g L ≡ [] → harm_of w g L A ≡ filter is_other A
+harm_none w g L A e = ap (λ ps. filter is_other A ++ filter (is_harmful ps) A) e ∙ ap (λ B. filter is_other A ++ B) (none A) ∙ append-nil (filter is_other A)
+  where
+    none : (A : List Atom) → filter (is_harmful []) A ≡ []
+    none [] = refl
+    none (Has p ∷ A) = none A
+    none (Lacks p ∷ A) = none A
+    none (AtLeast i n ∷ A) = none A
+    none (AtMost i n ∷ A) = none A
+
+-- a stair is hopeless after a task's atoms exactly if it is so after these
+pub harm_decides : (w : View) (g O L : List Atom) (i : ℕ) → Spares O (O ++ L) → i < length g → hopeless w (harm_of w g L (O ++ L) ++ get_or (stairs g) i []) ≡ hopeless w ((O ++ L) ++ get_or (stairs g) i [])
+harm_decides w g O L i spares l =
+    let A = O ++ L in
     let D = filter is_other A in
-    let P = w.pins ++ (named g ++ named D) in
-    let E = harm_of w g A in
+    let P = harmed w g L in
+    let E = harm_of w g L A in
     let S = get_or (stairs g) i [] in
     let short = E ++ S in
     let full = A ++ S in
@@ -134,19 +154,24 @@ harm_decides w g A i l =
       | inl k ↦ in_append_left a E S (in_append_left a D (filter (is_harmful P) A) (in_filter is_other A a k o))
       | inr k ↦ in_append_right a E S k
     ] in
-    let placed : (p : ℕ) → beyond w full (Lacks p) ≡ true → In p P = λ p b. elim (or_cases (mem w.pins p) (mem (asked full) p) b) [
-      | inl k ↦ in_append_left p w.pins (named g ++ named D) (mem_in w.pins p k)
-      | inr k ↦ in_append_right p w.pins (named g ++ named D) (elim (in_append_cases p (asked A) (asked S) (subst (λ ps. In p ps) (asked_append A S) (mem_in (asked full) p k))) [
-        | inl j ↦ in_append_right p (named g) (named D) (asked_named D p (subst (λ ps. In p ps) (sym (filter_asks A)) j))
-        | inr j ↦ in_append_left p (named g) (named D) (stair_named g i p l j)
-      ])
+    let named_by : (p : ℕ) → In p (named g) → In p P = λ p j. in_append_left p (w.pins ++ named g) (named (filter is_other L)) (in_append_right p w.pins (named g) j) in
+    let of_task : (p : ℕ) → In (Lacks p) A → In p (asked A) → In p P = λ p k j. elim (in_append_cases p (asked O) (asked L) (subst (λ ps. In p ps) (asked_append O L) j)) [
+      | inl m ↦ absurd (spared O A p spares m k)
+      | inr m ↦ in_append_right p (w.pins ++ named g) (named (filter is_other L)) (asked_named (filter is_other L) p (subst (λ ps. In p ps) (sym (filter_asks L)) m))
+    ] in
+    let placed : (p : ℕ) → In (Lacks p) A → beyond w full (Lacks p) ≡ true → In p P = λ p k b. elim (or_cases (mem w.pins p) (mem (asked full) p) b) [
+      | inl j ↦ in_append_left p (w.pins ++ named g) (named (filter is_other L)) (in_append_left p w.pins (named g) (mem_in w.pins p j))
+      | inr j ↦ elim (in_append_cases p (asked A) (asked S) (subst (λ ps. In p ps) (asked_append A S) (mem_in (asked full) p j))) [
+        | inl m ↦ of_task p k m
+        | inr m ↦ named_by p (stair_named g i p l m)
+      ]
     ] in
     let lacking : (p : ℕ) → In (Lacks p) full → beyond w full (Lacks p) ≡ true → In (Lacks p) short = λ p j b. elim (in_append_cases (Lacks p) A S j) [
-      | inl k ↦ in_append_left (Lacks p) E S (in_append_right (Lacks p) D (filter (is_harmful P) A) (in_filter (is_harmful P) A (Lacks p) k (in_mem P p (placed p b))))
+      | inl k ↦ in_append_left (Lacks p) E S (in_append_right (Lacks p) D (filter (is_harmful P) A) (in_filter (is_harmful P) A (Lacks p) k (in_mem P p (placed p k b))))
       | inr k ↦ in_append_right (Lacks p) E S k
     ] in
     same_truth (hopeless w short) (hopeless w full)
-    (hopeless_within w short full (λ a j. elim (in_append_cases a E S j) [ inl k ↦ in_append_left a A S (harm_in w g A a k) | inr k ↦ in_append_right a A S k ]))
+    (hopeless_within w short full (λ a j. elim (in_append_cases a E S j) [ inl k ↦ in_append_left a A S (harm_in w g L A a k) | inr k ↦ in_append_right a A S k ]))
     (λ h. elim (or_cases (list_any (λ a. lost w full a) full) (list_any (λ a. beyond w full a) full) (found_is w full full (λ q. refl) ∙ h)) [
       | inl k ↦ let r = any_in (λ a. lost w full a) full k in elim (other_or r.0) [
         | inl o ↦ by_lost w full short r.0 same (other r.0 r.1 o) r.2
@@ -167,6 +192,17 @@ map_at {X} {Y} f h (x ∷ xs) d e =
     let rest = map_at f h xs d (λ i l. e (suc i) (omega (arith, l))) in
     λ k. first k ∷ rest k
 
-pub harm_judges : (w : View) (g A : List Atom) (fs : List Bool) → AreJudged w (harm_of w g A) (stairs g) fs → AreJudged w A (stairs g) fs
-harm_judges w g A fs h =
-    h ∙ map_at (λ B. not (hopeless w (harm_of w g A ++ B))) (λ B. not (hopeless w (A ++ B))) (stairs g) [] (λ i l. ap not (harm_decides w g A i (omega (arith, l, length-stairs g))))
+pub harm_judges : (w : View) (g O L : List Atom) (fs : List Bool) → Spares O (O ++ L) → AreJudged w (harm_of w g L (O ++ L)) (stairs g) fs → AreJudged w (O ++ L) (stairs g) fs
+harm_judges w g O L fs spares h =
+    h ∙ map_at (λ B. not (hopeless w (harm_of w g L (O ++ L) ++ B))) (λ B. not (hopeless w ((O ++ L) ++ B))) (stairs g) [] (λ i l. ap not (harm_decides w g O L i spares (omega (arith, l, length-stairs g))))
+
+-- if no placement can be harmed, the stairs are judged after a frozen task without any Lacks
+pub brief_judges : (w : View) (g : List Atom) (log : List (List Atom)) (f : Frozen) (fs : List Bool) → Spares (own_of log f.own) (frozen_of log f) → length (harmed w g (laid_of log f)) ≡ 0 →
+    AreJudged w (frozen_brief log f) (stairs g) fs → AreJudged w (frozen_of log f) (stairs g) fs
+brief_judges w g log f fs spares e h =
+    harm_judges w g (own_of log f.own) (laid_of log f) fs spares
+    (subst (λ B. AreJudged w B (stairs g) fs) (frozen_brief_is log f ∙ sym (harm_none w g (laid_of log f) (frozen_of log f) (empty (harmed w g (laid_of log f)) e))) h)
+  where
+    empty : (ps : List ℕ) → length ps ≡ 0 → ps ≡ []
+    empty [] e = refl
+    empty (p ∷ ps) e = absurd (omega (arith, e))

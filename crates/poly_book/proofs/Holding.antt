@@ -15,7 +15,7 @@ use Rattle.poly_book.specs.declared.shelf.Shelf.{Shelf}
 use Rattle.poly_book.specs.declared.step.Kind.{Kind}
 use Rattle.poly_book.specs.declared.step.Kind.TheVariants as kind
 use Rattle.poly_book.specs.Changing.{Noted}
-use Rattle.poly_book.specs.Meaning.{AreFrozen, AreHeld, AreHeldBy, IsFrozen, IsHeld, IsHeldAt, IsHeldBy, frozen_of, stored_of, task_of, tasks_of, way_by, way_of, ways_of}
+use Rattle.poly_book.specs.Meaning.{AreFrozen, AreHeld, AreHeldBy, IsFrozen, IsHeld, IsHeldAt, IsHeldBy, frozen_of, own_of, stored_of, task_of, tasks_of, way_by, way_of, ways_of}
 use Rattle.poly_book.specs.Opens.{Opens}
 use Rattle.poly_book.specs.Shelves.{crossed}
 use Rattle.poly_book.specs.States.{Stored, Way}
@@ -23,6 +23,7 @@ use Rattle.poly_book.specs.Tasks.{atoms_of, hopeful, tasks_from}
 use Rattle.poly_book.specs.declared.task.Pending.{Pending}
 use Rattle.poly_book.proofs.Basing.{since_push}
 use Rattle.poly_book.proofs.Held.{is_own_push, own_push, tasks_append}
+use Rattle.poly_book.proofs.Sparing.{spares_same}
 
 frozen_push : (log : List (List Atom)) (g : List Atom) (f : Frozen) → IsFrozen log f → frozen_of (log ++ g ∷ []) f ≡ frozen_of log f
 frozen_push log g f h =
@@ -35,6 +36,7 @@ is_frozen_push log g f h = record {
   own = is_own_push log g f.own h.own;
   made = let m = h.made in omega (arith, m, length_push log g);
   count = let m = h.count in omega (arith, m, ap length (since_push f.made log g h.made), length-append (flat (drop f.made log)) g);
+  spares = spares_same (own_of log f.own) (frozen_of log f) (own_of (log ++ g ∷ []) f.own) (frozen_of (log ++ g ∷ []) f) (sym (own_push log g f.own h.own)) (sym (frozen_push log g f h)) h.spares;
 }
 
 all_frozen_push : (log : List (List Atom)) (g : List Atom) (fs : List Frozen) → AreFrozen log fs → map (λ f. frozen_of (log ++ g ∷ []) f) fs ≡ map (λ f. frozen_of log f) fs

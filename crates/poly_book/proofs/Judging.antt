@@ -1,6 +1,6 @@
 -- Which stairs of a change are opened after a base.
 use Rattle.std.proofs.Common.{Bool, List, [], ap, append_assoc, arith, cond, false, get_or, inl, inr, length, map, not, refl, subst, sym, take, true, ℕ, ◌++◌, ◌+◌, ◌<◌, ◌≤◌, ◌∙◌, ◌∷◌, ◌≡◌, ◌||◌}
-use Rattle.std.proofs.lemmas.Bool.{both_ways, not-false}
+use Rattle.std.proofs.lemmas.Bool.{not-false}
 use Rattle.std.proofs.lemmas.List.{drop_more, get_or_push, get_or-map, length-map, length_push, map-append, take_all, take_more}
 use Rattle.std.proofs.lemmas.List.Elements.{filter-append}
 use Rattle.std.specs.List.{filter, list_any}
@@ -20,7 +20,7 @@ use Rattle.poly_report.specs.Words.{is_other}
 use Rattle.poly_book.specs.declared.shelf.Frozen.{Frozen}
 use Rattle.poly_book.specs.declared.task.Pending.{Pending}
 use Rattle.poly_book.specs.declared.task.Own.{Own}
-use Rattle.poly_book.specs.Meaning.{IsOwn, brief_of, frozen_brief, frozen_of, laid_of, own_of, tasks_of}
+use Rattle.poly_book.specs.Meaning.{IsOwn, frozen_brief, frozen_of, laid_of, own_of, tasks_of}
 use Rattle.poly_book.specs.Judged.{AreAlone, AreJudged, AreRuledOut}
 use Rattle.poly_book.specs.Opens.{Opening}
 use Rattle.poly_book.specs.Tasks.{hopeful, tasks_from}
@@ -47,25 +47,8 @@ judged_more w base g j d fs ends l so e =
     let next : take (j + 1) S ≡ take j S ++ B ∷ [] = take_more S j [] (omega (arith, l, length-stairs g)) in
     (λ i. so i ++ one i ∷ []) ∙ sym (ap (λ As. map F As) next ∙ map-append F (take j S) (B ∷ []))
 
-brief_in : (log : List (List Atom)) (o : Own) (a : Atom) → In a (brief_of log o) → In a (own_of log o)
-brief_in log o a h = (filter_in is_other (own_of log o) a h).0
-
 pub hopeless_within : (w : View) (A B : List Atom) → ((a : Atom) → In a A → In a B) → hopeless w A ≡ true → hopeless w B ≡ true
 hopeless_within w A B h e = hopeless_more w w A B (grown_self w) h e
-
--- if the own atoms are hopeless without each `Lacks`, they are hopeless
-pub brief_hopeless : (w : View) (log : List (List Atom)) (o : Own) → hopeless w (brief_of log o) ≡ true → hopeless w (own_of log o) ≡ true
-brief_hopeless w log o h = hopeless_within w (brief_of log o) (own_of log o) (brief_in log o) h
-
--- the own atoms are hopeless exactly if they are so without each `Lacks`, if they are, or if nothing else needs to be judged
-pub brief_tells : (w : View) (log : List (List Atom)) (o : Own) (ends brief : Bool) → (ends || brief) ≡ true → ends ≡ hopeless w (brief_of log o) →
-    (brief ≡ true → hopeless w (own_of log o) ≡ true → hopeless w (brief_of log o) ≡ true) → ends ≡ hopeless w (own_of log o)
-brief_tells w log o true brief e is only = sym (brief_hopeless w log o (sym is))
-brief_tells w log o false brief e is only = sym (none (hopeless w (own_of log o)) (λ h. both_ways (hopeless w (brief_of log o)) (sym is) (only e h)))
-  where
-    none : (b : Bool) → (b ≡ true → ⊥) → b ≡ false
-    none true h = absurd (h refl)
-    none false h = refl
 
 in_both : (A B C : List Atom) → ((a : Atom) → In a A → In a B) → (a : Atom) → In a (A ++ C) → In a (B ++ C)
 in_both A B C h a i = elim (in_append_cases a A C i) [

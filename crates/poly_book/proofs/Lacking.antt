@@ -221,7 +221,7 @@ again_alone w brief A g n fs ls h once has judged i d l so =
 others_only : {X : Type 0} (f : X → Atom) (xs : List X) → ((x : X) → is_other (f x) ≡ true) → list_all is_other (map f xs) ≡ true
 others_only f xs h = all_from is_other (map f xs) (λ a i. let r = map_in f xs a i in subst (λ b. is_other b ≡ true) r.2 (h r.0))
 
-abbrev lacks_of : Atom → ℕ
+abbrev pub lacks_of : Atom → ℕ
 lacks_of (Has p) = p
 lacks_of (Lacks p) = p
 lacks_of (AtLeast i n) = n
@@ -261,11 +261,14 @@ pins_others v w = others_only (λ p. Has p) (filter (λ p. not (mem w.pins p)) v
 both_others : (A B : List Atom) → list_all is_other A ≡ true → list_all is_other B ≡ true → list_all is_other (A ++ B) ≡ true
 both_others A B h k = all_append is_other A B ∙ and_from (list_all is_other A) (list_all is_other B) h k
 
+-- after the guards of a change that lack its new placements, no other is a Lacks
+pub guards_others : (v w : View) → list_all is_other (guards_least v w ++ (guards_most v w ++ guards_pins v w)) ≡ true
+guards_others v w = both_others (guards_least v w) (guards_most v w ++ guards_pins v w) (least_others v w) (both_others (guards_most v w) (guards_pins v w) (most_others v w) (pins_others v w))
+
 -- no two guards of a change lack the same placement
 pub guards_once : (v w : View) → WellNamed w → LackOnce (guards v w)
 guards_once v w well =
-    once_from (filter (λ p. not (mem v.live p)) w.live) (guards_least v w ++ (guards_most v w ++ guards_pins v w)) (distinct_filter (λ p. not (mem v.live p)) w.live (live_once w well))
-    (both_others (guards_least v w) (guards_most v w ++ guards_pins v w) (least_others v w) (both_others (guards_most v w) (guards_pins v w) (most_others v w) (pins_others v w)))
+    once_from (filter (λ p. not (mem v.live p)) w.live) (guards_least v w ++ (guards_most v w ++ guards_pins v w)) (distinct_filter (λ p. not (mem v.live p)) w.live (live_once w well)) (guards_others v w)
 
 any_next : (f : Atom → Bool) (g : List Atom) (i : ℕ) (d : Atom) → i < length g → list_any f (take (i + 1) g) ≡ (list_any f (take i g) || (f (get_or g i d) || false))
 any_next f g i d l = ap (list_any f) (take_more g i d l) ∙ any_append f (take i g) (get_or g i d ∷ [])
@@ -274,9 +277,9 @@ any_next f g i d l = ap (list_any f) (take_more g i d l) ∙ any_append f (take 
 pub stair_alone : (w : View) (log : List (List Atom)) (s : Stair) (a d : Atom) → IsStairOf log s → a ≡ negated (get_or (get_or log s.edition []) s.index d) → hopeless w (a ∷ []) ≡ true → hopeless w (stair_of log s) ≡ true
 stair_alone w log s a d h e t = last_alone w [] (get_or log s.edition []) s.index d h.index_in (subst (λ b. hopeless w (b ∷ []) ≡ true) e t)
 
--- the atoms of a stair that are no Lacks
-pub stair_others : (g : List Atom) (j : ℕ) (d a : Atom) → j < length g → a ≡ negated (get_or g j d) → filter is_other (take j g) ++ filter is_other (a ∷ []) ≡ filter is_other (get_or (stairs g) j [])
-stair_others g j d a l e = ap (λ b. filter is_other (take j g) ++ filter is_other (b ∷ [])) e ∙ sym (filter-append is_other (take j g) (negated (get_or g j d) ∷ [])) ∙ ap (filter is_other) (sym (stairs_at g j d l))
+-- those atoms of a stair that pass a test
+pub stair_filter : (f : Atom → Bool) (g : List Atom) (j : ℕ) (d a : Atom) → j < length g → a ≡ negated (get_or g j d) → filter f (take j g) ++ filter f (a ∷ []) ≡ filter f (get_or (stairs g) j [])
+stair_filter f g j d a l e = ap (λ b. filter f (take j g) ++ filter f (b ∷ [])) e ∙ sym (filter-append f (take j g) (negated (get_or g j d) ∷ [])) ∙ ap (filter f) (sym (stairs_at g j d l))
 
 in_first : (g : List Atom) (k n : ℕ) (d : Atom) → k < n → k < length g → In (get_or g k d) (take n g)
 in_first [] k n d l h = absurd (omega (arith, h))

@@ -46,4 +46,6 @@ pub mod Forgetting
 pub mod Narrowing
 pub mod Judging
 pub mod Lacking
+pub mod Sparing
+pub mod Spotting
 pub mod Harming

@@ -95,12 +95,14 @@ module _ {m : Register} {o d : Layout} {v t : View} {ls ls2 : List (List ℕ)} {
   pub took_keeps : KeepsOf m o d v t ls2 log ps2 n2 h ss es2
   took_keeps =
       let left = take index ps ++ drop (suc index) ps in
+      let lives = becomes_lives (shown o d v ls log ps n h ss es) (shown o d v ls2 log ps2 n2 h ss es2) (Report k tree) took_becomes (keeps.alive, keeps.sparing) in
       record {
         whole = steps_keep_whole_lem (shown o d v ls log ps n h ss es) (shown o d v ls2 log ps2 n2 h ss es2) (Report k tree) keeps.whole tt took_becomes;
         right = keeps.right;
         grown = keeps.grown;
         tasks = subst (λ y. AreTasks log y) (sym c.tasks_are) (are_append log left fresh (at_tasks log k ps index c.there keeps.tasks) c.fresh_are.are);
-        alive = becomes_lives (shown o d v ls log ps n h ss es) (shown o d v ls2 log ps2 n2 h ss es2) (Report k tree) took_becomes keeps.alive;
+        alive = lives.0;
+        sparing = lives.1;
         mapped = subst (λ y. AreNotedBelow m.below m.maps log y) (sym c.tasks_are) (below_append m.below m.maps log left fresh (below_left m.below m.maps log index ps keeps.mapped)
             (below_fresh m.below n m.maps log fresh (hopeful v (rests v (atoms_of (task_of log x)) tree)) keeps.below c.fresh_are.tasks));
         below = (let low = keeps.below in omega (arith, low, c.next_is));

@@ -1,5 +1,5 @@
 -- The changes that can be undone or redone, and how a book begins.
-use Rattle.std.proofs.Common.{List, Some, [], ap, arith, inr, length, not, refl, subst, sym, take, true, ℕ, ◌&&◌, ◌-◌, ◌||◌, ◌∙◌, ◌∷◌, ◌≡◌}
+use Rattle.std.proofs.Common.{List, Some, [], ap, arith, inr, length, not, refl, subst, sym, take, true, ℕ, ◌&&◌, ◌++◌, ◌-◌, ◌||◌, ◌∙◌, ◌∷◌, ◌≡◌}
 use Rattle.std.specs.List.{list_all}
 use Rattle.std.specs.Prelude.{nat_le}
 use Rattle.poly_grid.specs.declared.refusal.Refusal.{Refusal}
@@ -30,7 +30,7 @@ use Rattle.poly_book.specs.Mapped.{under}
 use Rattle.poly_book.specs.Meaning.{IsOwn, own_of, shown, way_of, ways_of}
 use Rattle.poly_book.specs.Refused.{IsNotMade, IsNotRedone, IsNotUndone}
 use Rattle.poly_book.specs.States.{State, Way, opening}
-use Rattle.poly_book.specs.Tasks.{Task}
+use Rattle.poly_book.specs.Tasks.{Spares, Task}
 use Rattle.poly_book.specs.Trails.{Follows, Led}
 use Rattle.poly_book.specs.Whole.{Whole}
 use Rattle.poly_book.proofs.Changes.{changed_by_way, ways_push}
@@ -74,6 +74,7 @@ begin_keeps m start d v t own none stands is r e =
       grown = subst (λ z. Grown v z) e (grown_self v);
       tasks = (record { own = stands; made = omega arith }, tt);
       alive = ap (λ A. not (hopeless v A) && true) none;
+      sparing = (subst (λ A. Spares A (A ++ [])) (sym none) (λ p e. refl), tt);
       mapped = ap (λ A. (nat_le m.below 1 || list_all (λ a. under m.maps a 1) A) && true) none ∙ ap (λ b. (nat_le b 1 || true) && true) start;
       below = omega (arith, start);
       log_length = refl;

@@ -1,26 +1,27 @@
 -- The tasks that a change touches.
-use Rattle.std.proofs.Common.{Bool, List, [], ap, arith, false, get_or, inl, inr, length, refl, subst, suc, sym, true, zero, ℕ, ◌<◌, ◌∙◌, ◌∷◌, ◌≡◌, ◌||◌, ◌⊎◌}
-use Rattle.std.proofs.lemmas.Bool.{and_parts, both_ways, not-true, or_cases, or_left, or_right, true≢false}
+use Rattle.std.proofs.Common.{Bool, List, [], ap, arith, cond, false, get_or, inl, inr, length, refl, subst, suc, sym, true, zero, ℕ, ◌<◌, ◌∙◌, ◌∷◌, ◌≡◌, ◌||◌}
+use Rattle.std.proofs.lemmas.Bool.{and_parts, both_ways, cond_both, false_from_ne_true, not-true, or_cases, or_left, or_right, true≢false}
 use Rattle.std.specs.List.{filter, list_all, list_any}
 use Rattle.std.specs.Prelude.{not}
 use Rattle.poly_design.specs.declared.change.Change.{Change}
 use Rattle.poly_tiling.specs.Lists.{mem}
 use Rattle.poly_tiling.specs.Puzzle.{View}
-use Rattle.poly_tiling.proofs.Lists.{In, any_in, in_filter}
+use Rattle.poly_tiling.proofs.Lists.{In, any_in, filter_in, in_filter}
 use Rattle.poly_place.specs.Index.{item_of}
 use Rattle.poly_place.specs.declared.delta.Delta.{Delta}
 use Rattle.poly_atom.specs.declared.atom.Atom.{Atom}
 use Rattle.poly_atom.specs.declared.atom.Atom.TheVariants.{AtLeast, AtMost, Has, Lacks}
-use Rattle.poly_atom.specs.Hopeless.{asked, beyond, hopeless, lost}
+use Rattle.poly_atom.specs.Hopeless.{asked, bad, beyond, hopeless, lost}
 use Rattle.poly_atom.specs.Newly.{touched}
 use Rattle.poly_atom.proofs.Asked.{found_is}
 use Rattle.poly_atom.proofs.Newly.{newly_hopeless_is_touched_lem}
 use Rattle.poly_report.specs.Words.{is_other}
 use Rattle.poly_book.specs.declared.task.Pending.{Pending}
 use Rattle.poly_book.specs.declared.touch.Touch.{Touch}
-use Rattle.poly_book.specs.Meaning.{own_of, tasks_of}
+use Rattle.poly_book.specs.declared.task.Own.{Own}
+use Rattle.poly_book.specs.Meaning.{brief_of, own_of, tasks_of}
 use Rattle.poly_book.specs.Tasks.{AreAlive}
-use Rattle.poly_book.specs.Touching.{AreBrief, AreTouched, IsBrief, IsMadeBy, touches}
+use Rattle.poly_book.specs.Touching.{AreBrief, AreTouched, IsBrief, IsMadeBy, matters, touches}
 use Rattle.poly_book.proofs.Judging.{hopeless_within}
 use Rattle.poly_book.proofs.Lacking.{by_beyond, by_lost, filter_asks, one_in, other_or}
 
@@ -42,18 +43,23 @@ all_touched t v w x y log (p ∷ ps) made ev ed ei alive =
     same ∙ there in
     (first, all_touched t v w x y log ps made ev ed ei hs.1)
 
+-- an atom of a list that isn't hopeless before a change, and that alone is so after it, is touched
+touched_alone : (v w : View) (x : Delta) (y : Change) (A : List Atom) (a : Atom) → IsMadeBy v w x y → hopeless v A ≡ false → In a A → hopeless w (a ∷ []) ≡ true → touched w x (item_of y) a ≡ true
+touched_alone v w x y A a made alive i after =
+    let one : List Atom = a ∷ [] in
+    let before : hopeless v one ≡ false = false_from_ne_true (hopeless v one) (λ e. both_ways (hopeless v A) alive (hopeless_within v one A (λ b j. subst (λ c. In c A) (one_in b a j) i) e)) in
+    elim (or_cases (touched w x (item_of y) a) false (newly_hopeless_is_touched_lem v w x y one made.0 made.1 before after)) [
+      | inl e ↦ e
+      | inr e ↦ absurd (true≢false (sym e))
+    ]
+
 -- a list that a change makes hopeless without a new pin is hopeless without each Lacks
 brief_enough : (v w : View) (x : Delta) (y : Change) (A : List Atom) → IsMadeBy v w x y → hopeless v A ≡ false → x.pinned.items ≡ [] → hopeless w A ≡ true → hopeless w (filter is_other A) ≡ true
 brief_enough v w x y A made alive none h =
     let D = filter is_other A in
     let same : asked A ≡ asked D = sym (filter_asks A) in
     let harmless : (p : ℕ) → In (Lacks p) A → beyond w A (Lacks p) ≡ true → ⊥ = λ p i b. elim (or_cases (mem w.pins p) (mem (asked A) p) b) [
-      | inl k ↦
-          let one : List Atom = Lacks p ∷ [] in
-          let before : hopeless v one ≡ true → ⊥ = λ e. both_ways (hopeless v A) alive (hopeless_within v one A (λ a j. subst (λ c. In c A) (one_in a (Lacks p) j) i) e) in
-          let after : hopeless w one ≡ true = or_left (mem w.pins p) false k in
-          let there : list_any (touched w x (item_of y)) one ≡ true = newly_hopeless_is_touched_lem v w x y one made.0 made.1 (not_true (hopeless v one) before) after in
-          true≢false (sym there ∙ ap (λ ps. mem ps p || false) none)
+      | inl k ↦ true≢false (sym (touched_alone v w x y A (Lacks p) made alive i (or_left (mem w.pins p) false k)) ∙ ap (λ ps. mem ps p) none)
       | inr k ↦ both_ways (hopeless v A) alive (by_beyond v A A (Lacks p) refl i (or_right (mem v.pins p) (mem (asked A) p) k))
     ] in
     elim (or_cases (list_any (λ a. lost w A a) A) (list_any (λ a. beyond w A a) A) (found_is w A A (λ q. refl) ∙ h)) [
@@ -66,22 +72,77 @@ brief_enough v w x y A made alive none h =
         | inr q ↦ absurd (harmless q.0 (subst (λ a. In a A) q.1 r.1) (subst (λ a. beyond w A a ≡ true) q.1 r.2))
       ]
     ]
+
+-- without each Lacks, it is hopeless already by those atoms that are a Has or are touched
+few_enough : (v w : View) (x : Delta) (y : Change) (A : List Atom) (m : Atom → Bool) → IsMadeBy v w x y → hopeless v A ≡ false → ((p : ℕ) → m (Has p) ≡ true) → ((a : Atom) → touched w x (item_of y) a ≡ true → m a ≡ true) →
+    hopeless w (filter is_other A) ≡ true → hopeless w (filter m (filter is_other A)) ≡ true
+few_enough v w x y A m made alive has by h =
+    let D = filter is_other A in
+    let E = filter m D in
+    let same : asked D ≡ asked E = sym (kept m has D) in
+    elim (or_cases (list_any (λ a. lost w D a) D) (list_any (λ a. beyond w D a) D) (found_is w D D (λ q. refl) ∙ h)) [
+      | inl l ↦ let r = any_in (λ a. lost w D a) D l in by_lost w D E r.0 same (in_filter m D r.0 r.1 (of_lost w D m has r.0 r.2)) r.2
+      | inr l ↦
+          let r = any_in (λ a. beyond w D a) D l in
+          let i = filter_in is_other A r.0 r.1 in
+          by_beyond w D E r.0 same (in_filter m D r.0 r.1 (by r.0 (touched_alone v w x y A r.0 made alive i.0 (alone w D r.0 i.1 r.2)))) r.2
+    ]
   where
-    not_true : (b : Bool) → (b ≡ true → ⊥) → b ≡ false
-    not_true true h = absurd (h refl)
-    not_true false h = refl
+    kept : (m : Atom → Bool) → ((p : ℕ) → m (Has p) ≡ true) → (D : List Atom) → asked (filter m D) ≡ asked D
+    kept m has [] = refl
+    kept m has (Has p ∷ D) = ap (λ b. asked (cond b (Has p ∷ filter m D) (filter m D))) (has p) ∙ ap (λ ps. p ∷ ps) (kept m has D)
+    kept m has (Lacks p ∷ D) = cond_both (m (Lacks p)) (Lacks p ∷ filter m D) (filter m D) (λ B. asked B ≡ asked D) (λ e. kept m has D) (λ e. kept m has D)
+    kept m has (AtLeast i n ∷ D) = cond_both (m (AtLeast i n)) (AtLeast i n ∷ filter m D) (filter m D) (λ B. asked B ≡ asked D) (λ e. kept m has D) (λ e. kept m has D)
+    kept m has (AtMost i n ∷ D) = cond_both (m (AtMost i n)) (AtMost i n ∷ filter m D) (filter m D) (λ B. asked B ≡ asked D) (λ e. kept m has D) (λ e. kept m has D)
+
+    of_lost : (w : View) (D : List Atom) (m : Atom → Bool) → ((p : ℕ) → m (Has p) ≡ true) → (a : Atom) → lost w D a ≡ true → m a ≡ true
+    of_lost w D m has (Has p) h = has p
+    of_lost w D m has (Lacks p) h = absurd (true≢false (sym h))
+    of_lost w D m has (AtLeast i n) h = absurd (true≢false (sym h))
+    of_lost w D m has (AtMost i n) h = absurd (true≢false (sym h))
+
+    alone : (w : View) (D : List Atom) (a : Atom) → is_other a ≡ true → beyond w D a ≡ true → hopeless w (a ∷ []) ≡ true
+    alone w D (Has p) o h = absurd (true≢false (sym h))
+    alone w D (Lacks p) o h = absurd (true≢false (sym o))
+    alone w D (AtLeast i n) o h = or_left (bad w D (AtLeast i n)) false h
+    alone w D (AtMost i n) o h = or_left (bad w D (AtMost i n)) false h
+
+touches_matters : (t : Touch) (a : Atom) → touches t a ≡ true → matters t a ≡ true
+touches_matters t (Has p) h = refl
+touches_matters t (Lacks p) h = h
+touches_matters t (AtLeast i n) h = h
+touches_matters t (AtMost i n) h = h
 
 pub brief_at : (t : Touch) (log : List (List Atom)) (ps : List Pending) (i : ℕ) (d : Pending) → AreBrief t log ps → i < length ps → IsBrief t log (get_or ps i d).own
 brief_at t log [] i d h l = absurd (omega (arith, l))
 brief_at t log (p ∷ ps) zero d h l = h.0
 brief_at t log (p ∷ ps) (suc i) d h l = brief_at t log ps i d h.1 (omega (arith, l))
 
--- a change that pins nothing makes a task hopeless only by atoms that are no Lacks
-pub all_brief : (t : Touch) (v w : View) (x : Delta) (y : Change) (log : List (List Atom)) (ps : List Pending) → IsMadeBy v w x y → t.view.now ≡ w → t.delta.now ≡ x → AreAlive v (tasks_of log ps) → AreBrief t log ps
-all_brief t v w x y log [] made ev ed alive = tt
-all_brief t v w x y log (p ∷ ps) made ev ed alive =
+-- which atoms of the tasks need to be judged after a change
+pub all_brief : (t : Touch) (v w : View) (x : Delta) (y : Change) (log : List (List Atom)) (ps : List Pending) → IsMadeBy v w x y → t.view.now ≡ w → t.delta.now ≡ x → t.item ≡ item_of y → AreAlive v (tasks_of log ps) → AreBrief t log ps
+all_brief t v w x y log [] made ev ed ei alive = tt
+all_brief t v w x y log (p ∷ ps) made ev ed ei alive =
     let A = own_of log p.own in
     let hs = and_parts (not (hopeless v A)) (list_all (λ u. not (hopeless v u.own)) (tasks_of log ps)) alive in
-    let first : IsBrief t log p.own = λ none h.
-    ap (λ z. hopeless z (filter is_other A)) ev ∙ brief_enough v w x y A made (not-true _ hs.0) (ap (λ z. z.pinned.items) (sym ed) ∙ none) (ap (λ z. hopeless z A) (sym ev) ∙ h) in
-    (first, all_brief t v w x y log ps made ev ed hs.1)
+    let lives : hopeless v A ≡ false = not-true _ hs.0 in
+    let same : (a : Atom) → touches t a ≡ touched w x (item_of y) a = λ a i. touched (ev i) (ed i) (ei i) a in
+    let first : IsBrief t log p.own = record {
+      brief = λ none h. ap (λ z. hopeless z (filter is_other A)) ev ∙ brief_enough v w x y A made lives (ap (λ z. z.pinned.items) (sym ed) ∙ none) (ap (λ z. hopeless z A) (sym ev) ∙ h);
+      few = λ h.
+          ap (λ z. hopeless z (filter (matters t) (filter is_other A))) ev
+          ∙ few_enough v w x y A (matters t) made lives (λ p. refl) (λ a e. touches_matters t a (same a ∙ e)) (ap (λ z. hopeless z (filter is_other A)) (sym ev) ∙ h);
+    } in
+    (first, all_brief t v w x y log ps made ev ed ei hs.1)
+
+-- the atoms that matter tell whether a task's own atoms are hopeless, if they are, or if the change pins nothing
+pub few_tells : (t : Touch) (log : List (List Atom)) (o : Own) (ends none : Bool) → IsBrief t log o → ends ≡ hopeless t.view.now (filter (matters t) (brief_of log o)) → (ends || none) ≡ true → (none ≡ true → length t.delta.now.pinned.items ≡ 0) → ends ≡ hopeless t.view.now (own_of log o)
+few_tells t log o true none brief is either pinned =
+    let w = t.view.now in
+    sym (hopeless_within w (filter (matters t) (brief_of log o)) (own_of log o) (λ a i. (filter_in is_other (own_of log o) a (filter_in (matters t) (brief_of log o) a i).0).0) (sym is))
+few_tells t log o false none brief is either pinned =
+    let w = t.view.now in
+    sym (false_from_ne_true (hopeless w (own_of log o)) (λ h. both_ways (hopeless w (filter (matters t) (brief_of log o))) (sym is) (brief.few (brief.brief (empty t.delta.now.pinned.items (pinned either)) h))))
+  where
+    empty : (ps : List ℕ) → length ps ≡ 0 → ps ≡ []
+    empty [] e = refl
+    empty (p ∷ ps) e = absurd (omega (arith, e))

@@ -18,21 +18,22 @@ use Rattle.poly_book.specs.declared.task.Pending.{Pending}
 use Rattle.poly_book.specs.Mapped.{AreNotedBelow}
 use Rattle.poly_book.specs.Meaning.{AreHeld, AreTasks, shown, tasks_of}
 use Rattle.poly_book.specs.States.{State}
-use Rattle.poly_book.specs.Tasks.{AreAlive}
+use Rattle.poly_book.specs.Tasks.{AreAlive, AreSparing}
 use Rattle.poly_book.specs.Whole.{Whole}
 
 -- `Whole` holds of what the fields show; the table is right for the design and has at least the view's numbers; each task
 -- was made at an edition that the log has, is noted in the maps under each of its own atoms if its number is less than
--- `m.below`, and isn't hopeless by its own atoms; the log has what these are read from; `m.below` is at most
--- the number of the next task; the log has one list of guards for each step; numbers and editions are within their limits;
--- endings and pending tasks together are fewer than the number of the next task; the log has what the frozen tasks of the
--- history's shelves are read from; the history has at most 256 steps.
+-- `m.below`, isn't hopeless by its own atoms, and lacks no placement that these ask for; the log has what they are read from;
+-- `m.below` is at most the number of the next task; the log has one list of guards for each step; numbers and editions are
+-- within their limits; endings and pending tasks together are fewer than the number of the next task; the log has what the
+-- frozen tasks of the history's shelves are read from; the history has at most 256 steps.
 pub record KeepsOf (m : Register) (o d : Layout) (v table : View) (ls : List (List ℕ)) (log : List (List Atom)) (ps : List Pending) (n : ℕ) (h : Steps Change Kept) (ss : List Step) (es : List Ending) : Type 0 where
   pub whole : Whole (shown o d v ls log ps n h ss es)
   pub right : IsRight table d
   pub grown : Grown v table
   pub tasks : AreTasks log ps
   pub alive : AreAlive v (tasks_of log ps)
+  pub sparing : AreSparing (tasks_of log ps)
   pub mapped : AreNotedBelow m.below m.maps log ps
   pub below : m.below ≤ n
   pub log_length : length log ≡ length ss

@@ -32,3 +32,4 @@ pub mod Nexts
 pub mod Vouched
 pub mod Needed
 pub mod Judged
+pub mod Spots

@@ -22,7 +22,7 @@ use Rattle.poly_book.specs.declared.step.Ending.{Ending}
 use Rattle.poly_book.specs.declared.task.Own.{Own}
 use Rattle.poly_book.specs.declared.task.Own.TheVariants.{Crossed, Listed, Stair as OfStair}
 use Rattle.poly_book.specs.declared.task.Pending.{Pending}
-use Rattle.poly_book.specs.Tasks.{Task}
+use Rattle.poly_book.specs.Tasks.{Spares, Task}
 use Rattle.poly_book.specs.States.{State, Stored, Way}
 
 -- the atoms of an excerpt of the log
@@ -111,11 +111,12 @@ frozen_brief log f = brief_of log f.own ++ filter is_other (laid_of log f)
 abbrev pub IsLaid : List (List Atom) → Laid → Type 0
 IsLaid log l = l.others.items ≡ filter is_other (take l.count (flat (drop l.made log)))
 
--- the log has what the frozen task's atoms are read from
+-- the log has what the frozen task's atoms are read from, and none of them lacks a placement that its own atoms ask for
 pub record IsFrozen (log : List (List Atom)) (f : Frozen) : Type 0 where
   pub own : IsOwn log f.own
   pub made : f.made ≤ length log
   pub count : f.count ≤ length (flat (drop f.made log))
+  pub spares : Spares (own_of log f.own) (frozen_of log f)
 
 abbrev pub AreFrozen : List (List Atom) → List Frozen → Type 0
 AreFrozen log [] = Unit {0}

@@ -1,5 +1,5 @@
 -- Which pending tasks a change can make hopeless by their own atoms: those with an own atom that the change touches.
-use Rattle.std.specs.List.{list_any}
+use Rattle.std.specs.List.{filter, list_any}
 use Rattle.std.specs.Prelude.{Bool, List, [], false, slice_index_or, take, true, ◌∷◌, ◌≡◌}
 use Rattle.poly_design.specs.Changes.{changed}
 use Rattle.poly_design.specs.declared.change.Change.{Change}
@@ -7,6 +7,7 @@ use Rattle.poly_tiling.specs.Puzzle.{View}
 use Rattle.poly_place.specs.Between.{IsChangeOf}
 use Rattle.poly_place.specs.declared.delta.Delta.{Delta}
 use Rattle.poly_atom.specs.declared.atom.Atom.{Atom}
+use Rattle.poly_atom.specs.declared.atom.Atom.TheVariants.{AtLeast, AtMost, Has, Lacks}
 use Rattle.poly_atom.specs.Hopeless.{hopeless}
 use Rattle.poly_atom.specs.Newly.{touched}
 use Rattle.poly_book.specs.declared.task.Own.{Own}
@@ -27,9 +28,18 @@ abbrev pub AreTouched : Touch → List (List Atom) → List Pending → Type 0
 AreTouched t log [] = Unit {0}
 AreTouched t log (p ∷ ps) = (hopeless t.view.now (own_of log p.own) ≡ true → list_any (touches t) (own_of log p.own) ≡ true) × AreTouched t log ps
 
--- if the change pins nothing, the task's own atoms are hopeless after it only if they are so without each `Lacks`
-abbrev pub IsBrief : Touch → List (List Atom) → Own → Type 0
-IsBrief t log o = t.delta.now.pinned.items ≡ [] → hopeless t.view.now (own_of log o) ≡ true → hopeless t.view.now (brief_of log o) ≡ true
+-- the atom is a Has, or the change touches it
+abbrev pub matters : Touch → Atom → Bool
+matters t (Has p) = true
+matters t (Lacks p) = touches t (Lacks p)
+matters t (AtLeast i n) = touches t (AtLeast i n)
+matters t (AtMost i n) = touches t (AtMost i n)
+
+-- if the change pins nothing, the task's own atoms are hopeless after it only if they are so without each `Lacks`; and without each
+-- `Lacks` they are hopeless after it only if those that matter are
+pub record IsBrief (t : Touch) (log : List (List Atom)) (o : Own) : Type 0 where
+  pub brief : t.delta.now.pinned.items ≡ [] → hopeless t.view.now (own_of log o) ≡ true → hopeless t.view.now (brief_of log o) ≡ true
+  pub few : hopeless t.view.now (brief_of log o) ≡ true → hopeless t.view.now (filter (matters t) (brief_of log o)) ≡ true
 
 abbrev pub AreBrief : Touch → List (List Atom) → List Pending → Type 0
 AreBrief t log [] = Unit {0}

@@ -8,11 +8,15 @@ ghost use Rattle.std.specs.List.{filter};
 ghost use Rattle.poly_atom.specs.declared.atom.Atom.{Atom as AtomOf};
 ghost use Rattle.poly_atom.specs.Logs.{IsStairOf, stair_of};
 ghost use Rattle.poly_report.specs.Words.{is_other};
+ghost use Rattle.poly_book.specs.Judged.{is_harmful};
 ghost use Rattle.poly_book.specs.Meaning.{IsBase, IsFrozen, IsLaid, IsOwn, base_of, frozen_of, laid_of, own_of};
 ghost use Rattle.poly_book.specs.Needed.{AreExcerptsFrom};
+ghost use Rattle.poly_book.specs.Spots.{IsSpots};
 
 use crate::excerpt::Excerpt;
+use crate::harm::append_lacks;
 use crate::shelf::Frozen;
+use crate::spots::Spots;
 use crate::task::{Own, append_others, append_others_of};
 use poly_atom::{Atom, GuardLog, Stair};
 use poly_grid::Refusal;
@@ -72,6 +76,28 @@ impl Base {
         self.lists.read(self.index, buffer)?;
         for excerpt in &self.excerpts {
             excerpt.append_to(log, buffer)?;
+        }
+        Ok(())
+    }
+
+    /// Appends those of the atoms that are a `Lacks` of one of the placements that were looked for. The base's list is read into the
+    /// buffer, in place of what it had.
+    pub(crate) fn append_harmful(
+        &self,
+        log: &GuardLog,
+        spots: &Spots,
+        buffer: &mut Vec<Atom>,
+        atoms: &mut Vec<Atom>,
+    ) -> Result<(), Refusal>
+        requires base { IsBase log.now self.now }
+        requires spots { IsSpots log.now spots.now }
+        ensures ok { OnOk result (atoms.new.items ≡ atoms.old.items ++ filter (is_harmful spots.now.placements.items) (base_of log.now self.now)) }
+        ensures why { IfErr result (λ e. e ≡ Refusal.Memory) }
+    {
+        self.lists.read(self.index, buffer)?;
+        append_lacks(buffer, spots.placements(), atoms)?;
+        for excerpt in &self.excerpts {
+            excerpt.append_harmful(log, spots, atoms)?;
         }
         Ok(())
     }

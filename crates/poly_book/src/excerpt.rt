@@ -1,8 +1,13 @@
 //! Parts of the guard log that atoms are read from.
 ghost use Rattle.std.specs.Prelude.{◌≡◌, ◌++◌, ◌≤◌, IfErr, IfSome, OnOk, length, take};
+ghost use Rattle.std.specs.List.{filter};
 ghost use Rattle.poly_atom.specs.Logs.{IsStairOf, stair_of};
+ghost use Rattle.poly_book.specs.Judged.{is_harmful};
 ghost use Rattle.poly_book.specs.Meaning.{IsExcerpt, edition_of, excerpt_of};
+ghost use Rattle.poly_book.specs.Spots.{IsSpots};
 
+use crate::harm::append_lacks;
+use crate::spots::Spots;
 use crate::task::{is_same_list, is_stair};
 use poly_atom::{Atom, GuardLog, Stair};
 use poly_grid::Refusal;
@@ -46,6 +51,24 @@ impl Excerpt {
         }
     }
 
+    /// Appends those of the atoms that are a `Lacks` of one of the placements that were looked for.
+    pub(crate) fn append_harmful(
+        &self,
+        log: &GuardLog,
+        spots: &Spots,
+        atoms: &mut Vec<Atom>,
+    ) -> Result<(), Refusal>
+        requires excerpt { IsExcerpt log.now self.now }
+        requires spots { IsSpots log.now spots.now }
+        ensures ok { OnOk result (atoms.new.items ≡ atoms.old.items ++ filter (is_harmful spots.now.placements.items) (excerpt_of log.now self.now)) }
+        ensures why { IfErr result (λ e. e ≡ Refusal.Memory) }
+    {
+        match self {
+            Excerpt::Guards(edition, count) => spots.append_since(log, *edition, *count, atoms),
+            Excerpt::Stair(stair) => append_harmful_of(log, stair, spots, atoms),
+        }
+    }
+
     /// How many atoms come before these, if the list ends with these.
     pub(crate) fn before(&self, log: &GuardLog, atoms: &[Atom]) -> Option<usize>
         requires { IsExcerpt log.now self.now }
@@ -60,6 +83,24 @@ impl Excerpt {
             Excerpt::Stair(stair) => before_stair(log, stair, atoms),
         }
     }
+}
+
+/// Appends those atoms of the stair that are a `Lacks` of one of the placements that were looked for.
+pub(crate) fn append_harmful_of(
+    log: &GuardLog,
+    stair: &Stair,
+    spots: &Spots,
+    atoms: &mut Vec<Atom>,
+) -> Result<(), Refusal>
+    requires stair { IsStairOf log.now stair.now }
+    requires spots { IsSpots log.now spots.now }
+    ensures ok { OnOk result (atoms.new.items ≡ atoms.old.items ++ filter (is_harmful spots.now.placements.items) (stair_of log.now stair.now)) }
+    ensures why { IfErr result (λ e. e ≡ Refusal.Memory) }
+{
+    spots.append_since(log, stair.edition, stair.index, atoms)?;
+    let last = [log.guards_of(stair.edition)[stair.index].negated()];
+    append_lacks(&last, spots.placements(), atoms)?;
+    Ok(())
 }
 
 // How many atoms come before the guards, if the list ends with them.

@@ -10,18 +10,20 @@ ghost use Rattle.poly_atom.specs.Logs.{IsStairOf, stair_of};
 ghost use Rattle.poly_atom.specs.Stairs.{stairs};
 ghost use Rattle.poly_tiling.specs.Puzzle.{View as ViewOf};
 ghost use Rattle.poly_report.specs.Words.{is_other};
-ghost use Rattle.poly_book.specs.Judged.{AreJudged, LackOnce};
+ghost use Rattle.poly_book.specs.Judged.{AreJudged, LackOnce, named};
 ghost use Rattle.poly_book.specs.Opens.{Opening, Opens};
 ghost use Rattle.poly_book.specs.Meaning.{AreFrozen, IsBase, IsFrozen, IsHeld, IsOwn, base_of, frozen_brief, frozen_of, laid_of, own_of, stored_of};
 ghost use Rattle.poly_book.specs.Shelves.{crossed, openings};
+ghost use Rattle.poly_book.specs.Spots.{IsSpots};
 ghost use Rattle.poly_book.specs.Tasks.{AreHopeful, hopeful};
 ghost use Rattle.poly_book.specs.declared.prepare.TheConstants.{MAX_CHANGES};
 
 use crate::base::{Base, Laid, base_over};
-use crate::harm::append_harmful;
+use crate::harm::{harmed_by, write_harmed};
 use crate::judge::{judge_first, judge_stairs, lead_of};
 use crate::shelf::{Frozen, Shelf};
-use crate::task::{Own, Pending, read_brief, read_own};
+use crate::spots::Spots;
+use crate::task::{Own, Pending, append_harmful, read_brief};
 use poly_atom::{Atom, GuardLog, Stair, hopeless};
 use poly_grid::Refusal;
 use poly_report::{Rests, SharedLists};
@@ -37,20 +39,25 @@ const LAST: u64 = 4_294_967_295;
 struct Buffers {
     // Atoms of the task after which stairs are judged.
     atoms: Vec<Atom>,
-    // All atoms of the task.
-    all: Vec<Atom>,
-    // Placements whose `Lacks` can do harm.
+    // A list that the task's own atoms begin with.
+    list: Vec<Atom>,
+    // The placements of which a `Lacks` can do harm.
     placements: Vec<u32>,
+    // Where the guard log has these `Lacks`.
+    spots: Spots,
     // Which stairs aren't hopeless after the atoms without each `Lacks`.
     hopes: Vec<bool>,
 }
 
 impl Buffers {
-    fn new(alloc: Global) -> Buffers {
+    fn new(alloc: Global) -> Buffers
+        ensures { (log : List (List AtomOf)) → IsSpots log result.spots }
+    {
         Buffers {
             atoms: Vec::new(alloc),
-            all: Vec::new(alloc),
+            list: Vec::new(alloc),
             placements: Vec::new(alloc),
+            spots: Spots::none(alloc),
             hopes: Vec::new(alloc),
         }
     }
@@ -228,13 +235,23 @@ fn opened_crossed(
         return Ok(tasks);
     }
     let none = SharedLists::one(alloc, &[])?;
+    let harmed = harmed_by(alloc, view, guards)?;
     let mut laid = Laid::none(alloc);
     let mut buffers = Buffers::new(alloc);
     let mut flags = Vec::new(alloc);
     let mut number = next;
     for task in frozen {
         laid.read(log, task)?;
-        if !judge_frozen(view, log, task, &laid, guards, &mut buffers, &mut flags)? {
+        if !judge_frozen(
+            view,
+            log,
+            task,
+            &laid,
+            guards,
+            &harmed,
+            &mut buffers,
+            &mut flags,
+        )? {
             continue;
         }
         let base = base_over(alloc, log, task, &laid, &none)?;
@@ -246,13 +263,15 @@ fn opened_crossed(
 
 // Judges which stairs of the guards aren't hopeless after the atoms of the frozen task. The flags come in place of those that were
 // there, and the buffers are overwritten. If no flag is true, returns `false`. Nearly all atoms of a list are `Lacks`, so the stairs
-// are judged without them first, and those that remain are judged after those `Lacks` that can do harm.
+// are judged without them first, and if any `Lacks` can do harm, those that remain are judged after these. `harmed` are the pins and
+// the placements that the guards ask for or lack.
 fn judge_frozen(
     view: &View,
     log: &GuardLog,
     frozen: &Frozen,
     laid: &Laid,
     guards: &[Atom],
+    harmed: &[u32],
     buffers: &mut Buffers,
     flags: &mut Vec<bool>,
 ) -> Result<bool, Refusal>
@@ -260,6 +279,9 @@ fn judge_frozen(
     requires once { LackOnce guards.now }
     requires frozen { IsFrozen log.now frozen.now }
     requires laid { laid.now.others.items ≡ filter is_other (laid_of log.now frozen.now) }
+    requires harmed { harmed.now ≡ view.now.pins ++ named guards.now }
+    requires spots { IsSpots log.now buffers.old.spots }
+    ensures spots { OnOk result (IsSpots log.now buffers.new.spots) }
     ensures none { IfOk result (λ yes. yes ≡ false → hopeful view.now (map (λ B. frozen_of log.now frozen.now ++ B) (stairs guards.now)) ≡ []) }
     ensures flags { IfOk result (λ yes. yes ≡ true → AreJudged view.now (frozen_of log.now frozen.now) (stairs guards.now) flags.new.items) }
     ensures why { IfErr result (λ e. e ≡ Refusal.Memory) }
@@ -267,11 +289,16 @@ fn judge_frozen(
     let atoms = &mut buffers.atoms;
     let hopes = &mut buffers.hopes;
     read_frozen_brief(log, frozen, laid, atoms)?;
+    write_harmed(harmed, laid.others(), &mut buffers.placements)?;
+    if buffers.placements.is_empty() {
+        let hope = judge_first(view, atoms, guards, hopes, flags)?;
+        return Ok(hope);
+    }
     if !judge_first(view, atoms, guards, flags, hopes)? {
         return Ok(false);
     }
-    read_frozen(log, frozen, &mut buffers.all)?;
-    append_harmful(view, &buffers.all, guards, &mut buffers.placements, atoms)?;
+    buffers.spots.find(log, &buffers.placements)?;
+    append_harmful(log, frozen, &buffers.spots, &mut buffers.list, atoms)?;
     let any = judge_stairs(view, atoms, guards, lead_of(guards), hopes, flags)?;
     Ok(any)
 }
@@ -290,18 +317,6 @@ fn read_frozen_brief(
 {
     read_brief(log, &frozen.own, atoms)?;
     atoms.extend_from_slice(laid.others())?;
-    Ok(())
-}
-
-// Writes the atoms of the frozen task to the buffer, in place of what it had.
-fn read_frozen(log: &GuardLog, frozen: &Frozen, atoms: &mut Vec<Atom>) -> Result<(), Refusal>
-    requires { IsFrozen log.now frozen.now }
-    ensures atoms { OnOk result (atoms.new.items ≡ frozen_of log.now frozen.now) }
-    ensures why { IfErr result (λ e. e ≡ Refusal.Memory) }
-{
-    let since = log.since(frozen.made);
-    read_own(log, &frozen.own, atoms)?;
-    atoms.extend_from_slice(&since[..frozen.count])?;
     Ok(())
 }
 

@@ -1,33 +1,40 @@
-//! Which `Lacks` of a list can do harm with the stairs of a change.
+//! Which `Lacks` of a frozen task can do harm with the stairs of a change.
 //!
-//! A `Lacks` makes a list hopeless only if its placement is a pin, or if the list asks for it. So to judge the stairs of some guards
-//! after a list, nearly all of its thousands of `Lacks` can be left out: those of a placement that is no pin, that the list doesn't
-//! ask for, and that no guard names.
-ghost use Rattle.std.specs.Prelude.{◌≡◌, ◌++◌, ◌∷◌, [], IfErr, OnOk};
+//! A `Lacks` makes a list hopeless only if its placement is a pin, or if the list asks for it. A frozen task lacks no placement that
+//! its own atoms ask for. So to judge the stairs of some guards after it, its thousands of `Lacks` can be left out, but for those of
+//! a pin, of a placement that the guards name, and of one that the guards laid on the task ask for. If a change is undone that only
+//! asked for something more, as `cell 5,5 required`, there are none of these, and no `Lacks` is read.
+ghost use Rattle.std.specs.Prelude.{◌≡◌, ◌++◌, ◌∷◌, [], IfErr, IfOk, OnOk};
 ghost use Rattle.std.specs.List.{filter};
 ghost use Rattle.poly_book.specs.Judged.{is_harmful, named};
 
 use poly_atom::Atom;
 use poly_grid::Refusal;
 use poly_tiling::{View, has_number};
+use std::alloc::Global;
 
-/// Appends each `Lacks` of the list that can do harm after the atoms or with the guards. The placements of which these are the `Lacks`
-/// are written to the buffer `placements`, in place of what it had.
-pub(crate) fn append_harmful(
-    view: &View,
-    list: &[Atom],
-    guards: &[Atom],
-    placements: &mut Vec<u32>,
-    atoms: &mut Vec<Atom>,
-) -> Result<(), Refusal>
-    ensures ok { OnOk result (atoms.new.items ≡ atoms.old.items ++ filter (is_harmful (view.now.pins ++ (named guards.now ++ named atoms.old.items))) list.now) }
+/// The pins of the view, and the placements that the guards ask for or lack.
+pub(crate) fn harmed_by(alloc: Global, view: &View, guards: &[Atom]) -> Result<Vec<u32>, Refusal>
+    ensures ok { IfOk result (λ v. v.items ≡ view.now.pins ++ named guards.now) }
     ensures why { IfErr result (λ e. e ≡ Refusal.Memory) }
 {
-    placements.clear();
-    placements.extend_from_slice(view.pins())?;
-    append_named(guards, placements)?;
-    append_named(atoms, placements)?;
-    append_lacks(list, placements, atoms)?;
+    let mut placements = Vec::from_slice(alloc, view.pins())?;
+    append_named(guards, &mut placements)?;
+    Ok(placements)
+}
+
+/// Writes these placements, and those that the atoms ask for or lack, to the buffer, in place of what it had.
+pub(crate) fn write_harmed(
+    harmed: &[u32],
+    atoms: &[Atom],
+    buffer: &mut Vec<u32>,
+) -> Result<(), Refusal>
+    ensures ok { OnOk result (buffer.new.items ≡ harmed.now ++ named atoms.now) }
+    ensures why { IfErr result (λ e. e ≡ Refusal.Memory) }
+{
+    buffer.clear();
+    buffer.extend_from_slice(harmed)?;
+    append_named(atoms, buffer)?;
     Ok(())
 }
 
@@ -61,8 +68,12 @@ fn append_placement(atom: &Atom, placements: &mut Vec<u32>) -> Result<(), Refusa
     }
 }
 
-// Appends each `Lacks` of the list that is about one of the placements.
-fn append_lacks(list: &[Atom], placements: &[u32], atoms: &mut Vec<Atom>) -> Result<(), Refusal>
+/// Appends each `Lacks` of the list that is about one of the placements.
+pub(crate) fn append_lacks(
+    list: &[Atom],
+    placements: &[u32],
+    atoms: &mut Vec<Atom>,
+) -> Result<(), Refusal>
     ensures ok { OnOk result (atoms.new.items ≡ atoms.old.items ++ filter (is_harmful placements.now) list.now) }
     ensures why { IfErr result (λ e. e ≡ Refusal.Memory) }
 {
@@ -74,8 +85,8 @@ fn append_lacks(list: &[Atom], placements: &[u32], atoms: &mut Vec<Atom>) -> Res
     Ok(())
 }
 
-// Whether the atom is a `Lacks` of one of the placements.
-fn is_harmful(placements: &[u32], atom: &Atom) -> bool
+/// Whether the atom is a `Lacks` of one of the placements.
+pub(crate) fn is_harmful(placements: &[u32], atom: &Atom) -> bool
     ensures { result ≡ is_harmful placements.now atom.now }
 {
     match atom {

@@ -47,6 +47,7 @@ mod scene;
 mod settle;
 mod shelf;
 mod spoilt;
+mod spots;
 mod step;
 mod take;
 mod task;

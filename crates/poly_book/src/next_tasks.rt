@@ -23,10 +23,10 @@ use crate::reach::reached;
 use crate::shelf::Shelf;
 use crate::spoilt::{is_spoilt, spoiler_of};
 use crate::step::Ending;
-use crate::task::{Pending, ends_by_stair, is_hopeless};
+use crate::task::{Own, Pending, ends_by_stair, read_brief, read_own};
 use crate::touch::Touch;
 use crate::untouched::{Untouched, is_untouched};
-use poly_atom::{Atom, GuardLog, Stair};
+use poly_atom::{Atom, GuardLog, Stair, hopeless};
 use poly_design::Change;
 use poly_grid::Refusal;
 use poly_place::Delta;
@@ -161,13 +161,36 @@ fn ends_by(
     if is_spoilt(view, log, &task.own, *spoiler) || ends_by_stair(view, log, &task.own) {
         return Ok(true);
     }
-    // A `Lacks` that harmed nothing before the change can be hopeless after it only by a new pin.
-    let brief = touch.delta.pinned.is_empty();
-    let ends = is_hopeless(view, log, &task.own, brief, buffer)?;
+    let ends = is_hopeless(touch, log, &task.own, buffer)?;
     if ends {
         *spoiler = spoiler_of(view, log, &task.own);
     }
     Ok(ends)
+}
+
+// Whether the own atoms are hopeless after the change. They are read into the buffer, in place of what it had. Nearly all of them are
+// `Lacks`, and nearly all others but those that ask for a placement aren't touched, so these are left out first.
+fn is_hopeless(
+    touch: &Touch<'_>,
+    log: &GuardLog,
+    own: &Own,
+    buffer: &mut Vec<Atom>,
+) -> Result<bool, Refusal>
+    requires own { IsOwn log.now own.now }
+    requires brief { IsBrief touch.now log.now own.now }
+    ensures ok { IfOk result (λ yes. yes ≡ hopeless touch.now.view.now (own_of log.now own.now)) }
+    ensures why { IfErr result (λ e. e ≡ Refusal.Memory) }
+{
+    read_brief(log, own, buffer)?;
+    buffer.retain(|atom| touch.matters(atom));
+    let ends = hopeless(touch.view, buffer);
+    // A `Lacks` that harmed nothing before the change can be hopeless after it only by a new pin.
+    let brief = touch.delta.pinned.is_empty();
+    if ends || brief {
+        return Ok(ends);
+    }
+    read_own(log, own, buffer)?;
+    Ok(hopeless(touch.view, buffer))
 }
 
 // The endings of the tasks that don't go on.

@@ -21,7 +21,7 @@ ghost use Rattle.poly_book.specs.Meaning.{AreFrozen, AreHeld, AreTasks, IsHeld, 
 ghost use Rattle.poly_book.specs.Planned.{IsPlanOver};
 ghost use Rattle.poly_book.specs.Refused.{IsNotMade};
 ghost use Rattle.poly_book.specs.Shelves.{returned};
-ghost use Rattle.poly_book.specs.Tasks.{atoms_of};
+ghost use Rattle.poly_book.specs.Tasks.{AreSparing, atoms_of};
 ghost use Rattle.poly_book.specs.Touching.{IsMadeBy};
 
 use crate::next_tasks::{NextTasks, next_tasks};
@@ -243,7 +243,7 @@ fn check_width(kind: Kind, forth: usize, back: usize) -> Result<(), Refusal>
 
 // What a change that leads to the view stores for its inverse, which has `width` guards. None if a shelf would be too large.
 fn shelve(parts: &Parts, view: &View, delta: &Delta, width: usize) -> Result<Option<Shelf>, Refusal>
-    requires tasks { AreTasks parts.now.log parts.now.tasks.items }
+    requires keeps { Keeps parts.now }
     requires either { AreOfEither view.now delta.now parts.now.listed }
     ensures ok { IfOk result (λ h. stored_of parts.now.log h ≡ shelf_by view.now parts.now.listed parts.now.log parts.now.tasks.items width) }
     ensures held { IfOk result (λ h. IsHeld parts.now.log h) }
@@ -271,7 +271,8 @@ fn is_small(count: usize, width: usize) -> bool
 
 // For each task, its atoms.
 fn frozen_tasks(alloc: Global, log: &GuardLog, tasks: &[Pending]) -> Result<Vec<Frozen>, Refusal>
-    requires { AreTasks log.now tasks.now }
+    requires tasks { AreTasks log.now tasks.now }
+    requires sparing { AreSparing (tasks_of log.now tasks.now) }
     ensures ok { IfOk result (λ v. map (λ f. frozen_of log.now f) v.items ≡ map (λ t. atoms_of t) (tasks_of log.now tasks.now)) }
     ensures frozen { IfOk result (λ v. AreFrozen log.now v.items) }
     ensures why { IfErr result (λ e. e ≡ Refusal.Memory) }

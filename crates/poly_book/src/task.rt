@@ -6,11 +6,16 @@ ghost use Rattle.poly_atom.specs.Hopeless.{hopeless};
 ghost use Rattle.poly_atom.specs.Logs.{IsStairOf, stair_of};
 ghost use Rattle.poly_report.specs.Words.{is_other};
 ghost use Rattle.poly_book.specs.Meaning.{IsFrozen, IsOwn, IsTask, brief_of, frozen_of, own_of, task_of};
-ghost use Rattle.poly_book.specs.Tasks.{atoms_of};
+ghost use Rattle.poly_book.specs.Judged.{is_harmful};
+ghost use Rattle.poly_book.specs.Spots.{IsSpots};
+ghost use Rattle.poly_book.specs.Tasks.{Spares, atoms_of};
 
 use crate::base::Base;
+use crate::excerpt::append_harmful_of;
+use crate::harm::append_lacks;
 use crate::shelf::Frozen;
 use crate::spoilt::last_stair;
+use crate::spots::Spots;
 use poly_atom::{Atom, GuardLog, Stair, hopeless};
 use poly_grid::Refusal;
 use poly_report::SharedLists;
@@ -39,30 +44,6 @@ pub struct Pending {
     pub own: Own,
     /// The edition at which the task was made. The guards of every change since then are atoms of the task, too.
     pub made: u64,
-}
-
-/// Whether a task's own atoms are hopeless. They are read into the buffer, in place of what it had. Nearly all of them are
-/// `Lacks`, and most of those that a change makes hopeless are hopeless without these, so the others are judged first. If `brief`,
-/// nothing else needs to be judged. Fails only when out of memory.
-pub(crate) fn is_hopeless(
-    view: &View,
-    log: &GuardLog,
-    own: &Own,
-    brief: bool,
-    buffer: &mut Vec<Atom>,
-) -> Result<bool, Refusal>
-    requires own { IsOwn log.now own.now }
-    requires brief { brief ≡ true → hopeless view.now (own_of log.now own.now) ≡ true → hopeless view.now (brief_of log.now own.now) ≡ true }
-    ensures ok { IfOk result (λ yes. yes ≡ hopeless view.now (own_of log.now own.now)) }
-    ensures why { IfErr result (λ e. e ≡ Refusal.Memory) }
-{
-    read_brief(log, own, buffer)?;
-    let ends = hopeless(view, buffer);
-    if ends || brief {
-        return Ok(ends);
-    }
-    read_own(log, own, buffer)?;
-    Ok(hopeless(view, buffer))
 }
 
 /// Whether the own atoms end with a stair whose last atom alone is hopeless. Then they are hopeless.
@@ -178,6 +159,51 @@ pub(crate) fn read_own(log: &GuardLog, own: &Own, buffer: &mut Vec<Atom>) -> Res
     }
 }
 
+/// Appends those of the frozen task's atoms that are a `Lacks` of one of the placements that were looked for. A list that its own
+/// atoms begin with is read into the buffer, in place of what it had.
+pub(crate) fn append_harmful(
+    log: &GuardLog,
+    frozen: &Frozen,
+    spots: &Spots,
+    buffer: &mut Vec<Atom>,
+    atoms: &mut Vec<Atom>,
+) -> Result<(), Refusal>
+    requires frozen { IsFrozen log.now frozen.now }
+    requires spots { IsSpots log.now spots.now }
+    ensures ok { OnOk result (atoms.new.items ≡ atoms.old.items ++ filter (is_harmful spots.now.placements.items) (frozen_of log.now frozen.now)) }
+    ensures why { IfErr result (λ e. e ≡ Refusal.Memory) }
+{
+    append_harmful_own(log, &frozen.own, spots, buffer, atoms)?;
+    spots.append_since(log, frozen.made, frozen.count, atoms)?;
+    Ok(())
+}
+
+// The same for own atoms.
+fn append_harmful_own(
+    log: &GuardLog,
+    own: &Own,
+    spots: &Spots,
+    buffer: &mut Vec<Atom>,
+    atoms: &mut Vec<Atom>,
+) -> Result<(), Refusal>
+    requires own { IsOwn log.now own.now }
+    requires spots { IsSpots log.now spots.now }
+    ensures ok { OnOk result (atoms.new.items ≡ atoms.old.items ++ filter (is_harmful spots.now.placements.items) (own_of log.now own.now)) }
+    ensures why { IfErr result (λ e. e ≡ Refusal.Memory) }
+{
+    match own {
+        Own::Listed(lists, index) => {
+            lists.read(*index, buffer)?;
+            append_lacks(buffer, spots.placements(), atoms)
+        }
+        Own::Stair(stair) => append_harmful_of(log, stair, spots, atoms),
+        Own::Crossed(base, stair) => {
+            base.append_harmful(log, spots, buffer, atoms)?;
+            append_harmful_of(log, stair, spots, atoms)
+        }
+    }
+}
+
 /// The list that the own atoms begin with, if there is one: lists, and its index among them.
 pub(crate) fn list_of<'a>(log: &GuardLog, own: &'a Own) -> Option<(&'a SharedLists, usize)>
     requires { IsOwn log.now own.now }
@@ -209,7 +235,8 @@ fn share(own: &Own) -> Result<Own, Refusal>
 
 /// The task's atoms as they are now, to be read again later.
 pub(crate) fn freeze(log: &GuardLog, task: &Pending) -> Result<Frozen, Refusal>
-    requires { IsTask log.now task.now }
+    requires task { IsTask log.now task.now }
+    requires spares { Spares (own_of log.now task.now.own) (atoms_of (task_of log.now task.now)) }
     ensures atoms { IfOk result (λ f. frozen_of log.now f ≡ atoms_of (task_of log.now task.now)) }
     ensures frozen { IfOk result (λ f. IsFrozen log.now f) }
     ensures why { IfErr result (λ e. e ≡ Refusal.Memory) }

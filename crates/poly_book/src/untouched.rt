@@ -4,14 +4,12 @@
 //! change touches. A stair up to there isn't touched if its last atom isn't, and then its task goes on and needn't be read.
 ghost use Rattle.std.specs.Prelude.{IsTrue, false, length, ◌<◌, ◌≡◌};
 ghost use Rattle.std.specs.List.{list_any};
-ghost use Rattle.poly_tiling.specs.Lists.{mem};
 ghost use Rattle.poly_book.specs.Meaning.{IsOwn, own_of};
 ghost use Rattle.poly_book.specs.Touching.{AreUntouched, touches};
 
 use crate::task::Own;
 use crate::touch::Touch;
-use poly_atom::{Atom, GuardLog};
-use poly_tiling::has_number;
+use poly_atom::GuardLog;
 
 /// The first guards of an edition, none of which the change touches.
 #[derive(Clone, Copy, Debug)]
@@ -56,7 +54,7 @@ pub(crate) fn is_untouched(
         return false;
     }
     let last = log.guards_of(stair.edition)[stair.index].negated();
-    !may_touch(touch, &last)
+    !touch.touches(&last)
 }
 
 // The first guards of the edition, none of which is touched. These are the known ones if they are of this edition.
@@ -72,7 +70,7 @@ fn first_of_edition(touch: &Touch<'_>, log: &GuardLog, edition: u64, known: Unto
     first_untouched(touch, log, edition)
 }
 
-// The first guards of the edition up to one that may be touched.
+// The first guards of the edition up to one that is touched.
 fn first_untouched(touch: &Touch<'_>, log: &GuardLog, edition: u64) -> Untouched
     requires { edition < length log.now }
     ensures untouched { AreUntouched touch.now log.now result }
@@ -80,7 +78,7 @@ fn first_untouched(touch: &Touch<'_>, log: &GuardLog, edition: u64) -> Untouched
 {
     let guards = log.guards_of(edition);
     for count in 0..guards.len() {
-        if may_touch(touch, &guards[count]) {
+        if touch.touches(&guards[count]) {
             return Untouched { edition, count };
         }
     }
@@ -88,23 +86,4 @@ fn first_untouched(touch: &Touch<'_>, log: &GuardLog, edition: u64) -> Untouched
         edition,
         count: guards.len(),
     }
-}
-
-// Whether the change may touch the atom.
-fn may_touch(touch: &Touch<'_>, atom: &Atom) -> bool
-    ensures { result ≡ false → touches touch.now atom.now ≡ false }
-{
-    match atom {
-        Atom::Has(p) => touch.has_placement(*p),
-        Atom::Lacks(p) => has_pinned(touch, *p),
-        Atom::AtLeast(_, _) => true,
-        Atom::AtMost(_, _) => true,
-    }
-}
-
-// Whether the change pins the placement.
-fn has_pinned(touch: &Touch<'_>, p: u32) -> bool
-    ensures { result ≡ mem touch.now.delta.now.pinned.items p }
-{
-    has_number(&touch.delta.pinned, p)
 }

@@ -46,6 +46,7 @@ loop-task-preserved-then-not-branch c =
       number = c.loop-task.invariant.number;
       few = c.loop-task.invariant.few;
       laid = c.in_ok-read.ensures.laid;
+      spots = c.in_ok-judge_frozen.ensures.spots;
     }
 
 pub loop-task-preserved : goal.loop-task-preserved
@@ -61,7 +62,7 @@ loop-task-preserved c =
     let shared : arc_value c.in_ok-shared.shared ≡ c.in_ok-base.base = c.in_ok-shared.ensures.ok in
     let base = base_of log (arc_value c.in_ok-shared.shared) in
     let is : base ≡ frozen_of log c.task-item.result = ap (λ b. base_of log b) shared ∙ c.in_ok-base.ensures.base in
-    let judged : AreJudged w base S c.deref.result.now = c.deref.ensures.value ∙ c.in_ok-judge_frozen.ensures.flags c.if-not-branch.false ∙ ap (λ b. map (λ A. not (hopeless w (b ++ A))) S) (sym is) in
+    let judged : AreJudged w base S c.deref-in-loop-task.result.now = c.deref-in-loop-task.ensures.value ∙ c.in_ok-judge_frozen.ensures.flags c.if-not-branch.false ∙ ap (λ b. map (λ A. not (hopeless w (b ++ A))) S) (sym is) in
     let head = frozen_head log S fs i c.task-item.result base c.loop-task-test.true c.task-item.is is in
     record {
       same = c.in_ok-number.ensures.ok w g log c.args.next (crossed L S) rest c.requires.log (subst (λ b. IsBase log b) (sym shared) c.in_ok-base.ensures.is) judged
@@ -69,6 +70,7 @@ loop-task-preserved c =
       number = let a = c.loop-task.invariant.number in let b = c.in_ok-number.ensures.count in omega (arith, a, b);
       few = c.in_ok-number.ensures.few;
       laid = c.in_ok-read.ensures.laid;
+      spots = c.in_ok-judge_frozen.ensures.spots;
     }
 
 pub returns-in_err-number-clause-why : goal.returns-in_err-number-clause-why
@@ -85,7 +87,7 @@ returns-in_err-number-clause-why c =
     let shared : arc_value c.in_ok-shared.shared ≡ c.in_ok-base.base = c.in_ok-shared.ensures.ok in
     let base = base_of log (arc_value c.in_ok-shared.shared) in
     let is : base ≡ frozen_of log c.task-item.result = ap (λ b. base_of log b) shared ∙ c.in_ok-base.ensures.base in
-    let judged : AreJudged w base S c.deref.result.now = c.deref.ensures.value ∙ c.in_ok-judge_frozen.ensures.flags c.if-not-branch.false ∙ ap (λ b. map (λ A. not (hopeless w (b ++ A))) S) (sym is) in
+    let judged : AreJudged w base S c.deref-in-loop-task.result.now = c.deref-in-loop-task.ensures.value ∙ c.in_ok-judge_frozen.ensures.flags c.if-not-branch.false ∙ ap (λ b. map (λ A. not (hopeless w (b ++ A))) S) (sym is) in
     let head = frozen_head log S fs i c.task-item.result base c.loop-task-test.true c.task-item.is is in
     rw (p.1, p.2) (elim c.in_err-number.ensures.why [
       | inl m ↦ inl (

@@ -3,6 +3,7 @@ use Rattle.poly_atom.specs.Stairs.{stairs}
 use Rattle.poly_book.specs.Meaning.{IsLaid, frozen_of}
 use Rattle.poly_book.specs.Opens.{Opening}
 use Rattle.poly_book.specs.Shelves.{crossed}
+use Rattle.poly_book.specs.Spots.{IsSpots}
 use Rattle.poly_book.proofs.fresh.opened_crossed.Given as goal
 
 abbrev pub invariant-loop-task : goal.invariant-loop-task
@@ -11,4 +12,5 @@ invariant-loop-task l = record {
   number : l.next + length l.tasks.items ≡ l.number;
   few : l.number ≤ 4294967296;
   laid : IsLaid l.log l.laid;
+  spots : IsSpots l.log l.buffers.spots;
 }

@@ -46,7 +46,7 @@ surviving-requires-clause-brief c =
     let a = c.args.parts.now in
     let t = c.in_ok-touch.touch in
     let e = c.in_ok-touch.ensures in
-    subst (λ ps. AreBrief t a.log ps) (sym c.deref-2.ensures.value) (all_brief t a.scene c.args.view.now c.args.delta.now c.args.change.now a.log a.tasks.items c.requires.made e.view e.delta c.requires.keeps.alive)
+    subst (λ ps. AreBrief t a.log ps) (sym c.deref-2.ensures.value) (all_brief t a.scene c.args.view.now c.args.delta.now c.args.change.now a.log a.tasks.items c.requires.made e.view e.delta e.item c.requires.keeps.alive)
 
 pub returns-clause-ok : goal.returns-clause-ok
 returns-clause-ok c =

@@ -1,11 +1,18 @@
 use Rattle.std.proofs.Common.{ap, map, subst, sym, ◌∙◌}
-use Rattle.poly_book.specs.Meaning.{AreFrozen, IsTask, frozen_of}
+use Rattle.poly_book.specs.Meaning.{AreFrozen, IsTask, frozen_of, own_of, task_of}
+use Rattle.poly_book.specs.Tasks.{Spares, atoms_of}
 use Rattle.poly_book.proofs.Held.{task_at}
 use Rattle.poly_book.proofs.Holding.{frozen_more, frozen_push_one}
+use Rattle.poly_book.proofs.Sparing.{sparing_at}
 use Rattle.poly_book.proofs.prepare.frozen_tasks.Goals as goal
 
-pub freeze-requires : goal.freeze-requires
-freeze-requires c = subst (λ p. IsTask c.args.log.now p) (sym c.task-item.is) (task_at c.args.log.now c.args.tasks.now c.loop-task.task-index c.task-item.result c.requires c.loop-task-test.true)
+pub freeze-requires-clause-task : goal.freeze-requires-clause-task
+freeze-requires-clause-task c = subst (λ p. IsTask c.args.log.now p) (sym c.task-item.is) (task_at c.args.log.now c.args.tasks.now c.loop-task.task-index c.task-item.result c.requires.tasks c.loop-task-test.true)
+
+pub freeze-requires-clause-spares : goal.freeze-requires-clause-spares
+freeze-requires-clause-spares c =
+    let log = c.args.log.now in
+    subst (λ p. Spares (own_of log p.own) (atoms_of (task_of log p))) (sym c.task-item.is) (sparing_at log c.args.tasks.now c.loop-task.task-index c.task-item.result c.requires.sparing c.loop-task-test.true)
 
 pub loop-task-preserved : goal.loop-task-preserved
 loop-task-preserved c =

@@ -30,4 +30,4 @@ returns-clause-untouched c = λ so.
     let untouched : list_any f (take first.count (get_or log s.edition [])) ≡ false = subst (λ e. list_any f (take first.count (get_or log e [])) ≡ false) c.first_of_edition-first.ensures.edition c.first_of_edition-first.ensures.untouched in
     ap (λ o. list_any f (own_of log o)) c.in-Stair.is
     ∙ untouched_stair f log s first.count c.negated-last.result d there untouched c.if-stair-first.false
-    (c.negated-last.ensures ∙ ap negated (c.index-guards_of-stair.is ∙ ap (λ g. get_or g s.index d) c.guards_of.ensures.value)) (c.may_touch.ensures (not-true _ so))
+    (c.negated-last.ensures ∙ ap negated (c.index-guards_of-stair.is ∙ ap (λ g. get_or g s.index d) c.guards_of.ensures.value)) (sym c.touches.ensures ∙ not-true _ so)

@@ -1,4 +1,4 @@
-use Rattle.std.proofs.Common.{arith, get_or, length, rules, subst, sym, ◌-◌, ◌<◌, ◌≡◌}
+use Rattle.std.proofs.Common.{get_or, length, rules, subst, sym, ◌-◌, ◌<◌, ◌≡◌}
 use Rattle.poly_book.specs.Meaning.{IsExcerpt}
 use Rattle.poly_book.proofs.Basing.{excerpt_at}
 use Rattle.poly_book.proofs.base.Base.matches.Goals as goal
