@@ -1,6 +1,7 @@
 -- Rows of bits: putting a number in, taking out one number or those of another row, and searching two rows.
-use Rattle.std.proofs.Common.{◌≡◌, ℕ, zero, suc, ◌+◌, ◌-◌, ◌*◌, ◌/◌, ◌%◌, ◌^◌, ◌<◌, ◌≤◌, min, Bool, true, false, not, ◌&&◌, ◌||◌, eqb, List, [], ◌++◌, ◌⊎◌, inl, inr, refl, sym, ap, subst, ◌∙◌, arith, length, length-append, take, drop, replicate, get_or, get_or-set_other, get_or-set_same, w64, bit_and, bit_or, true≢false}
+use Rattle.std.proofs.Common.{◌≡◌, ℕ, zero, suc, ◌+◌, ◌-◌, ◌*◌, ◌/◌, ◌%◌, ◌^◌, ◌<◌, ◌≤◌, min, Bool, true, false, not, ◌&&◌, ◌||◌, eqb, List, [], ◌++◌, ◌⊎◌, inl, inr, refl, sym, ap, subst, ◌∙◌, ◌∷◌, arith, length, length-append, take, drop, replicate, get_or, get_or-set_other, get_or-set_same, w64, bit_and, bit_or, true≢false}
 use Rattle.std.proofs.Math.ListN.{set}
+use Rattle.std.proofs.Math.Seq.{get_or-append_seam}
 use Rattle.std.proofs.lemmas.Bool.{cases_eq, cases_lt, eq-eqb, ne_eqb, or_right}
 use Rattle.std.proofs.lemmas.Nat.Bits.{bit_at_and, bit_at_not, bit_at-lt, bit_at_set_same, bit_at_set_other, bit_at_clear_same, bit_at_clear_other, bit_at-trailing_zeros, bit_at-zero, bit_at_above, shr_and_one}
 use Rattle.std.proofs.lemmas.Nat.{and_le_l, shr-shr}
@@ -33,7 +34,7 @@ and_no : (b c : Bool) → c ≡ true → false ≡ (b && not c)
 and_no true c e = ap not (sym e)
 and_no false c e = refl
 
-other_at : (ws : List ℕ) (k x n : ℕ) → (n ≡ k → ⊥) → get_or (set ws k x) n 0 ≡ get_or ws n 0
+pub other_at : (ws : List ℕ) (k x n : ℕ) → (n ≡ k → ⊥) → get_or (set ws k x) n 0 ≡ get_or ws n 0
 other_at ws k x n ne = rw get_or-set_other refl
 
 same_at : (ws : List ℕ) (k x n : ℕ) → k < length ws → n ≡ k → get_or (set ws k x) n 0 ≡ x
@@ -178,6 +179,21 @@ not_three false a b c = refl
 not_three true true b c = refl
 not_three true false true c = refl
 not_three true false false c = refl
+
+-- what held of each entry holds of each entry and the one that is appended
+pub pushed : (xs new : List ℕ) (x k : ℕ) (P : ℕ → ℕ → Type 0) → new ≡ xs ++ x ∷ [] → length xs ≡ k → ((i : ℕ) → i < k → P i (get_or xs i 0)) → P k x → (i : ℕ) → i < k + 1 → P i (get_or new i 0)
+pushed xs new x k P items len before last i h = subst (λ (ys : List ℕ). P i (get_or ys i 0)) (sym items) (elim (cases_lt i k) [
+  | inl l ↦ subst (λ (y : ℕ). P i y) (sym (get_or_append_left xs (x ∷ []) 0 i (omega (arith, l, len)))) (before i l)
+  | inr g ↦ subst (λ (n : ℕ). P n (get_or (xs ++ x ∷ []) n 0)) (omega (arith, g, h)) (subst (λ (y : ℕ). P k y) (sym (ap (λ n. get_or (xs ++ x ∷ []) n 0) (sym len) ∙ get_or-append_seam xs x [] 0)) last)
+])
+
+-- what held of each word from `low` on and below `k`, and of the new word, holds of each word from `low` on and below `k + 1`
+pub put_done : (ws : List ℕ) (k x low : ℕ) (P : ℕ → ℕ → Type 0) → k < length ws → ((i : ℕ) → low ≤ i → i < k → P i (get_or ws i 0)) → P k x →
+    (i : ℕ) → low ≤ i → i < k + 1 → P i (get_or (set ws k x) i 0)
+put_done ws k x low P size before new i g h = elim (cases_eq i k) [
+  | inl e ↦ subst (λ (n : ℕ). P n (get_or (set ws k x) n 0)) (sym e) (subst (λ (y : ℕ). P k y) (sym (same_at ws k x k size refl)) new)
+  | inr n ↦ subst (λ (y : ℕ). P i y) (sym (other_at ws k x i n)) (before i g (omega (arith, h, n)))
+]
 
 -- four words that stand one after another are written
 module _ (ws : List ℕ) (k a b c d : ℕ) (size : k + 3 < length ws) where

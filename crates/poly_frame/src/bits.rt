@@ -81,11 +81,14 @@ pub(crate) fn take_out_words(words: &mut [u64], row: &[u64])
     }
 }
 
-// The bits that the word has and none of the other three has.
-fn less_three(word: u64, first: u64, second: u64, third: u64) -> u64
-    ensures { IsLess result word first second third }
+// The bits that the word has and none of the words at `k` has.
+fn less_three(word: u64, first: &[u64], second: &[u64], third: &[u64], k: usize) -> u64
+    requires first { k < length first.now }
+    requires second { k < length second.now }
+    requires third { k < length third.now }
+    ensures { IsLess result word (slice_index first.now k) (slice_index second.now k) (slice_index third.now k) }
 {
-    less(less(less(word, first), second), third)
+    less(less(less(word, first[k]), second[k]), third[k])
 }
 
 /// Removes from a row all numbers that one of three other rows has: one pass over the row does what else takes three.
@@ -114,10 +117,10 @@ fn take_out_fours(words: &mut [u64], fours: usize, first: &[u64], second: &[u64]
 {
     for c in 0..fours {
         let k = 4 * c;
-        let one = less_three(words[k], first[k], second[k], third[k]);
-        let two = less_three(words[k + 1], first[k + 1], second[k + 1], third[k + 1]);
-        let three = less_three(words[k + 2], first[k + 2], second[k + 2], third[k + 2]);
-        let four = less_three(words[k + 3], first[k + 3], second[k + 3], third[k + 3]);
+        let one = less_three(words[k], first, second, third, k);
+        let two = less_three(words[k + 1], first, second, third, k + 1);
+        let three = less_three(words[k + 2], first, second, third, k + 2);
+        let four = less_three(words[k + 3], first, second, third, k + 3);
         words[k] = one;
         words[k + 1] = two;
         words[k + 2] = three;
@@ -136,23 +139,31 @@ fn take_out_rest(words: &mut [u64], from: usize, first: &[u64], second: &[u64], 
     ensures before { (k : ℕ) → k < from → slice_index words.new k ≡ slice_index words.old k }
 {
     for k in from..words.len() {
-        words[k] = less_three(words[k], first[k], second[k], third[k]);
+        words[k] = less_three(words[k], first, second, third, k);
     }
 }
 
-// The bits that the word has and none of the other six has.
+// The bits that the word has and none of the words at `k` has.
 fn less_six(
     word: u64,
-    first: u64,
-    second: u64,
-    third: u64,
-    fourth: u64,
-    fifth: u64,
-    sixth: u64,
+    first: &[u64],
+    second: &[u64],
+    third: &[u64],
+    fourth: &[u64],
+    fifth: &[u64],
+    sixth: &[u64],
+    k: usize,
 ) -> u64
-    ensures { IsLessSix result word first second third fourth fifth sixth }
+    requires first { k < length first.now }
+    requires second { k < length second.now }
+    requires third { k < length third.now }
+    requires fourth { k < length fourth.now }
+    requires fifth { k < length fifth.now }
+    requires sixth { k < length sixth.now }
+    ensures { IsLessSix result word (slice_index first.now k) (slice_index second.now k) (slice_index third.now k) (slice_index fourth.now k) (slice_index fifth.now k) (slice_index sixth.now k) }
 {
-    less_three(less_three(word, first, second, third), fourth, fifth, sixth)
+    let word = less_three(word, first, second, third, k);
+    less_three(word, fourth, fifth, sixth, k)
 }
 
 /// Makes `words` the row without all numbers that one of six other rows has, in one pass.
@@ -219,35 +230,36 @@ fn without_six_fours(
 {
     for c in 0..fours {
         let k = 4 * c;
-        let one = less_six(
-            row[k], first[k], second[k], third[k], fourth[k], fifth[k], sixth[k],
-        );
+        let one = less_six(row[k], first, second, third, fourth, fifth, sixth, k);
         let two = less_six(
             row[k + 1],
-            first[k + 1],
-            second[k + 1],
-            third[k + 1],
-            fourth[k + 1],
-            fifth[k + 1],
-            sixth[k + 1],
+            first,
+            second,
+            third,
+            fourth,
+            fifth,
+            sixth,
+            k + 1,
         );
         let three = less_six(
             row[k + 2],
-            first[k + 2],
-            second[k + 2],
-            third[k + 2],
-            fourth[k + 2],
-            fifth[k + 2],
-            sixth[k + 2],
+            first,
+            second,
+            third,
+            fourth,
+            fifth,
+            sixth,
+            k + 2,
         );
         let four = less_six(
             row[k + 3],
-            first[k + 3],
-            second[k + 3],
-            third[k + 3],
-            fourth[k + 3],
-            fifth[k + 3],
-            sixth[k + 3],
+            first,
+            second,
+            third,
+            fourth,
+            fifth,
+            sixth,
+            k + 3,
         );
         words[k] = one;
         words[k + 1] = two;
@@ -281,9 +293,7 @@ fn without_six_rest(
     ensures before { (k : ℕ) → k < from → slice_index words.new k ≡ slice_index words.old k }
 {
     for k in from..words.len() {
-        words[k] = less_six(
-            row[k], first[k], second[k], third[k], fourth[k], fifth[k], sixth[k],
-        );
+        words[k] = less_six(row[k], first, second, third, fourth, fifth, sixth, k);
     }
 }
 

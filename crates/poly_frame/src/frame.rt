@@ -40,7 +40,7 @@ mod wanted;
 
 use crate::frame::ahead::{Attempt, Guesses};
 use crate::frame::alive::{alive_of, is_dead};
-use crate::frame::layers::{Layer, narrow_layer, widen};
+use crate::frame::layers::{Layer, exchange, narrow_layer, widen};
 use crate::frame::levels::{Levels, Spare, levels_of};
 use crate::frame::lists::{Lists, lists_of};
 use crate::frame::matrix::Columns;
@@ -55,7 +55,6 @@ use poly_grid::Refusal;
 use poly_tiling::{Item, View};
 use std::alloc::Global;
 use std::marker::Model;
-use std::mem;
 
 /// The most steps that a frame can have at one time.
 pub const STEPS: usize = 4096;
@@ -211,23 +210,12 @@ impl<'a> Frame<'a> {
         {
             return Ok(());
         }
+        self.under.reserve(1)?;
+        self.spare.reserve(self.under.len() + 1)?;
         let spare = self.spare.pop().unwrap_or(Layer::none(alloc));
         let node = self.stand.node(&self.trail);
         let narrow = narrow_layer(alloc, &node, &self.steps, &self.members, spare)?;
-        self.under.reserve(1)?;
-        self.spare.reserve(self.under.len() + 1)?;
-        let Layer {
-            columns,
-            table,
-            steps,
-            base,
-        } = narrow;
-        let wide = Layer {
-            columns: mem::replace(&mut self.stand.columns, columns),
-            table: mem::replace(&mut self.stand.table, table),
-            steps: mem::replace(&mut self.steps, steps),
-            base: mem::replace(&mut self.stand.base, base),
-        };
+        let wide = exchange(&mut self.stand, &mut self.steps, narrow);
         self.under.push_reserved(wide);
         Ok(())
     }

@@ -178,9 +178,12 @@ fn is_full(view: &View, atoms: &[Atom], members: &[u32], number: u32, item: &Ite
 fn is_full_cell(view: &View, atoms: &[Atom], members: &[u32], number: u32, cells: &[Cell]) -> bool
     ensures { result ≡ list_any (λ c. nat_le (most_at view.now atoms.now (CellItem c)) (others view.now members.now number (CellItem c))) cells.now }
 {
-    cells
-        .iter()
-        .any(|c| is_full(view, atoms, members, number, &Item::Cell(*c)))
+    for cell in cells {
+        if is_full(view, atoms, members, number, &Item::Cell(*cell)) {
+            return true;
+        }
+    }
+    false
 }
 
 fn is_full_with(

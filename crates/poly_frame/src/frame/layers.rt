@@ -49,7 +49,7 @@ ghost use Rattle.poly_frame.specs.Open.{open_in};
 
 /// Drops the last layer if the frame stands where the layer was made, so that the last step can be undone. If `spare` has room,
 /// the layer goes there, so that its memory can be used again.
-#[tactic(auto, using(crate::proofs::Layers::pile_open, crate::proofs::Layers::pile_pop))]
+#[tactic(auto, using(crate::proofs::Layers::pile_open))]
 pub(crate) fn widen<'a>(
     stand: &mut Stand<'a>,
     trail: &[Atom],
@@ -71,19 +71,28 @@ pub(crate) fn widen<'a>(
         return;
     }
     if let Some(below) = under.pop() {
-        let Layer {
-            columns,
-            table,
-            steps: steps_below,
-            base,
-        } = below;
-        let dropped = Layer {
-            columns: mem::replace(&mut stand.columns, columns),
-            table: mem::replace(&mut stand.table, table),
-            steps: mem::replace(steps, steps_below),
-            base: mem::replace(&mut stand.base, base),
-        };
+        let dropped = exchange(stand, steps, below);
         keep(dropped, spare);
+    }
+}
+
+/// Makes the frame read the layer, and returns the layer that it read.
+pub(crate) fn exchange<'a>(stand: &mut Stand<'a>, steps: &mut Steps, layer: Layer<'a>) -> Layer<'a>
+    ensures stand { stand.new ≡ record stand.old { base = layer.entry.base; columns = layer.entry.columns; table = layer.entry.table } }
+    ensures steps { steps.new ≡ layer.entry.steps }
+    ensures layer { result ≡ record { columns = stand.old.columns; table = stand.old.table; steps = steps.old; base = stand.old.base } }
+{
+    let Layer {
+        columns,
+        table,
+        steps: new_steps,
+        base,
+    } = layer;
+    Layer {
+        columns: mem::replace(&mut stand.columns, columns),
+        table: mem::replace(&mut stand.table, table),
+        steps: mem::replace(steps, new_steps),
+        base: mem::replace(&mut stand.base, base),
     }
 }
 

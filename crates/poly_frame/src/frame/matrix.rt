@@ -464,7 +464,7 @@ fn all_homes(alloc: Global, count: usize) -> Result<Vec<usize>, Refusal>
 {
     let mut homes = Vec::with_capacity(alloc, count)?;
     for j in 0..count {
-        homes.push(j)?;
+        homes.push_reserved(j);
     }
     Ok(homes)
 }

@@ -1,4 +1,4 @@
-use Rattle.std.proofs.Common.{arith, get_or, length, ℕ, ◌*◌, ◌+◌, ◌<◌, ◌∙◌}
+use Rattle.std.proofs.Common.{arith, get_or, length, ◌*◌, ◌+◌, ◌<◌, ◌∙◌}
 use Rattle.poly_frame.specs.Bits.{IsLessSix}
 use Rattle.poly_frame.proofs.Words.{four_done, four_len}
 use Rattle.poly_frame.proofs.bits.without_six_fours.Goals as goal

@@ -1,5 +1,4 @@
-use Rattle.std.proofs.Common.{Bool, ap, get_or, length, not, sym, take, ℕ, ◌&&◌, ◌∙◌}
-use Rattle.std.specs.List.{list_any}
+use Rattle.std.proofs.Common.{Bool, ap, get_or, length, not, sym, ℕ, ◌&&◌, ◌∙◌}
 use Rattle.poly_frame.specs.Bits.{has_bit}
 use Rattle.poly_frame.specs.Matrices.{bit_index}
 use Rattle.poly_frame.proofs.Six.{any_six, or_six}

@@ -1,4 +1,4 @@
-use Rattle.std.proofs.Common.{ap, replicate, ◌∙◌, ◌≡◌}
+use Rattle.std.proofs.Common.{ap, ◌∙◌}
 use Rattle.poly_frame.specs.Bits.{has_bit}
 use Rattle.poly_frame.proofs.Words.{filled, full_bits}
 use Rattle.poly_frame.proofs.frame.opened.full_row.Goals as goal

@@ -1,4 +1,5 @@
 use Rattle.std.proofs.Common.{ap, arith, eqb, false, get_or, length, not, sym, true, ℕ, ◌&&◌, ◌*◌, ◌+◌, ◌-◌, ◌<◌, ◌∙◌, ◌≡◌}
+use Rattle.std.proofs.Math.Nat.{mul-le-mul_left}
 use Rattle.std.proofs.lemmas.List.{get_or_read}
 use Rattle.std.specs.Int.{bit_at}
 use Rattle.std.specs.List.{list_any}
@@ -35,3 +36,16 @@ returns c = λ y.
     (shut_without s.live.items c.args.left.now matrix.rows.items t.limits.items s.have.items (column_items matrix.lists matrix.homes.items j) matrix.width at b left
     (λ k u m l z. ap (λ ws. eqb (bit_at (get_or ws (matrix.width * b + k) 0) u) 1) (sym c.deref-2.ensures.value) ∙ c.has_none.ensures y k u m l z) c.requires.len last)
     some
+
+pub has-requires-else-not-has : goal.has-requires-else-not-has
+has-requires-else-not-has c =
+    let K = c.requires.kept in
+    let matrix = c.args.node.now.matrix.now in
+    let fits = mul-le-mul_left {m = c.args.b + 1} {n = length c.args.node.now.view.now.bounds} matrix.width (omega (arith, c.requires.row, K.have_len)) in
+    omega (arith, fits, K.table.matrix.rows_len, K.table.matrix.wide, c.requires.number, ap length c.deref-else-not-has.ensures.value)
+
+pub has_none-requires : goal.has_none-requires
+has_none-requires c =
+    let K = c.requires.kept in
+    let fits = mul-le-mul_left {m = c.args.b + 1} {n = length c.args.node.now.view.now.bounds} c.args.node.now.matrix.now.width (omega (arith, c.requires.row, K.have_len)) in
+    omega (arith, fits, K.table.matrix.rows_len, c.requires.len, ap length c.deref-2.ensures.value)

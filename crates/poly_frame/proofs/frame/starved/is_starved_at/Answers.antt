@@ -1,4 +1,5 @@
 use Rattle.std.proofs.Common.{List, ap, arith, eqb, false, get_or, leb, length, subst, sym, true, ℕ, ◌&&◌, ◌*◌, ◌+◌, ◌-◌, ◌<◌, ◌∙◌, ◌≡◌}
+use Rattle.std.proofs.Math.Nat.{mul-le-mul_left}
 use Rattle.std.proofs.lemmas.List.{get_or_read}
 use Rattle.std.specs.Int.{bit_at}
 use Rattle.std.specs.List.{list_any}
@@ -27,3 +28,22 @@ returns c = λ y.
     let without : has_bit matrix.rows.items (64 * (matrix.width * b) + j) ≡ false = ap (λ ws. has_bit ws (64 * (matrix.width * b) + j)) (sym c.deref-else-not-has.ensures.value) ∙ sym c.has-else-not-has.ensures ∙ c.if-has.false in
     starved_fits v A first matrix t s.live.items s.have.items s.raised.items s.marks.items K b j at (ap (λ n. n - matrix.width) (c.len.ensures ∙ s.live.ok.0)) (omega (arith, c.requires.row, K.have_len)) c.requires.number opened without none
     (λ k u m l up row. subst (λ (indices : List ℕ). list_any (λ b. leb (get_or t.limits.items b 0 - 1) (get_or s.have.items b 0) && eqb (bit_at (get_or matrix.rows.items (matrix.width * b + k) 0) u) 1) indices ≡ true) c.items_of.ensures (c.are_shut.ensures y k u m l up row)) some
+
+pub has-requires-else-not-has : goal.has-requires-else-not-has
+has-requires-else-not-has c =
+    let K = c.requires.kept in
+    let matrix = c.args.node.now.matrix.now in
+    let fits = mul-le-mul_left {m = c.args.b + 1} {n = length c.args.node.now.view.now.bounds} matrix.width (omega (arith, c.requires.row, K.have_len)) in
+    omega (arith, fits, K.table.matrix.rows_len, K.table.matrix.wide, c.requires.number, ap length c.deref-else-not-has.ensures.value)
+
+pub are_shut-requires-clause-limits : goal.are_shut-requires-clause-limits
+are_shut-requires-clause-limits c = c.requires.kept.table.limits_len ∙ sym c.requires.kept.have_len
+
+pub are_shut-requires-clause-rows : goal.are_shut-requires-clause-rows
+are_shut-requires-clause-rows c = c.requires.kept.table.matrix.rows_len ∙ ap (λ n. c.args.node.now.matrix.now.width * n) (sym c.requires.kept.have_len)
+
+pub are_shut-requires-clause-row : goal.are_shut-requires-clause-row
+are_shut-requires-clause-row c =
+    let K = c.requires.kept in
+    let fits = mul-le-mul_left {m = c.args.b + 1} {n = length c.args.node.now.view.now.bounds} c.args.node.now.matrix.now.width (omega (arith, c.requires.row, K.have_len)) in
+    omega (arith, fits, K.table.matrix.rows_len)

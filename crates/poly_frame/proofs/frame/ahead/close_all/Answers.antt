@@ -1,0 +1,62 @@
+use Rattle.std.proofs.Common.{Bool, List, ap, arith, false, get_or, length, not, refl, sym, take, true, ℕ, ◌&&◌, ◌+◌, ◌||◌, ◌∙◌, ◌≡◌, ◌≤◌}
+use Rattle.std.proofs.lemmas.List.Folds.{list_any_more}
+use Rattle.std.specs.List.{list_any}
+use Rattle.poly_frame.specs.Bits.{has_bit}
+use Rattle.poly_frame.specs.Matrices.{bit_index}
+use Rattle.poly_frame.proofs.frame.ahead.close_all.Goals as goal
+
+lacks_one : (o a b : Bool) → ((o && not a) && not b) ≡ (o && not (a || b))
+lacks_one false a b = refl
+lacks_one true true b = refl
+lacks_one true false b = refl
+
+lacks_three : (o a b c d : Bool) → ((o && not a) && not (b || (c || d))) ≡ (o && not (((a || b) || c) || d))
+lacks_three false a b c d = refl
+lacks_three true true b c d = refl
+lacks_three true false true c d = refl
+lacks_three true false false c d = refl
+
+any_three : (f : ℕ → Bool) (xs : List ℕ) (k : ℕ) → k + 3 ≤ length xs → list_any f (take (k + 3) xs) ≡ (((list_any f (take k xs) || f (get_or xs k 0)) || f (get_or xs (k + 1) 0)) || f (get_or xs (k + 2) 0))
+any_three f xs k h =
+    let three : k + 3 ≡ k + 2 + 1 = omega arith in
+    let two : k + 2 ≡ k + 1 + 1 = omega arith in
+    ap (λ n. list_any f (take n xs)) three
+    ∙ list_any_more f xs (k + 2) 0 (omega (arith, h))
+    ∙ ap (λ n. list_any f (take n xs) || f (get_or xs (k + 2) 0)) two
+    ∙ ap (λ y. y || f (get_or xs (k + 2) 0)) (list_any_more f xs (k + 1) 0 (omega (arith, h)))
+    ∙ ap (λ y. (y || f (get_or xs (k + 1) 0)) || f (get_or xs (k + 2) 0)) (list_any_more f xs k 0 (omega (arith, h)))
+
+pub loop-k-preserved : goal.loop-k-preserved
+loop-k-preserved c =
+    let xs = c.args.indices.now in
+    let k = c.loop-k.k in
+    let within : k + 3 ≤ length xs = omega (arith, c.if-indices-k-lt3.false, c.loop-k.invariant.inside) in
+    record {
+      inside = within;
+      len = c.take_out_three.ensures.len ∙ c.loop-k.invariant.len;
+      bits = λ x h.
+          let f = λ (b : ℕ). has_bit c.args.rows.now (bit_index (length c.args.row.now) b x) in
+          c.take_out_three.ensures.bits x (omega (arith, h, c.loop-k.invariant.len))
+          ∙ ap (λ y. y && not (has_bit c.item_row-else-indices-k-lt3.result.now x || (has_bit c.item_row-else-indices-k-lt3-2.result.now x || has_bit c.item_row-else-indices-k-lt3-3.result.now x))) (c.loop-k.invariant.bits x h)
+          ∙ ap (λ y. (has_bit c.args.row.now x && not (list_any f (take k xs))) && not (y || (has_bit c.item_row-else-indices-k-lt3-2.result.now x || has_bit c.item_row-else-indices-k-lt3-3.result.now x))) (c.item_row-else-indices-k-lt3.ensures.bits x h)
+          ∙ ap (λ y. (has_bit c.args.row.now x && not (list_any f (take k xs))) && not (f (get_or xs k 0) || (y || has_bit c.item_row-else-indices-k-lt3-3.result.now x))) (c.item_row-else-indices-k-lt3-2.ensures.bits x h)
+          ∙ ap (λ y. (has_bit c.args.row.now x && not (list_any f (take k xs))) && not (f (get_or xs k 0) || (f (get_or xs (k + 1) 0) || y))) (c.item_row-else-indices-k-lt3-3.ensures.bits x h)
+          ∙ lacks_three (has_bit c.args.row.now x) (list_any f (take k xs)) (f (get_or xs k 0)) (f (get_or xs (k + 1) 0)) (f (get_or xs (k + 2) 0))
+          ∙ ap (λ y. has_bit c.args.row.now x && not y) (sym (any_three f xs k within));
+    }
+
+pub loop-k-preserved-then-indices-k-lt3 : goal.loop-k-preserved-then-indices-k-lt3
+loop-k-preserved-then-indices-k-lt3 c =
+    let xs = c.args.indices.now in
+    let k = c.loop-k.k in
+    record {
+      inside = omega (arith, c.loop-k-test.true);
+      len = c.take_out_words.ensures.len ∙ c.loop-k.invariant.len;
+      bits = λ x h.
+          let f = λ (b : ℕ). has_bit c.args.rows.now (bit_index (length c.args.row.now) b x) in
+          c.take_out_words.ensures.bits x (omega (arith, h, c.loop-k.invariant.len))
+          ∙ ap (λ y. y && not (has_bit c.item_row.result.now x)) (c.loop-k.invariant.bits x h)
+          ∙ ap (λ y. (has_bit c.args.row.now x && not (list_any f (take k xs))) && not y) (c.item_row.ensures.bits x h)
+          ∙ lacks_one (has_bit c.args.row.now x) (list_any f (take k xs)) (f (get_or xs k 0))
+          ∙ ap (λ y. has_bit c.args.row.now x && not y) (sym (list_any_more f xs k 0 c.loop-k-test.true));
+    }
