@@ -164,13 +164,11 @@ pub fn holds(alloc: Global, view: &View, atoms: &[Atom], tree: &Tree) -> Result<
 {
     let mut frame = Frame::new(alloc, view, atoms)?;
     let mut none = Gathered::new(alloc);
-    let yes = walk(alloc, &mut frame, tree, false, &mut none)?;
-    Ok(yes)
+    walk(alloc, &mut frame, tree, false, &mut none)
 }
 
 /// The leaves of a tree that holds, in the order of the tree: those of a Split's `taken` before those of its `left`.
 /// Requires that the tree `fits` and holds. The only refusal is `Memory`.
-#[tactic(auto, using(crate::proofs::Measures::fits_total))]
 pub fn leaves(alloc: Global, view: &View, atoms: &[Atom], tree: &Tree) -> Result<Leaves, Refusal>
     requires small { fits (plan_of tree.now) ≡ true }
     requires right { holds view.now atoms.now (plan_of tree.now) ≡ true }
@@ -178,11 +176,10 @@ pub fn leaves(alloc: Global, view: &View, atoms: &[Atom], tree: &Tree) -> Result
     ensures rests { IfOk result (λ l. l.rests ≡ rests view.now atoms.now (plan_of tree.now)) }
     ensures why { IfErr result (λ e. e ≡ Refusal.Memory) }
 {
-    let mut frame = Frame::new(alloc, view, atoms)?;
-    let mut all = Gathered::new(alloc);
-    let _ = walk(alloc, &mut frame, tree, true, &mut all)?;
-    let leaves = all.into_leaves(alloc, atoms)?;
-    Ok(leaves)
+    match cut_up(alloc, view, atoms, tree)? {
+        Some(leaves) => Ok(leaves),
+        None => unreachable!(),
+    }
 }
 
 /// The leaves of a tree, if it holds, and `None` if it doesn't. One walk does what `holds` and `leaves` do. Requires that
@@ -204,7 +201,6 @@ pub fn cut_up(
 
 /// Does what `cut_up` does, but takes the view's matrix, so that many trees can be checked with one matrix. Requires that
 /// `whole` is the view's matrix, from [`Matrix::new`], and that the tree `fits`. The only refusal is `Memory`.
-#[tactic(auto, using(crate::proofs::Measures::fits_total))]
 pub fn cut_up_over(
     alloc: Global,
     view: &View,
@@ -218,8 +214,25 @@ pub fn cut_up_over(
     ensures why { IfErr result (λ e. e ≡ Refusal.Memory) }
 {
     let mut frame = Frame::over(alloc, view, whole, atoms)?;
+    leaves_on(alloc, &mut frame, atoms, tree)
+}
+
+// The leaves of the tree, if it holds for the atoms. The frame is to be one with these atoms and no step.
+#[tactic(auto, using(crate::proofs::Measures::fits_total))]
+fn leaves_on(
+    alloc: Global,
+    frame: &mut Frame<'_>,
+    atoms: &[Atom],
+    tree: &Tree,
+) -> Result<Option<Leaves>, Refusal>
+    requires small { fits (plan_of tree.now) ≡ true }
+    requires atoms { frame.old.atoms ≡ atoms.now }
+    requires given { frame.old.given ≡ length atoms.now }
+    ensures value { IfOk result (λ o. MatchOption o (holds frame.old.scene atoms.now (plan_of tree.now) ≡ false) (λ l. IsCutUp frame.old.scene atoms.now (plan_of tree.now) l.tilings.items (l.rests))) }
+    ensures why { IfErr result (λ e. e ≡ Refusal.Memory) }
+{
     let mut all = Gathered::new(alloc);
-    let yes = walk(alloc, &mut frame, tree, true, &mut all)?;
+    let yes = walk(alloc, frame, tree, true, &mut all)?;
     if !yes {
         return Ok(None);
     }

@@ -9,7 +9,7 @@
 ghost use Rattle.std.specs.Arc.{arc_value};
 ghost use Rattle.std.specs.List.{filter};
 ghost use Rattle.std.specs.Prelude.{◌≡◌, ◌++◌, ◌+◌, ◌∷◌, ◌<◌, ◌≤◌, ◌↔◌, [], IfErr, IfOk, IsTrue, MatchOption, OnOk, length, map, reverse, slice_index_or, ⊤, ℕ};
-ghost use Rattle.poly_report.specs.Linked.{AreEarlier, AreLinked, at_node, ended};
+ghost use Rattle.poly_report.specs.Linked.{AreLinked, ended};
 ghost use Rattle.poly_report.specs.Stems.{AreStems, IsStem, stem_of};
 ghost use Rattle.poly_report.specs.Words.{is_other};
 ghost use Rattle.poly_report.specs.declared.shared_lists.TheConstants.{DEEPEST};
@@ -282,6 +282,7 @@ impl SharedLists {
 }
 
 // The stems and the depth of a trie.
+#[derive(Drop)]
 struct Stored {
     stem: Stem,
     others: Stem,
@@ -308,18 +309,19 @@ fn trie_over(alloc: Global, stored: Stored, nodes: Nodes, ends: Vec<u32>) -> Res
     requires linked { AreLinked nodes ends.items }
     requires stem { AreStems stored.stem stored.others stored.depth }
     ensures ok { IfOk result (λ trie. trie.lists ≡ map (λ B. stem_of stored.stem ++ B) (ended nodes ends.items)) }
+    ensures depth { IfOk result (λ trie. trie.depth ≡ stored.depth) }
     ensures why { IfErr result (λ e. e ≡ Refusal.Memory) }
 {
-    let Stored {
-        stem,
-        others,
-        depth,
-    } = stored;
     let mut nodes = nodes;
     nodes.shrink();
     let mut ends = ends;
     ends.shrink_to_fit();
     let jumps = jumps_of(alloc, &nodes)?;
+    let Stored {
+        stem,
+        others,
+        depth,
+    } = stored;
     Ok(Trie {
         stem,
         others,
@@ -370,8 +372,7 @@ fn stem_over(
         let stored = stem_at(base, index)?;
         return Ok(Some(stored));
     }
-    let begin = list_of(alloc, base, index)?;
-    let Some(more) = without_begin(list, &begin) else {
+    let Some(more) = without_begin(alloc, list, base, index)? else {
         return Ok(None);
     };
     let trie = trie_after(alloc, base, index, more)?;
@@ -417,15 +418,23 @@ fn stem_alone(alloc: Global, list: &[Atom]) -> Result<Stored, Refusal>
     Ok(stored)
 }
 
-// What follows the beginning in the list, or `None` if the list doesn't begin so.
-fn without_begin<'a>(list: &'a [Atom], begin: &[Atom]) -> Option<&'a [Atom]>
-    ensures { MatchOption result ⊤ (λ more. begin.now ++ more.now ≡ list.now) }
+// What follows the trie's list at the index in this list, or `None` if this list doesn't begin so.
+fn without_begin<'a>(
+    alloc: Global,
+    list: &'a [Atom],
+    trie: &Trie,
+    index: usize,
+) -> Result<Option<&'a [Atom]>, Refusal>
+    requires { index < length trie.now.lists }
+    ensures ok { IfOk result (λ o. MatchOption o ⊤ (λ more. slice_index_or trie.now.lists index [] ++ more.now ≡ list.now)) }
+    ensures why { IfErr result (λ e. e ≡ Refusal.Memory) }
 {
-    let count = common(begin, list, begin.len());
+    let begin = list_of(alloc, trie, index)?;
+    let count = common(&begin, list, begin.len());
     if count < begin.len() {
-        return None;
+        return Ok(None);
     }
-    Some(&list[count..])
+    Ok(Some(&list[count..]))
 }
 
 // The list at the index.
@@ -463,35 +472,21 @@ fn trie_of_one(alloc: Global, stored: Stored, more: &[Atom]) -> Result<Trie, Ref
     ensures depth { IfOk result (λ trie. trie.depth ≡ stored.depth) }
     ensures why { IfErr result (λ e. e ≡ Refusal.Memory) }
 {
-    let Stored {
-        stem,
-        others,
-        depth,
-    } = stored;
-    let nodes = chain(alloc, more)?;
-    let jumps = jumps_of(alloc, &nodes)?;
-    let mut ends = Vec::with_capacity(alloc, 1)?;
-    ends.push(short(nodes.len())?)?;
-    Ok(Trie {
-        stem,
-        others,
-        depth,
-        nodes,
-        jumps,
-        ends,
-    })
+    let (nodes, ends) = chain(alloc, more)?;
+    trie_over(alloc, stored, nodes, ends)
 }
 
-// A node for each beginning of the list, shortest first.
-fn chain(alloc: Global, list: &[Atom]) -> Result<Nodes, Refusal>
-    ensures linked { IfOk result (λ nodes. AreEarlier 0 nodes) }
-    ensures ok { IfOk result (λ nodes. at_node nodes (length nodes) ≡ list.now) }
+// A node for each beginning of the list, shortest first, and the node of the list itself.
+fn chain(alloc: Global, list: &[Atom]) -> Result<(Nodes, Vec<u32>), Refusal>
+    ensures linked { IfOk result (λ r. AreLinked r.0 r.1.items) }
+    ensures ok { IfOk result (λ r. ended r.0 r.1.items ≡ list.now ∷ []) }
     ensures why { IfErr result (λ e. e ≡ Refusal.Memory) }
 {
     let mut nodes = Nodes::new(alloc);
     for atom in list {
         nodes.push(atom)?;
     }
-    nodes.shrink();
-    Ok(nodes)
+    let end = short(nodes.len())?;
+    let ends = Vec::from_slice(alloc, &[end])?;
+    Ok((nodes, ends))
 }

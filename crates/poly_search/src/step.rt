@@ -1,5 +1,6 @@
 //! The worker's step.
-ghost use Rattle.std.specs.Prelude.{◌≡◌, ◌≤◌, true, false, IfOk, IfErr, IfSome};
+ghost use Rattle.std.specs.Prelude.{◌≡◌, ◌≤◌, true, false, length, IfOk, IfErr, IfSome, OnOk};
+ghost use Rattle.poly_tiling.specs.Lists.{distinct};
 ghost use Rattle.poly_frame.specs.FrameTable.{HasOpen};
 ghost use Rattle.poly_frame.specs.Matrices.{IsMatrix, IsWhole};
 ghost use Rattle.poly_report.specs.Holds.{holds};
@@ -74,24 +75,6 @@ pub fn explore_over(
     ensures rests { IfOk result (λ e. e.leaves.rests ≡ rests view.now atoms.now (plan_of e.tree)) }
     ensures why { IfErr result (λ e. e ≡ Refusal.Memory) }
 {
-    let explored = explore_kept(alloc, view, whole, atoms, nodes)?;
-    Ok(explored)
-}
-
-// What `explore_over` answers, in one clause.
-fn explore_kept(
-    alloc: Global,
-    view: &View,
-    whole: &Matrix,
-    atoms: &[Atom],
-    nodes: u32,
-) -> Result<Explored, Refusal>
-    requires whole { IsWhole view.now whole.now }
-    requires some { 1 ≤ nodes }
-    requires few { nodes ≤ NODES }
-    ensures tree { IfOk result (λ e. IsExplored view.now atoms.now nodes (plan_of e.tree) e.leaves.tilings.items e.leaves.rests) }
-    ensures why { IfErr result (λ e. e ≡ Refusal.Memory) }
-{
     let mut room = Room::new(alloc);
     let (explored, _) = explore_within(alloc, view, whole, whole, atoms, nodes, true, &mut room)?;
     Ok(explored)
@@ -148,6 +131,29 @@ fn explore_within(
 {
     let taken = room.take(alloc);
     let mut frame = Frame::within(alloc, view, whole, part, atoms, taken)?;
+    let explored = explore_on(alloc, &mut frame, atoms, nodes, keep)?;
+    let (own, left) = frame.into_parts(alloc);
+    room.put_back(left);
+    Ok((explored, own))
+}
+
+// Searches the atoms on a frame with these atoms and no step, and keeps the tree if `keep` is set.
+fn explore_on(
+    alloc: Global,
+    frame: &mut Frame<'_>,
+    atoms: &[Atom],
+    nodes: u32,
+    keep: bool,
+) -> Result<Explored, Refusal>
+    requires atoms { frame.old.atoms ≡ atoms.now }
+    requires given { frame.old.given ≡ length atoms.now }
+    requires once { distinct frame.old.scene.live ≡ true }
+    requires some { 1 ≤ nodes }
+    requires few { nodes ≤ NODES }
+    ensures same { OnOk result (frame.new ≡ frame.old) }
+    ensures tree { IfOk result (λ e. (t : Plan) × (keep ≡ true → plan_of e.tree ≡ t) × IsExplored frame.old.scene atoms.now nodes t e.leaves.tilings.items e.leaves.rests) }
+    ensures why { IfErr result (λ e. e ≡ Refusal.Memory) }
+{
     let mut growth = Growth {
         nodes: NODES,
         inner: nodes,
@@ -156,12 +162,9 @@ fn explore_within(
         spare: Vec::new(alloc),
         keep,
     };
-    let tree = grow(alloc, &mut frame, &mut growth, 0, DEPTH, true)?;
-    let Growth { gathered, .. } = growth;
-    let leaves = gathered.into_leaves(alloc, atoms)?;
-    let (own, left) = frame.into_parts(alloc);
-    room.put_back(left);
-    Ok((Explored { tree, leaves }, own))
+    let tree = grow(alloc, frame, &mut growth, 0, DEPTH, true)?;
+    let leaves = growth.gathered.into_leaves(alloc, atoms)?;
+    Ok(Explored { tree, leaves })
 }
 
 /// Returns a tree that divides the family of the atoms, with at most `nodes` nodes that aren't Rest; `nodes` is from 1 to

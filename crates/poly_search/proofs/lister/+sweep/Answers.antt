@@ -2,9 +2,11 @@ use Rattle.std.proofs.Common.{◌≡◌, ℕ, ◌+◌, ◌<◌, ◌≤◌, ◌-�
 use Rattle.poly_tiling.specs.Lists.{distinct}
 use Rattle.poly_report.specs.Gather.{lists}
 use Rattle.poly_frame.specs.Walk.{Walk, with_step}
+use Rattle.std.proofs.lemmas.List.{length-take, take-append-le}
+use Rattle.poly_atom.specs.declared.atom.Atom.{Atom}
 use Rattle.poly_atom.specs.declared.atom.Atom.TheVariants.{Has, Lacks}
 use Rattle.poly_search.proofs.Nodes.{past_back}
-use Rattle.poly_search.specs.Sweeps.{Swept, IsLighter}
+use Rattle.poly_search.specs.Sweeps.{Swept, IsLighter, Partly}
 use Rattle.poly_search.proofs.Swept.{behind, swept_rest, arm_partly, arm_swept, starved_swept, partly_more}
 use Rattle.poly_search.proofs.Arms.{left_is, option_opens, option_partly, passed_more, passed_begun, options_end, open_end}
 use Rattle.poly_search.proofs.lister.+sweep.Goals as goal
@@ -117,3 +119,73 @@ sweep_options-returns-clause-lighter t c =
     let r = c.requires in
     let over : length c.args.list.now.options.items ≤ c.loop-at.at = search rules in
     (options_end c.args.frame.now c.args.item.now c.args.list.now.options.items c.args.from c.loop-at.at _ _ _ _ over r.once r.due (r.each_once, r.members) i.swept).1
+
+pub sweep-sweep_item-requires : goal.sweep-sweep_item-requires
+sweep-sweep_item-requires t c =
+    let r = c.requires in
+    (omega (arith, c.decreases), (r.begun, (r.room, (r.end, (r.once, c.in-Some.ensures)))))
+
+pub sweep-sweep_open-requires : goal.sweep-sweep_open-requires
+sweep-sweep_open-requires t c =
+    let r = c.requires in
+    (omega (arith, c.decreases), (r.begun, (r.room, (r.end, r.once))))
+
+pub sweep_below-sweep-requires : goal.sweep_below-sweep-requires
+sweep_below-sweep-requires t c =
+    let r = c.requires in
+    (omega (arith, c.decreases, c.if-depth-eq0.false), (r.begun, (omega (arith, c.level.ensures, c.if-level-end.false), (r.end, r.once))))
+
+pub sweep_arm-sweep_below-requires : goal.sweep_arm-sweep_below-requires
+sweep_arm-sweep_below-requires t c =
+    let w = c.args.frame.now in
+    let r = c.requires in
+    let picked = c.leads_on.ensures.taken c.if-not-leads_on.false in
+    let given = ap (λ (x : Walk). x.given) picked in
+    let long : w.given ≤ length c.leads_on.new.frame.atoms = omega (arith, ap (λ (x : Walk). length x.atoms) picked, length-append w.atoms (Has c.args.placement ∷ []), r.begun) in
+    (omega (arith, c.decreases), (omega (arith, given, long), (omega (arith, given, r.end), subst (λ (x : Walk). distinct x.scene.live ≡ true) (sym picked) r.once)))
+
+-- a list is no shorter than its beginning
+no_shorter : (A B : List Atom) → take (length A) B ≡ A → length A ≤ length B
+no_shorter A B e = omega (arith, ap length e, length-take (length A) B)
+
+pub sweep_open-sweep_arm-requires : goal.sweep_open-sweep_arm-requires
+sweep_open-sweep_arm-requires t c =
+    let w = c.args.frame.now in
+    let here = c.loop-placement.frame in
+    let i = c.loop-placement.invariant in
+    let r = c.requires in
+    let given = ap (λ (x : Walk). x.given) i.path in
+    let begun : here.given ≤ length here.atoms = omega (arith, given, r.begun, no_shorter w.atoms here.atoms i.back) in
+    let once = subst (λ (x : Walk). distinct x.scene.live ≡ true) (sym i.path) r.once in
+    (omega (arith, c.decreases), (begun, (i.room, (omega (arith, given, r.end), (once, c.in-Some.ensures)))))
+
+left_out : (t : ℕ) (c : goal.sweep_open-After-leave t) → c.leave.new.self ≡ with_step c.loop-placement.frame (Lacks c.in-Some.placement)
+left_out t c = c.leave.ensures ∙ ap (λ (x : Walk). with_step x (Lacks c.in-Some.placement)) c.in_ok-whole.ensures.same
+
+pub sweep_open-loop-placement-smaller : goal.sweep_open-loop-placement-smaller
+sweep_open-loop-placement-smaller t c =
+    omega (arith, ap (λ (x : Walk). length x.atoms) (left_out t c), length-append c.loop-placement.frame.atoms (Lacks c.in-Some.placement ∷ []), c.loop-placement.invariant.room)
+
+pub sweep_open-loop-placement-preserved : goal.sweep_open-loop-placement-preserved
+sweep_open-loop-placement-preserved t c =
+    let w = c.args.frame.now in
+    let here = c.loop-placement.frame in
+    let more = Lacks c.in-Some.placement ∷ [] in
+    let new = c.leave.new.self in
+    let i = c.loop-placement.invariant in
+    let g = c.in_ok-whole.ensures in
+    let passed = c.if-not-whole.false in
+    let left = left_out t c in
+    let found = c.loop-placement.list.found.items in
+    let found1 = c.sweep_arm.new.list.found.items in
+    let rests = lists c.loop-placement.list.rests.items in
+    let rests1 = lists c.sweep_arm.new.list.rests.items in
+    let part = subst (λ v. Partly v here.atoms (here.atoms ++ more) found found1 rests rests1) (ap (λ (x : Walk). x.scene) i.path) (g.more passed) in
+    record {
+      path = ap (λ (x : Walk). record { scene = x.scene; atoms = new.atoms; given = x.given }) (left ∙ ap (λ (x : Walk). with_step x (Lacks c.in-Some.placement)) i.path);
+      back = ap (λ (x : Walk). take (length w.atoms) x.atoms) left ∙ take-append-le (length w.atoms) here.atoms more (no_shorter w.atoms here.atoms i.back) ∙ i.back;
+      room = omega (arith, ap (λ (x : Walk). length x.atoms) left, length-append here.atoms more, g.room passed);
+      options = ◌∙◌ {A = List ℕ} g.options i.options;
+      left = g.whole passed ∙ i.left;
+      swept = partly_more w.scene w.atoms here.atoms new.atoms _ _ _ _ _ _ i.swept (subst (λ C. Partly w.scene here.atoms C found found1 rests rests1) (sym (ap (λ (x : Walk). x.atoms) left)) part);
+    }

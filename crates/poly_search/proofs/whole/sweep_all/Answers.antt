@@ -1,10 +1,8 @@
 use Rattle.std.proofs.Common.{◌≡◌, ◌<◌, [], length, rules, subst}
 use Rattle.poly_report.specs.Gather.{lists}
-use Rattle.poly_frame.specs.Walk.{Walk}
-use Rattle.poly_search.specs.Sweeps.{IsLighter, Swept}
 use Rattle.poly_search.specs.Whole.{SharedOut}
 use Rattle.poly_search.proofs.Families.{at_most, last_rest, none_left, shared_next, weighs_less, whole_family}
-use Rattle.poly_search.proofs.whole.search_all.Goals as goal
+use Rattle.poly_search.proofs.whole.sweep_all.Goals as goal
 
 pub returns-then-len-gt-MAX_TILINGS-clause-too_many : goal.returns-then-len-gt-MAX_TILINGS-clause-too_many
 returns-then-len-gt-MAX_TILINGS-clause-too_many c =
@@ -13,9 +11,9 @@ returns-then-len-gt-MAX_TILINGS-clause-too_many c =
     let i = c.loop-next.invariant in
     let B = c.deref.result.now in
     let e = last_rest c.loop-next.list.rests.items c.pop.new.self.items c.in-Some.next B c.in-Some.ensures.items c.deref.ensures.value in
-    let found = c.sweep.new.list.found.items in
-    let rests = lists c.sweep.new.list.rests.items in
-    let swept = subst (λ (x : Walk). Swept x.scene x.atoms c.loop-next.list.found.items found (lists c.pop.new.self.items) rests) c.in_ok-frame.ensures.made c.in_ok-sweep.ensures.swept in
+    let found = c.sweep_rest.new.list.found.items in
+    let rests = lists c.sweep_rest.new.list.rests.items in
+    let swept = c.in_ok-sweep_rest.ensures.swept in
     let shared = shared_next v A B c.loop-next.list.found.items found (lists c.loop-next.list.rests.items) (lists c.pop.new.self.items) rests e i.shared swept in
     let many : 1000000 < length found = search rules in
     λ _. (found, at_most v A found rests shared (swept.only i.only), many)
@@ -24,8 +22,8 @@ pub loop-next-smaller : goal.loop-next-smaller
 loop-next-smaller c =
     let B = c.deref.result.now in
     let e = last_rest c.loop-next.list.rests.items c.pop.new.self.items c.in-Some.next B c.in-Some.ensures.items c.deref.ensures.value in
-    let rests = lists c.sweep.new.list.rests.items in
-    let lighter = subst (λ (x : Walk). IsLighter x.scene x.atoms (lists c.pop.new.self.items) rests) c.in_ok-frame.ensures.made c.in_ok-sweep.ensures.lighter in
+    let rests = lists c.sweep_rest.new.list.rests.items in
+    let lighter = c.in_ok-sweep_rest.ensures.lighter in
     weighs_less c.args.view.now B (lists c.loop-next.list.rests.items) (lists c.pop.new.self.items) rests e lighter
 
 pub loop-next-preserved : goal.loop-next-preserved
@@ -35,9 +33,9 @@ loop-next-preserved c =
     let i = c.loop-next.invariant in
     let B = c.deref.result.now in
     let e = last_rest c.loop-next.list.rests.items c.pop.new.self.items c.in-Some.next B c.in-Some.ensures.items c.deref.ensures.value in
-    let found = c.sweep.new.list.found.items in
-    let rests = lists c.sweep.new.list.rests.items in
-    let swept = subst (λ (x : Walk). Swept x.scene x.atoms c.loop-next.list.found.items found (lists c.pop.new.self.items) rests) c.in_ok-frame.ensures.made c.in_ok-sweep.ensures.swept in
+    let found = c.sweep_rest.new.list.found.items in
+    let rests = lists c.sweep_rest.new.list.rests.items in
+    let swept = c.in_ok-sweep_rest.ensures.swept in
     record {
       shared = shared_next v A B c.loop-next.list.found.items found (lists c.loop-next.list.rests.items) (lists c.pop.new.self.items) rests e i.shared swept;
       only = swept.only i.only;
