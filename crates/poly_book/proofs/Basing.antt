@@ -55,6 +55,17 @@ are_and : (log : List (List Atom)) (xs : List Excerpt) (x : Excerpt) → AreExce
 are_and log [] x h k = (k, tt)
 are_and log (y ∷ xs) x h k = (h.0, are_and log xs x h.1 k)
 
+-- a base whose atoms are all stored as a list
+pub base_listed : (log : List (List Atom)) (b c : Base) (A : List Atom) → c.lists ≡ A ∷ [] → c.index ≡ 0 → c.excerpts.items ≡ [] → A ≡ base_of log b → base_of log c ≡ base_of log b
+base_listed log b c A lists index none is = (λ i. get_or (lists i) (index i) [] ++ excerpts_of log (none i)) ∙ append-nil A ∙ is
+
+pub base_listed_is : (log : List (List Atom)) (b c : Base) (A : List Atom) → c.lists ≡ A ∷ [] → c.index ≡ 0 → c.excerpts.items ≡ [] → A ≡ base_of log b → c.others.items ≡ b.others.items → IsBase log b → IsBase log c
+base_listed_is log b c A lists index none is others h = record {
+  index = omega (arith, index, ap length lists);
+  excerpts = subst (λ xs. AreExcerpts log xs) (sym none) tt;
+  others = others ∙ h.others ∙ ap (filter is_other) (sym (base_listed log b c A lists index none is));
+}
+
 -- a base with one more excerpt
 pub base_and : (log : List (List Atom)) (b c : Base) (x : Excerpt) → c.lists ≡ b.lists → c.index ≡ b.index → c.excerpts.items ≡ b.excerpts.items ++ x ∷ [] → base_of log c ≡ base_of log b ++ excerpt_of log x
 base_and log b c x lists index excerpts =

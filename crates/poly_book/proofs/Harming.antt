@@ -20,7 +20,7 @@ use Rattle.poly_book.specs.Judged.{AreJudged, is_harmful, named}
 use Rattle.poly_book.specs.Meaning.{frozen_brief, frozen_of, laid_of, own_of}
 use Rattle.poly_book.specs.Tasks.{Spares}
 use Rattle.poly_book.proofs.Judging.{frozen_brief_is, hopeless_within}
-use Rattle.poly_book.proofs.Lacking.{by_beyond, by_lost, filter_asks, other_or}
+use Rattle.poly_book.proofs.Lacking.{by_beyond, by_lost, empty, filter_asks, other_or}
 use Rattle.poly_book.proofs.Sparing.{spared}
 
 named_append : (A B : List Atom) → named (A ++ B) ≡ named A ++ named B
@@ -202,7 +202,3 @@ pub brief_judges : (w : View) (g : List Atom) (log : List (List Atom)) (f : Froz
 brief_judges w g log f fs spares e h =
     harm_judges w g (own_of log f.own) (laid_of log f) fs spares
     (subst (λ B. AreJudged w B (stairs g) fs) (frozen_brief_is log f ∙ sym (harm_none w g (laid_of log f) (frozen_of log f) (empty (harmed w g (laid_of log f)) e))) h)
-  where
-    empty : (ps : List ℕ) → length ps ≡ 0 → ps ≡ []
-    empty [] e = refl
-    empty (p ∷ ps) e = absurd (omega (arith, e))

@@ -1,7 +1,8 @@
 -- What Lacks atoms do to a list: they make it hopeless only by what it asks for, and by pins.
-use Rattle.std.proofs.Common.{Bool, List, [], ap, arith, false, get_or, inl, inr, length, map, not, refl, subst, suc, sym, take, true, zero, ℕ, ◌&&◌, ◌++◌, ◌+◌, ◌<◌, ◌==◌, ◌∙◌, ◌∷◌, ◌≡◌, ◌≤◌, ◌||◌, ◌⊎◌}
-use Rattle.std.proofs.lemmas.Bool.{and_from, and_parts, both_ways, eq-eqb, not-false, not-true, or_cases, or_left, or_right, true≢false}
-use Rattle.std.proofs.lemmas.List.{append-nil, length-take-le, take-take, take_more}
+use Rattle.std.proofs.Common.{Bool, List, [], ap, append_assoc, arith, false, get_or, inl, inr, length, map, not, refl, subst, suc, sym, take, true, zero, ℕ, ◌&&◌, ◌++◌, ◌+◌, ◌<◌, ◌==◌, ◌∙◌, ◌∷◌, ◌≡◌, ◌≤◌, ◌||◌, ◌⊎◌}
+use Rattle.std.proofs.lemmas.Bool.{and_from, and_parts, both_ways, cases_lt, eq-eqb, not-false, not-true, or_cases, or_left, or_right, true≢false}
+use Rattle.std.proofs.Math.Seq.{get_or-append_seam}
+use Rattle.std.proofs.lemmas.List.{append-nil, get_or_append_left, length-append, length-take-le, take-take, take_more}
 use Rattle.std.proofs.lemmas.List.Elements.{filter-append}
 use Rattle.std.specs.List.{filter, list_all, list_any}
 use Rattle.std.specs.Prelude.{cond, nat_lt}
@@ -273,6 +274,28 @@ guards_once v w well =
 any_next : (f : Atom → Bool) (g : List Atom) (i : ℕ) (d : Atom) → i < length g → list_any f (take (i + 1) g) ≡ (list_any f (take i g) || (f (get_or g i d) || false))
 any_next f g i d l = ap (list_any f) (take_more g i d l) ∙ any_append f (take i g) (get_or g i d ∷ [])
 
+-- the flags of the first guards, and that of the next one
+pub calm_push : (f : Atom → Bool) (g : List Atom) (k : ℕ) (fs : List Bool) (b : Bool) (new : List Bool) → new ≡ fs ++ b ∷ [] → length fs ≡ k → b ≡ not (list_any f (take k g)) →
+    ((i : ℕ) → i < k → get_or fs i true ≡ not (list_any f (take i g))) → (length new ≡ k + 1) × ((i : ℕ) → i < k + 1 → get_or new i true ≡ not (list_any f (take i g)))
+calm_push f g k fs b new is long stays each = (
+  omega (arith, ap length is, length-append fs (b ∷ []), long),
+  λ i l. ap (λ bs. get_or bs i true) is ∙ elim (cases_lt i k) [
+    | inl m ↦ get_or_append_left fs (b ∷ []) true i (omega (arith, m, long)) ∙ each i m
+    | inr e ↦
+        let same : i ≡ k = omega (arith, l, e) in
+        ap (λ n. get_or (fs ++ b ∷ []) n true) (same ∙ sym long) ∙ get_or-append_seam fs b [] true ∙ stays ∙ ap (λ n. not (list_any f (take n g))) (sym same)
+  ],
+)
+
+-- it stays so if it was so, and the next guard doesn't change it
+pub calm_next : (f : Atom → Bool) (g : List Atom) (k : ℕ) (d : Atom) (b : Bool) → k < length g → b ≡ not (list_any f (take k g)) → (b && not (f (get_or g k d))) ≡ not (list_any f (take (k + 1) g))
+calm_next f g k d b l e = ap (λ x. x && not (f (get_or g k d))) e ∙ neither (list_any f (take k g)) (f (get_or g k d)) ∙ ap not (sym (any_next f g k d l))
+  where
+    neither : (a b : Bool) → (not a && not b) ≡ not (a || (b || false))
+    neither true b = refl
+    neither false true = refl
+    neither false false = refl
+
 -- the last atom of a stair of the log
 pub stair_alone : (w : View) (log : List (List Atom)) (s : Stair) (a d : Atom) → IsStairOf log s → a ≡ negated (get_or (get_or log s.edition []) s.index d) → hopeless w (a ∷ []) ≡ true → hopeless w (stair_of log s) ≡ true
 stair_alone w log s a d h e t = last_alone w [] (get_or log s.edition []) s.index d h.index_in (subst (λ b. hopeless w (b ∷ []) ≡ true) e t)
@@ -280,6 +303,18 @@ stair_alone w log s a d h e t = last_alone w [] (get_or log s.edition []) s.inde
 -- those atoms of a stair that pass a test
 pub stair_filter : (f : Atom → Bool) (g : List Atom) (j : ℕ) (d a : Atom) → j < length g → a ≡ negated (get_or g j d) → filter f (take j g) ++ filter f (a ∷ []) ≡ filter f (get_or (stairs g) j [])
 stair_filter f g j d a l e = ap (λ b. filter f (take j g) ++ filter f (b ∷ [])) e ∙ sym (filter-append f (take j g) (negated (get_or g j d) ∷ [])) ∙ ap (filter f) (sym (stairs_at g j d l))
+
+-- the atoms so far that pass a test, and the next one if it does
+pub filter_more : (f : Atom → Bool) (A : List Atom) (k : ℕ) (d : Atom) (old : List Atom) (b : Bool) → k < length A → d ≡ get_or A k d → b ≡ f d →
+    (old ++ filter f (take k A)) ++ cond b (d ∷ []) [] ≡ old ++ filter f (take (k + 1) A)
+filter_more f A k d old b l e h =
+    append_assoc old (filter f (take k A)) (cond b (d ∷ []) [])
+    ∙ ap (λ B. old ++ B)
+    (ap (λ x. filter f (take k A) ++ cond x (d ∷ []) []) h ∙ sym (filter-append f (take k A) (d ∷ [])) ∙ ap (filter f) (sym (take_more A k d l ∙ ap (λ a. take k A ++ a ∷ []) (sym e))))
+
+pub empty : (ps : List ℕ) → length ps ≡ 0 → ps ≡ []
+empty [] e = refl
+empty (p ∷ ps) e = absurd (omega (arith, e))
 
 in_first : (g : List Atom) (k n : ℕ) (d : Atom) → k < n → k < length g → In (get_or g k d) (take n g)
 in_first [] k n d l h = absurd (omega (arith, h))

@@ -1,7 +1,9 @@
 -- How many tasks settling cuts, and what it leaves as it was.
-use Rattle.std.proofs.Common.{List, [], ap, append_assoc, arith, map, refl, subst, suc, sym, ℕ, ◌++◌, ◌+◌, ◌∙◌, ◌∷◌, ◌≡◌}
-use Rattle.std.proofs.lemmas.Bool.{and_from}
+use Rattle.std.proofs.Common.{Bool, List, [], ap, append_assoc, arith, false, inl, inr, map, refl, subst, suc, sym, true, ℕ, ◌++◌, ◌+◌, ◌<◌, ◌∙◌, ◌∷◌, ◌≡◌}
+use Rattle.std.proofs.lemmas.Bool.{and_from, true≢false}
 use Rattle.std.proofs.lemmas.List.{append-nil, length-append}
+use Rattle.poly_grid.specs.declared.refusal.Refusal.{Refusal}
+use Rattle.poly_grid.specs.declared.refusal.Refusal.TheVariants.{Unfinished}
 use Rattle.poly_atom.specs.declared.atom.Atom.{Atom}
 use Rattle.poly_report.specs.Trees.{Plan}
 use Rattle.poly_book.specs.declared.parts.Parts.{Parts}
@@ -9,7 +11,7 @@ use Rattle.poly_book.specs.declared.step.Applied.{Applied}
 use Rattle.poly_book.specs.declared.step.Ending.TheVariants.{Cut}
 use Rattle.poly_book.specs.Keeps.{state_of}
 use Rattle.poly_book.specs.Reports.{AreFoundLeaves, IsApplied}
-use Rattle.poly_book.specs.Settled.{AreReported, Cuts, IsReported, IsSettled}
+use Rattle.poly_book.specs.Settled.{AreReported, AreReportedBefore, Cuts, IsNotTurned, IsReported, IsSettled}
 use Rattle.poly_book.specs.States.{State}
 use Rattle.poly_book.proofs.Taking.{step_cut}
 
@@ -70,3 +72,21 @@ reported_on nodes n s t u a b = let e : n + 1 ≡ suc n = omega arith in subst (
 
 pub reported_end : (nodes n : ℕ) (s t u : State) → AreReported nodes n s t → u ≡ t → AreReported nodes n s u
 reported_end nodes n s t u a e = subst (λ z. AreReported nodes n s z) (sym e) a
+
+is_unfinished : Refusal → Bool
+is_unfinished Unfinished = true
+is_unfinished e = false
+
+not_unfinished : (s : State) (e : Refusal) → IsNotTurned s e → is_unfinished e ≡ false
+unfolding is_unfinished
+not_unfinished s e (inl m) = ap is_unfinished m
+not_unfinished s e (inr t) = elim t.4 [
+  | inl o ↦ ap is_unfinished o.0
+  | inr (inl o) ↦ ap is_unfinished o.0
+  | inr (inr o) ↦ ap is_unfinished o
+]
+
+-- a refused turn comes after fewer reports than were allowed
+pub reported_before : (e : Refusal) (turns nodes n : ℕ) (s t : State) → n < turns → IsNotTurned t e → AreReported nodes n s t → AreReportedBefore e turns nodes s t
+unfolding is_unfinished
+reported_before e turns nodes n s t l h r = (n, omega (arith, l), (λ u. absurd (true≢false (sym (ap is_unfinished u) ∙ not_unfinished t e h))), r)

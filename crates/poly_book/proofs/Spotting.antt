@@ -37,17 +37,17 @@ picked ps f i (a ∷ A) = both ps f i a (pick f (i + 1) A) (spots_from ps (i + 1
     both ps f i a B ss true false e k so = so ∙ sym (ap (λ c. map (λ (s : Spot). s.atom) (cond c (record { at = i; atom = a } ∷ filter (λ s. f s.at) ss) (filter (λ s. f s.at) ss))) k)
     both ps f i a B ss false false e k so = so
 
-inside : (b e i : ℕ) → b ≤ i → i < e → is_within b e i ≡ true
+pub inside : (b e i : ℕ) → b ≤ i → i < e → is_within b e i ≡ true
 inside b e i l h = and_from (nat_le b i) (nat_lt i e) (le-leb b i l) (lt-ltb i e h)
 
-past : (b e i : ℕ) → e ≤ i → is_within b e i ≡ false
+pub past : (b e i : ℕ) → e ≤ i → is_within b e i ≡ false
 past b e i l = right (nat_le b i) (nat_lt i e) (le-ltb i e l)
   where
     right : (x y : Bool) → y ≡ false → (x && y) ≡ false
     right true y h = h
     right false y h = refl
 
-ahead : (b e i : ℕ) → i < b → is_within b e i ≡ false
+pub ahead : (b e i : ℕ) → i < b → is_within b e i ≡ false
 ahead b e i l = ap (λ x. x && nat_lt i e) (false_from_ne_true (nat_le b i) (λ h. absurd (omega (arith, l, leb-true b i h))))
 
 pick_past : (b e i : ℕ) (A : List Atom) → e ≤ i → pick (is_within b e) i A ≡ []

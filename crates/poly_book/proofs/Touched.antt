@@ -23,7 +23,7 @@ use Rattle.poly_book.specs.Meaning.{brief_of, own_of, tasks_of}
 use Rattle.poly_book.specs.Tasks.{AreAlive}
 use Rattle.poly_book.specs.Touching.{AreBrief, AreTouched, IsBrief, IsMadeBy, matters, touches}
 use Rattle.poly_book.proofs.Judging.{hopeless_within}
-use Rattle.poly_book.proofs.Lacking.{by_beyond, by_lost, filter_asks, one_in, other_or}
+use Rattle.poly_book.proofs.Lacking.{by_beyond, by_lost, empty, filter_asks, one_in, other_or}
 
 pub touched_at : (t : Touch) (log : List (List Atom)) (ps : List Pending) (i : ℕ) (d : Pending) → AreTouched t log ps → i < length ps →
     hopeless t.view.now (own_of log (get_or ps i d).own) ≡ true → list_any (touches t) (own_of log (get_or ps i d).own) ≡ true
@@ -142,7 +142,3 @@ few_tells t log o true none brief is either pinned =
 few_tells t log o false none brief is either pinned =
     let w = t.view.now in
     sym (false_from_ne_true (hopeless w (own_of log o)) (λ h. both_ways (hopeless w (filter (matters t) (brief_of log o))) (sym is) (brief.few (brief.brief (empty t.delta.now.pinned.items (pinned either)) h))))
-  where
-    empty : (ps : List ℕ) → length ps ≡ 0 → ps ≡ []
-    empty [] e = refl
-    empty (p ∷ ps) e = absurd (omega (arith, e))

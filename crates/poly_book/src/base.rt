@@ -13,7 +13,7 @@ ghost use Rattle.poly_book.specs.Meaning.{IsBase, IsFrozen, IsLaid, IsOwn, base_
 ghost use Rattle.poly_book.specs.Needed.{AreExcerptsFrom};
 ghost use Rattle.poly_book.specs.Spots.{IsSpots};
 
-use crate::excerpt::Excerpt;
+use crate::excerpt::{Excerpt, append_excerpts};
 use crate::harm::append_lacks;
 use crate::shelf::Frozen;
 use crate::spots::Spots;
@@ -74,9 +74,7 @@ impl Base {
         ensures why { IfErr result (λ e. e ≡ Refusal.Memory) }
     {
         self.lists.read(self.index, buffer)?;
-        for excerpt in &self.excerpts {
-            excerpt.append_to(log, buffer)?;
-        }
+        append_excerpts(&self.excerpts, log, buffer)?;
         Ok(())
     }
 
@@ -259,9 +257,7 @@ fn as_list(alloc: Global, log: &GuardLog, base: &Base) -> Result<Base, Refusal>
     ensures why { IfErr result (λ e. e ≡ Refusal.Memory) }
 {
     let mut more = Vec::new(alloc);
-    for excerpt in &base.excerpts {
-        excerpt.append_to(log, &mut more)?;
-    }
+    append_excerpts(&base.excerpts, log, &mut more)?;
     Ok(Base {
         lists: base.lists.after(alloc, base.index, &more)?,
         index: 0,

@@ -3,7 +3,7 @@ ghost use Rattle.std.specs.Prelude.{◌≡◌, ◌++◌, ◌≤◌, IfErr, IfSom
 ghost use Rattle.std.specs.List.{filter};
 ghost use Rattle.poly_atom.specs.Logs.{IsStairOf, stair_of};
 ghost use Rattle.poly_book.specs.Judged.{is_harmful};
-ghost use Rattle.poly_book.specs.Meaning.{IsExcerpt, edition_of, excerpt_of};
+ghost use Rattle.poly_book.specs.Meaning.{AreExcerpts, IsExcerpt, edition_of, excerpt_of, excerpts_of};
 ghost use Rattle.poly_book.specs.Spots.{IsSpots};
 
 use crate::harm::append_lacks;
@@ -83,6 +83,22 @@ impl Excerpt {
             Excerpt::Stair(stair) => before_stair(log, stair, atoms),
         }
     }
+}
+
+/// Appends the atoms of the excerpts to the buffer.
+pub(crate) fn append_excerpts(
+    excerpts: &[Excerpt],
+    log: &GuardLog,
+    buffer: &mut Vec<Atom>,
+) -> Result<(), Refusal>
+    requires { AreExcerpts log.now excerpts.now }
+    ensures ok { OnOk result (buffer.new.items ≡ buffer.old.items ++ excerpts_of log.now excerpts.now) }
+    ensures why { IfErr result (λ e. e ≡ Refusal.Memory) }
+{
+    for excerpt in excerpts {
+        excerpt.append_to(log, buffer)?;
+    }
+    Ok(())
 }
 
 /// Appends those atoms of the stair that are a `Lacks` of one of the placements that were looked for.

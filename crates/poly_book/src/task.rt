@@ -103,10 +103,8 @@ pub(crate) fn append_others(
 {
     let guards = log.guards_of(stair.edition);
     append_others_of(&guards[..stair.index], buffer)?;
-    let last = guards[stair.index].negated();
-    if is_other(&last) {
-        buffer.push(last)?;
-    }
+    let last = [guards[stair.index].negated()];
+    append_others_of(&last, buffer)?;
     Ok(())
 }
 

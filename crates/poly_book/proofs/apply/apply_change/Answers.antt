@@ -6,7 +6,8 @@ use Rattle.std.specs.Prelude.{reverse}
 use Rattle.std.proofs.lemmas.List.{length-reverse}
 use Rattle.std.proofs.lemmas.Result.{err_from_is_err_and}
 use Rattle.poly_grid.specs.declared.refusal.Refusal.{Refusal}
-use Rattle.poly_design.specs.Changes.{changed}
+use Rattle.poly_design.specs.Changes.{HasBefore, changed}
+use Rattle.poly_design.specs.Limits.{IsDesign}
 use Rattle.poly_design.specs.declared.change.Change.{Change}
 use Rattle.poly_tiling.specs.Puzzle.{View, is_tiling}
 use Rattle.poly_atom.specs.Guards.{guards}
@@ -43,6 +44,68 @@ same p q s tasks steps ends = ap (λ (z : Parts). shown z.opened z.design z.scen
 
 still_not_made : (k : Kind) (x : Change) (s t : State) (e : Refusal) → s ≡ t → IsNotMade k x s e → IsNotMade k x t e
 still_not_made k x s t e is n = subst (λ z. IsNotMade k x z e) is n
+
+pub returns-in_err-catch_up-clause-keeps : goal.returns-in_err-catch_up-clause-keeps
+returns-in_err-catch_up-clause-keeps c = c.catch_up.ensures.keeps
+
+pub returns-in_err-catch_up-clause-err : goal.returns-in_err-catch_up-clause-err
+returns-in_err-catch_up-clause-err c =
+    let p = err_from_is_err_and c.from_residual.result c.from_residual.ensures.1 in
+    rw p.1 (ap state_of c.catch_up.ensures.stays)
+
+pub returns-in_err-catch_up-clause-why : goal.returns-in_err-catch_up-clause-why
+returns-in_err-catch_up-clause-why c =
+    let p = err_from_is_err_and c.from_residual.result c.from_residual.ensures.1 in
+    rw (p.1, p.2) (memory_not_made c.args.kind c.args.change (state_of c.args.parts.now) _ c.in_err-catch_up.ensures.why)
+
+pub returns-in_err-step-clause-keeps : goal.returns-in_err-step-clause-keeps
+returns-in_err-step-clause-keeps c = c.catch_up.ensures.keeps
+
+pub returns-in_err-step-clause-err : goal.returns-in_err-step-clause-err
+returns-in_err-step-clause-err c =
+    let p = err_from_is_err_and c.from_residual-in_err-step.result c.from_residual-in_err-step.ensures.1 in
+    rw p.1 (ap state_of c.catch_up.ensures.stays)
+
+pub returns-in_err-step-clause-why : goal.returns-in_err-step-clause-why
+returns-in_err-step-clause-why c =
+    let p = err_from_is_err_and c.from_residual-in_err-step.result c.from_residual-in_err-step.ensures.1 in
+    rw (p.1, p.2) (memory_not_made c.args.kind c.args.change (state_of c.args.parts.now) _ c.in_err-step.ensures.why)
+
+pub returns-in_err-told-clause-keeps : goal.returns-in_err-told-clause-keeps
+returns-in_err-told-clause-keeps c = c.catch_up.ensures.keeps
+
+pub returns-in_err-told-clause-err : goal.returns-in_err-told-clause-err
+returns-in_err-told-clause-err c =
+    let p = err_from_is_err_and c.from_residual-in_err-told.result c.from_residual-in_err-told.ensures.1 in
+    rw p.1 (ap state_of c.catch_up.ensures.stays)
+
+pub returns-in_err-told-clause-why : goal.returns-in_err-told-clause-why
+returns-in_err-told-clause-why c =
+    let p = err_from_is_err_and c.from_residual-in_err-told.result c.from_residual-in_err-told.ensures.1 in
+    rw (p.1, p.2) (memory_not_made c.args.kind c.args.change (state_of c.args.parts.now) _ c.in_err-told.ensures.why)
+
+pub prepare-requires-clause-keeps : goal.prepare-requires-clause-keeps
+prepare-requires-clause-keeps c = c.catch_up.ensures.keeps
+
+pub prepare-requires-clause-noted : goal.prepare-requires-clause-noted
+prepare-requires-clause-noted c = c.in_ok-catch_up.ensures.noted
+
+pub prepare-requires-clause-before : goal.prepare-requires-clause-before
+prepare-requires-clause-before c = subst (λ d. HasBefore d c.args.change) (sym (ap (λ (z : Parts). z.design) c.catch_up.ensures.stays)) c.requires.before
+
+pub prepare-requires-clause-design : goal.prepare-requires-clause-design
+prepare-requires-clause-design c = subst (λ d. IsDesign (changed d c.args.change)) (sym (ap (λ (z : Parts). z.design) c.catch_up.ensures.stays)) c.requires.design
+
+pub prepare-requires-clause-top : goal.prepare-requires-clause-top
+prepare-requires-clause-top c = subst (λ h. IsTop c.args.kind h c.args.change) (sym (ap (λ (z : Parts). z.history) c.catch_up.ensures.stays)) c.requires.top
+
+pub returns-in_err-entry-clause-keeps : goal.returns-in_err-entry-clause-keeps
+returns-in_err-entry-clause-keeps c = c.prepare.ensures.keeps
+
+pub returns-in_err-entry-clause-why : goal.returns-in_err-entry-clause-why
+returns-in_err-entry-clause-why c =
+    let p = err_from_is_err_and c.from_residual-in_err-entry.result c.from_residual-in_err-entry.ensures.1 in
+    rw (p.1, p.2) (still_not_made c.args.kind c.args.change (state_of c.catch_up.new.parts) (state_of c.args.parts.now) _ (ap state_of c.catch_up.ensures.stays) c.in_err-entry.ensures.why)
 
 pub returns-in_err-entry-clause-err : goal.returns-in_err-entry-clause-err
 returns-in_err-entry-clause-err c =

@@ -1,3 +1,4 @@
+use Rattle.std.proofs.lemmas.Result.{err_from_is_err_and}
 use Rattle.std.proofs.Common.{ap, arith, length, map, not, refl, rules, subst, sym, ◌++◌, ◌∙◌, ◌≡◌}
 use Rattle.poly_tiling.proofs.Lists.{In}
 use Rattle.poly_atom.specs.declared.atom.Atom.TheVariants.{Has}
@@ -106,3 +107,179 @@ returns-clause-none c = λ none.
     (c.in_ok-find.ensures.placements ∙ c.deref.ensures.value ∙ c.in_ok-write_harmed.ensures.ok ∙ (λ i. c.requires.harmed i ++ named ((c.others.ensures ∙ c.requires.laid) i))) in
     let judged : AreJudged w A S c.judge_stairs.new.flags.items = harm_judges w g (own_of log f.own) L c.judge_stairs.new.flags.items c.requires.frozen.spares (c.in_ok-any.ensures.flags ∙ ap (λ B. map (λ A. not (hopeless w (B ++ A))) S) is) in
     none_judged w A A S c.judge_stairs.new.flags.items (λ a i. i) judged (sym c.in_ok-any.ensures.any ∙ none)
+
+pub returns-in_err-read_frozen_brief-clause-spots : goal.returns-in_err-read_frozen_brief-clause-spots
+returns-in_err-read_frozen_brief-clause-spots c =
+    let p = err_from_is_err_and c.from_residual.result c.from_residual.ensures.1 in
+    rw p.1 tt
+
+pub returns-in_err-read_frozen_brief-clause-none : goal.returns-in_err-read_frozen_brief-clause-none
+returns-in_err-read_frozen_brief-clause-none c =
+    let p = err_from_is_err_and c.from_residual.result c.from_residual.ensures.1 in
+    rw p.1 tt
+
+pub returns-in_err-read_frozen_brief-clause-flags : goal.returns-in_err-read_frozen_brief-clause-flags
+returns-in_err-read_frozen_brief-clause-flags c =
+    let p = err_from_is_err_and c.from_residual.result c.from_residual.ensures.1 in
+    rw p.1 tt
+
+pub returns-in_err-read_frozen_brief-clause-why : goal.returns-in_err-read_frozen_brief-clause-why
+returns-in_err-read_frozen_brief-clause-why c =
+    let p = err_from_is_err_and c.from_residual.result c.from_residual.ensures.1 in
+    rw (p.1, p.2) c.in_err-read_frozen_brief.ensures.why
+
+pub returns-in_err-write_harmed-clause-spots : goal.returns-in_err-write_harmed-clause-spots
+returns-in_err-write_harmed-clause-spots c =
+    let p = err_from_is_err_and c.from_residual-in_err-write_harmed.result c.from_residual-in_err-write_harmed.ensures.1 in
+    rw p.1 tt
+
+pub returns-in_err-write_harmed-clause-none : goal.returns-in_err-write_harmed-clause-none
+returns-in_err-write_harmed-clause-none c =
+    let p = err_from_is_err_and c.from_residual-in_err-write_harmed.result c.from_residual-in_err-write_harmed.ensures.1 in
+    rw p.1 tt
+
+pub returns-in_err-write_harmed-clause-flags : goal.returns-in_err-write_harmed-clause-flags
+returns-in_err-write_harmed-clause-flags c =
+    let p = err_from_is_err_and c.from_residual-in_err-write_harmed.result c.from_residual-in_err-write_harmed.ensures.1 in
+    rw p.1 tt
+
+pub returns-in_err-write_harmed-clause-why : goal.returns-in_err-write_harmed-clause-why
+returns-in_err-write_harmed-clause-why c =
+    let p = err_from_is_err_and c.from_residual-in_err-write_harmed.result c.from_residual-in_err-write_harmed.ensures.1 in
+    rw (p.1, p.2) c.in_err-write_harmed.ensures.why
+
+pub judge_first-requires-clause-small : goal.judge_first-requires-clause-small
+judge_first-requires-clause-small c = c.requires.small
+
+pub judge_first-requires-clause-once : goal.judge_first-requires-clause-once
+judge_first-requires-clause-once c = c.requires.once
+
+pub returns-in_err-hope-clause-spots : goal.returns-in_err-hope-clause-spots
+returns-in_err-hope-clause-spots c =
+    let p = err_from_is_err_and c.from_residual-in_err-hope.result c.from_residual-in_err-hope.ensures.1 in
+    rw p.1 tt
+
+pub returns-in_err-hope-clause-none : goal.returns-in_err-hope-clause-none
+returns-in_err-hope-clause-none c =
+    let p = err_from_is_err_and c.from_residual-in_err-hope.result c.from_residual-in_err-hope.ensures.1 in
+    rw p.1 tt
+
+pub returns-in_err-hope-clause-flags : goal.returns-in_err-hope-clause-flags
+returns-in_err-hope-clause-flags c =
+    let p = err_from_is_err_and c.from_residual-in_err-hope.result c.from_residual-in_err-hope.ensures.1 in
+    rw p.1 tt
+
+pub returns-in_err-hope-clause-why : goal.returns-in_err-hope-clause-why
+returns-in_err-hope-clause-why c =
+    let p = err_from_is_err_and c.from_residual-in_err-hope.result c.from_residual-in_err-hope.ensures.1 in
+    rw (p.1, p.2) c.in_err-hope.ensures.why
+
+pub returns-then-is_empty-clause-spots : goal.returns-then-is_empty-clause-spots
+returns-then-is_empty-clause-spots c = c.requires.spots
+
+pub judge_first-requires-2-clause-small : goal.judge_first-requires-2-clause-small
+judge_first-requires-2-clause-small c = c.requires.small
+
+pub judge_first-requires-2-clause-once : goal.judge_first-requires-2-clause-once
+judge_first-requires-2-clause-once c = c.requires.once
+
+pub returns-in_err-judge_first-clause-spots : goal.returns-in_err-judge_first-clause-spots
+returns-in_err-judge_first-clause-spots c =
+    let p = err_from_is_err_and c.from_residual-in_err-judge_first.result c.from_residual-in_err-judge_first.ensures.1 in
+    rw p.1 tt
+
+pub returns-in_err-judge_first-clause-none : goal.returns-in_err-judge_first-clause-none
+returns-in_err-judge_first-clause-none c =
+    let p = err_from_is_err_and c.from_residual-in_err-judge_first.result c.from_residual-in_err-judge_first.ensures.1 in
+    rw p.1 tt
+
+pub returns-in_err-judge_first-clause-flags : goal.returns-in_err-judge_first-clause-flags
+returns-in_err-judge_first-clause-flags c =
+    let p = err_from_is_err_and c.from_residual-in_err-judge_first.result c.from_residual-in_err-judge_first.ensures.1 in
+    rw p.1 tt
+
+pub returns-in_err-judge_first-clause-why : goal.returns-in_err-judge_first-clause-why
+returns-in_err-judge_first-clause-why c =
+    let p = err_from_is_err_and c.from_residual-in_err-judge_first.result c.from_residual-in_err-judge_first.ensures.1 in
+    rw (p.1, p.2) c.in_err-judge_first.ensures.why
+
+pub returns-then-not-branch-clause-spots : goal.returns-then-not-branch-clause-spots
+returns-then-not-branch-clause-spots c = c.requires.spots
+
+pub find-requires : goal.find-requires
+find-requires c = c.requires.spots
+
+pub returns-in_err-find-clause-spots : goal.returns-in_err-find-clause-spots
+returns-in_err-find-clause-spots c =
+    let p = err_from_is_err_and c.from_residual-in_err-find.result c.from_residual-in_err-find.ensures.1 in
+    rw p.1 tt
+
+pub returns-in_err-find-clause-none : goal.returns-in_err-find-clause-none
+returns-in_err-find-clause-none c =
+    let p = err_from_is_err_and c.from_residual-in_err-find.result c.from_residual-in_err-find.ensures.1 in
+    rw p.1 tt
+
+pub returns-in_err-find-clause-flags : goal.returns-in_err-find-clause-flags
+returns-in_err-find-clause-flags c =
+    let p = err_from_is_err_and c.from_residual-in_err-find.result c.from_residual-in_err-find.ensures.1 in
+    rw p.1 tt
+
+pub returns-in_err-find-clause-why : goal.returns-in_err-find-clause-why
+returns-in_err-find-clause-why c =
+    let p = err_from_is_err_and c.from_residual-in_err-find.result c.from_residual-in_err-find.ensures.1 in
+    rw (p.1, p.2) c.in_err-find.ensures.why
+
+pub append_harmful-requires-clause-frozen : goal.append_harmful-requires-clause-frozen
+append_harmful-requires-clause-frozen c = c.requires.frozen
+
+pub append_harmful-requires-clause-spots : goal.append_harmful-requires-clause-spots
+append_harmful-requires-clause-spots c = c.in_ok-find.ensures.spots
+
+pub returns-in_err-append_harmful-clause-spots : goal.returns-in_err-append_harmful-clause-spots
+returns-in_err-append_harmful-clause-spots c =
+    let p = err_from_is_err_and c.from_residual-in_err-append_harmful.result c.from_residual-in_err-append_harmful.ensures.1 in
+    rw p.1 tt
+
+pub returns-in_err-append_harmful-clause-none : goal.returns-in_err-append_harmful-clause-none
+returns-in_err-append_harmful-clause-none c =
+    let p = err_from_is_err_and c.from_residual-in_err-append_harmful.result c.from_residual-in_err-append_harmful.ensures.1 in
+    rw p.1 tt
+
+pub returns-in_err-append_harmful-clause-flags : goal.returns-in_err-append_harmful-clause-flags
+returns-in_err-append_harmful-clause-flags c =
+    let p = err_from_is_err_and c.from_residual-in_err-append_harmful.result c.from_residual-in_err-append_harmful.ensures.1 in
+    rw p.1 tt
+
+pub returns-in_err-append_harmful-clause-why : goal.returns-in_err-append_harmful-clause-why
+returns-in_err-append_harmful-clause-why c =
+    let p = err_from_is_err_and c.from_residual-in_err-append_harmful.result c.from_residual-in_err-append_harmful.ensures.1 in
+    rw (p.1, p.2) c.in_err-append_harmful.ensures.why
+
+pub judge_stairs-requires-clause-small : goal.judge_stairs-requires-clause-small
+judge_stairs-requires-clause-small c = c.requires.small
+
+pub judge_stairs-requires-clause-lead : goal.judge_stairs-requires-clause-lead
+judge_stairs-requires-clause-lead c = c.lead_of.ensures.most
+
+pub returns-in_err-any-clause-spots : goal.returns-in_err-any-clause-spots
+returns-in_err-any-clause-spots c =
+    let p = err_from_is_err_and c.from_residual-in_err-any.result c.from_residual-in_err-any.ensures.1 in
+    rw p.1 tt
+
+pub returns-in_err-any-clause-none : goal.returns-in_err-any-clause-none
+returns-in_err-any-clause-none c =
+    let p = err_from_is_err_and c.from_residual-in_err-any.result c.from_residual-in_err-any.ensures.1 in
+    rw p.1 tt
+
+pub returns-in_err-any-clause-flags : goal.returns-in_err-any-clause-flags
+returns-in_err-any-clause-flags c =
+    let p = err_from_is_err_and c.from_residual-in_err-any.result c.from_residual-in_err-any.ensures.1 in
+    rw p.1 tt
+
+pub returns-in_err-any-clause-why : goal.returns-in_err-any-clause-why
+returns-in_err-any-clause-why c =
+    let p = err_from_is_err_and c.from_residual-in_err-any.result c.from_residual-in_err-any.ensures.1 in
+    rw (p.1, p.2) c.in_err-any.ensures.why
+
+pub returns-clause-spots : goal.returns-clause-spots
+returns-clause-spots c = c.in_ok-find.ensures.spots

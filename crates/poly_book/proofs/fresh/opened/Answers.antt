@@ -1,12 +1,12 @@
 use Rattle.std.proofs.Common.{Bool, List, [], ap, arith, drop, false, get_or, inl, length, not, refl, replicate, subst, suc, sym, true, ◌+◌, ◌<◌, ◌∙◌, ◌∷◌, ◌≡◌}
 use Rattle.std.proofs.Math.Seq.{drop-cons}
-use Rattle.std.proofs.lemmas.List.{length-replicate, length_push}
+use Rattle.std.proofs.lemmas.List.{drop_all, length-replicate, length_push}
 use Rattle.poly_atom.specs.declared.atom.Atom.{Atom}
 use Rattle.poly_atom.specs.Hopeless.{hopeless}
 use Rattle.poly_book.specs.Tasks.{AreHopeful}
 use Rattle.poly_book.specs.declared.task.Own.TheVariants.{Listed}
 use Rattle.poly_book.specs.declared.task.Pending.{Pending}
-use Rattle.poly_book.proofs.Held.{opening_more, opening_over, opening_skip}
+use Rattle.poly_book.proofs.Held.{opening_end, opening_more, opening_over, opening_skip, opening_start}
 use Rattle.poly_book.proofs.Hoping.{first_hopeful}
 use Rattle.poly_book.proofs.fresh.opened.Goals.{then-branch+else-number-gt-LAST+in_ok-try_clone+in_ok-push, else-branch}
 use Rattle.poly_book.proofs.fresh.opened.Goals as goal
@@ -18,6 +18,25 @@ opposite false c h = ap not h
 -- the lists from an index on are the one at the index and those after it
 from_here : (all : List (List Atom)) (i : _) → i < length all → drop i all ≡ get_or all i [] ∷ drop (i + 1) all
 from_here all i within = let next : suc i ≡ i + 1 = omega arith in drop-cons all i [] within ∙ ap (λ n. get_or all i [] ∷ drop n all) next
+
+pub loop-index-init : goal.loop-index-init
+loop-index-init c = record {
+  same = λ log le. rw c.new-tasks.ensures.items (opening_start log c.args.next c.args.view.now c.args.all);
+  number = omega (arith, ap length c.new-tasks.ensures.items);
+  few = c.requires.next;
+  sure = c.requires.sure;
+}
+
+pub is_opened-requires-clause-index : goal.is_opened-requires-clause-index
+is_opened-requires-clause-index c = omega (arith, ap length c.in_ok-shared.ensures.ok, c.len-count.ensures, c.loop-index-test.true)
+
+pub is_opened-requires-clause-sure : goal.is_opened-requires-clause-sure
+is_opened-requires-clause-sure c = λ yes.
+    let w = c.args.view.now in
+    let i = c.loop-index.index in
+    let all = c.args.all in
+    let within : i < length all = omega (arith, c.len-count.ensures, c.loop-index-test.true) in
+    ap (λ l. hopeless w (get_or l i [])) c.in_ok-shared.ensures.ok ∙ (first_hopeful w (get_or all i []) (drop (i + 1) all) (subst (AreHopeful w) (from_here all i within) (c.loop-index.invariant.sure yes))).0
 
 pub loop-index-preserved : goal.loop-index-preserved
 loop-index-preserved c =
@@ -68,3 +87,12 @@ returns-then-number-gt-LAST-clause-why c =
     let log : List (List Atom) = replicate c.args.made [] in
     let before = rw cons at c.loop-index.invariant.same log (length-replicate c.args.made []) in
     inl (refl, opening_over log c.args.next c.loop-index.number w all (drop (i + 1) all) A c.loop-index.tasks.items fresh before c.loop-index.invariant.number c.if-number-gt-LAST.true)
+
+pub returns-clause-ok : goal.returns-clause-ok
+returns-clause-ok c = λ log le.
+    let i = c.loop-index.index in
+    let all = c.args.all in
+    opening_end log c.args.next c.loop-index.number c.args.view.now all (drop i all) c.loop-index.tasks.items (drop_all i all (omega (arith, c.loop-index-test.false, c.len-count.ensures))) (c.loop-index.invariant.same log le)
+
+pub returns-clause-few : goal.returns-clause-few
+returns-clause-few c = omega (arith, c.loop-index.invariant.number, c.loop-index.invariant.few)

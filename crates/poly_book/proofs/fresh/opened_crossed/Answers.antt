@@ -1,5 +1,6 @@
 use Rattle.std.specs.Arc.{arc_value}
 use Rattle.std.proofs.Common.{[], ap, arith, drop, inl, inr, length, map, not, refl, rules, subst, sym, ◌++◌, ◌+◌, ◌∙◌, ◌∷◌, ◌≡◌}
+use Rattle.std.proofs.lemmas.List.{drop_all, length-map}
 use Rattle.std.proofs.lemmas.Result.{err_from_is_err_and}
 use Rattle.poly_atom.specs.Hopeless.{hopeless}
 use Rattle.poly_atom.specs.Stairs.{stairs}
@@ -7,6 +8,7 @@ use Rattle.poly_book.specs.Meaning.{IsBase, IsFrozen, base_of, frozen_of}
 use Rattle.poly_book.specs.Judged.{AreJudged}
 use Rattle.poly_book.specs.Opens.{Opening}
 use Rattle.poly_book.specs.Shelves.{crossed}
+use Rattle.poly_book.proofs.Held.{opening_end, opening_start}
 use Rattle.poly_book.proofs.Holding.{frozen_at, frozen_head, opens_none}
 use Rattle.poly_book.proofs.Judging.{opening_none}
 use Rattle.poly_book.proofs.fresh.opened_crossed.Goals as goal
@@ -26,6 +28,33 @@ returns-then-is_empty-clause-ok c =
     let g = c.args.guards.now in
     let none : length g ≡ 0 = search rules in
     rw c.new-tasks.ensures.items (opens_none (log ++ g ∷ []) c.args.next c.args.view.now (map (λ f. frozen_of log f) c.args.frozen.now) g none)
+
+pub loop-task-init : goal.loop-task-init
+loop-task-init c =
+    let log = c.args.log.now in
+    let g = c.args.guards.now in
+    record {
+      same = rw c.new-tasks.ensures.items (opening_start (log ++ g ∷ []) c.args.next c.args.view.now (crossed (map (λ f. frozen_of log f) c.args.frozen.now) (stairs g)));
+      number = omega (arith, ap length c.new-tasks.ensures.items);
+      few = c.requires.next;
+      laid = c.none-laid.ensures log;
+      spots = c.new-buffers.ensures log;
+    }
+
+pub read-requires-clause-laid : goal.read-requires-clause-laid
+read-requires-clause-laid c = c.loop-task.invariant.laid
+
+pub judge_frozen-requires-clause-laid : goal.judge_frozen-requires-clause-laid
+judge_frozen-requires-clause-laid c = c.in_ok-read.ensures.others
+
+pub judge_frozen-requires-clause-harmed : goal.judge_frozen-requires-clause-harmed
+judge_frozen-requires-clause-harmed c = c.deref.ensures.value ∙ c.in_ok-harmed.ensures.ok
+
+pub judge_frozen-requires-clause-spots : goal.judge_frozen-requires-clause-spots
+judge_frozen-requires-clause-spots c = c.loop-task.invariant.spots
+
+pub base_over-requires-clause-laid : goal.base_over-requires-clause-laid
+base_over-requires-clause-laid c = c.in_ok-read.ensures.others
 
 pub loop-task-preserved-then-not-branch : goal.loop-task-preserved-then-not-branch
 loop-task-preserved-then-not-branch c =
@@ -96,3 +125,17 @@ returns-in_err-number-clause-why c =
       )
       | inr m ↦ inr m
     ])
+
+pub returns-clause-ok : goal.returns-clause-ok
+returns-clause-ok c =
+    let log = c.args.log.now in
+    let g = c.args.guards.now in
+    let fs = c.args.frozen.now in
+    let L = map (λ f. frozen_of log f) fs in
+    let S = stairs g in
+    let i = c.loop-task.task-index in
+    let none : drop i L ≡ [] = drop_all i L (omega (arith, length-map fs (λ f. frozen_of log f), c.loop-task-test.false)) in
+    opening_end (log ++ g ∷ []) c.args.next c.loop-task.number c.args.view.now (crossed L S) (crossed (drop i L) S) c.loop-task.tasks.items (ap (λ Fs. crossed Fs S) none) c.loop-task.invariant.same
+
+pub returns-clause-few : goal.returns-clause-few
+returns-clause-few c = omega (arith, c.loop-task.invariant.number, c.loop-task.invariant.few)

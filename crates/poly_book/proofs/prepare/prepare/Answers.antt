@@ -84,6 +84,42 @@ gather-requires-clause-either c =
     let at : c.deref.result.now ≡ arc_value c.in_ok-plan.plan.view = c.deref.ensures ∙ shown in
     subst (λ w. AreOfEither w c.in_ok-plan.plan.delta c.args.parts.now.listed) (sym at) (either_by c.args.parts.now c.args.change.now c.in_ok-plan.plan c.requires.keeps (over c.args.parts.now c.args.change.now c.in_ok-plan.plan c.view.result.now c.view.ensures c.in_ok-plan.ensures.ok))
 
+pub returns-in_err-reserve-clause-keeps : goal.returns-in_err-reserve-clause-keeps
+returns-in_err-reserve-clause-keeps c = rw c.reserve.ensures.items c.requires.keeps
+
+pub returns-in_err-reserve-clause-why : goal.returns-in_err-reserve-clause-why
+returns-in_err-reserve-clause-why c =
+    let p = err_from_is_err_and c.from_residual.result c.from_residual.ensures.1 in
+    rw p.1 (memory_not_made c.args.kind c.args.change.now (state_of c.args.parts.now) p.0 p.2)
+
+pub returns-in_err-after-clause-keeps : goal.returns-in_err-after-clause-keeps
+returns-in_err-after-clause-keeps c = rw c.reserve.ensures.items c.requires.keeps
+
+pub returns-in_err-after-clause-why : goal.returns-in_err-after-clause-why
+returns-in_err-after-clause-why c =
+    let p = err_from_is_err_and c.from_residual-in_err-after.result c.from_residual-in_err-after.ensures.1 in
+    rw (p.1, p.2) (memory_not_made c.args.kind c.args.change.now (state_of c.args.parts.now) _ c.in_err-after.ensures.why)
+
+pub returns-in_err-plan-clause-keeps : goal.returns-in_err-plan-clause-keeps
+returns-in_err-plan-clause-keeps c = rw c.reserve.ensures.items (still_keeps c.requires.keeps (subst (λ (v : View). Grown v c.plan_of_change.new.table) c.view.ensures c.in_err-plan.ensures.first) c.in_err-plan.ensures.right)
+
+pub returns-in_err-view-clause-keeps : goal.returns-in_err-view-clause-keeps
+returns-in_err-view-clause-keeps c = rw c.reserve.ensures.items (still_keeps c.requires.keeps (subst (λ (v : View). Grown v c.plan_of_change.new.table) c.view.ensures c.in_ok-plan.ensures.first) c.in_ok-plan.ensures.right)
+
+pub returns-in_err-view-clause-why : goal.returns-in_err-view-clause-why
+returns-in_err-view-clause-why c =
+    let p = err_from_is_err_and c.from_residual-in_err-view.result c.from_residual-in_err-view.ensures.1 in
+    rw p.1 (memory_not_made c.args.kind c.args.change.now (state_of c.args.parts.now) p.0 p.2)
+
+pub returns-in_err-entry-clause-keeps : goal.returns-in_err-entry-clause-keeps
+returns-in_err-entry-clause-keeps c = rw c.reserve.ensures.items (still_keeps c.requires.keeps (subst (λ (v : View). Grown v c.plan_of_change.new.table) c.view.ensures c.in_ok-plan.ensures.first) c.in_ok-plan.ensures.right)
+
+pub gather-requires-clause-keeps : goal.gather-requires-clause-keeps
+gather-requires-clause-keeps c = rw c.reserve.ensures.items (still_keeps c.requires.keeps (subst (λ (v : View). Grown v c.plan_of_change.new.table) c.view.ensures c.in_ok-plan.ensures.first) c.in_ok-plan.ensures.right)
+
+pub returns-clause-stays : goal.returns-clause-stays
+returns-clause-stays c = refl
+
 pub returns-in_err-plan-clause-why : goal.returns-in_err-plan-clause-why
 returns-in_err-plan-clause-why c =
     let p = err_from_is_err_and c.from_residual-in_err-plan.result c.from_residual-in_err-plan.ensures.1 in

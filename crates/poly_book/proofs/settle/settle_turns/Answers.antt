@@ -1,9 +1,9 @@
-use Rattle.std.proofs.Common.{arith, inr, length, refl, rules, subst, sym, true, ◌≡◌, ◌≤◌}
+use Rattle.std.proofs.Common.{ap, arith, false, inr, length, refl, rules, subst, sym, true, ◌∙◌, ◌≡◌, ◌≤◌}
 use Rattle.poly_book.specs.Keeps.{state_of}
-use Rattle.poly_book.specs.Settled.{Cuts, IsNotTurned, IsTurn}
+use Rattle.poly_book.specs.Settled.{AreReported, AreReportedBefore, Cuts, IsNotTurned, IsTurn}
 use Rattle.poly_book.proofs.Hoping.{hopeful_end}
 use Rattle.poly_book.proofs.Nexting.{none_pending}
-use Rattle.poly_book.proofs.Settles.{cuts_none, cuts_on, reported_on}
+use Rattle.poly_book.proofs.Settles.{cuts_none, cuts_on, reported_before, reported_on}
 use Rattle.poly_book.proofs.settle.settle_turns.Goals as goal
 
 pub loop-applied-init : goal.loop-applied-init
@@ -13,6 +13,32 @@ loop-applied-init c = record {
   reports = refl;
   sure = hopeful_end c.args.parts.now c.len-unsure.result (omega (arith, c.len-unsure.ensures));
 }
+
+pub returns-in-Ok-false-clause-ok : goal.returns-in-Ok-false-clause-ok
+returns-in-Ok-false-clause-ok c =
+    let test : c.in-Ok-false.field-0 ≡ false = search rules in
+    let before = state_of c.loop-applied.parts in
+    let after = state_of c.settle_one.new.parts in
+    let turn = subst (λ b. IsTurn c.args.nodes before after b) test c.in-Ok-false.ensures.ok in
+    record {
+      cuts = subst (λ z. Cuts (state_of c.args.parts.now) z c.loop-applied.applied) (sym turn.0) c.loop-applied.invariant.cuts;
+      none = ap (λ z. z.pending) turn.0 ∙ turn.1;
+    }
+
+pub returns-in-Ok-false-clause-reports : goal.returns-in-Ok-false-clause-reports
+returns-in-Ok-false-clause-reports c =
+    let test : c.in-Ok-false.field-0 ≡ false = search rules in
+    let before = state_of c.loop-applied.parts in
+    let after = state_of c.settle_one.new.parts in
+    let turn = subst (λ b. IsTurn c.args.nodes before after b) test c.in-Ok-false.ensures.ok in
+    (omega (arith, c.loop-applied-test.true), subst (λ z. AreReported c.args.nodes c.loop-applied.applied (state_of c.args.parts.now) z) (sym turn.0) c.loop-applied.invariant.reports)
+
+pub returns-in-Err-clause-applied : goal.returns-in-Err-clause-applied
+returns-in-Err-clause-applied c =
+    let s = state_of c.args.parts.now in
+    let e = c.in-Err.refusal in
+    subst (λ z. AreReportedBefore e c.args.turns c.args.nodes s z) (sym c.in-Err.ensures.err)
+    (reported_before e c.args.turns c.args.nodes c.loop-applied.applied s (state_of c.loop-applied.parts) c.loop-applied-test.true c.in-Err.ensures.why c.loop-applied.invariant.reports)
 
 pub returns-in-Err-clause-why : goal.returns-in-Err-clause-why
 returns-in-Err-clause-why c =
@@ -40,3 +66,13 @@ returns-then-is_empty-clause-ok c =
       cuts = subst (λ n. Cuts (state_of c.args.parts.now) (state_of c.loop-applied.parts) n) end c.loop-applied.invariant.cuts;
       none = none_pending c.loop-applied.parts.log c.loop-applied.parts.tasks.items few;
     }
+
+pub returns-then-is_empty-clause-reports : goal.returns-then-is_empty-clause-reports
+returns-then-is_empty-clause-reports c =
+    let end : c.loop-applied.applied ≡ c.args.turns = omega (arith, c.loop-applied-test.false, c.loop-applied.auto.applied-end) in
+    (omega arith, subst (λ n. AreReported c.args.nodes n (state_of c.args.parts.now) (state_of c.loop-applied.parts)) end c.loop-applied.invariant.reports)
+
+pub returns-clause-applied : goal.returns-clause-applied
+returns-clause-applied c =
+    let end : c.loop-applied.applied ≡ c.args.turns = omega (arith, c.loop-applied-test.false, c.loop-applied.auto.applied-end) in
+    (c.loop-applied.applied, omega (arith, end), (λ _. end), c.loop-applied.invariant.reports)
