@@ -138,6 +138,14 @@ harm_none w g L A e = ap (λ ps. filter is_other A ++ filter (is_harmful ps) A) 
     none (AtLeast i n ∷ A) = none A
     none (AtMost i n ∷ A) = none A
 
+-- if no Lacks can do harm, these are the atoms that are no Lacks
+pub harm_short : (w : View) (g L A : List Atom) → length (filter (is_harmful (harmed w g L)) A) ≡ 0 → harm_of w g L A ≡ filter is_other A
+harm_short w g L A e = ap (λ F. filter is_other A ++ F) (no_atoms (filter (is_harmful (harmed w g L)) A) e) ∙ append-nil (filter is_other A)
+  where
+    no_atoms : (F : List Atom) → length F ≡ 0 → F ≡ []
+    no_atoms [] h = refl
+    no_atoms (a ∷ F) h = absurd (omega (arith, h))
+
 -- a stair is hopeless after a task's atoms exactly if it is so after these
 pub harm_decides : (w : View) (g O L : List Atom) (i : ℕ) → Spares O (O ++ L) → i < length g → hopeless w (harm_of w g L (O ++ L) ++ get_or (stairs g) i []) ≡ hopeless w ((O ++ L) ++ get_or (stairs g) i [])
 harm_decides w g O L i spares l =

@@ -32,6 +32,10 @@ judged_length w base g fs e = ap length e ∙ length-map (stairs g) (λ A. not (
 pub judged_at : (w : View) (base g : List Atom) (fs : List Bool) (j : ℕ) (b : Bool) → AreJudged w base (stairs g) fs → j < length g → get_or fs j b ≡ not (hopeless w (base ++ get_or (stairs g) j []))
 judged_at w base g fs j b e l = ap (λ xs. get_or xs j b) e ∙ get_or-map (λ A. not (hopeless w (base ++ A))) (stairs g) j [] b (omega (arith, l, length-stairs g))
 
+-- flags after a base are those after the same base
+pub judged_over : (w : View) (A B : List Atom) (S : List (List Atom)) (fs : List Bool) → AreJudged w A S fs → A ≡ B → AreJudged w B S fs
+judged_over w A B S fs h e = h ∙ ap (λ X. map (λ C. not (hopeless w (X ++ C))) S) e
+
 -- the guards before the next stair, followed by its last atom
 pub stair_next : (base g : List Atom) (j : ℕ) (d : Atom) → j < length g → (base ++ take j g) ++ negated (get_or g j d) ∷ [] ≡ base ++ get_or (stairs g) j []
 stair_next base g j d l = append_assoc base (take j g) (negated (get_or g j d) ∷ []) ∙ ap (λ A. base ++ A) (sym (stairs_at g j d l))

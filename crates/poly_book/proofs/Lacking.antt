@@ -312,6 +312,7 @@ filter_more f A k d old b l e h =
     ∙ ap (λ B. old ++ B)
     (ap (λ x. filter f (take k A) ++ cond x (d ∷ []) []) h ∙ sym (filter-append f (take k A) (d ∷ [])) ∙ ap (filter f) (sym (take_more A k d l ∙ ap (λ a. take k A ++ a ∷ []) (sym e))))
 
+-- a list of length 0 has nothing
 pub empty : (ps : List ℕ) → length ps ≡ 0 → ps ≡ []
 empty [] e = refl
 empty (p ∷ ps) e = absurd (omega (arith, e))

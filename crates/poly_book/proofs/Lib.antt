@@ -49,3 +49,4 @@ pub mod Lacking
 pub mod Sparing
 pub mod Spotting
 pub mod Harming
+pub mod Laying

@@ -56,3 +56,10 @@ is_harmful ps (Has p) = false
 is_harmful ps (Lacks p) = mem ps p
 is_harmful ps (AtLeast i n) = false
 is_harmful ps (AtMost i n) = false
+
+-- the atom asks for a placement
+abbrev pub is_has : Atom → Bool
+is_has (Has p) = true
+is_has (Lacks p) = false
+is_has (AtLeast i n) = false
+is_has (AtMost i n) = false

@@ -1,11 +1,12 @@
 -- What a book's fields mean.
 use Rattle.std.specs.Arc.{arc_value}
-use Rattle.std.specs.List.{filter}
+use Rattle.std.specs.List.{filter, list_any}
 use Rattle.std.specs.Prelude.{List, None, Option, Some, [], drop, length, map, reverse, slice_index_or, take, ℕ, ◌++◌, ◌<◌, ◌∷◌, ◌≡◌, ◌≤◌}
 use Rattle.poly_design.specs.Layout.{Layout}
 use Rattle.poly_design.specs.declared.change.Change.{Change}
 use Rattle.poly_tiling.specs.Puzzle.{View}
 use Rattle.poly_atom.specs.declared.atom.Atom.{Atom}
+use Rattle.poly_atom.specs.Hopeless.{hopeless}
 use Rattle.poly_atom.specs.Logs.{IsStairOf, flat, stair_of}
 use Rattle.poly_report.specs.Words.{is_other}
 use Rattle.poly_undo.specs.declared.step.Step.{Step as Kept_step}
@@ -13,7 +14,7 @@ use Rattle.poly_undo.specs.Steps.{Steps}
 use Rattle.poly_book.specs.declared.base.Base.{Base}
 use Rattle.poly_book.specs.declared.excerpt.Excerpt.{Excerpt}
 use Rattle.poly_book.specs.declared.excerpt.Excerpt.TheVariants.{Guards, Stair as StairExcerpt}
-use Rattle.poly_book.specs.declared.base.Laid.{Laid}
+use Rattle.poly_book.specs.declared.laid.Laid.{Laid}
 use Rattle.poly_book.specs.declared.shelf.Frozen.{Frozen}
 use Rattle.poly_book.specs.declared.shelf.Kept.{Kept}
 use Rattle.poly_book.specs.declared.shelf.Shelf.{Shelf}
@@ -22,6 +23,7 @@ use Rattle.poly_book.specs.declared.step.Ending.{Ending}
 use Rattle.poly_book.specs.declared.task.Own.{Own}
 use Rattle.poly_book.specs.declared.task.Own.TheVariants.{Crossed, Listed, Stair as OfStair}
 use Rattle.poly_book.specs.declared.task.Pending.{Pending}
+use Rattle.poly_book.specs.Judged.{is_has}
 use Rattle.poly_book.specs.Tasks.{Spares, Task}
 use Rattle.poly_book.specs.States.{State, Stored, Way}
 
@@ -107,9 +109,15 @@ frozen_of log f = own_of log f.own ++ laid_of log f
 abbrev pub frozen_brief : List (List Atom) → Frozen → List Atom
 frozen_brief log f = brief_of log f.own ++ filter is_other (laid_of log f)
 
--- these are the guards that the log has, but for each `Lacks`
-abbrev pub IsLaid : List (List Atom) → Laid → Type 0
-IsLaid log l = l.others.items ≡ filter is_other (take l.count (flat (drop l.made log)))
+-- its own atoms, but for each `Lacks`, and what the guards that were laid on it ask for
+abbrev pub frozen_asks : List (List Atom) → Frozen → List Atom
+frozen_asks log f = brief_of log f.own ++ filter is_has (filter is_other (laid_of log f))
+
+-- these are the guards that the log has, but for each `Lacks`, and how the view judges each of them alone
+pub record IsLaid (w : View) (log : List (List Atom)) (l : Laid) : Type 0 where
+  pub others : l.others.items ≡ filter is_other (take l.count (flat (drop l.made log)))
+  pub asks : l.asks.items ≡ filter is_has l.others.items
+  pub spoils : l.spoils ≡ list_any (λ a. hopeless w (a ∷ [])) l.others.items
 
 -- the log has what the frozen task's atoms are read from, and none of them lacks a placement that its own atoms ask for
 pub record IsFrozen (log : List (List Atom)) (f : Frozen) : Type 0 where

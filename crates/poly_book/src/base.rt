@@ -9,15 +9,16 @@ ghost use Rattle.poly_atom.specs.declared.atom.Atom.{Atom as AtomOf};
 ghost use Rattle.poly_atom.specs.Logs.{IsStairOf, stair_of};
 ghost use Rattle.poly_report.specs.Words.{is_other};
 ghost use Rattle.poly_book.specs.Judged.{is_harmful};
-ghost use Rattle.poly_book.specs.Meaning.{IsBase, IsFrozen, IsLaid, IsOwn, base_of, frozen_of, laid_of, own_of};
+ghost use Rattle.poly_book.specs.Meaning.{IsBase, IsFrozen, IsOwn, base_of, frozen_of, laid_of, own_of};
 ghost use Rattle.poly_book.specs.Needed.{AreExcerptsFrom};
 ghost use Rattle.poly_book.specs.Spots.{IsSpots};
 
 use crate::excerpt::{Excerpt, append_excerpts};
 use crate::harm::append_lacks;
+use crate::laid::Laid;
 use crate::shelf::Frozen;
 use crate::spots::Spots;
-use crate::task::{Own, append_others, append_others_of};
+use crate::task::{Own, append_others};
 use poly_atom::{Atom, GuardLog, Stair};
 use poly_grid::Refusal;
 use poly_report::SharedLists;
@@ -37,17 +38,6 @@ pub struct Base {
     /// What follows the list, in order.
     excerpts: Vec<Excerpt>,
     /// The atoms of the base without each `Lacks`.
-    others: Vec<Atom>,
-}
-
-/// The guards that were laid on a frozen task, without each `Lacks`. They are the same for tasks that were made by the same change.
-#[derive(Drop)]
-pub(crate) struct Laid {
-    /// The edition at which the task was made.
-    made: u64,
-    /// How many guards were laid on it.
-    count: usize,
-    /// These guards without each `Lacks`.
     others: Vec<Atom>,
 }
 
@@ -126,45 +116,6 @@ impl Base {
             edition = excerpt.edition().min(edition);
         }
         edition
-    }
-}
-
-impl Laid {
-    /// No guards.
-    pub(crate) fn none(alloc: Global) -> Laid
-        ensures { (log : List (List AtomOf)) → IsLaid log result }
-    {
-        Laid {
-            made: 0,
-            count: 0,
-            others: Vec::new(alloc),
-        }
-    }
-
-    /// The guards without each `Lacks`.
-    pub(crate) fn others(&self) -> &[Atom]
-        ensures { result.now ≡ self.now.others.items }
-    {
-        &self.others
-    }
-
-    /// Reads the guards that were laid on the frozen task, unless these are the ones that were read last.
-    pub(crate) fn read(&mut self, log: &GuardLog, frozen: &Frozen) -> Result<(), Refusal>
-        requires frozen { IsFrozen log.now frozen.now }
-        requires laid { IsLaid log.now self.old }
-        ensures laid { OnOk result (IsLaid log.now self.new) }
-        ensures others { OnOk result (self.new.others.items ≡ filter is_other (laid_of log.now frozen.now)) }
-        ensures why { IfErr result (λ e. e ≡ Refusal.Memory) }
-    {
-        if self.made == frozen.made && self.count == frozen.count {
-            return Ok(());
-        }
-        let since = log.since(frozen.made);
-        self.others.clear();
-        append_others_of(&since[..frozen.count], &mut self.others)?;
-        self.made = frozen.made;
-        self.count = frozen.count;
-        Ok(())
     }
 }
 
@@ -294,7 +245,7 @@ fn with_guards(base: Base, log: &GuardLog, frozen: &Frozen, laid: &Laid) -> Resu
     if frozen.count == 0 {
         return Ok(base);
     }
-    base.others.extend_from_slice(&laid.others)?;
+    base.others.extend_from_slice(laid.others())?;
     base.excerpts
         .push(Excerpt::Guards(frozen.made, frozen.count))?;
     Ok(base)

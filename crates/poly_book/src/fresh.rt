@@ -11,16 +11,17 @@ ghost use Rattle.poly_atom.specs.Stairs.{stairs};
 ghost use Rattle.poly_tiling.specs.Puzzle.{View as ViewOf};
 ghost use Rattle.poly_report.specs.Words.{is_other};
 ghost use Rattle.poly_book.specs.Judged.{AreJudged, LackOnce, named};
-ghost use Rattle.poly_book.specs.Opens.{Opening, Opens};
-ghost use Rattle.poly_book.specs.Meaning.{AreFrozen, IsBase, IsFrozen, IsHeld, IsOwn, base_of, frozen_brief, frozen_of, laid_of, own_of, stored_of};
+ghost use Rattle.poly_book.specs.Opens.{AreReady, Opening, Opens};
+ghost use Rattle.poly_book.specs.Meaning.{AreFrozen, IsBase, IsFrozen, IsHeld, IsLaid, IsOwn, base_of, frozen_asks, frozen_of, laid_of, own_of, stored_of};
 ghost use Rattle.poly_book.specs.Shelves.{crossed, openings};
-ghost use Rattle.poly_book.specs.Spots.{IsSpots};
 ghost use Rattle.poly_book.specs.Tasks.{AreHopeful, hopeful};
 ghost use Rattle.poly_book.specs.declared.prepare.TheConstants.{MAX_CHANGES};
+ghost use Rattle.poly_book.specs.declared.task.Own.TheVariants.{Listed};
 
-use crate::base::{Base, Laid, base_over};
+use crate::base::{Base, base_over};
 use crate::harm::{harmed_by, write_harmed};
 use crate::judge::{judge_first, judge_stairs, lead_of};
+use crate::laid::Laid;
 use crate::shelf::{Frozen, Shelf};
 use crate::spots::Spots;
 use crate::task::{Own, Pending, append_harmful, read_brief};
@@ -34,9 +35,15 @@ use std::sync::Arc;
 /// The greatest task number.
 const LAST: u64 = 4_294_967_295;
 
-// What is used again for each frozen task that is judged.
+// What is used again for each frozen task that the stairs of a change are opened after.
 #[derive(Drop)]
 struct Buffers {
+    // One list, which is empty.
+    none: SharedLists,
+    // The pins, and the placements that the guards of the change ask for or lack.
+    harmed: Vec<u32>,
+    // The guards that were laid on the task.
+    laid: Laid,
     // Atoms of the task after which stairs are judged.
     atoms: Vec<Atom>,
     // A list that the task's own atoms begin with.
@@ -47,19 +54,28 @@ struct Buffers {
     spots: Spots,
     // Which stairs aren't hopeless after the atoms without each `Lacks`.
     hopes: Vec<bool>,
+    // Which stairs aren't hopeless after the task.
+    flags: Vec<bool>,
 }
 
 impl Buffers {
-    fn new(alloc: Global) -> Buffers
-        ensures { (log : List (List AtomOf)) → IsSpots log result.spots }
+    fn new(alloc: Global, view: &View, guards: &[Atom]) -> Result<Buffers, Refusal>
+        ensures ready { IfOk result (λ b. (log : List (List AtomOf)) → AreReady view.now log guards.now b) }
+        ensures why { IfErr result (λ e. e ≡ Refusal.Memory) }
     {
-        Buffers {
+        let harmed = harmed_by(alloc, view, guards)?;
+        let none = SharedLists::one(alloc, &[])?;
+        Ok(Buffers {
+            none,
+            harmed,
+            laid: Laid::none(alloc),
             atoms: Vec::new(alloc),
             list: Vec::new(alloc),
             placements: Vec::new(alloc),
             spots: Spots::none(alloc),
             hopes: Vec::new(alloc),
-        }
+            flags: Vec::new(alloc),
+        })
     }
 }
 
@@ -91,18 +107,35 @@ pub(crate) fn opened(
     let shared = all.share(alloc, base)?;
     for index in 0..count {
         if is_opened(view, &shared, index, &mut buffer, sure)? {
-            if number > LAST {
-                return Err(Refusal::Spent);
-            }
-            tasks.push(Pending {
-                number: number as u32,
-                own: Own::Listed(shared.try_clone()?, index),
-                made,
-            })?;
+            push_list(&shared, index, number, made, &mut tasks)?;
             number += 1;
         }
     }
     Ok(tasks)
+}
+
+// Appends a task with the number for the list at the index.
+fn push_list(
+    lists: &SharedLists,
+    index: usize,
+    number: u64,
+    made: u64,
+    tasks: &mut Vec<Pending>,
+) -> Result<(), Refusal>
+    ensures tasks { OnOk result (tasks.new.items ≡ tasks.old.items ++ record { number = number; own = Listed lists.now index; made = made } ∷ []) }
+    ensures few { OnOk result (number < 4294967296) }
+    ensures why { IfErr result (λ e. ((e ≡ Refusal.Spent) × (4294967295 < number)) ⊎ (e ≡ Refusal.Memory)) }
+{
+    if number > LAST {
+        return Err(Refusal::Spent);
+    }
+    let own = Own::Listed(lists.try_clone()?, index);
+    tasks.push(Pending {
+        number: number as u32,
+        own,
+        made,
+    })?;
+    Ok(())
 }
 
 // Whether the list at the index isn't hopeless. If `sure`, this is known to be true, and nothing is read.
@@ -234,89 +267,146 @@ fn opened_crossed(
     if guards.is_empty() {
         return Ok(tasks);
     }
-    let none = SharedLists::one(alloc, &[])?;
-    let harmed = harmed_by(alloc, view, guards)?;
-    let mut laid = Laid::none(alloc);
-    let mut buffers = Buffers::new(alloc);
-    let mut flags = Vec::new(alloc);
+    let mut buffers = Buffers::new(alloc, view, guards)?;
     let mut number = next;
     for task in frozen {
-        laid.read(log, task)?;
-        if !judge_frozen(
+        number = cross(
+            alloc,
             view,
             log,
             task,
-            &laid,
             guards,
-            &harmed,
             &mut buffers,
-            &mut flags,
-        )? {
-            continue;
-        }
-        let base = base_over(alloc, log, task, &laid, &none)?;
-        let shared = Arc::new(alloc, base)?;
-        number = add_crossed(&shared, &flags, number, edition, &mut tasks)?;
+            number,
+            &mut tasks,
+        )?;
     }
     Ok(tasks)
 }
 
+// Appends the atoms of the frozen task followed by each stair of the guards, as tasks with the numbers from `start` on. Returns
+// the number after that of the last task. A hopeless list gets no task.
+fn cross(
+    alloc: Global,
+    view: &View,
+    log: &GuardLog,
+    frozen: &Frozen,
+    guards: &[Atom],
+    buffers: &mut Buffers,
+    start: u64,
+    tasks: &mut Vec<Pending>,
+) -> Result<u64, Refusal>
+    requires start { start ≤ 4294967296 }
+    requires edition { length log.now ≤ MAX_CHANGES }
+    requires small { AllSmall guards.now }
+    requires once { LackOnce guards.now }
+    requires frozen { IsFrozen log.now frozen.now }
+    requires ready { AreReady view.now log.now guards.now buffers.old }
+    ensures ready { OnOk result (AreReady view.now log.now guards.now buffers.new) }
+    ensures ok { IfOk result (λ n. (next : ℕ) (all rest : List (List AtomOf)) → Opening (log.now ++ guards.now ∷ []) next start view.now all (map (λ B. frozen_of log.now frozen.now ++ B) (stairs guards.now) ++ rest) tasks.old.items → Opening (log.now ++ guards.now ∷ []) next n view.now all rest tasks.new.items) }
+    ensures count { IfOk result (λ n. start + length tasks.new.items ≡ n + length tasks.old.items) }
+    ensures few { IfOk result (λ n. n ≤ 4294967296) }
+    ensures why { IfErr result (λ e. ((e ≡ Refusal.Spent) × ((next : ℕ) (all rest : List (List AtomOf)) → next + length tasks.old.items ≡ start → Opening (log.now ++ guards.now ∷ []) next start view.now all (map (λ B. frozen_of log.now frozen.now ++ B) (stairs guards.now) ++ rest) tasks.old.items → 4294967296 < next + length (hopeful view.now all))) ⊎ (e ≡ Refusal.Memory)) }
+{
+    if !judge_frozen(view, log, frozen, guards, buffers)? {
+        return Ok(start);
+    }
+    let base = shared_base(alloc, log, frozen, buffers)?;
+    let edition = log.len() as u64;
+    let number = add_crossed(&base, &buffers.flags, start, edition, tasks)?;
+    Ok(number)
+}
+
+// The atoms of the frozen task, for the tasks that stand on them.
+fn shared_base(
+    alloc: Global,
+    log: &GuardLog,
+    frozen: &Frozen,
+    buffers: &Buffers,
+) -> Result<Arc<Base>, Refusal>
+    requires frozen { IsFrozen log.now frozen.now }
+    requires laid { buffers.now.laid.others.items ≡ filter is_other (laid_of log.now frozen.now) }
+    requires none { buffers.now.none ≡ [] ∷ [] }
+    ensures base { IfOk result (λ b. base_of log.now (arc_value b) ≡ frozen_of log.now frozen.now) }
+    ensures is { IfOk result (λ b. IsBase log.now (arc_value b)) }
+    ensures why { IfErr result (λ e. e ≡ Refusal.Memory) }
+{
+    let base = base_over(alloc, log, frozen, &buffers.laid, &buffers.none)?;
+    let shared = Arc::new(alloc, base)?;
+    Ok(shared)
+}
+
 // Judges which stairs of the guards aren't hopeless after the atoms of the frozen task. The flags come in place of those that were
-// there, and the buffers are overwritten. If no flag is true, returns `false`. Nearly all atoms of a list are `Lacks`, so the stairs
-// are judged without them first, and if any `Lacks` can do harm, those that remain are judged after these. `harmed` are the pins and
-// the placements that the guards ask for or lack.
+// there. If no flag is true, returns `false`. Nearly all atoms of a list are `Lacks`, so the stairs are judged without them first,
+// and if any `Lacks` can do harm, those that remain are judged after these. Of the guards that were laid on the task, only what they
+// ask for is judged with each stair.
 fn judge_frozen(
     view: &View,
     log: &GuardLog,
     frozen: &Frozen,
-    laid: &Laid,
     guards: &[Atom],
-    harmed: &[u32],
     buffers: &mut Buffers,
-    flags: &mut Vec<bool>,
 ) -> Result<bool, Refusal>
     requires small { AllSmall guards.now }
     requires once { LackOnce guards.now }
     requires frozen { IsFrozen log.now frozen.now }
-    requires laid { laid.now.others.items ≡ filter is_other (laid_of log.now frozen.now) }
-    requires harmed { harmed.now ≡ view.now.pins ++ named guards.now }
-    requires spots { IsSpots log.now buffers.old.spots }
-    ensures spots { OnOk result (IsSpots log.now buffers.new.spots) }
+    requires ready { AreReady view.now log.now guards.now buffers.old }
+    ensures ready { OnOk result (AreReady view.now log.now guards.now buffers.new) }
+    ensures laid { OnOk result (buffers.new.laid.others.items ≡ filter is_other (laid_of log.now frozen.now)) }
     ensures none { IfOk result (λ yes. yes ≡ false → hopeful view.now (map (λ B. frozen_of log.now frozen.now ++ B) (stairs guards.now)) ≡ []) }
-    ensures flags { IfOk result (λ yes. yes ≡ true → AreJudged view.now (frozen_of log.now frozen.now) (stairs guards.now) flags.new.items) }
+    ensures flags { IfOk result (λ yes. yes ≡ true → AreJudged view.now (frozen_of log.now frozen.now) (stairs guards.now) buffers.new.flags.items) }
     ensures why { IfErr result (λ e. e ≡ Refusal.Memory) }
 {
-    let atoms = &mut buffers.atoms;
-    let hopes = &mut buffers.hopes;
-    read_frozen_brief(log, frozen, laid, atoms)?;
-    write_harmed(harmed, laid.others(), &mut buffers.placements)?;
-    if buffers.placements.is_empty() {
-        let hope = judge_first(view, atoms, guards, hopes, flags)?;
-        return Ok(hope);
-    }
-    if !judge_first(view, atoms, guards, flags, hopes)? {
+    read_frozen(view, log, frozen, buffers)?;
+    if buffers.laid.spoils() {
         return Ok(false);
     }
+    let atoms = &mut buffers.atoms;
+    let hopes = &mut buffers.hopes;
+    let flags = &mut buffers.flags;
+    if !judge_first(view, atoms, guards, hopes, flags)? {
+        return Ok(false);
+    }
+    if buffers.placements.is_empty() {
+        return Ok(true);
+    }
+    let count = atoms.len();
     buffers.spots.find(log, &buffers.placements)?;
     append_harmful(log, frozen, &buffers.spots, &mut buffers.list, atoms)?;
+    if atoms.len() == count {
+        return Ok(true);
+    }
+    hopes.clear();
+    hopes.extend_from_slice(flags)?;
     let any = judge_stairs(view, atoms, guards, lead_of(guards), hopes, flags)?;
     Ok(any)
 }
 
-// Writes the atoms of the frozen task without each `Lacks` to the buffer, in place of what it had.
-fn read_frozen_brief(
+// Reads the guards that were laid on the frozen task, and the placements of which a `Lacks` can do harm. The atoms to judge are the
+// task's own atoms without each `Lacks`, and what the guards ask for.
+fn read_frozen(
+    view: &View,
     log: &GuardLog,
     frozen: &Frozen,
-    laid: &Laid,
-    atoms: &mut Vec<Atom>,
+    buffers: &mut Buffers,
 ) -> Result<(), Refusal>
     requires frozen { IsFrozen log.now frozen.now }
-    requires laid { laid.now.others.items ≡ filter is_other (laid_of log.now frozen.now) }
-    ensures atoms { OnOk result (atoms.new.items ≡ frozen_brief log.now frozen.now) }
+    requires laid { IsLaid view.now log.now buffers.old.laid }
+    ensures stays { buffers.new ≡ record buffers.old { laid = buffers.new.laid; atoms = buffers.new.atoms; placements = buffers.new.placements } }
+    ensures laid { OnOk result (IsLaid view.now log.now buffers.new.laid) }
+    ensures others { OnOk result (buffers.new.laid.others.items ≡ filter is_other (laid_of log.now frozen.now)) }
+    ensures atoms { OnOk result (buffers.new.atoms.items ≡ frozen_asks log.now frozen.now) }
+    ensures placements { OnOk result (buffers.new.placements.items ≡ buffers.old.harmed.items ++ named (filter is_other (laid_of log.now frozen.now))) }
     ensures why { IfErr result (λ e. e ≡ Refusal.Memory) }
 {
-    read_brief(log, &frozen.own, atoms)?;
-    atoms.extend_from_slice(laid.others())?;
+    buffers.laid.read(view, log, frozen)?;
+    read_brief(log, &frozen.own, &mut buffers.atoms)?;
+    buffers.atoms.extend_from_slice(buffers.laid.asks())?;
+    write_harmed(
+        &buffers.harmed,
+        buffers.laid.others(),
+        &mut buffers.placements,
+    )?;
     Ok(())
 }
 

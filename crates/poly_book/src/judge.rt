@@ -67,6 +67,10 @@ fn calm_stairs(
     let mut stays = true;
     for index in 0..guards.len() {
         calm.push(stays)?;
+        if index + 1 == guards.len() {
+            // no guard is left that this one comes before
+            return Ok(());
+        }
         if stays {
             stays = !ends_with(view, atoms, guards[index])?;
         }

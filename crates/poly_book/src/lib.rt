@@ -32,6 +32,7 @@ mod fresh;
 mod hand_in;
 mod harm;
 mod judge;
+mod laid;
 pub mod laws;
 mod maps;
 mod narrowed;

@@ -50,12 +50,21 @@ fn settle_all(parts: &mut Parts, turns: u64, nodes: u32) -> Result<u64, Refusal>
     ensures applied { IfErr result (λ e. AreReportedBefore e turns nodes (state_of parts.old) (state_of parts.new)) }
     ensures why { IfErr result (λ e. IsNotSettled turns (state_of parts.old) (state_of parts.new) e) }
 {
-    let settled = settle_turns(parts, turns, nodes);
+    let mut atoms = Vec::new(parts.alloc);
+    let mut room = Room::new(parts.alloc);
+    let settled = settle_turns(parts, turns, nodes, &mut atoms, &mut room);
     note_for_change(parts);
     settled
 }
 
-fn settle_turns(parts: &mut Parts, turns: u64, nodes: u32) -> Result<u64, Refusal>
+// Does turns until nothing is pending, and returns how many. The buffer and the room are used again for each task.
+fn settle_turns(
+    parts: &mut Parts,
+    turns: u64,
+    nodes: u32,
+    buffer: &mut Vec<Atom>,
+    room: &mut Room,
+) -> Result<u64, Refusal>
     requires some { 1 ≤ nodes }
     requires few { nodes ≤ NODES }
     requires keeps { Keeps parts.old }
@@ -66,10 +75,8 @@ fn settle_turns(parts: &mut Parts, turns: u64, nodes: u32) -> Result<u64, Refusa
     ensures why { IfErr result (λ e. IsNotSettled turns (state_of parts.old) (state_of parts.new) e) }
 {
     let mut unsure = parts.tasks.len();
-    let mut atoms = Vec::new(parts.alloc);
-    let mut room = Room::new(parts.alloc);
     for applied in 0..turns {
-        match settle_one(parts, nodes, &mut unsure, &mut atoms, &mut room) {
+        match settle_one(parts, nodes, &mut unsure, buffer, room) {
             Ok(true) => {}
             Ok(false) => return Ok(applied),
             Err(refusal) => return Err(refusal),

@@ -21,5 +21,5 @@ returns-clause-is c =
     let b = c.args.base in
     let x : Excerpt = Guards c.args.frozen.now.made c.args.frozen.now.count in
     let d : Base = record { lists = b.lists; index = b.index; excerpts = c.push.new.self; others = c.extend_from_slice.new.self } in
-    let others : d.others.items ≡ b.others.items ++ filter is_other (excerpt_of log x) = c.in_ok-extend_from_slice.ensures.items ∙ ap (λ A. b.others.items ++ A) (c.deref.ensures.value ∙ c.requires.laid) in
+    let others : d.others.items ≡ b.others.items ++ filter is_other (excerpt_of log x) = c.in_ok-extend_from_slice.ensures.items ∙ ap (λ A. b.others.items ++ A) (c.others.ensures ∙ c.requires.laid) in
     is_base_and log b d x refl refl c.in_ok-push.ensures.items others c.requires.base (c.requires.frozen.made, c.requires.frozen.count)

@@ -1,6 +1,7 @@
-use Rattle.std.proofs.Common.{Bool, List, [], ap, arith, drop, false, get_or, inl, length, not, refl, replicate, subst, suc, sym, true, ◌+◌, ◌<◌, ◌∙◌, ◌∷◌, ◌≡◌}
+use Rattle.std.proofs.Common.{Bool, List, [], ap, arith, drop, false, get_or, inl, inr, length, not, refl, replicate, subst, suc, sym, true, ◌+◌, ◌<◌, ◌∙◌, ◌∷◌, ◌≡◌}
 use Rattle.std.proofs.Math.Seq.{drop-cons}
 use Rattle.std.proofs.lemmas.List.{drop_all, length-replicate, length_push}
+use Rattle.std.proofs.lemmas.Result.{err_from_is_err_and}
 use Rattle.poly_atom.specs.declared.atom.Atom.{Atom}
 use Rattle.poly_atom.specs.Hopeless.{hopeless}
 use Rattle.poly_book.specs.Tasks.{AreHopeful}
@@ -8,7 +9,7 @@ use Rattle.poly_book.specs.declared.task.Own.TheVariants.{Listed}
 use Rattle.poly_book.specs.declared.task.Pending.{Pending}
 use Rattle.poly_book.proofs.Held.{opening_end, opening_more, opening_over, opening_skip, opening_start}
 use Rattle.poly_book.proofs.Hoping.{first_hopeful}
-use Rattle.poly_book.proofs.fresh.opened.Goals.{then-branch+else-number-gt-LAST+in_ok-try_clone+in_ok-push, else-branch}
+use Rattle.poly_book.proofs.fresh.opened.Goals.{then-branch+in_ok-push_list, else-branch}
 use Rattle.poly_book.proofs.fresh.opened.Goals as goal
 
 opposite : (b c : Bool) → not b ≡ c → b ≡ not c
@@ -50,18 +51,18 @@ loop-index-preserved c =
     let read : c.in_ok-is_opened.field-0 ≡ not (hopeless w A) = c.in_ok-is_opened.ensures.ok ∙ ap (λ l. not (hopeless w (get_or l i []))) c.in_ok-shared.ensures.ok in
     let sure : c.args.sure ≡ true → AreHopeful w rest = λ yes. (first_hopeful w A rest (subst (AreHopeful w) cons (c.loop-index.invariant.sure yes))).1 in
     elim c.if-branch.branch [
-      | then-branch+else-number-gt-LAST+in_ok-try_clone+in_ok-push k ↦
+      | then-branch+in_ok-push_list k ↦
           let fresh = opposite (hopeless w A) true (sym read ∙ k.if-branch.true) in
-          let lists : k.in_ok-try_clone.field-0 ≡ all = k.in_ok-try_clone.ensures.ok ∙ c.in_ok-shared.ensures.ok in
-          let here : i < length k.in_ok-try_clone.field-0 = omega (arith, ap length lists, within) in
-          let task : Pending = record { number = c.loop-index.number; own = Listed k.in_ok-try_clone.field-0 i; made = c.args.made } in
-          let pushed = ap (λ t. t.items) k.tasks-is ∙ k.in_ok-push.ensures.items in
+          let lists : c.in_ok-shared.shared ≡ all = c.in_ok-shared.ensures.ok in
+          let here : i < length c.in_ok-shared.shared = omega (arith, ap length lists, within) in
+          let task : Pending = record { number = c.loop-index.number; own = Listed c.in_ok-shared.shared i; made = c.args.made } in
+          let pushed = ap (λ t. t.items) k.tasks-is ∙ k.in_ok-push_list.ensures.tasks in
           record {
             same = λ log le.
                 rw (pushed, k.number-is)
                 (opening_more log c.args.next c.loop-index.number w all rest A c.loop-index.tasks.items _ fresh refl (ap (λ l. get_or l i []) lists) here (sym le) (rw cons at c.loop-index.invariant.same log le));
             number = omega (arith, k.number-is, ap length pushed, length_push c.loop-index.tasks.items task, c.loop-index.invariant.number);
-            few = omega (arith, k.number-is, k.if-number-gt-LAST.false);
+            few = omega (arith, k.number-is, k.in_ok-push_list.ensures.few);
             sure = sure;
           }
       | else-branch k ↦
@@ -74,8 +75,9 @@ loop-index-preserved c =
           }
     ]
 
-pub returns-then-number-gt-LAST-clause-why : goal.returns-then-number-gt-LAST-clause-why
-returns-then-number-gt-LAST-clause-why c =
+pub returns-in_err-push_list-clause-why : goal.returns-in_err-push_list-clause-why
+returns-in_err-push_list-clause-why c =
+    let p = err_from_is_err_and c.from_residual-in_err-push_list.result c.from_residual-in_err-push_list.ensures.1 in
     let w = c.args.view.now in
     let i = c.loop-index.index in
     let all = c.args.all in
@@ -86,7 +88,10 @@ returns-then-number-gt-LAST-clause-why c =
     let fresh = opposite (hopeless w A) true (sym read ∙ c.if-branch.true) in
     let log : List (List Atom) = replicate c.args.made [] in
     let before = rw cons at c.loop-index.invariant.same log (length-replicate c.args.made []) in
-    inl (refl, opening_over log c.args.next c.loop-index.number w all (drop (i + 1) all) A c.loop-index.tasks.items fresh before c.loop-index.invariant.number c.if-number-gt-LAST.true)
+    rw (p.1, p.2) (elim c.in_err-push_list.ensures.why [
+      | inl m ↦ inl (m.0, opening_over log c.args.next c.loop-index.number w all (drop (i + 1) all) A c.loop-index.tasks.items fresh before c.loop-index.invariant.number m.1)
+      | inr m ↦ inr m
+    ])
 
 pub returns-clause-ok : goal.returns-clause-ok
 returns-clause-ok c = λ log le.

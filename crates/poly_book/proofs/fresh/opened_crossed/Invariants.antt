@@ -1,9 +1,8 @@
 use Rattle.std.proofs.Common.{[], drop, length, map, ◌++◌, ◌+◌, ◌∷◌, ◌≡◌, ◌≤◌}
 use Rattle.poly_atom.specs.Stairs.{stairs}
-use Rattle.poly_book.specs.Meaning.{IsLaid, frozen_of}
-use Rattle.poly_book.specs.Opens.{Opening}
+use Rattle.poly_book.specs.Meaning.{frozen_of}
+use Rattle.poly_book.specs.Opens.{AreReady, Opening}
 use Rattle.poly_book.specs.Shelves.{crossed}
-use Rattle.poly_book.specs.Spots.{IsSpots}
 use Rattle.poly_book.proofs.fresh.opened_crossed.Given as goal
 
 abbrev pub invariant-loop-task : goal.invariant-loop-task
@@ -11,6 +10,5 @@ invariant-loop-task l = record {
   same : Opening (l.log ++ l.guards ∷ []) l.next l.number l.view (crossed (map (λ f. frozen_of l.log f) l.frozen) (stairs l.guards)) (crossed (drop l.task-index (map (λ f. frozen_of l.log f) l.frozen)) (stairs l.guards)) l.tasks.items;
   number : l.next + length l.tasks.items ≡ l.number;
   few : l.number ≤ 4294967296;
-  laid : IsLaid l.log l.laid;
-  spots : IsSpots l.log l.buffers.spots;
+  ready : AreReady l.view l.log l.guards l.buffers;
 }
