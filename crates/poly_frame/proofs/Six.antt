@@ -1,8 +1,10 @@
--- The first six entries of a list.
-use Rattle.std.proofs.Common.{Bool, List, [], ap, arith, false, get_or, length, not, refl, sym, true, take, drop, ℕ, ◌&&◌, ◌||◌, ◌∙◌, ◌∷◌, ◌≡◌, ◌≤◌}
-use Rattle.std.specs.List.{list_any}
+-- The first six entries of a list, and the row of an entry.
+use Rattle.std.proofs.Common.{ltb, ◌*◌, ◌+◌, ◌<◌, Bool, List, [], ap, arith, false, get_or, length, not, refl, sym, true, take, drop, ℕ, ◌&&◌, ◌||◌, ◌∙◌, ◌∷◌, ◌≡◌, ◌≤◌}
+use Rattle.std.specs.List.{list_all, list_any}
+use Rattle.std.proofs.Math.Nat.{mul-le-mul_left}
 use Rattle.std.proofs.lemmas.List.{take-append-drop}
 use Rattle.poly_tiling.proofs.Lists.{any_append}
+use Rattle.poly_frame.proofs.FrameItems.{low_at}
 
 or_last : (y : Bool) → (y || false) ≡ y
 or_last true = refl
@@ -32,3 +34,7 @@ pub any_parts : (f : ℕ → Bool) (xs : List ℕ) (n : ℕ) (old mid new : Bool
 any_parts f xs n old mid new e g =
     g ∙ ap (λ y. y && not (list_any f (drop n xs))) e ∙ and_both old (list_any f (take n xs)) (list_any f (drop n xs))
     ∙ ap (λ y. old && not y) (sym (any_append f (take n xs) (drop n xs))) ∙ ap (λ ys. old && not (list_any f ys)) (take-append-drop n xs)
+
+-- the row of an index that is low enough is within the rows
+pub row_within : (w items : ℕ) (rows xs : List ℕ) (k : ℕ) → length rows ≡ w * items → list_all (λ b. ltb b items) xs ≡ true → k < length xs → w * (get_or xs k 0 + 1) ≤ length rows
+row_within w items rows xs k e low h = omega (arith, e, mul-le-mul_left {m = get_or xs k 0 + 1} {n = items} w (omega (arith, low_at items xs k low h)))

@@ -18,6 +18,19 @@ use Rattle.poly_frame.specs.declared.frame.table.Table.{Table}
 use Rattle.poly_frame.proofs.Alive.{alive_more}
 use Rattle.poly_frame.proofs.Layers.{pile_more}
 
+-- the steps are right for a node that was made of these parts
+pub kept_at : (v w : View) (A B : List Atom) (first f : ℕ) (m n : Matrix) (t u : Table) (s : Steps) → w ≡ v → B ≡ A → f ≡ first → n ≡ m → u ≡ t → StepsKeep v A first m t s → StepsKeep w B f n u s
+kept_at v w A B first f m n t u s ev eA ef em et K =
+    subst (λ x. StepsKeep w B f n x s) (sym et)
+    (subst (λ x. StepsKeep w B f x t s) (sym em)
+    (subst (λ x. StepsKeep w B x m t s) (sym ef)
+    (subst (λ x. StepsKeep w x first m t s) (sym eA)
+    (subst (λ x. StepsKeep x A first m t s) (sym ev) K))))
+
+-- what says something of a view, a trail and the number of given atoms holds for a node that was made of these
+pub shown_at : (P : View → List Atom → ℕ → Type 0) (v w : View) (A B : List Atom) (given g : ℕ) → w ≡ v → B ≡ A → g ≡ given → P v A given → P w B g
+shown_at P v w A B given g ev eA eg p = subst (λ x. P w B x) (sym eg) (subst (λ x. P w x given) (sym eA) (subst (λ x. P x A given) (sym ev) p))
+
 -- what the step leaves at the node
 pub record Stepped (v : View) (A : List Atom) (given first : ℕ) (m : Matrix) (t : Table) (a : Atom) (members sizes : List ℕ) (consistent : ℕ) (s : Steps) : Type 0 where
   pub kept : StepsKeep v (A ++ a ∷ []) first m t s

@@ -394,6 +394,13 @@ filled n k x xs ys e z f =
     none zero = refl
     none (suc n) = refl
 
+-- a list of which the first entries were written is as long as before, and has the entries that were written
+pub written_len : (new old : List ℕ) (n : ℕ) → n ≡ length old → length (take n (new ++ drop (length new) old)) ≡ length old
+written_len new old n e = length-take-le n (new ++ drop (length new) old) (omega (arith, e, length-append new (drop (length new) old), length-drop (length new) old)) ∙ e
+
+pub written_at : (new tail : List ℕ) (n b : ℕ) → b < n → b < length new → get_or (take n (new ++ tail)) b 0 ≡ get_or new b 0
+written_at new tail n b h l = get_or-take n (new ++ tail) b 0 h ∙ get_or_append_left new tail 0 b l
+
 -- part of a list is replaced by as many other words
 module _ (old new post tail : List ℕ) (n at w : ℕ) (size : length old ≡ n) (fits : at + w ≤ n) (same : length new ≡ w) where
   abbrev pub replaced : List ℕ

@@ -1,7 +1,7 @@
 //! A node of a search, kept as bits: rows of words with a bit for each column of a matrix. A step copies the last row and
 //! removes from the copy what the step closes. It doesn't search for the placements to close, and it allocates nothing. These
 //! bits replace the linked lists of Knuth's dancing links (The Art of Computer Programming, volume 4B, section 7.2.2.1).
-ghost use Rattle.std.specs.Prelude.{IfErr, IfOk, IfSome, MatchOption, [], drop, false, length, not, true, ℕ, ◌&&◌, ◌++◌, ◌+◌, ◌-◌, ◌<◌, ◌∷◌, ◌≡◌, ◌≤◌};
+ghost use Rattle.std.specs.Prelude.{IfErr, IfOk, IfSome, MatchOption, [], drop, false, length, not, true, vec_capacity, ℕ, ◌&&◌, ◌++◌, ◌+◌, ◌-◌, ◌<◌, ◌∷◌, ◌≡◌, ◌≤◌};
 ghost use Rattle.std.specs.List.{list_all};
 ghost use Rattle.poly_tiling.specs.Lists.{distinct, mem, tally};
 ghost use Rattle.poly_tiling.specs.Names.{WellNamed};
@@ -11,6 +11,9 @@ ghost use Rattle.poly_atom.specs.Hopeless.{base};
 ghost use Rattle.poly_frame.specs.Alive.{AliveShows};
 ghost use Rattle.poly_frame.specs.Open.{arms_fit, dead, least_with_base, ruled_out};
 ghost use Rattle.poly_frame.specs.FrameConsistent.{is_consistent};
+ghost use Rattle.poly_frame.specs.Frames.{IsKept};
+ghost use Rattle.poly_frame.specs.FrameConsistent.{ConsistentShows};
+ghost use Rattle.poly_frame.specs.FrameSteps.{HasRoom, StepsKeep};
 ghost use Rattle.poly_frame.specs.FrameTable.{HasOpen};
 ghost use Rattle.poly_frame.specs.Matrices.{IsMatrix, IsWhole, matrix_of};
 ghost use Rattle.poly_frame.specs.Walk.{backtrack_to, is_due, is_open, is_option, step_back, with_step};
@@ -42,11 +45,12 @@ use crate::frame::ahead::{Attempt, Guesses};
 use crate::frame::alive::{alive_of, is_dead};
 use crate::frame::layers::{Layer, exchange, narrow_layer, widen};
 use crate::frame::levels::{Levels, Spare, levels_of};
-use crate::frame::lists::{Lists, lists_of};
+use crate::frame::lists::Lists;
 use crate::frame::matrix::Columns;
 pub use crate::frame::matrix::Matrix;
 use crate::frame::node::Stand;
 pub use crate::frame::room::Room;
+use crate::frame::room::prepare;
 use crate::frame::starved::is_starved;
 use crate::frame::steps::Steps;
 use crate::plain;
@@ -109,10 +113,12 @@ impl<'a> Frame<'a> {
         ensures once { distinct view.now.live ≡ true }
     {
         let whole = Matrix::new(alloc, view)?;
+        let Ok(alive) = alive_of(alloc, view, atoms) else {
+            drop(whole);
+            return Err(Refusal::Memory);
+        };
         let room = Room::new(alloc);
-        let alive = alive_of(alloc, view, atoms)?;
-        let frame = Frame::begin(alloc, view, Columns::Own(whole), None, atoms, alive, room)?;
-        Ok(frame)
+        Frame::begin(alloc, view, Columns::Own(whole), None, atoms, alive, room)
     }
 
     /// A frame of the view with these atoms and no step. Requires that `whole` is the view's matrix, from [`Matrix::new`].
@@ -130,10 +136,9 @@ impl<'a> Frame<'a> {
         ensures well { WellNamed view.now }
         ensures once { distinct view.now.live ≡ true }
     {
-        let room = Room::new(alloc);
         let alive = alive_of(alloc, view, atoms)?;
-        let frame = Frame::begin(alloc, view, Columns::Lent(whole), None, atoms, alive, room)?;
-        Ok(frame)
+        let room = Room::new(alloc);
+        Frame::begin(alloc, view, Columns::Lent(whole), None, atoms, alive, room)
     }
 
     /// Does what [`Frame::over`] does, but begins with `part`, which takes less time the fewer columns `part` has. Requires that
@@ -156,7 +161,7 @@ impl<'a> Frame<'a> {
         ensures once { distinct view.now.live ≡ true }
     {
         let alive = Vec::new(alloc);
-        let frame = Frame::begin(
+        Frame::begin(
             alloc,
             view,
             Columns::Lent(part),
@@ -164,8 +169,7 @@ impl<'a> Frame<'a> {
             atoms,
             alive,
             room,
-        )?;
-        Ok(frame)
+        )
     }
 
     /// The matrix that the frame made for itself and reads at this node, `None` if it reads a matrix that was lent to it; and
@@ -200,7 +204,6 @@ impl<'a> Frame<'a> {
 
     /// Reads a smaller matrix from here on, until this node is left, if that seems to pay. Call this only where the search is
     /// about to take placements. It changes nothing but the time that the frame takes. Fails only when out of memory.
-    #[tactic(auto, using(crate::proofs::Layers::pile_focus))]
     pub fn focus(&mut self, alloc: Global) -> Result<(), Refusal>
         ensures same { self.new ≡ self.old }
         ensures why { IfErr result (λ e. e ≡ Refusal.Memory) }
@@ -242,9 +245,36 @@ impl<'a> Frame<'a> {
         ensures well { WellNamed view.now }
         ensures once { distinct view.now.live ≡ true }
     {
+        let mut room = room;
+        let Ok(counted) = prepare(alloc, view, part.matrix(), whole, atoms, &mut room) else {
+            drop(part);
+            drop(room);
+            return Err(Refusal::Memory);
+        };
         let Room { lists, spare } = room;
-        let lists = lists_of(view, atoms, lists)?;
-        let levels = levels_of(alloc, view, part, whole, atoms, &lists.members, spare)?;
+        let levels = levels_of(alloc, view, part, atoms, counted, spare)?;
+        Ok(Frame::of(alloc, view, atoms, alive, lists, levels))
+    }
+
+    // The frame at the atoms that has these lists and levels.
+    fn of(
+        alloc: Global,
+        view: &'a View,
+        atoms: &[Atom],
+        alive: Vec<u64>,
+        lists: Lists,
+        levels: Levels<'a>,
+    ) -> Frame<'a>
+        requires kept { IsKept view.now lists.trail (length atoms.now) lists.members lists.options }
+        requires trail { lists.trail.items ≡ atoms.now }
+        requires sizes { lists.sizes.items ≡ [] }
+        requires changes { STEPS ≤ vec_capacity lists.sizes }
+        requires consistent { ConsistentShows view.now atoms.now (length atoms.now) levels.consistent }
+        requires steps { StepsKeep view.now atoms.now (length atoms.now) (matrix_of levels.columns) levels.table levels.steps }
+        requires room { HasRoom (matrix_of levels.columns) levels.steps }
+        requires alive { AliveShows view.now atoms.now (length atoms.now) alive.items }
+        ensures { result ≡ record { scene = view.now; atoms = atoms.now; given = length atoms.now } }
+    {
         let Lists {
             trail,
             members,
@@ -265,7 +295,7 @@ impl<'a> Frame<'a> {
             table,
             alive,
         };
-        Ok(Frame {
+        Frame {
             stand,
             trail,
             members,
@@ -276,7 +306,7 @@ impl<'a> Frame<'a> {
             guesses: Guesses::none(),
             under: Vec::new(alloc),
             spare: Vec::new(alloc),
-        })
+        }
     }
 
     /// How many atoms are on the trail.
@@ -301,7 +331,6 @@ impl<'a> Frame<'a> {
     }
 
     /// Takes the placement: adds the atom `Has(placement)`. Requires that the frame has fewer than [`STEPS`] steps.
-    #[tactic(auto, using(crate::proofs::Layers::pile_more, crate::proofs::Layers::pile_low))]
     pub fn pick(&mut self, placement: u32)
         requires { length self.old.atoms < self.old.given + STEPS }
         ensures { self.new ≡ with_step self.old (Atom.Has placement) }
@@ -322,7 +351,6 @@ impl<'a> Frame<'a> {
     }
 
     /// Leaves the placement out: adds the atom `Lacks(placement)`. Requires that the frame has fewer than [`STEPS`] steps.
-    #[tactic(auto, using(crate::proofs::Layers::pile_more, crate::proofs::Layers::pile_low))]
     pub fn leave(&mut self, placement: u32)
         requires { length self.old.atoms < self.old.given + STEPS }
         ensures { self.new ≡ with_step self.old (Atom.Lacks placement) }
@@ -343,7 +371,6 @@ impl<'a> Frame<'a> {
     }
 
     /// Undoes the last step. Requires that there is one.
-    #[tactic(auto, using(crate::proofs::Layers::pile_less))]
     pub fn back(&mut self)
         requires { self.old.given < length self.old.atoms }
         ensures { self.new ≡ step_back self.old }

@@ -181,6 +181,5 @@ fn steps_here(node: &Node<'_>, from: &Steps, spare: Steps) -> Result<Steps, Refu
     let row = first_row(node.matrix.numbers.len(), node.matrix.width, live)?;
     let have = copied(&from.have, have)?;
     let due = copied(&from.due, due)?;
-    let steps = start(node, row, have, due, raised, marks)?;
-    Ok(steps)
+    start(node, row, have, due, raised, marks)
 }

@@ -1,9 +1,8 @@
 //! What a frame keeps besides its lists: how many of its first levels are consistent, the matrix that it reads, the table,
 //! and the bits and counts that its steps change.
-ghost use Rattle.std.specs.Prelude.{IfErr, IfOk, IfSome, length, vec_capacity, ◌*◌, ◌<◌, ◌^◌, ◌≡◌, ◌≤◌};
+ghost use Rattle.std.specs.Prelude.{IfErr, IfOk, IfSome, length, ◌<◌, ◌^◌, ◌≡◌};
 ghost use Rattle.poly_atom.specs.Hopeless.{base};
-ghost use Rattle.poly_frame.specs.declared.frame.TheConstants.{STEPS};
-ghost use Rattle.poly_frame.specs.declared.frame.items.TheConstants.{PLACEMENT_ITEMS};
+ghost use Rattle.poly_frame.specs.declared.frame.matrix.Matrix.{Matrix as MatrixOf};
 ghost use Rattle.poly_frame.specs.FrameConsistent.{ConsistentShows};
 ghost use Rattle.poly_frame.specs.FrameSteps.{HasRoom, StepsKeep};
 ghost use Rattle.poly_frame.specs.FrameTable.{HasOpen, HaveShows, LeastsShow, MostsShow, TableShows};
@@ -37,17 +36,17 @@ pub(crate) struct Levels<'a> {
     pub(crate) steps: Steps,
 }
 
-// What is counted before the columns are chosen.
+/// What is counted before the columns are chosen.
 #[derive(Drop)]
-struct Counted {
+pub(crate) struct Counted {
     /// 1 if the base is known to be consistent, otherwise 0.
-    consistent: usize,
+    pub(crate) consistent: usize,
     /// How many members of the base have each item.
-    have: Vec<u64>,
-    /// A list with room for the indices of the items whose counts the steps raise. Its content means nothing yet.
-    raised: Vec<usize>,
-    /// How many members may have each item, and how many are asked for.
-    wanted: Wanted,
+    pub(crate) have: Vec<u64>,
+    /// What stays the same while the frame moves.
+    pub(crate) table: Table,
+    /// A bit for each item, set if too few members of the base have it.
+    pub(crate) due: Vec<u64>,
 }
 
 /// The memory of what a frame kept besides its lists.
@@ -91,23 +90,134 @@ impl Spare {
     }
 }
 
-/// The levels of a frame at the atoms; `members` is their base. `part` has a column for each placement that is open there.
-/// `whole` is a matrix that has columns for the members, too, or `None` if that is `part`; if a member has no column there, the
-/// base is not known to be consistent. Overwrites `spare`.
+/// What is counted at the atoms; `members` is their base. `part` has a column for each placement that is open there. `whole` is
+/// a matrix that has columns for the members, too, or `None` if that is `part`; if a member has no column there, the base is
+/// not known to be consistent. Makes `live` the row of the columns of `part` that are open at the atoms. Overwrites `raised`.
+pub(crate) fn counted_of(
+    alloc: Global,
+    view: &View,
+    part: &Matrix,
+    whole: Option<&Matrix>,
+    atoms: &[Atom],
+    members: &[u32],
+    live: &mut Vec<u64>,
+    raised: &mut Vec<usize>,
+) -> Result<Counted, Refusal>
+    requires part { IsMatrix view.now part.now }
+    requires whole { IfSome whole (λ m. IsMatrix view.now m.now) }
+    requires base { members.now ≡ base view.now atoms.now }
+    requires few { length members.now < 2 ^ 63 }
+    ensures len { IfOk result (λ _. length live.new.items ≡ part.now.width) }
+    ensures row { IfOk result (λ _. RowOf (λ p. open_in view.now atoms.now p) part.now live.new.items) }
+    ensures consistent { IfOk result (λ r. ConsistentShows view.now atoms.now (length atoms.now) r.consistent) }
+    ensures have_len { IfOk result (λ r. length r.have.items ≡ length view.now.bounds) }
+    ensures have { IfOk result (λ r. HaveShows view.now (base view.now atoms.now) r.have.items) }
+    ensures table { IfOk result (λ r. (m : MatrixOf) → IsMatrix view.now m → HasOpen view.now atoms.now m → TableShows view.now atoms.now m r.table) }
+    ensures why { IfErr result (λ e. e ≡ Refusal.Memory) }
+{
+    let have = counts_in(alloc, view, members, &part.cells, raised)?;
+    let wanted = wanted_of(alloc, view, atoms, &part.cells)?;
+    let consistent = opened(view, part, whole, atoms, members, &wanted, &have, live)?;
+    let counted = with_table(alloc, view, atoms, consistent, have, wanted)?;
+    Ok(counted)
+}
+
+// Makes `live` the row of the columns of `part` that are open at the atoms, and returns 1 if the base is known to be
+// consistent, otherwise 0.
+fn opened(
+    view: &View,
+    part: &Matrix,
+    whole: Option<&Matrix>,
+    atoms: &[Atom],
+    members: &[u32],
+    wanted: &Wanted,
+    have: &[u64],
+    live: &mut Vec<u64>,
+) -> Result<usize, Refusal>
+    requires part { IsMatrix view.now part.now }
+    requires whole { IfSome whole (λ m. IsMatrix view.now m.now) }
+    requires base { members.now ≡ base view.now atoms.now }
+    requires have_len { length have.now ≡ length view.now.bounds }
+    requires have { HaveShows view.now members.now have.now }
+    requires mosts_len { length wanted.now.mosts.items ≡ length view.now.bounds }
+    requires mosts { MostsShow view.now atoms.now wanted.now.mosts.items }
+    ensures len { IfOk result (λ _. length live.new.items ≡ part.now.width) }
+    ensures row { IfOk result (λ _. RowOf (λ p. open_in view.now atoms.now p) part.now live.new.items) }
+    ensures consistent { IfOk result (λ n. ConsistentShows view.now atoms.now (length atoms.now) n) }
+    ensures why { IfErr result (λ e. e ≡ Refusal.Memory) }
+{
+    let mosts = &wanted.mosts[..];
+    open_row(view, part, atoms, members, mosts, have, live)?;
+    let whole = whole.unwrap_or(part);
+    let consistent = consistent::begin(view, whole, atoms, members, mosts, have);
+    Ok(consistent)
+}
+
+// What is counted, with the table and the notes of the due items.
+fn with_table(
+    alloc: Global,
+    view: &View,
+    atoms: &[Atom],
+    consistent: usize,
+    have: Vec<u64>,
+    wanted: Wanted,
+) -> Result<Counted, Refusal>
+    requires few { length (base view.now atoms.now) < 2 ^ 63 }
+    requires mosts_len { length wanted.mosts.items ≡ length view.now.bounds }
+    requires mosts { MostsShow view.now atoms.now wanted.mosts.items }
+    requires leasts_len { length wanted.leasts.items ≡ length view.now.bounds }
+    requires leasts { LeastsShow view.now atoms.now wanted.leasts.items }
+    ensures consistent { IfOk result (λ r. r.consistent ≡ consistent) }
+    ensures have { IfOk result (λ r. r.have.items ≡ have.items) }
+    ensures table { IfOk result (λ r. (m : MatrixOf) → IsMatrix view.now m → HasOpen view.now atoms.now m → TableShows view.now atoms.now m r.table) }
+    ensures why { IfErr result (λ e. e ≡ Refusal.Memory) }
+{
+    let table = table_of(alloc, view, atoms, wanted)?;
+    let due = notes_of(alloc, &table.leasts, &have)?;
+    Ok(Counted {
+        consistent,
+        have,
+        table,
+        due,
+    })
+}
+
+// How many of the members have each item. Overwrites `raised`.
+fn counts_in(
+    alloc: Global,
+    view: &View,
+    members: &[u32],
+    cells: &[usize],
+    raised: &mut Vec<usize>,
+) -> Result<Vec<u64>, Refusal>
+    requires few { length members.now < 2 ^ 63 }
+    ensures len { IfOk result (λ h. length h.items ≡ length view.now.bounds) }
+    ensures value { IfOk result (λ h. HaveShows view.now members.now h.items) }
+    ensures why { IfErr result (λ e. e ≡ Refusal.Memory) }
+{
+    raised.clear();
+    raised.reserve(STEPS * PLACEMENT_ITEMS)?;
+    counts_of(alloc, view, members, cells, raised)
+}
+
+/// The levels of a frame at the atoms, from what `counted_of` says of `part`, a matrix that has a column for each placement that
+/// is open there, and the row that it made of `spare.live`. Overwrites the rest of `spare`.
 pub(crate) fn levels_of<'a>(
     alloc: Global,
     view: &View,
     part: Columns<'a>,
-    whole: Option<&Matrix>,
     atoms: &[Atom],
-    members: &[u32],
+    counted: Counted,
     spare: Spare,
 ) -> Result<Levels<'a>, Refusal>
     requires part { IsMatrix view.now (matrix_of part) }
-    requires whole { IfSome whole (λ m. IsMatrix view.now m.now) }
     requires all { HasOpen view.now atoms.now (matrix_of part) }
-    requires base { members.now ≡ base view.now atoms.now }
-    requires few { length members.now < 2 ^ 63 }
+    requires len { length spare.live.items ≡ (matrix_of part).width }
+    requires row { RowOf (λ p. open_in view.now atoms.now p) (matrix_of part) spare.live.items }
+    requires consistent { ConsistentShows view.now atoms.now (length atoms.now) counted.consistent }
+    requires have_len { length counted.have.items ≡ length view.now.bounds }
+    requires have { HaveShows view.now (base view.now atoms.now) counted.have.items }
+    requires table { (m : MatrixOf) → IsMatrix view.now m → HasOpen view.now atoms.now m → TableShows view.now atoms.now m counted.table }
     ensures consistent { IfOk result (λ l. ConsistentShows view.now atoms.now (length atoms.now) l.consistent) }
     ensures steps { IfOk result (λ l. StepsKeep view.now atoms.now (length atoms.now) (matrix_of l.columns) l.table l.steps) }
     ensures room { IfOk result (λ l. HasRoom (matrix_of l.columns) l.steps) }
@@ -119,86 +229,86 @@ pub(crate) fn levels_of<'a>(
         marks,
         matrix,
     } = spare;
-    let (row, counted) = counted_row(
-        alloc,
-        view,
-        part.matrix(),
-        whole,
-        atoms,
-        members,
-        live,
-        raised,
-    )?;
-    let (columns, row) = columns_of(alloc, view, part, row, matrix)?;
+    let (columns, row) = columns_of(alloc, view, part, live, matrix)?;
     let Counted {
         consistent,
         have,
-        raised,
-        wanted,
+        table,
+        due,
     } = counted;
-    let table = table_of(alloc, view, columns.matrix(), atoms, wanted)?;
+    let steps = first_steps(
+        view,
+        atoms,
+        columns.matrix(),
+        &table,
+        row,
+        have,
+        due,
+        raised,
+        marks,
+    );
+    with_steps(view, atoms, consistent, columns, table, steps)
+}
+
+// The steps at the atoms, which are none yet.
+fn first_steps(
+    view: &View,
+    atoms: &[Atom],
+    matrix: &Matrix,
+    table: &Table,
+    row: Vec<u64>,
+    have: Vec<u64>,
+    due: Vec<u64>,
+    raised: Vec<usize>,
+    marks: Vec<Mark>,
+) -> Result<Steps, Refusal>
+    requires table { TableShows view.now atoms.now matrix.now table.now }
+    requires row_len { length row.items ≡ matrix.now.width }
+    requires row { RowOf (λ p. open_in view.now atoms.now p) matrix.now row.items }
+    requires have { HaveShows view.now (base view.now atoms.now) have.items }
+    requires len { length have.items ≡ length view.now.bounds }
+    ensures kept { IfOk result (λ s. StepsKeep view.now atoms.now (length atoms.now) matrix.now table.now s) }
+    ensures room { IfOk result (λ s. HasRoom matrix.now s) }
+    ensures why { IfErr result (λ e. e ≡ Refusal.Memory) }
+{
     let node = Node {
         view,
         trail: atoms,
         given: atoms.len(),
         base: atoms.len(),
-        matrix: columns.matrix(),
-        table: &table,
+        matrix,
+        table,
         alive: &[],
     };
-    let due = notes_of(alloc, &table.leasts, &have)?;
-    let steps = start(&node, row, have, due, raised, marks)?;
+    start(&node, row, have, due, raised, marks)
+}
+
+// The levels with these steps, if there are steps.
+fn with_steps<'a>(
+    view: &View,
+    atoms: &[Atom],
+    consistent: usize,
+    columns: Columns<'a>,
+    table: Table,
+    steps: Result<Steps, Refusal>,
+) -> Result<Levels<'a>, Refusal>
+    requires consistent { ConsistentShows view.now atoms.now (length atoms.now) consistent }
+    requires kept { IfOk steps (λ s. StepsKeep view.now atoms.now (length atoms.now) (matrix_of columns) table s) }
+    requires room { IfOk steps (λ s. HasRoom (matrix_of columns) s) }
+    ensures consistent { IfOk result (λ l. ConsistentShows view.now atoms.now (length atoms.now) l.consistent) }
+    ensures steps { IfOk result (λ l. StepsKeep view.now atoms.now (length atoms.now) (matrix_of l.columns) l.table l.steps) }
+    ensures room { IfOk result (λ l. HasRoom (matrix_of l.columns) l.steps) }
+    ensures why { IfErr result (λ e. e ≡ Refusal.Memory) }
+{
+    let Ok(steps) = steps else {
+        drop(columns);
+        drop(table);
+        return Err(Refusal::Memory);
+    };
     Ok(Levels {
         consistent,
         columns,
         table,
         steps,
     })
-}
-
-// The row of the columns that are open at the atoms, and what is counted before the columns are chosen. Overwrites `live` and
-// `raised`.
-fn counted_row(
-    alloc: Global,
-    view: &View,
-    part: &Matrix,
-    whole: Option<&Matrix>,
-    atoms: &[Atom],
-    members: &[u32],
-    live: Vec<u64>,
-    raised: Vec<usize>,
-) -> Result<(Vec<u64>, Counted), Refusal>
-    requires part { IsMatrix view.now part.now }
-    requires whole { IfSome whole (λ m. IsMatrix view.now m.now) }
-    requires base { members.now ≡ base view.now atoms.now }
-    requires few { length members.now < 2 ^ 63 }
-    ensures len { IfOk result (λ r. length r.0.items ≡ part.now.width) }
-    ensures row { IfOk result (λ r. RowOf (λ p. open_in view.now atoms.now p) part.now r.0.items) }
-    ensures consistent { IfOk result (λ r. ConsistentShows view.now atoms.now (length atoms.now) r.1.consistent) }
-    ensures have_len { IfOk result (λ r. length r.1.have.items ≡ length view.now.bounds) }
-    ensures have { IfOk result (λ r. HaveShows view.now members.now r.1.have.items) }
-    ensures raised { IfOk result (λ r. STEPS * PLACEMENT_ITEMS ≤ vec_capacity r.1.raised) }
-    ensures mosts_len { IfOk result (λ r. length r.1.wanted.mosts.items ≡ length view.now.bounds) }
-    ensures mosts { IfOk result (λ r. MostsShow view.now atoms.now r.1.wanted.mosts.items) }
-    ensures leasts_len { IfOk result (λ r. length r.1.wanted.leasts.items ≡ length view.now.bounds) }
-    ensures leasts { IfOk result (λ r. LeastsShow view.now atoms.now r.1.wanted.leasts.items) }
-    ensures why { IfErr result (λ e. e ≡ Refusal.Memory) }
-{
-    let mut raised = raised;
-    raised.clear();
-    raised.reserve(STEPS * PLACEMENT_ITEMS)?;
-    let have = counts_of(alloc, view, members, &part.cells, &mut raised)?;
-    let wanted = wanted_of(alloc, view, atoms, &part.cells)?;
-    let row = open_row(view, part, atoms, members, &wanted.mosts, &have, live)?;
-    let whole = whole.unwrap_or(part);
-    let consistent = consistent::begin(view, whole, atoms, members, &wanted.mosts, &have);
-    Ok((
-        row,
-        Counted {
-            consistent,
-            have,
-            raised,
-            wanted,
-        },
-    ))
 }

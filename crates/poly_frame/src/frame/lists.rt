@@ -1,5 +1,6 @@
 //! The lists of a frame, with room for all of its steps.
-ghost use Rattle.std.specs.Prelude.{IfErr, IfOk, [], length, vec_capacity, ◌≡◌, ◌≤◌};
+ghost use Rattle.std.specs.Prelude.{IfErr, IfOk, [], length, vec_capacity, ◌+◌, ◌≡◌, ◌≤◌};
+ghost use Rattle.poly_atom.specs.Hopeless.{base};
 ghost use Rattle.poly_frame.specs.Frames.{IsKept};
 
 use crate::frame::STEPS;
@@ -32,35 +33,43 @@ pub(crate) fn no_lists(alloc: Global) -> Lists {
     }
 }
 
-/// The lists of a frame at the atoms, without steps. Overwrites `spare`.
-pub(crate) fn lists_of(view: &View, atoms: &[Atom], spare: Lists) -> Result<Lists, Refusal>
-    ensures kept { IfOk result (λ l. IsKept view.now l.trail (length atoms.now) l.members l.options) }
-    ensures trail { IfOk result (λ l. l.trail.items ≡ atoms.now) }
-    ensures sizes { IfOk result (λ l. l.sizes.items ≡ []) }
-    ensures changes { IfOk result (λ l. STEPS ≤ vec_capacity l.sizes) }
+/// Makes the lists those of a frame at the atoms, without steps.
+pub(crate) fn begin_lists(view: &View, atoms: &[Atom], lists: &mut Lists) -> Result<(), Refusal>
+    ensures kept { IfOk result (λ _. IsKept view.now lists.new.trail (length atoms.now) lists.new.members lists.new.options) }
+    ensures trail { IfOk result (λ _. lists.new.trail.items ≡ atoms.now) }
+    ensures sizes { IfOk result (λ _. lists.new.sizes.items ≡ []) }
+    ensures changes { IfOk result (λ _. STEPS ≤ vec_capacity lists.new.sizes) }
     ensures why { IfErr result (λ e. e ≡ Refusal.Memory) }
 {
-    let given = atoms.len();
-    let Lists {
-        mut trail,
-        mut members,
-        mut sizes,
-        mut options,
-    } = spare;
+    begin_trail(atoms, &mut lists.trail)?;
+    begin_members(view, atoms, &mut lists.members)?;
+    lists.sizes.clear();
+    lists.sizes.reserve(STEPS)?;
+    lists.options.clear();
+    lists.options.reserve(view.live().len())?;
+    Ok(())
+}
+
+// Makes the trail the atoms, with room for all steps.
+fn begin_trail(atoms: &[Atom], trail: &mut Vec<Atom>) -> Result<(), Refusal>
+    ensures items { IfOk result (λ _. trail.new.items ≡ atoms.now) }
+    ensures room { IfOk result (λ _. length atoms.now + STEPS ≤ vec_capacity trail.new) }
+    ensures why { IfErr result (λ e. e ≡ Refusal.Memory) }
+{
     trail.clear();
-    trail.reserve(given.saturating_add(STEPS))?;
+    trail.reserve(atoms.len().saturating_add(STEPS))?;
     trail.extend_from_slice(atoms)?;
+    Ok(())
+}
+
+// Makes the list the base of the atoms, with room for all steps.
+fn begin_members(view: &View, atoms: &[Atom], members: &mut Vec<u32>) -> Result<(), Refusal>
+    ensures base { IfOk result (λ _. members.new.items ≡ base view.now atoms.now) }
+    ensures room { IfOk result (λ _. length view.now.pins + (length atoms.now + STEPS) ≤ vec_capacity members.new) }
+    ensures why { IfErr result (λ e. e ≡ Refusal.Memory) }
+{
     members.clear();
-    members.reserve(view.pins().len() + given + STEPS)?;
-    plain::make_base(view, atoms, &mut members);
-    sizes.clear();
-    sizes.reserve(STEPS)?;
-    options.clear();
-    options.reserve(view.live().len())?;
-    Ok(Lists {
-        trail,
-        members,
-        sizes,
-        options,
-    })
+    members.reserve(view.pins().len() + atoms.len() + STEPS)?;
+    plain::make_base(view, atoms, members);
+    Ok(())
 }

@@ -1,7 +1,8 @@
 //! The exact cover matrix of a view: a row of bits for each item, a column for each placement (Knuth, The Art of Computer
 //! Programming, volume 4B, section 7.2.2.1). A frame reads this matrix, or a smaller one that has only the columns that are
 //! open at the given atoms of the frame.
-ghost use Rattle.std.specs.Prelude.{Bool, IfErr, IfOk, IfSome, List, MatchOption, false, length, nat_lt, replicate, slice_index, true, vec_capacity, ℕ, [], ◌&&◌, ◌++◌, ◌*◌, ◌+◌, ◌<◌, ◌==◌, ◌^◌, ◌||◌, ◌≡◌, ◌≤◌};
+ghost use Rattle.std.specs.Prelude.{Bool, IfErr, IfOk, IfSome, List, MatchOption, OnOk, false, length, nat_lt, replicate, slice_index, true, vec_capacity, ℕ, [], ◌&&◌, ◌++◌, ◌*◌, ◌+◌, ◌<◌, ◌==◌, ◌^◌, ◌||◌, ◌≡◌, ◌≤◌};
+ghost use Rattle.std.specs.Arc.{arc_value};
 ghost use Rattle.std.specs.List.{filter, list_all, list_any};
 ghost use Rattle.poly_tiling.specs.Lists.{distinct, mem};
 ghost use Rattle.poly_tiling.specs.Names.{WellNamed};
@@ -15,7 +16,6 @@ use crate::frame::opened::first_row;
 use poly_grid::Refusal;
 use poly_tiling::View;
 use std::alloc::Global;
-use std::mem;
 use std::sync::Arc;
 
 /// Lists of indices, kept one after another in one list.
@@ -154,24 +154,22 @@ impl Matrix {
         ensures well { WellNamed view.now }
         ensures once { distinct view.now.live ≡ true }
     {
-        let live = view.live();
-        let mut numbers = Vec::with_capacity(alloc, live.len())?;
-        numbers.extend_from_slice(live)?;
+        let numbers = Vec::from_slice(alloc, view.live())?;
         let cells = guess_cells(alloc, view.items())?;
-        let lists = list_items(alloc, view, &cells, &numbers)?;
+        let lists = shared_lists(alloc, view, &cells, &numbers)?;
         let homes = all_homes(alloc, numbers.len())?;
-        let shared = Arc::new(alloc, lists)?;
         let size = size_for(&numbers);
-        with_columns(
-            alloc,
-            view,
+        let begun = Matrix {
             numbers,
-            Some(shared),
+            stands: Vec::new(alloc),
+            lists: Some(lists),
             homes,
             cells,
-            size,
-            Matrix::none(alloc),
-        )
+            width: 0,
+            rows: Vec::new(alloc),
+            occupied: Vec::new(alloc),
+        };
+        with_columns(alloc, view, size, begun)
     }
 
     /// The indices of the items of the column.
@@ -264,70 +262,56 @@ pub(crate) fn narrowed(
     ensures numbers { IfOk result (λ m. (f : ℕ → Bool) → ((j : ℕ) → j < length whole.now.numbers.items → f (slice_index whole.now.numbers.items j) ≡ has_bit row.now j) → m.numbers.items ≡ filter f whole.now.numbers.items) }
     ensures why { IfErr result (λ e. e ≡ Refusal.Memory) }
 {
-    let mut spare = spare;
-    let mut numbers = mem::replace(&mut spare.numbers, Vec::new(alloc));
-    let mut homes = mem::replace(&mut spare.homes, Vec::new(alloc));
-    numbers.clear();
-    numbers.reserve(whole.numbers.len())?;
-    homes.clear();
-    homes.reserve(whole.numbers.len())?;
-    list_set(&whole.numbers, &whole.homes, row, &mut numbers, &mut homes);
-    let cells = guesses(
-        &whole.cells,
-        mem::replace(&mut spare.cells, Vec::new(alloc)),
+    let mut matrix = spare;
+    list_set(
+        &whole.numbers,
+        &whole.homes,
+        row,
+        &mut matrix.numbers,
+        &mut matrix.homes,
     )?;
-    let lists = share(&whole.lists)?;
+    copy_guesses(&whole.cells, &mut matrix.cells)?;
+    matrix.lists = share(&whole.lists)?;
     // `stands` has an entry for each number that has a column
     let size = whole.stands.len();
-    with_columns(alloc, view, numbers, lists, homes, cells, size, spare)
+    with_columns(alloc, view, size, matrix)
 }
 
-// The matrix with a column for each of the numbers, which are below `size`, from the lists of their items. Uses the memory of
-// `spare` again.
-fn with_columns(
-    alloc: Global,
-    view: &View,
-    numbers: Vec<u32>,
-    lists: Option<Arc<Lists>>,
-    homes: Vec<usize>,
-    cells: Vec<usize>,
-    size: usize,
-    spare: Matrix,
-) -> Result<Matrix, Refusal>
+// The matrix with a column for each number of `begun`, in the same order. The numbers are below `size`; `begun` has the lists of
+// their items, too. Its other lists are overwritten.
+fn with_columns(alloc: Global, view: &View, size: usize, begun: Matrix) -> Result<Matrix, Refusal>
     requires well { WellNamed view.now }
-    requires once { distinct numbers.items ≡ true }
-    requires above { (j : ℕ) → j < length numbers.items → slice_index numbers.items j < size }
-    requires fewer { length numbers.items ≤ length view.now.live }
-    requires live { (q : ℕ) → mem numbers.items q ≡ true → mem view.now.live q ≡ true }
-    requires lists { HomesShow view.now numbers.items homes.items lists }
-    ensures made { IfOk result (λ m. IsMatrix view.now m × (m.numbers.items ≡ numbers.items)) }
+    requires once { distinct begun.numbers.items ≡ true }
+    requires above { (j : ℕ) → j < length begun.numbers.items → slice_index begun.numbers.items j < size }
+    requires fewer { length begun.numbers.items ≤ length view.now.live }
+    requires live { (q : ℕ) → mem begun.numbers.items q ≡ true → mem view.now.live q ≡ true }
+    requires lists { HomesShow view.now begun.numbers.items begun.homes.items begun.lists }
+    ensures made { IfOk result (λ m. IsMatrix view.now m × (m.numbers.items ≡ begun.numbers.items)) }
     ensures why { IfErr result (λ e. e ≡ Refusal.Memory) }
 {
-    let width = width_for(numbers.len());
-    let rows = rows_of(view, &numbers, &lists, &homes, width, spare.rows)?;
-    let stands = stands_of(&numbers, size, spare.stands)?;
-    let occupied = occupied_rows(alloc, &rows, width, view.items().len())?;
-    Ok(Matrix {
-        numbers,
-        stands,
-        lists,
-        homes,
-        cells,
-        width,
-        rows,
-        occupied,
-    })
+    let mut matrix = begun;
+    matrix.width = width_for(matrix.numbers.len());
+    write_rows(
+        view,
+        &matrix.numbers,
+        &matrix.lists,
+        &matrix.homes,
+        matrix.width,
+        &mut matrix.rows,
+    )?;
+    write_stands(&matrix.numbers, size, &mut matrix.stands)?;
+    matrix.occupied = occupied_rows(alloc, &matrix.rows, matrix.width, view.items().len())?;
+    Ok(matrix)
 }
 
-// The guesses for the cells' indices: those in `spare`, which are of the same view, or else a copy.
-fn guesses(from: &[usize], spare: Vec<usize>) -> Result<Vec<usize>, Refusal>
+// Makes the list of guesses for the cells' indices a copy of the given one. If it isn't empty, it stays: it is of the same view.
+fn copy_guesses(from: &[usize], guesses: &mut Vec<usize>) -> Result<(), Refusal>
     ensures { IfErr result (λ e. e ≡ Refusal.Memory) }
 {
-    let mut all = spare;
-    if all.is_empty() {
-        all.extend_from_slice(from)?;
+    if guesses.is_empty() {
+        guesses.extend_from_slice(from)?;
     }
-    Ok(all)
+    Ok(())
 }
 
 // Lists the numbers and the homes of the columns that have a bit in word `k` of a row, if those of the words before are
@@ -364,25 +348,42 @@ fn list_word(
     }
 }
 
-// Lists the numbers and the homes of the columns that have a bit in a row.
+// Lists the numbers and the homes of the columns that have a bit in a row, in place of what the lists had.
 fn list_set(
     given: &[u32],
     given_homes: &[usize],
     row: &[u64],
     numbers: &mut Vec<u32>,
     homes: &mut Vec<usize>,
-)
+) -> Result<(), Refusal>
     requires homes { length given_homes.now ≡ length given.now }
     requires narrow { length row.now < 2 ^ 58 }
-    requires none { numbers.old.items ≡ [] }
-    requires no_homes { homes.old.items ≡ [] }
-    requires space { length given.now ≤ vec_capacity numbers.old }
-    requires room { length given.now ≤ vec_capacity homes.old }
-    ensures { ListedTo given.now given_homes.now row.now numbers.new.items homes.new.items (64 * length row.now) }
+    ensures listed { OnOk result (ListedTo given.now given_homes.now row.now numbers.new.items homes.new.items (64 * length row.now)) }
+    ensures why { IfErr result (λ e. e ≡ Refusal.Memory) }
 {
+    numbers.clear();
+    numbers.reserve(given.len())?;
+    homes.clear();
+    homes.reserve(given.len())?;
     for k in 0..row.len() {
         list_word(given, given_homes, row, k, numbers, homes);
     }
+    Ok(())
+}
+
+// The indices of the items of each number, read from the view, to be shared.
+fn shared_lists(
+    alloc: Global,
+    view: &View,
+    cells: &[usize],
+    numbers: &[u32],
+) -> Result<Arc<Lists>, Refusal>
+    ensures value { IfOk result (λ a. ListsShow view.now numbers.now (arc_value a)) }
+    ensures why { IfErr result (λ e. e ≡ Refusal.Memory) }
+{
+    let lists = list_items(alloc, view, cells, numbers)?;
+    let shared = Arc::new(alloc, lists)?;
+    Ok(shared)
 }
 
 // The indices of the items of each number, read from the view.
@@ -481,35 +482,34 @@ fn size_for(numbers: &[u32]) -> usize
     size
 }
 
-// The list, made as long as `size` if it is shorter.
-fn lengthened(list: Vec<u32>, size: usize) -> Result<Vec<u32>, Refusal>
-    ensures len { IfOk result (λ l. size ≤ length l.items) }
+// Makes the list as long as `size` if it is shorter.
+fn lengthen(list: &mut Vec<u32>, size: usize) -> Result<(), Refusal>
+    ensures len { OnOk result (size ≤ length list.new.items) }
     ensures why { IfErr result (λ e. e ≡ Refusal.Memory) }
 {
-    let mut list = list;
     if list.len() < size {
         list.resize(size, 0)?;
     }
-    Ok(list)
+    Ok(())
 }
 
-// The column of each number, in a list with at least `size` entries. Overwrites `spare`, whose other entries stay, since they
-// mean nothing. More columns than a u32 can count would be more than fit into memory.
-fn stands_of(numbers: &[u32], size: usize, spare: Vec<u32>) -> Result<Vec<u32>, Refusal>
+// Writes the column of each number to the entry of `stands` at the number, which is below `size`. The other entries stay, since
+// they mean nothing. More columns than a u32 can count would be more than fit into memory.
+fn write_stands(numbers: &[u32], size: usize, stands: &mut Vec<u32>) -> Result<(), Refusal>
     requires once { distinct numbers.now ≡ true }
     requires above { (j : ℕ) → j < length numbers.now → slice_index numbers.now j < size }
-    ensures value { IfOk result (λ s. StandsShow numbers.now s.items) }
+    ensures value { OnOk result (StandsShow numbers.now stands.new.items) }
     ensures why { IfErr result (λ e. e ≡ Refusal.Memory) }
 {
     let Ok(count) = u32::try_from(numbers.len()) else {
         return Err(Refusal::Memory);
     };
-    let mut stands = lengthened(spare, size)?;
+    lengthen(stands, size)?;
     for j in 0..count {
         let p = numbers[j as usize] as usize;
         stands[p] = j;
     }
-    Ok(stands)
+    Ok(())
 }
 
 // Puts the number j into the rows of these indices. Cuts off the words before the one that has the bit, so that the place of
@@ -538,37 +538,35 @@ fn put_bit(words: &mut [u64], width: usize, indices: &[usize], t: usize)
     }
 }
 
-// Rows of `width` words that have no bit set. Overwrites `spare`.
-fn empty_rows(width: usize, count: usize, spare: Vec<u64>) -> Result<Vec<u64>, Refusal>
-    ensures value { IfOk result (λ r. r.items ≡ replicate (width * count) 0) }
+// Makes the list rows of `width` words that have no bit set.
+fn clear_rows(width: usize, count: usize, rows: &mut Vec<u64>) -> Result<(), Refusal>
+    ensures value { OnOk result (rows.new.items ≡ replicate (width * count) 0) }
     ensures why { IfErr result (λ e. e ≡ Refusal.Memory) }
 {
     let Some(size) = width.checked_mul(count) else {
         return Err(Refusal::Memory);
     };
-    let mut rows = spare;
     rows.clear();
     rows.resize(size, 0)?;
-    Ok(rows)
+    Ok(())
 }
 
-// The row of each item, from the lists of the numbers' items. Overwrites `spare`.
-fn rows_of(
+// Writes the row of each item, from the lists of the numbers' items, in place of what `rows` had.
+fn write_rows(
     view: &View,
     numbers: &[u32],
     lists: &Option<Arc<Lists>>,
     homes: &[usize],
     width: usize,
-    spare: Vec<u64>,
-) -> Result<Vec<u64>, Refusal>
+    rows: &mut Vec<u64>,
+) -> Result<(), Refusal>
     requires wide { length numbers.now ≤ 64 * width }
     requires lists { HomesShow view.now numbers.now homes.now lists.now }
-    ensures len { IfOk result (λ r. length r.items ≡ width * length view.now.bounds) }
-    ensures value { IfOk result (λ r. RowsShow view.now numbers.now width r.items) }
+    ensures len { OnOk result (length rows.new.items ≡ width * length view.now.bounds) }
+    ensures value { OnOk result (RowsShow view.now numbers.now width rows.new.items) }
     ensures why { IfErr result (λ e. e ≡ Refusal.Memory) }
 {
-    let items = view.items().len();
-    let mut rows = empty_rows(width, items, spare)?;
+    clear_rows(width, view.items().len(), rows)?;
     if let Some(shared) = lists {
         fill(
             view,
@@ -577,10 +575,10 @@ fn rows_of(
             &shared.indices,
             homes,
             width,
-            &mut rows,
+            rows,
         );
     }
-    Ok(rows)
+    Ok(())
 }
 
 // Makes empty rows the row of each item.

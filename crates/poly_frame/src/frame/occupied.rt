@@ -1,5 +1,5 @@
 //! Which words of a row have bits set, so that counts can skip the others. This only saves time: the counts are the same.
-ghost use Rattle.std.specs.Prelude.{IfErr, length, ◌<◌, ◌≡◌, ◌≤◌};
+ghost use Rattle.std.specs.Prelude.{IfErr, length, vec_capacity, vec_len, ◌+◌, ◌<◌, ◌≡◌, ◌≤◌};
 
 use poly_grid::Refusal;
 use std::alloc::Global;
@@ -50,15 +50,22 @@ pub(crate) fn occupied_rows(
         return Ok(Vec::new(alloc));
     }
     let mut all = Vec::with_capacity(alloc, count)?;
+    list_occupied(rows, width, count, &mut all);
+    Ok(all)
+}
+
+// Appends the occupied words of each of `count` rows to a list that has room for them.
+fn list_occupied(rows: &[u64], width: usize, count: usize, into: &mut Vec<Occupied>)
+    requires { vec_len into.old + count ≤ vec_capacity into.old }
+{
     let mut at = 0usize;
     for _row in 0..count {
         if rows.len() - at < width {
-            return Ok(all);
+            return;
         }
-        all.push(occupied_words(&rows[at..at + width]))?;
+        into.push_reserved(occupied_words(&rows[at..at + width]));
         at += width;
     }
-    Ok(all)
 }
 
 /// Whether no bit of the words is set.

@@ -38,16 +38,15 @@ fn ones() -> u64
     !0
 }
 
-// A row of `width` words in which each bit is set. Overwrites `spare`.
-fn full_row(width: usize, spare: Vec<u64>) -> Result<Vec<u64>, Refusal>
-    ensures len { IfOk result (λ r. length r.items ≡ width) }
-    ensures bits { IfOk result (λ r. (j : ℕ) → j < 64 * width → has_bit r.items j ≡ true) }
+// Makes the row `width` words in which each bit is set.
+fn fill_row(width: usize, row: &mut Vec<u64>) -> Result<(), Refusal>
+    ensures len { IfOk result (λ _. length row.new.items ≡ width) }
+    ensures bits { IfOk result (λ _. (j : ℕ) → j < 64 * width → has_bit row.new.items j ≡ true) }
     ensures why { IfErr result (λ e. e ≡ Refusal.Memory) }
 {
-    let mut row = spare;
     row.clear();
     row.resize(width, ones())?;
-    Ok(row)
+    Ok(())
 }
 
 // Takes out all numbers from `n` on.
@@ -144,8 +143,8 @@ fn take_out_members(whole: &Matrix, members: &[u32], row: &mut Vec<u64>)
     }
 }
 
-/// A row with a bit for each number of the matrix that is open at the atoms. `members` is their base, `mosts` is how many
-/// members may have each item at most, and `have` how many have it. Overwrites `spare`.
+/// Makes the row one with a bit for each number of the matrix that is open at the atoms. `members` is their base, `mosts` is
+/// how many members may have each item at most, and `have` how many have it.
 pub(crate) fn open_row(
     view: &View,
     whole: &Matrix,
@@ -153,22 +152,22 @@ pub(crate) fn open_row(
     members: &[u32],
     mosts: &[u8],
     have: &[u64],
-    spare: Vec<u64>,
-) -> Result<Vec<u64>, Refusal>
+    row: &mut Vec<u64>,
+) -> Result<(), Refusal>
     requires part { IsMatrix view.now whole.now }
     requires base { members.now ≡ base view.now atoms.now }
     requires have_len { length have.now ≡ length view.now.bounds }
     requires have { HaveShows view.now members.now have.now }
     requires mosts_len { length mosts.now ≡ length view.now.bounds }
     requires mosts { MostsShow view.now atoms.now mosts.now }
-    ensures len { IfOk result (λ r. length r.items ≡ whole.now.width) }
-    ensures value { IfOk result (λ r. RowOf (λ p. open_in view.now atoms.now p) whole.now r.items) }
+    ensures len { IfOk result (λ _. length row.new.items ≡ whole.now.width) }
+    ensures value { IfOk result (λ _. RowOf (λ p. open_in view.now atoms.now p) whole.now row.new.items) }
     ensures why { IfErr result (λ e. e ≡ Refusal.Memory) }
 {
-    let mut row = full_row(whole.width, spare)?;
-    take_out_shut(view.items(), whole, mosts, have, &mut row);
-    take_out_lacked(whole, atoms, &mut row);
-    take_out_members(whole, members, &mut row);
-    cut_off(whole.numbers.len(), whole.width, &mut row);
-    Ok(row)
+    fill_row(whole.width, row)?;
+    take_out_shut(view.items(), whole, mosts, have, row);
+    take_out_lacked(whole, atoms, row);
+    take_out_members(whole, members, row);
+    cut_off(whole.numbers.len(), whole.width, row);
+    Ok(())
 }

@@ -128,8 +128,7 @@ pub(crate) fn narrowed_now(
     ensures why { IfErr result (λ e. e ≡ Refusal.Memory) }
 {
     let at = steps.live.len() - node.matrix.width;
-    let narrow = narrowed(alloc, node.view, node.matrix, &steps.live[at..], spare)?;
-    Ok(narrow)
+    narrowed(alloc, node.view, node.matrix, &steps.live[at..], spare)
 }
 
 /// Whether the number's placement is a placement of the design that is open.

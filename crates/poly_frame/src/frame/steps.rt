@@ -1,7 +1,7 @@
 //! What changes while a frame moves: a row of what is open at the given atoms, one more row for each placement that is taken,
 //! and how many members of the base have each item. Taking a placement copies the last row and removes from the copy what the
 //! step closes; leaving a placement out clears one bit of the last row. Undoing a step drops the row or sets the bit again.
-ghost use Rattle.std.specs.Prelude.{IfErr, IfOk, IfSome, List, MatchOption, false, length, nat_le, nat_lt, not, slice_index, true, vec_capacity, vec_len, ℕ, [], ◌&&◌, ◌*◌, ◌++◌, ◌+◌, ◌-◌, ◌<◌, ◌∷◌, ◌≡◌, ◌≤◌, take};
+ghost use Rattle.std.specs.Prelude.{IfErr, IfOk, IfSome, List, MatchOption, OnOk, false, length, nat_le, nat_lt, not, slice_index, true, vec_capacity, vec_len, ℕ, [], ◌&&◌, ◌*◌, ◌++◌, ◌+◌, ◌-◌, ◌/◌, ◌<◌, ◌==◌, ◌∷◌, ◌≡◌, ◌≤◌, take};
 ghost use Rattle.std.specs.List.{list_all, list_any};
 ghost use Rattle.poly_atom.specs.Hopeless.{base};
 ghost use Rattle.poly_frame.specs.Bits.{has_bit};
@@ -244,8 +244,18 @@ pub(crate) fn pick(node: &Node<'_>, members: &[u32], steps: &mut Steps, number: 
         &mut steps.live,
         at,
     );
+    close_column(&mut steps.live, at, column);
+}
+
+// Clears the bit of the column in the row at word `at`, if there is a column.
+fn close_column(live: &mut Vec<u64>, at: usize, column: Option<usize>)
+    requires { IfSome column (λ j. at + j / 64 < length live.old.items) }
+    ensures len { length live.new.items ≡ length live.old.items }
+    ensures capacity { vec_capacity live.new ≡ vec_capacity live.old }
+    ensures bits { MatchOption column (live.new.items ≡ live.old.items) (λ j. (x : ℕ) → has_bit live.new.items x ≡ (has_bit live.old.items x && not (64 * at + j == x))) }
+{
     if let Some(j) = column {
-        bits::take_out(&mut steps.live, at, j);
+        bits::take_out(live, at, j);
     }
 }
 
@@ -349,15 +359,23 @@ pub(crate) fn back(node: &Node<'_>, steps: &mut Steps)
     }
 }
 
-// The row, with room for one more row at each step.
-fn with_room(row: Vec<u64>, width: usize) -> Result<Vec<u64>, Refusal>
-    ensures items { IfOk result (λ r. r.items ≡ row.items) }
-    ensures room { IfOk result (λ r. width * (STEPS + 1) ≤ vec_capacity r) }
+// Empties the lists of the steps, and makes room for all steps that a frame can have. A row has `width` words.
+fn make_room(steps: &mut Steps, width: usize) -> Result<(), Refusal>
+    ensures live { steps.new.live.items ≡ steps.old.live.items }
+    ensures have { steps.new.have ≡ steps.old.have }
+    ensures raised { steps.new.raised.items ≡ [] }
+    ensures marks { steps.new.marks.items ≡ [] }
+    ensures room_live { OnOk result (width * (STEPS + 1) ≤ vec_capacity steps.new.live) }
+    ensures room_raised { OnOk result (STEPS * PLACEMENT_ITEMS ≤ vec_capacity steps.new.raised) }
+    ensures room_marks { OnOk result (STEPS ≤ vec_capacity steps.new.marks) }
     ensures why { IfErr result (λ e. e ≡ Refusal.Memory) }
 {
-    let mut rows = row;
-    rows.reserve(width.saturating_mul(STEPS + 1))?;
-    Ok(rows)
+    steps.raised.clear();
+    steps.marks.clear();
+    steps.live.reserve(width.saturating_mul(STEPS + 1))?;
+    steps.raised.reserve(STEPS * PLACEMENT_ITEMS)?;
+    steps.marks.reserve(STEPS)?;
+    Ok(())
 }
 
 /// The bits and counts of a layer that has no step yet. `row` is the row of what is open at the node's atoms, and `have`
@@ -380,18 +398,13 @@ pub(crate) fn start(
     ensures room { IfOk result (λ s. HasRoom node.now.matrix.now s) }
     ensures why { IfErr result (λ e. e ≡ Refusal.Memory) }
 {
-    let live = with_room(row, node.matrix.width)?;
-    let mut raised = raised;
-    raised.clear();
-    raised.reserve(STEPS * PLACEMENT_ITEMS)?;
-    let mut marks = marks;
-    marks.clear();
-    marks.reserve(STEPS)?;
-    Ok(Steps {
-        live,
+    let mut steps = Steps {
+        live: row,
         have,
         raised,
         marks,
         due,
-    })
+    };
+    make_room(&mut steps, node.matrix.width)?;
+    Ok(steps)
 }

@@ -5,9 +5,9 @@ ghost use Rattle.poly_tiling.specs.Puzzle.{same_item};
 ghost use Rattle.poly_atom.specs.Hopeless.{base};
 ghost use Rattle.poly_frame.specs.Plain.{of_asked};
 ghost use Rattle.poly_frame.specs.FrameItems.{item_at};
+ghost use Rattle.poly_frame.specs.declared.frame.matrix.Matrix.{Matrix as MatrixOf};
 
 use crate::frame::items::{note_items, raise};
-use crate::frame::matrix::Matrix;
 use crate::frame::wanted::Wanted;
 use poly_atom::Atom;
 use poly_grid::Refusal;
@@ -154,22 +154,19 @@ fn are_single(entries: &[u8]) -> bool
     greatest(entries) <= 1
 }
 
-/// The table of the atoms, for a matrix with a column for each placement that is open at them.
+/// The table of the atoms, for any matrix with a column for each placement that is open at them.
 pub(crate) fn table_of(
     alloc: Global,
     view: &View,
-    matrix: &Matrix,
     atoms: &[Atom],
     wanted: Wanted,
 ) -> Result<Table, Refusal>
-    requires part { IsMatrix view.now matrix.now }
-    requires all { HasOpen view.now atoms.now matrix.now }
     requires few { length (base view.now atoms.now) < 2 ^ 63 }
     requires mosts_len { length wanted.mosts.items ≡ length view.now.bounds }
     requires mosts { MostsShow view.now atoms.now wanted.mosts.items }
     requires leasts_len { length wanted.leasts.items ≡ length view.now.bounds }
     requires leasts { LeastsShow view.now atoms.now wanted.leasts.items }
-    ensures value { IfOk result (λ t. TableShows view.now atoms.now matrix.now t) }
+    ensures value { IfOk result (λ t. (m : MatrixOf) → IsMatrix view.now m → HasOpen view.now atoms.now m → TableShows view.now atoms.now m t) }
     ensures why { IfErr result (λ e. e ≡ Refusal.Memory) }
 {
     let bounds = view.items();

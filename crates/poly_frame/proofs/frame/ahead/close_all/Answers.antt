@@ -3,6 +3,8 @@ use Rattle.std.proofs.lemmas.List.Folds.{list_any_more}
 use Rattle.std.specs.List.{list_any}
 use Rattle.poly_frame.specs.Bits.{has_bit}
 use Rattle.poly_frame.specs.Matrices.{bit_index}
+use Rattle.std.proofs.lemmas.List.{take_all}
+use Rattle.poly_frame.proofs.Six.{row_within}
 use Rattle.poly_frame.proofs.frame.ahead.close_all.Goals as goal
 
 lacks_one : (o a b : Bool) → ((o && not a) && not b) ≡ (o && not (a || b))
@@ -15,6 +17,10 @@ lacks_three false a b c d = refl
 lacks_three true true b c d = refl
 lacks_three true false true c d = refl
 lacks_three true false false c d = refl
+
+and_all : (o : Bool) → o ≡ (o && true)
+and_all true = refl
+and_all false = refl
 
 any_three : (f : ℕ → Bool) (xs : List ℕ) (k : ℕ) → k + 3 ≤ length xs → list_any f (take (k + 3) xs) ≡ (((list_any f (take k xs) || f (get_or xs k 0)) || f (get_or xs (k + 1) 0)) || f (get_or xs (k + 2) 0))
 any_three f xs k h =
@@ -60,3 +66,42 @@ loop-k-preserved-then-indices-k-lt3 c =
           ∙ lacks_one (has_bit c.args.row.now x) (list_any f (take k xs)) (f (get_or xs k 0))
           ∙ ap (λ y. has_bit c.args.row.now x && not y) (sym (list_any_more f xs k 0 c.loop-k-test.true));
     }
+
+pub loop-k-init : goal.loop-k-init
+loop-k-init c = record {
+  inside = omega arith;
+  len = refl;
+  bits = λ x h. and_all (has_bit c.args.row.now x);
+}
+
+pub item_row-requires : goal.item_row-requires
+item_row-requires c = row_within (length c.args.row.now) c.args.items c.args.rows.now c.args.indices.now c.loop-k.k c.requires.rows c.requires.low c.loop-k-test.true
+
+pub item_row-requires-else-indices-k-lt3 : goal.item_row-requires-else-indices-k-lt3
+item_row-requires-else-indices-k-lt3 c = row_within (length c.args.row.now) c.args.items c.args.rows.now c.args.indices.now c.loop-k.k c.requires.rows c.requires.low c.loop-k-test.true
+
+pub item_row-requires-else-indices-k-lt3-2 : goal.item_row-requires-else-indices-k-lt3-2
+item_row-requires-else-indices-k-lt3-2 c = row_within (length c.args.row.now) c.args.items c.args.rows.now c.args.indices.now (c.loop-k.k + 1) c.requires.rows c.requires.low (omega (arith, c.if-indices-k-lt3.false))
+
+pub item_row-requires-else-indices-k-lt3-3 : goal.item_row-requires-else-indices-k-lt3-3
+item_row-requires-else-indices-k-lt3-3 c = row_within (length c.args.row.now) c.args.items c.args.rows.now c.args.indices.now (c.loop-k.k + 2) c.requires.rows c.requires.low (omega (arith, c.if-indices-k-lt3.false))
+
+pub take_out_words-requires : goal.take_out_words-requires
+take_out_words-requires c = c.loop-k.invariant.len ∙ sym c.item_row.ensures.len
+
+pub take_out_three-requires-clause-first : goal.take_out_three-requires-clause-first
+take_out_three-requires-clause-first c = c.item_row-else-indices-k-lt3.ensures.len ∙ sym c.loop-k.invariant.len
+
+pub take_out_three-requires-clause-second : goal.take_out_three-requires-clause-second
+take_out_three-requires-clause-second c = c.item_row-else-indices-k-lt3-2.ensures.len ∙ sym c.loop-k.invariant.len
+
+pub take_out_three-requires-clause-third : goal.take_out_three-requires-clause-third
+take_out_three-requires-clause-third c = c.item_row-else-indices-k-lt3-3.ensures.len ∙ sym c.loop-k.invariant.len
+
+pub returns-clause-len : goal.returns-clause-len
+returns-clause-len c = c.loop-k.invariant.len
+
+pub returns-clause-bits : goal.returns-clause-bits
+returns-clause-bits c = λ x h.
+    c.loop-k.invariant.bits x h
+    ∙ ap (λ (xs : List ℕ). has_bit c.args.row.now x && not (list_any (λ b. has_bit c.args.rows.now (bit_index (length c.args.row.now) b x)) xs)) (take_all c.loop-k.k c.args.indices.now c.loop-k-test.false)

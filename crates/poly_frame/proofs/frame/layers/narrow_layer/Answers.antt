@@ -1,4 +1,4 @@
-use Rattle.std.proofs.Common.{Bool, ap, arith, length, refl, sym, ℕ, ◌<◌, ◌^◌, ◌∙◌}
+use Rattle.std.proofs.Common.{Bool, ap, arith, length, refl, sym, ℕ, ◌<◌, ◌^◌, ◌∙◌, ◌≤◌}
 use Rattle.std.proofs.lemmas.Bool.{and_parts}
 use Rattle.poly_tiling.specs.Lists.{mem}
 use Rattle.poly_atom.specs.Hopeless.{base}
@@ -31,3 +31,24 @@ steps_here-requires-clause-have c = λ b h.
 
 pub steps_here-requires-clause-len : goal.steps_here-requires-clause-len
 steps_here-requires-clause-len c = c.requires.kept.have_len
+
+pub returns-clause-layer : goal.returns-clause-layer
+returns-clause-layer c = record {
+  levels = c.in_ok-steps.ensures.kept;
+  room = c.in_ok-steps.ensures.room;
+}
+
+pub returns-clause-here : goal.returns-clause-here
+returns-clause-here c = refl
+
+pub slice_bounds-table_again-count : goal.slice_bounds-table_again-count
+slice_bounds-table_again-count c = c.requires.kept.low
+
+pub slice_bounds-table_again-start : goal.slice_bounds-table_again-start
+slice_bounds-table_again-start c = c.requires.kept.low
+
+to_itself : (n : ℕ) → n ≤ n
+to_itself n = omega arith
+
+pub slice_bounds-table_again-end : goal.slice_bounds-table_again-end
+slice_bounds-table_again-end c = to_itself (length c.args.node.now.trail.now)

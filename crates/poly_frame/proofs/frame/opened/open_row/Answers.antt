@@ -22,9 +22,9 @@ returns-clause-value c =
           let wide : j < 64 * m.width = omega (arith, h, M.wide) in
           let some = shut_says v A q c.args.mosts.now c.args.have.now c.args.members.now (λ b. shut v.bounds b j) M.well (M.live q (listed_at m.numbers.items j h)) c.requires.base c.requires.mosts c.requires.have
           (λ b l. ap (λ x. shut_at (item_at v.bounds b) (get_or c.args.mosts.now b 0) (get_or c.args.have.now b 0) && x) (M.rows b j l h)) in
-          let first = c.take_out_shut.ensures.bits j wide ∙ ap (λ bs. has_bit c.in_ok-row.row.items j && not (any_below (λ b. shut bs b j) (length bs))) c.items.ensures.value in
+          let first = c.take_out_shut.ensures.bits j wide ∙ ap (λ bs. has_bit c.fill_row.new.row.items j && not (any_below (λ b. shut bs b j) (length bs))) c.items.ensures.value in
           c.cut_off.ensures.kept j (omega (arith, h, n))
-          ∙ left_open v A q c.args.members.now (has_bit c.in_ok-row.row.items j) (any_below (λ b. shut v.bounds b j) (length v.bounds)) (has_bit c.take_out_shut.new.row.items j) (has_bit c.take_out_lacked.new.row.items j) (has_bit c.take_out_members.new.row.items j)
-          c.requires.base (c.in_ok-row.ensures.bits j wide) some first (c.take_out_lacked.ensures.bits j h) (c.take_out_members.ensures.bits j h);
+          ∙ left_open v A q c.args.members.now (has_bit c.fill_row.new.row.items j) (any_below (λ b. shut v.bounds b j) (length v.bounds)) (has_bit c.take_out_shut.new.row.items j) (has_bit c.take_out_lacked.new.row.items j) (has_bit c.take_out_members.new.row.items j)
+          c.requires.base (c.in_ok-fill_row.ensures.bits j wide) some first (c.take_out_lacked.ensures.bits j h) (c.take_out_members.ensures.bits j h);
       past = λ j h l. c.cut_off.ensures.past j (omega (arith, h, n)) l;
     }

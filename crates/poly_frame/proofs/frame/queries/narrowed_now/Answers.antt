@@ -1,4 +1,7 @@
-use Rattle.std.proofs.Common.{ap, ◌-◌, ◌∙◌}
+use Rattle.std.proofs.Common.{ap, ◌-◌, ◌∙◌, ◌≡◌}
+use Rattle.std.specs.List.{filter}
+use Rattle.std.proofs.lemmas.Result.{IfOk-weaker}
+use Rattle.poly_frame.specs.FrameTable.{HasOpen}
 use Rattle.poly_frame.specs.Open.{open_in}
 use Rattle.poly_frame.proofs.FrameQueries.{open_first, top_bits, top_slice}
 use Rattle.poly_frame.proofs.Matrices.{narrow_all}
@@ -22,8 +25,10 @@ returns-clause-all c =
     let matrix = c.args.node.now.matrix.now in
     let K = c.requires.kept in
     let at = ap (λ n. n - matrix.width) (c.len.ensures ∙ s.live.ok.0) in
-    λ q m o. narrow_all (λ p. open_in v A p) matrix.numbers.items c.in_ok-narrow.narrow.numbers.items (c.in_ok-narrow.ensures.numbers (λ p. open_in v A p) (λ j h. top_bits v A c.args.node.now.base matrix c.args.node.now.table.now s.live.items s.have.items s.raised.items s.marks.items K c.deref.result.now _ j c.deref.ensures.value at h)) q
-    (open_first v A c.args.node.now.base matrix c.args.node.now.table.now s.live.items s.have.items s.raised.items s.marks.items K q m o) o
+    IfOk-weaker c.narrowed.result _ (λ m. HasOpen v A m)
+    (λ m numbers. λ q l o. narrow_all (λ p. open_in v A p) matrix.numbers.items m.numbers.items (numbers (λ p. open_in v A p) (λ j h. top_bits v A c.args.node.now.base matrix c.args.node.now.table.now s.live.items s.have.items s.raised.items s.marks.items K c.deref.result.now _ j c.deref.ensures.value at h)) q
+    (open_first v A c.args.node.now.base matrix c.args.node.now.table.now s.live.items s.have.items s.raised.items s.marks.items K q l o) o)
+    c.narrowed.ensures.numbers
 
 pub returns-clause-numbers : goal.returns-clause-numbers
 returns-clause-numbers c =
@@ -32,4 +37,6 @@ returns-clause-numbers c =
     let s = c.args.steps.now in
     let matrix = c.args.node.now.matrix.now in
     let at = ap (λ n. n - matrix.width) (c.len.ensures ∙ s.live.ok.0) in
-    c.in_ok-narrow.ensures.numbers (λ p. open_in v A p) (λ j h. top_bits v A c.args.node.now.base matrix c.args.node.now.table.now s.live.items s.have.items s.raised.items s.marks.items c.requires.kept c.deref.result.now _ j c.deref.ensures.value at h)
+    IfOk-weaker c.narrowed.result _ (λ m. m.numbers.items ≡ filter (λ p. open_in v A p) matrix.numbers.items)
+    (λ m numbers. numbers (λ p. open_in v A p) (λ j h. top_bits v A c.args.node.now.base matrix c.args.node.now.table.now s.live.items s.have.items s.raised.items s.marks.items c.requires.kept c.deref.result.now _ j c.deref.ensures.value at h))
+    c.narrowed.ensures.numbers

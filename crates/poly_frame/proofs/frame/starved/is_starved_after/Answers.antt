@@ -49,3 +49,9 @@ has_none-requires c =
     let K = c.requires.kept in
     let fits = mul-le-mul_left {m = c.args.b + 1} {n = length c.args.node.now.view.now.bounds} c.args.node.now.matrix.now.width (omega (arith, c.requires.row, K.have_len)) in
     omega (arith, fits, K.table.matrix.rows_len, c.requires.len, ap length c.deref-2.ensures.value)
+
+pub overflow_sub-at : goal.overflow_sub-at
+overflow_sub-at c = omega (arith, c.requires.kept.wide, c.len.ensures, c.args.steps.now.live.ok.0)
+
+pub has-requires : goal.has-requires
+has-requires c = omega (arith, c.requires.kept.wide, c.len.ensures, c.args.steps.now.live.ok.0, c.requires.number, c.requires.kept.table.matrix.wide, ap length c.deref.ensures.value)

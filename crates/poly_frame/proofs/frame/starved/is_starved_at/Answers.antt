@@ -47,3 +47,18 @@ are_shut-requires-clause-row c =
     let K = c.requires.kept in
     let fits = mul-le-mul_left {m = c.args.b + 1} {n = length c.args.node.now.view.now.bounds} c.args.node.now.matrix.now.width (omega (arith, c.requires.row, K.have_len)) in
     omega (arith, fits, K.table.matrix.rows_len)
+
+pub overflow_sub-at : goal.overflow_sub-at
+overflow_sub-at c = omega (arith, c.requires.kept.wide, c.len.ensures, c.args.steps.now.live.ok.0)
+
+pub has-requires : goal.has-requires
+has-requires c = omega (arith, c.requires.kept.wide, c.len.ensures, c.args.steps.now.live.ok.0, c.requires.number, c.requires.kept.table.matrix.wide, ap length c.deref.ensures.value)
+
+pub items_of-requires-clause-shows : goal.items_of-requires-clause-shows
+items_of-requires-clause-shows c = (c.args.node.now.view.now, c.requires.kept.table.matrix.lists)
+
+pub items_of-requires-clause-column : goal.items_of-requires-clause-column
+items_of-requires-clause-column c = c.requires.number
+
+pub are_shut-requires-clause-live : goal.are_shut-requires-clause-live
+are_shut-requires-clause-live c = omega (arith, c.requires.kept.wide, c.len.ensures, c.args.steps.now.live.ok.0)

@@ -1,10 +1,11 @@
-use Rattle.std.proofs.Common.{ap, arith, drop, eqb, get_or, length, ltb, subst, sym, take, ℕ, ◌||◌, ◌*◌, ◌+◌, ◌-◌, ◌<◌, ◌∙◌, ◌≡◌}
+use Rattle.std.proofs.Common.{None, ap, arith, drop, eqb, get_or, length, ltb, subst, sym, take, ℕ, ◌||◌, ◌*◌, ◌+◌, ◌-◌, ◌<◌, ◌∙◌, ◌≡◌, ◌≤◌}
 use Rattle.std.specs.List.{list_all}
 use Rattle.std.proofs.lemmas.Bool.{ne_eqb}
 use Rattle.std.proofs.lemmas.List.{get_or_read, length-take, take_rest}
 use Rattle.poly_frame.specs.Bits.{has_bit}
 use Rattle.poly_frame.specs.FrameItems.{times}
 use Rattle.poly_frame.specs.FrameSteps.{Kept, clears}
+use Rattle.poly_frame.specs.declared.frame.steps.Mark.{Mark}
 use Rattle.poly_frame.proofs.Words.{take_bits}
 use Rattle.poly_frame.proofs.FrameSteps.{back_column, back_enough, back_low, back_room, kept_as, kept_back, mark_else, or_none, same_in_row}
 use Rattle.poly_frame.proofs.frame.steps.back.Goals as goal
@@ -126,3 +127,56 @@ returns-in_default-clause-kept c =
     (λ x h. bit x (omega (arith, h)))
     (λ j h. bit (64 * m.row + j) (omega (arith, h)) ∙ sym (or_none (has_bit s.live.items (64 * m.row + j))) ∙ ap (λ o. has_bit s.live.items (64 * m.row + j) || clears o j) (sym c.in_default.is))
     c.lower_and_note.ensures.len (λ b h. ap (λ xs. get_or c.lower_and_note.new.have.items b 0 + times xs b) (sym d) ∙ c.lower_and_note.ensures.less b h)))
+
+pub returns-in-Some-clause-room : goal.returns-in-Some-clause-room
+returns-in-Some-clause-room c =
+    let r = c.requires.room in
+    record {
+      live = omega (arith, r.live, c.truncate-3.ensures.capacity, c.put_in.ensures.capacity);
+      raised = omega (arith, r.raised, c.truncate-2.ensures.capacity);
+      marks = omega (arith, r.marks, c.truncate.ensures.capacity);
+    }
+
+pub returns-in_default-clause-room : goal.returns-in_default-clause-room
+returns-in_default-clause-room c =
+    let r = c.requires.room in
+    record {
+      live = omega (arith, r.live, c.truncate-3.ensures.capacity);
+      raised = omega (arith, r.raised, c.truncate-2.ensures.capacity);
+      marks = omega (arith, r.marks, c.truncate.ensures.capacity);
+    }
+
+pub slice_bounds-lower_and_note-count : goal.slice_bounds-lower_and_note-count
+slice_bounds-lower_and_note-count c =
+    let s = c.args.steps.now in
+    let K = c.requires.kept in
+    let n = length c.args.node.now.trail.now - 1 - c.args.node.now.base in
+    let m = c.index-mark.result.now in
+    let low : n ≤ length s.marks.items = omega (arith, K.steps, c.requires.some) in
+    let is = get_or_read s.marks.items n m (omega (arith, K.steps, c.requires.some)) c.index-mark.ensures (record { raised = length s.raised.items; row = 0; cleared = None }) in
+    omega (arith, (K.levels n low).begun, ap (λ (x : Mark). x.raised) is, ap length c.deref-2.ensures.value)
+
+pub slice_bounds-lower_and_note-start : goal.slice_bounds-lower_and_note-start
+slice_bounds-lower_and_note-start c =
+    let s = c.args.steps.now in
+    let K = c.requires.kept in
+    let n = length c.args.node.now.trail.now - 1 - c.args.node.now.base in
+    let m = c.index-mark.result.now in
+    let low : n ≤ length s.marks.items = omega (arith, K.steps, c.requires.some) in
+    let is = get_or_read s.marks.items n m (omega (arith, K.steps, c.requires.some)) c.index-mark.ensures (record { raised = length s.raised.items; row = 0; cleared = None }) in
+    omega (arith, (K.levels n low).begun, ap (λ (x : Mark). x.raised) is, ap length c.deref-2.ensures.value)
+
+to_itself : (n : ℕ) → n ≤ n
+to_itself n = omega arith
+
+pub slice_bounds-lower_and_note-end : goal.slice_bounds-lower_and_note-end
+slice_bounds-lower_and_note-end c = to_itself (length c.deref-2.result.now)
+
+pub overflow_sub-n : goal.overflow_sub-n
+overflow_sub-n c = omega (arith, c.requires.some)
+
+pub overflow_sub-n-2 : goal.overflow_sub-n-2
+overflow_sub-n-2 c = omega (arith, c.requires.some)
+
+pub index-mark-requires : goal.index-mark-requires
+index-mark-requires c = omega (arith, c.requires.kept.steps, c.requires.some)

@@ -1,5 +1,6 @@
-use Rattle.std.proofs.Common.{List, ap, arith, get_or, length, refl, subst, sym, ℕ, ◌++◌, ◌+◌, ◌-◌, ◌<◌, ◌∙◌, ◌≡◌}
+use Rattle.std.proofs.Common.{List, ap, arith, get_or, length, ltb, refl, subst, sym, ℕ, ◌++◌, ◌+◌, ◌-◌, ◌<◌, ◌∙◌, ◌≡◌}
 use Rattle.std.proofs.lemmas.List.{length-append}
+use Rattle.std.specs.List.{list_all}
 use Rattle.poly_frame.specs.Bits.{has_bit}
 use Rattle.poly_frame.specs.FrameItems.{times}
 use Rattle.poly_atom.specs.Hopeless.{base}
@@ -60,3 +61,35 @@ returns-clause-kept c =
     c.take_out.ensures.len (taken_before live2 live3 c.len-at.result j c.take_out.ensures.bits)
     (own_taken v A first m t live0 s.have.items s.raised.items s.marks.items K (get_or m.numbers.items j 0) j c.len-at.result live2 live3 (c.requires.number, refl) c.take_out.ensures.bits)
     (taken_past live2 live3 c.len-at.result j c.take_out.ensures.bits)
+
+pub overflow_sub-at : goal.overflow_sub-at
+overflow_sub-at c = omega (arith, c.requires.kept.wide, c.len-at.ensures, c.args.steps.now.live.ok.0)
+
+pub push_reserved-requires : goal.push_reserved-requires
+push_reserved-requires c = omega (arith, c.requires.kept.steps, c.requires.few, c.requires.room.marks, c.args.steps.now.marks.ok.0)
+
+pub items_of-indices-requires-clause-shows : goal.items_of-indices-requires-clause-shows
+items_of-indices-requires-clause-shows c = (c.args.node.now.view.now, c.requires.kept.table.matrix.lists)
+
+pub items_of-indices-requires-clause-column : goal.items_of-indices-requires-clause-column
+items_of-indices-requires-clause-column c = c.requires.number
+
+pub raise-requires-clause-low : goal.raise-requires-clause-low
+raise-requires-clause-low c =
+    let s = c.args.steps.now in
+    let n = c.args.node.now in
+    let K = c.requires.kept in
+    let noted = noted_column n.view.now n.trail.now n.base n.matrix.now n.table.now s.live.items s.have.items s.raised.items s.marks.items K c.requires.alone c.args.j c.requires.number in
+    ap (λ is. list_all (λ b. ltb b (length s.have.items)) is) c.items_of-indices.ensures ∙ ap (λ u. list_all (λ b. ltb b u) (column_items n.matrix.now.lists n.matrix.now.homes.items c.args.j)) K.have_len ∙ noted.low
+
+pub returns-clause-room : goal.returns-clause-room
+returns-clause-room c =
+    let r = c.requires.room in
+    record {
+      live = omega (arith, r.live, c.push_row.ensures.capacity, c.take_out.ensures.capacity);
+      raised = omega (arith, r.raised, c.note_list.ensures.capacity);
+      marks = omega (arith, r.marks, c.push_reserved.ensures.capacity);
+    }
+
+pub take_out-requires : goal.take_out-requires
+take_out-requires c = omega (arith, c.requires.number, c.requires.kept.table.matrix.wide, c.requires.len, c.len-at.ensures, c.args.steps.now.live.ok.0, ap length c.push_row.ensures.items, length-append c.args.steps.now.live.items c.args.row.now)

@@ -10,12 +10,12 @@ use Rattle.poly_frame.proofs.FrameTable.{count_le, each_one}
 use Rattle.poly_frame.proofs.frame.table.table_of.Goals as goal
 
 pub returns-clause-value : goal.returns-clause-value
-returns-clause-value c =
+returns-clause-value c = λ m M O.
     let v = c.args.view.now in
     let A = c.args.atoms.now in
     record {
-      matrix = c.requires.part;
-      all = c.requires.all;
+      matrix = M;
+      all = O;
       limits = λ b h. c.in_ok-limits.ensures.value b (omega (arith, ap length c.items-bounds.ensures.value))
           ∙ ap (λ (bs : List Bound). limit_at (item_at bs b) (get_or c.deref.result.now b 0)) c.items-bounds.ensures.value
           ∙ ap (λ xs. limit_at (item_of v b) (get_or xs b 0)) c.deref.ensures.value

@@ -2,7 +2,7 @@ use Rattle.std.specs.Result.{OkIff}
 use Rattle.std.proofs.Common.{subst, arith, get_or, length, ◌<◌}
 use Rattle.std.proofs.lemmas.List.{length-set}
 use Rattle.poly_frame.proofs.FrameOpen.{stands_step}
-use Rattle.poly_frame.proofs.frame.matrix.stands_of.Goals as goal
+use Rattle.poly_frame.proofs.frame.matrix.write_stands.Goals as goal
 
 pub loop-j-preserved : goal.loop-j-preserved
 loop-j-preserved c =

@@ -1,5 +1,5 @@
 use Rattle.std.proofs.Common.{get_or, length, ℕ, ◌<◌, ◌≡◌, ◌≤◌}
-use Rattle.poly_frame.proofs.frame.matrix.stands_of.Given as goal
+use Rattle.poly_frame.proofs.frame.matrix.write_stands.Given as goal
 
 abbrev pub invariant-loop-j : goal.invariant-loop-j
 invariant-loop-j l = record {

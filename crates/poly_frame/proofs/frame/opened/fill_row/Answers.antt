@@ -1,7 +1,7 @@
 use Rattle.std.proofs.Common.{ap, ◌∙◌}
 use Rattle.poly_frame.specs.Bits.{has_bit}
 use Rattle.poly_frame.proofs.Words.{filled, full_bits}
-use Rattle.poly_frame.proofs.frame.opened.full_row.Goals as goal
+use Rattle.poly_frame.proofs.frame.opened.fill_row.Goals as goal
 
 pub returns-clause-bits : goal.returns-clause-bits
 returns-clause-bits c = λ j h.
