@@ -59,8 +59,7 @@ fn walk(
             if !arms_fit(frame, item, arms) {
                 return Ok(false);
             }
-            let yes = walk_arms(alloc, frame, arms, keep, out)?;
-            Ok(yes)
+            walk_arms(alloc, frame, arms, keep, out)
         }
         Tree::Split {
             placement,
@@ -195,8 +194,7 @@ pub fn cut_up(
     ensures why { IfErr result (λ e. e ≡ Refusal.Memory) }
 {
     let whole = Matrix::new(alloc, view)?;
-    let cut = cut_up_over(alloc, view, &whole, atoms, tree)?;
-    Ok(cut)
+    cut_up_over(alloc, view, &whole, atoms, tree)
 }
 
 /// Does what `cut_up` does, but takes the view's matrix, so that many trees can be checked with one matrix. Requires that

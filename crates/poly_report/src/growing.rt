@@ -80,14 +80,13 @@ impl Growing {
             known,
             &list[count..],
         )?;
-        let node = extend(
+        extend(
             &mut self.nodes,
             &mut self.trail,
             &mut self.last,
             before,
             more,
-        )?;
-        Ok(node)
+        )
     }
 }
 

@@ -86,7 +86,6 @@ impl Rests {
         ensures why { IfErr result (λ e. e ≡ Refusal.Memory) }
     {
         let Rests { stem, paths } = self;
-        let lists = paths.share_over(alloc, &stem, base)?;
-        Ok(lists)
+        paths.share_over(alloc, &stem, base)
     }
 }

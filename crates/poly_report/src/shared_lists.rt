@@ -201,9 +201,7 @@ impl SharedLists {
     {
         let stored = stem_for(alloc, stem, base)?;
         let trie = trie_over(alloc, stored, nodes, ends)?;
-        Ok(SharedLists {
-            trie: Arc::new(alloc, trie)?,
-        })
+        shared(alloc, trie)
     }
 
     /// One list. The only refusal is `Memory`.
@@ -212,9 +210,7 @@ impl SharedLists {
         ensures why { IfErr result (λ e. e ≡ Refusal.Memory) }
     {
         let trie = trie_of_one(alloc, Stored::nothing(), list)?;
-        Ok(SharedLists {
-            trie: Arc::new(alloc, trie)?,
-        })
+        shared(alloc, trie)
     }
 
     /// One list: the list at the index, followed by these atoms. It is kept over the list at the index, so that only the atoms
@@ -225,9 +221,7 @@ impl SharedLists {
         ensures why { IfErr result (λ e. e ≡ Refusal.Memory) }
     {
         let trie = trie_after(alloc, &self.trie, index, more)?;
-        Ok(SharedLists {
-            trie: Arc::new(alloc, trie)?,
-        })
+        shared(alloc, trie)
     }
 
     /// How many lists there are.
@@ -279,6 +273,15 @@ impl SharedLists {
         let trie = Arc::try_clone(&self.trie)?;
         Ok(SharedLists { trie })
     }
+}
+
+// The lists of this trie.
+fn shared(alloc: Global, trie: Trie) -> Result<SharedLists, Refusal>
+    ensures ok { IfOk result (λ lists. lists ≡ trie.lists) }
+    ensures why { IfErr result (λ e. e ≡ Refusal.Memory) }
+{
+    let trie = Arc::new(alloc, trie)?;
+    Ok(SharedLists { trie })
 }
 
 // The stems and the depth of a trie.
@@ -376,8 +379,7 @@ fn stem_over(
         return Ok(None);
     };
     let trie = trie_after(alloc, base, index, more)?;
-    let whole = Arc::new(alloc, trie)?;
-    let stored = stem_at(&whole, 0)?;
+    let stored = stem_first(alloc, trie)?;
     Ok(Some(stored))
 }
 
@@ -413,9 +415,19 @@ fn stem_alone(alloc: Global, list: &[Atom]) -> Result<Stored, Refusal>
         return Ok(Stored::nothing());
     }
     let trie = trie_of_one(alloc, Stored::nothing(), list)?;
+    stem_first(alloc, trie)
+}
+
+// The first list of the trie, as a stem.
+fn stem_first(alloc: Global, trie: Trie) -> Result<Stored, Refusal>
+    requires index { 0 < length trie.lists }
+    requires depth { trie.depth ≤ DEEPEST }
+    ensures stem { IfOk result (λ s. AreStems s.stem s.others s.depth) }
+    ensures list { IfOk result (λ s. stem_of s.stem ≡ slice_index_or trie.lists 0 []) }
+    ensures why { IfErr result (λ e. e ≡ Refusal.Memory) }
+{
     let whole = Arc::new(alloc, trie)?;
-    let stored = stem_at(&whole, 0)?;
-    Ok(stored)
+    stem_at(&whole, 0)
 }
 
 // What follows the trie's list at the index in this list, or `None` if this list doesn't begin so.

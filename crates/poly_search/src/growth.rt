@@ -190,8 +190,7 @@ fn child(
         growth.nodes = nodes;
         growth.gathered.tilings.truncate(tilings);
         growth.gathered.paths.truncate(rests);
-        let cut = rest(frame, growth)?;
-        return Ok(cut);
+        return rest(frame, growth);
     }
     Ok(tree)
 }
@@ -231,7 +230,7 @@ fn arm(
 
 // The arms of the options that were walked, if the tree is kept, how many options these are, and how many nodes are held back
 // for a chain over the arms.
-#[derive(Debug, Drop)]
+#[derive(Drop)]
 struct Arms {
     arms: Vec<Arm>,
     walked: usize,
@@ -350,8 +349,7 @@ fn branch(
     let Arms { arms, walked, held } = walked;
     if walked < options.len() {
         growth.nodes -= walked as u32;
-        let tree = link(alloc, arms)?;
-        return Ok(tree);
+        return link(alloc, arms);
     }
     growth.inner += held;
     Ok(Tree::Branch { item: *item, arms })
@@ -413,8 +411,7 @@ fn split(
     frame.leave(placement);
     let left = child(alloc, frame, growth, kept, depth - 1)?;
     frame.backtrack_to(level);
-    let tree = over_both(alloc, growth.keep, placement, taken, left)?;
-    Ok(tree)
+    over_both(alloc, growth.keep, placement, taken, left)
 }
 
 // The Split over both trees, if the tree is kept. If not, a Rest stands for it.

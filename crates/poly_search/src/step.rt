@@ -49,8 +49,7 @@ pub fn explore_with_leaves(
     ensures why { IfErr result (λ e. e ≡ Refusal.Memory) }
 {
     let whole = Matrix::new(alloc, view)?;
-    let explored = explore_over(alloc, view, &whole, atoms, nodes)?;
-    Ok(explored)
+    explore_over(alloc, view, &whole, atoms, nodes)
 }
 
 /// Does what `explore_with_leaves` does, but takes the view's matrix, so that many tasks can be searched with one matrix.
@@ -76,7 +75,25 @@ pub fn explore_over(
     ensures why { IfErr result (λ e. e ≡ Refusal.Memory) }
 {
     let mut room = Room::new(alloc);
-    let (explored, _) = explore_within(alloc, view, whole, whole, atoms, nodes, true, &mut room)?;
+    explore_tree(alloc, view, whole, atoms, nodes, &mut room)
+}
+
+// The tree that `explore_over` grows, and its leaves. The search uses the memory of `room`, and leaves it there.
+fn explore_tree(
+    alloc: Global,
+    view: &View,
+    whole: &Matrix,
+    atoms: &[Atom],
+    nodes: u32,
+    room: &mut Room,
+) -> Result<Explored, Refusal>
+    requires whole { IsWhole view.now whole.now }
+    requires some { 1 ≤ nodes }
+    requires few { nodes ≤ NODES }
+    ensures tree { IfOk result (λ e. IsExplored view.now atoms.now nodes (plan_of e.tree) e.leaves.tilings.items e.leaves.rests) }
+    ensures why { IfErr result (λ e. e ≡ Refusal.Memory) }
+{
+    let (explored, _) = explore_within(alloc, view, whole, whole, atoms, nodes, true, room)?;
     Ok(explored)
 }
 

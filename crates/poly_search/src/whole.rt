@@ -40,10 +40,30 @@ fn sweep_all(alloc: Global, view: &View, atoms: &[Atom], list: &mut Listing) -> 
     ensures why { IfErr result (λ e. (e ≡ Refusal.CatalogueFull) ⊎ (e ≡ Refusal.Memory)) }
 {
     let whole = Matrix::new(alloc, view)?;
-    list.rests.push(Vec::from_slice(alloc, atoms)?)?;
     let mut room = Room::new(alloc);
+    sweep_each(alloc, view, &whole, atoms, list, &mut room)
+}
+
+// Sweeps what `sweep_all` sweeps, with the view's matrix and the memory of `room`. Refuses what `sweep_all` refuses.
+fn sweep_each(
+    alloc: Global,
+    view: &View,
+    whole: &Matrix,
+    atoms: &[Atom],
+    list: &mut Listing,
+    room: &mut Room,
+) -> Result<(), Refusal>
+    requires whole { IsWhole view.now whole.now }
+    requires found { list.old.found.items ≡ [] }
+    requires rests { list.old.rests.items ≡ [] }
+    ensures all { OnOk result (IsFamily view.now atoms.now list.new.found.items) }
+    ensures few { OnOk result (length list.new.found.items ≤ MAX_TILINGS) }
+    ensures too_many { result ≡ Err Refusal.CatalogueFull → HasMore view.now atoms.now MAX_TILINGS }
+    ensures why { IfErr result (λ e. (e ≡ Refusal.CatalogueFull) ⊎ (e ≡ Refusal.Memory)) }
+{
+    list.rests.push(Vec::from_slice(alloc, atoms)?)?;
     while let Some(next) = list.rests.pop() {
-        sweep_rest(alloc, view, &whole, &next, list, &mut room)?;
+        sweep_rest(alloc, view, whole, &next, list, room)?;
         if list.found.len() > MAX_TILINGS {
             return Err(Refusal::CatalogueFull);
         }

@@ -1,4 +1,4 @@
-use Rattle.std.proofs.Common.{Err, [], ap, arith, drop, get_or, inl, inr, length, nat_lt, refl, rules, subst, sym, take, true, ◌++◌, ◌+◌, ◌<◌, ◌∙◌, ◌∷◌, ◌≡◌, ◌≤◌}
+use Rattle.std.proofs.Common.{Err, [], ap, arith, drop, get_or, inl, inr, length, nat_lt, refl, subst, sym, take, true, ◌++◌, ◌+◌, ◌<◌, ◌∙◌, ◌∷◌, ◌≡◌, ◌≤◌}
 use Rattle.std.proofs.lemmas.Bool.{and_from}
 use Rattle.std.proofs.lemmas.Result.{err_from_is_err_and}
 use Rattle.std.proofs.lemmas.List.{length-reverse, length_push}
@@ -48,12 +48,12 @@ returns-clause-keeps c =
     let ed : c.len-now.result ≡ length a.log = c.len-now.ensures in
     let f0 : Opens a.log a.next c.view.result.now c.args.leaves.rests c.in_ok-fresh.fresh.items = c.in_ok-fresh.ensures.ok a.log (sym ed) in
     let opens = subst (λ z. Opens a.log a.next z c.args.leaves.rests c.in_ok-fresh.fresh.items) at f0 in
-    let is : x ≡ get_or a.tasks.items c.args.at x = search rules in
+    let is = c.remove-task.ensures.value ∙ ap (λ xs. get_or xs c.args.at x) c.reserve.ensures.items in
     let listed : c.list_all.new.self ≡ a.listed ++ c.args.leaves.tilings.items = c.in_ok-list_all.ensures.ok in
-    let tasks : c.push_tasks.new.out.items ≡ (take c.args.at a.tasks.items ++ drop (c.args.at + 1) a.tasks.items) ++ c.in_ok-fresh.fresh.items = search rules in
-    let more : c.len-more.result ≡ length c.in_ok-fresh.fresh.items = search rules in
+    let tasks = c.push_tasks.ensures ∙ ap (λ xs. xs ++ c.in_ok-fresh.fresh.items) (c.remove-task.ensures.by_index.2 ∙ ap (λ xs. take c.args.at xs ++ drop (c.args.at + 1) xs) c.reserve.ensures.items) in
+    let more = c.len-more.ensures ∙ c.in_ok-fresh.fresh.ok.0 in
     let few : a.next + length c.in_ok-fresh.fresh.items ≤ 4294967296 = c.in_ok-fresh.ensures.few in
-    let ended : c.push_reserved.new.self.items ≡ a.endings.items ++ Cut x.number ∷ [] = search rules in
+    let ended = c.push_reserved.ensures.items ∙ ap (λ xs. xs ++ Cut x.number ∷ []) c.reserve-2.ensures.items in
     took_keeps c.requires.keeps (took_from a c.requires.leaves.0 c.args.at c.requires.leaves.1 c.args.leaves.tilings.items c.args.leaves.rests x c.list_all.new.self c.push_tasks.new.out.items c.in_ok-fresh.fresh.items c.len-more.result c.push_reserved.new.self.items l is listed tasks opens more few ended)
 
 pub returns-clause-ok : goal.returns-clause-ok
@@ -64,14 +64,14 @@ returns-clause-ok c =
     let ed : c.len-now.result ≡ length a.log = c.len-now.ensures in
     let f0 : Opens a.log a.next c.view.result.now c.args.leaves.rests c.in_ok-fresh.fresh.items = c.in_ok-fresh.ensures.ok a.log (sym ed) in
     let opens = subst (λ z. Opens a.log a.next z c.args.leaves.rests c.in_ok-fresh.fresh.items) at f0 in
-    let is : x ≡ get_or a.tasks.items c.args.at x = search rules in
+    let is = c.remove-task.ensures.value ∙ ap (λ xs. get_or xs c.args.at x) c.reserve.ensures.items in
     let listed : c.list_all.new.self ≡ a.listed ++ c.args.leaves.tilings.items = c.in_ok-list_all.ensures.ok in
-    let tasks : c.push_tasks.new.out.items ≡ (take c.args.at a.tasks.items ++ drop (c.args.at + 1) a.tasks.items) ++ c.in_ok-fresh.fresh.items = search rules in
-    let more : c.len-more.result ≡ length c.in_ok-fresh.fresh.items = search rules in
+    let tasks = c.push_tasks.ensures ∙ ap (λ xs. xs ++ c.in_ok-fresh.fresh.items) (c.remove-task.ensures.by_index.2 ∙ ap (λ xs. take c.args.at xs ++ drop (c.args.at + 1) xs) c.reserve.ensures.items) in
+    let more = c.len-more.ensures ∙ c.in_ok-fresh.fresh.ok.0 in
     let few : a.next + length c.in_ok-fresh.fresh.items ≤ 4294967296 = c.in_ok-fresh.ensures.few in
-    let ended : c.push_reserved.new.self.items ≡ a.endings.items ++ Cut x.number ∷ [] = search rules in
-    let count : c.len.result ≡ length a.endings.items = search rules in
-    let found : c.len-found.result ≡ length c.args.leaves.tilings.items = search rules in
+    let ended = c.push_reserved.ensures.items ∙ ap (λ xs. xs ++ Cut x.number ∷ []) c.reserve-2.ensures.items in
+    let count = c.len.ensures ∙ a.endings.ok.0 in
+    let found = c.len-found.ensures ∙ c.args.leaves.tilings.ok.0 in
     let long : length c.push_reserved.new.self.items ≡ length a.endings.items + 1 = ap length ended ∙ length_push a.endings.items (Cut x.number) in
     let steps : c.len-now.result ≡ length (state_of a).steps = ed ∙ c.requires.keeps.log_length ∙ sym (length-reverse a.steps.items) in
     λ k tree l.
@@ -121,5 +121,5 @@ list_of-base-requires c =
     let l = c.requires.leaves.2 in
     let low : c.args.at < length ps = omega (arith, at_below k ps c.args.at (first_at k ps c.args.at l.first)) in
     let x = c.index.result.now in
-    let is : x ≡ get_or ps c.args.at x = search rules in
+    let is = c.index.ensures in
     subst (λ (t : Pending). IsOwn a.log t.own) (sym is) (task_at a.log ps c.args.at x c.requires.keeps.tasks low).own

@@ -1,5 +1,6 @@
 use Rattle.std.proofs.Common.{List, [], ap, append_assoc, arith, cond, false, length, length-append, map, rules, sym, take, true, ℕ, ◌&&◌, ◌++◌, ◌||◌, ◌∙◌, ◌∷◌, ◌≡◌}
 use Rattle.std.proofs.lemmas.Bool.{eqb-true, true≢false}
+use Rattle.std.proofs.lemmas.Result.{IfOk-weaker}
 use Rattle.poly_report.specs.declared.tree.Arm.{Arm}
 use Rattle.poly_report.specs.declared.tree.Tree.{the_lemmas}
 use Rattle.poly_report.specs.Trees.{Branches, heads}
@@ -47,29 +48,29 @@ walk-leave-requires t c =
     let b = total_some (plan_of c.in-Split.left.value) in
     omega arith
 
-pub walk-returns-in_ok-yes-in-Branch-clause-says : goal.walk-returns-in_ok-yes-in-Branch-clause-says
-walk-returns-in_ok-yes-in-Branch-clause-says t c =
+pub walk-returns-else-not-arms_fit-clause-says : goal.walk-returns-else-not-arms_fit-clause-says
+walk-returns-else-not-arms_fit-clause-says t c =
     let v = c.args.frame.now.scene in
     let A = c.args.frame.now.atoms in
     let arms = c.deref-in-Branch.result.now in
     let plan = ap plan_of c.in-Branch.is ∙ plan_of-Branch c.in-Branch.item c.in-Branch.arms ∙ ap (λ xs. Branches c.in-Branch.item (arms_list xs)) (sym c.deref-in-Branch.ensures.value) in
     let same = c.deref.ensures.value ∙ sym c.deref-in-Branch.ensures.value in
     let fit = sym c.if-not-arms_fit.false ∙ c.arms_fit.ensures ∙ ap (λ (xs : List Arm). arms_fit v A c.in-Branch.item (heads (arms_list xs))) same in
-    c.in_ok-yes-in-Branch.ensures.says ∙ sym (branch_says v A (plan_of c.args.tree.now) c.in-Branch.item arms plan true fit)
+    IfOk-weaker c.walk_arms.result _ _ (λ yes e. e ∙ sym (branch_says v A (plan_of c.args.tree.now) c.in-Branch.item arms plan true fit)) c.walk_arms.ensures.says
 
-pub walk-returns-in_ok-yes-in-Branch-clause-tilings : goal.walk-returns-in_ok-yes-in-Branch-clause-tilings
-walk-returns-in_ok-yes-in-Branch-clause-tilings t c = λ y k.
+pub walk-returns-else-not-arms_fit-clause-tilings : goal.walk-returns-else-not-arms_fit-clause-tilings
+walk-returns-else-not-arms_fit-clause-tilings t c =
     let v = c.args.frame.now.scene in
     let A = c.args.frame.now.atoms in
     let plan = ap plan_of c.in-Branch.is ∙ plan_of-Branch c.in-Branch.item c.in-Branch.arms ∙ ap (λ xs. Branches c.in-Branch.item (arms_list xs)) (sym c.deref-in-Branch.ensures.value) in
-    c.in_ok-yes-in-Branch.ensures.tilings y k ∙ ap (λ p. c.args.out.now.tilings.items ++ tilings v A p) (sym plan)
+    IfOk-weaker c.walk_arms.result _ _ (λ yes e. λ y k. e y k ∙ ap (λ p. c.args.out.now.tilings.items ++ tilings v A p) (sym plan)) c.walk_arms.ensures.tilings
 
-pub walk-returns-in_ok-yes-in-Branch-clause-paths : goal.walk-returns-in_ok-yes-in-Branch-clause-paths
-walk-returns-in_ok-yes-in-Branch-clause-paths t c = λ y k.
+pub walk-returns-else-not-arms_fit-clause-paths : goal.walk-returns-else-not-arms_fit-clause-paths
+walk-returns-else-not-arms_fit-clause-paths t c =
     let v = c.args.frame.now.scene in
     let A = c.args.frame.now.atoms in
     let plan = ap plan_of c.in-Branch.is ∙ plan_of-Branch c.in-Branch.item c.in-Branch.arms ∙ ap (λ xs. Branches c.in-Branch.item (arms_list xs)) (sym c.deref-in-Branch.ensures.value) in
-    c.in_ok-yes-in-Branch.ensures.paths y k ∙ ap (λ p. c.args.out.now.paths ++ paths c.args.frame.now.given v A p) (sym plan)
+    IfOk-weaker c.walk_arms.result _ _ (λ yes e. λ y k. e y k ∙ ap (λ p. c.args.out.now.paths ++ paths c.args.frame.now.given v A p) (sym plan)) c.walk_arms.ensures.paths
 
 pub walk_arms-leave-requires : goal.walk_arms-leave-requires
 walk_arms-leave-requires t c =

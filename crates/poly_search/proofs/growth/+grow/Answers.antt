@@ -1,5 +1,5 @@
-use Rattle.std.proofs.Common.{◌≡◌, ◌+◌, ◌-◌, ◌*◌, ◌/◌, ◌<◌, ◌≤◌, ◌++◌, [], ◌∷◌, ap, append-nil, arith, drop, get_or, length, refl, rules, subst, sym, take, true, ◌∙◌}
-use Rattle.std.proofs.lemmas.Bool.{eqb-true, ltb-true, true≢false}
+use Rattle.std.proofs.Common.{◌≡◌, ℕ, ◌+◌, ◌-◌, ◌*◌, ◌/◌, ◌<◌, ◌≤◌, ◌++◌, ◌&&◌, [], ◌∷◌, ap, append-nil, arith, cond, drop, get_or, length, length-append, refl, subst, sym, take, true, ◌∙◌}
+use Rattle.std.proofs.lemmas.Bool.{eqb-true, le-ltb, lt-ltb, ltb-true, true≢false}
 use Rattle.std.proofs.lemmas.List.{length-take-le, take_all, take_more}
 use Rattle.std.proofs.lemmas.Result.{IfOk-weaker}
 use Rattle.poly_atom.specs.declared.atom.Atom.TheVariants.{Has, Lacks}
@@ -8,24 +8,24 @@ use Rattle.poly_report.specs.Trees.{Branches, Finds, NoArms, Rests, Splits, head
 use Rattle.poly_report.specs.Shapes.{arms_list, plan_of}
 use Rattle.poly_report.specs.Sizes.{Grown}
 use Rattle.poly_report.specs.Holds.{arm_atoms}
-use Rattle.poly_tiling.specs.Lists.{distinct}
+use Rattle.poly_tiling.specs.Lists.{distinct, mem}
 use Rattle.poly_report.proofs.Rows.{plan_of-Branch}
-use Rattle.poly_frame.specs.Walk.{Walk, backtrack_to, is_due, with_step}
+use Rattle.poly_frame.specs.Walk.{Walk, backtrack_to, is_due, is_open, is_option, with_step}
 use Rattle.poly_search.specs.declared.growth.Growth.{Growth}
 use Rattle.poly_search.specs.Chains.{chain}
-use Rattle.poly_search.specs.Grows.{Grows, Stand, snoc, stand_of}
-use Rattle.poly_search.specs.Walked.{past}
+use Rattle.poly_search.specs.Grows.{ArmsGrow, Grows, Stand, snoc, stand_of}
+use Rattle.poly_search.specs.Walked.{CanChain, past}
 use Rattle.poly_search.proofs.Gathered.{arm_path, leaves_cut}
 use Rattle.poly_search.proofs.Growing.{arms_next, arms_none, branch_grows, chain_grows, dead_end_grows, found_grows, none_fit, past_long, rest_grows, split_grows}
 use Rattle.poly_search.proofs.Links.{linked_next, no_chain}
 use Rattle.poly_search.proofs.Nodes.{back_is, heads_snoc, past_back, past_next, total_snoc, total_some}
 use Rattle.poly_search.proofs.growth.+grow.Goals as goal
-use Rattle.poly_search.proofs.growth.+grow.Goals.{grow-in-Some-next_due+in_ok-options+else-is_empty+else-len-growth, grow-in_default, walk_arms-then-growth-gt0, walk_arms-else-growth-gt0, walk_arms-then-chained+then-j-gt0+then-growth-gt1, walk_arms-then-chained+then-j-gt0+else-growth-gt1+else-options-j-gt1, walk_arms-else-chained, walk_arms-then-chained-2, walk_arms-else-chained-2, walk_arms-then-after-gt0, walk_arms-else-after-gt0}
+use Rattle.poly_search.proofs.growth.+grow.Goals.{arm-then-depth-lt2, arm-else-depth-lt2+in_default, grow-in-Some-next_due+in_ok-options+else-is_empty+else-len-growth, grow-in_default, walk_arms-then-growth-gt0, walk_arms-else-growth-gt0, walk_arms-then-chained+then-j-gt0+then-growth-gt1, walk_arms-then-chained+then-j-gt0+else-growth-gt1+else-options-j-gt1, walk_arms-else-chained, walk_arms-then-chained-2, walk_arms-else-chained-2, walk_arms-then-after-gt0, walk_arms-else-after-gt0}
 
 pub arm-returns-in-Some-clause-grows : goal.arm-returns-in-Some-clause-grows
 arm-returns-in-Some-clause-grows t c =
     let e = c.dead_end.ensures in
-    let low : 2 ≤ c.args.depth = search rules in (
+    let low = c.if-depth-lt2.false.1 in (
       Branches c.in-Some.item NoArms,
       λ k. e.tree,
       dead_end_grows (with_step c.args.frame.now (Has c.args.placement)) c.args.depth c.in-Some.item (stand_of c.args.growth.now) (stand_of c.dead_end.new.growth) low c.in-Some.ensures.1 e.nodes e.inner (ap (λ (g : Gathered). g.tilings.items) e.gathered) (ap (λ (g : Gathered). g.paths) e.gathered),
@@ -37,9 +37,9 @@ branch-returns-then-walked-options-clause-grows t c =
     let a = c.in_ok-walked.walked in
     let w = c.in_ok-walked.ensures.walked in
     let some : 1 ≤ c.args.growth.now.nodes = omega (arith, r.room) in
-    let short : a.walked < length c.args.options.now = search rules in
+    let short = c.if-walked-options.true in
     let made = chain_grows c.args.frame.now c.args.depth c.args.kept c.args.item.now c.args.options.now (stand_of c.args.growth.now) (stand_of c.walk_arms.new.growth) a.held a.walked w.0 r.once (r.each_once, r.members) some r.inner short w.2 in
-    (chain w.0 Rests, λ k. c.in_ok-tree.ensures.tree ∙ ap (λ x. chain x Rests) (w.1 k), made.0, made.1)
+    IfOk-weaker c.link.result _ _ (λ x e. (chain w.0 Rests, λ k. e ∙ ap (λ x. chain x Rests) (w.1 k), made.0, made.1)) c.link.ensures.tree
 
 pub branch-returns-clause-grows : goal.branch-returns-clause-grows
 branch-returns-clause-grows t c =
@@ -48,7 +48,7 @@ branch-returns-clause-grows t c =
     let w = c.in_ok-walked.ensures.walked in
     let i = c.args.item.now in
     let some : 1 ≤ c.args.growth.now.nodes = omega (arith, r.room) in
-    let all : length c.args.options.now ≤ a.walked = search rules in
+    let all = c.if-walked-options.false in
     let made = branch_grows c.args.frame.now c.args.depth c.args.kept i c.args.options.now (stand_of c.args.growth.now) (stand_of c.walk_arms.new.growth) a.held a.walked w.0 r.low r.once (r.each_once, r.members) r.due some r.inner all w.2 in
     (Branches i w.0, λ k. plan_of-Branch i a.arms ∙ ap (λ x. Branches i x) (w.1 k), made, refl)
 
@@ -58,14 +58,17 @@ child-returns-then-inner-growth-clause-grows t c =
     let old = stand_of c.args.growth.now in
     let mid = stand_of c.grow.new.growth in
     let e = c.in_ok-tree.ensures.grows in
-    let cut = c.in_ok-cut.ensures.grows in
-    let last = cut.1 c.args.depth c.requires.low in
     let few = c.truncate-then-inner-growth.new.self in
     let long : c.len-tilings.result ≡ length old.found = omega (arith, c.len-tilings.ensures, c.args.growth.now.gathered.tilings.ok) in
     let found : c.truncate.new.self.items ≡ old.found = leaves_cut old.found mid.found c.truncate.new.self.items _ c.len-tilings.result long e.2.tilings c.truncate.ensures.items in
     let left : few ≡ old.left = leaves_cut old.left mid.left few _ c.len-rests.result c.len-rests.ensures e.2.paths c.truncate-then-inner-growth.ensures in
-    let paths = last.paths ∙ ap (λ xs. xs ++ drop c.grow.new.frame.given c.grow.new.frame.atoms ∷ []) left ∙ ap (λ (x : Walk). old.left ++ drop x.given x.atoms ∷ []) c.in_ok-tree.ensures.same in
-    (Rests, λ k. cut.0, rest_grows w c.args.depth old (stand_of c.rest.new.growth) c.requires.low last.nodes (omega (arith, last.inner, e.2.inner)) (last.tilings ∙ append-nil _ ∙ found) paths)
+    IfOk-weaker c.rest.result _ _ (λ x cut. (
+      Rests,
+      λ k. cut.0,
+      (let last = cut.1 c.args.depth c.requires.low in
+          let paths = last.paths ∙ ap (λ xs. xs ++ drop c.grow.new.frame.given c.grow.new.frame.atoms ∷ []) left ∙ ap (λ (x : Walk). old.left ++ drop x.given x.atoms ∷ []) c.in_ok-tree.ensures.same in
+          rest_grows w c.args.depth old (stand_of c.rest.new.growth) c.requires.low last.nodes (omega (arith, last.inner, e.2.inner)) (last.tilings ∙ append-nil _ ∙ found) paths),
+    )) c.rest.ensures.grows
 
 pub grow-returns-then-growth-eq0-clause-grows : goal.grow-returns-then-growth-eq0-clause-grows
 grow-returns-then-growth-eq0-clause-grows t c = IfOk-weaker c.rest.result _ _ (λ x e. (Rests, λ k. e.0, e.1 c.args.depth c.requires.low, λ a b some d. absurd (omega (arith, some, c.if-growth-eq0.true)))) c.rest.ensures.grows
@@ -86,18 +89,18 @@ grow-returns-then-is_empty-clause-grows t c =
     let xs = c.in_ok-options.options.items in
     let i = c.in-Some-next_due.item in
     let e = c.dead_end.ensures in
-    let low : 2 ≤ c.args.depth = search rules in
-    let due : is_due w i ≡ true = search rules in
+    let low = c.if-depth-lt2.false in
+    let due = c.in-Some-next_due.ensures in
     let none : length xs ≡ 0 = omega (arith, eqb-true c.in_ok-options.options.len 0 (sym c.is_empty.ensures ∙ c.if-is_empty.true), c.in_ok-options.options.ok) in
     let fit = none_fit w i xs none c.requires.once (c.in_ok-options.ensures.once, c.in_ok-options.ensures.members) due in
     (Branches i NoArms, λ k. e.tree, dead_end_grows w c.args.depth i (stand_of c.args.growth.now) (stand_of c.dead_end.new.growth) low fit e.nodes e.inner (ap (λ (g : Gathered). g.tilings.items) e.gathered) (ap (λ (g : Gathered). g.paths) e.gathered), λ a b some d. refl)
 
 pub grow-returns-then-growth-lt2-clause-grows : goal.grow-returns-then-growth-lt2-clause-grows
 grow-returns-then-growth-lt2-clause-grows t c =
-    let low : ¬ c.args.root ≡ true = search rules in
+    let low = c.if-not-root.true in
     let same = c.in_ok-options.ensures.same in
     let new = stand_of c.rest-then-growth-lt2.new.growth in
-    IfOk-weaker c.rest-then-growth-lt2.result _ _ (λ x e. (Rests, λ k. e.0, subst (λ (y : Walk). Grows y c.args.depth (stand_of c.args.growth.now) new Rests) same (e.1 c.args.depth c.requires.low), λ a b some d. absurd (low a))) c.rest-then-growth-lt2.ensures.grows
+    IfOk-weaker c.rest-then-growth-lt2.result _ _ (λ x e. (Rests, λ k. e.0, subst (λ (y : Walk). Grows y c.args.depth (stand_of c.args.growth.now) new Rests) same (e.1 c.args.depth c.requires.low), λ a b some d. absurd (true≢false (sym a ∙ low)))) c.rest-then-growth-lt2.ensures.grows
 
 pub grow-returns-then-growth-kept-lt3-clause-grows : goal.grow-returns-then-growth-kept-lt3-clause-grows
 grow-returns-then-growth-kept-lt3-clause-grows t c =
@@ -122,12 +125,14 @@ split-returns-clause-grows t c =
     let b = c.in_ok-left.ensures.grows in
     let some : 1 ≤ c.args.growth.now.nodes = omega (arith, r.room) in
     let back = back_is w c.pick.new.self c.child.new.frame c.backtrack_to.new.self (Has p) c.level-level.result c.level-level.ensures c.pick.ensures c.in_ok-taken.ensures.same c.backtrack_to.ensures in
-    let left : c.leave.new.self ≡ with_step w (Lacks p) = c.leave.ensures ∙ ap (λ (x : Walk). with_step x (Lacks p)) back in (
+    let left : c.leave.new.self ≡ with_step w (Lacks p) = c.leave.ensures ∙ ap (λ (x : Walk). with_step x (Lacks p)) back in
+    let made = split_grows w c.pick.new.self c.leave.new.self c.args.depth p (stand_of c.args.growth.now) (stand_of c.child.new.growth) (stand_of c.child-2.new.growth) a.0 b.0 r.low some r.inner r.once r.place r.open c.pick.ensures left a.2 b.2 in
+    IfOk-weaker c.over_both.result _ _ (λ x e. (
       Splits p a.0 b.0,
-      λ k. c.in_ok-tree.ensures.tree (c.in_ok-left.ensures.keep ∙ c.in_ok-taken.ensures.keep ∙ k) ∙ ap (λ x. Splits p x (plan_of c.in_ok-left.left)) (a.1 k) ∙ ap (λ x. Splits p a.0 x) (b.1 (c.in_ok-taken.ensures.keep ∙ k)),
-      split_grows w c.pick.new.self c.leave.new.self c.args.depth p (stand_of c.args.growth.now) (stand_of c.child.new.growth) _ a.0 b.0 r.low some r.inner r.once r.place r.open c.pick.ensures left a.2 b.2,
+      λ k. e (c.in_ok-left.ensures.keep ∙ c.in_ok-taken.ensures.keep ∙ k) ∙ ap (λ x. Splits p x (plan_of c.in_ok-left.left)) (a.1 k) ∙ ap (λ x. Splits p a.0 x) (b.1 (c.in_ok-taken.ensures.keep ∙ k)),
+      made,
       refl,
-    )
+    )) c.over_both.ensures.tree
 
 pub walk_arms-loop-j-init : goal.walk_arms-loop-j-init
 walk_arms-loop-j-init t c =
@@ -227,3 +232,334 @@ walk_arms-loop-j-preserved t c =
         few = omega (arith, spent.2, s.few);
       },
     )
+
+-- the frame once the placement is taken
+picked : (t : ℕ) (c : goal.arm-After-backtrack_to t) → c.if-depth-lt2.frame ≡ with_step c.args.frame.now (Has c.args.placement)
+picked t c = elim c.if-depth-lt2.branch [
+  | arm-then-depth-lt2 k ↦ k.frame-is ∙ k.pick.ensures
+  | arm-else-depth-lt2+in_default k ↦ k.frame-is ∙ k.in_default.ensures
+]
+
+pub arm-child-requires : goal.arm-child-requires
+arm-child-requires t c =
+    let w = c.args.frame.now in
+    let r = c.requires in
+    let picked : c.if-depth-lt2.frame ≡ with_step c.args.frame.now (Has c.args.placement) = elim c.if-depth-lt2.branch [
+      | arm-then-depth-lt2 k ↦ k.frame-is ∙ k.pick.ensures
+      | arm-else-depth-lt2+in_default k ↦ k.frame-is ∙ k.in_default.ensures
+    ] in
+    let long : length c.if-depth-lt2.frame.atoms ≡ length w.atoms + 1 = omega (arith, ap (λ (x : Walk). length x.atoms) picked, length-append w.atoms (Has c.args.placement ∷ [])) in
+    let given = ap (λ (x : Walk). x.given) picked in
+    (omega (arith, c.decreases), (r.room, (r.low, (omega (arith, long, given, r.steps), (omega (arith, long, given, r.begun), subst (λ (x : Walk). distinct x.scene.live ≡ true) (sym picked) r.once)))))
+
+pub arm-backtrack_to-requires : goal.arm-backtrack_to-requires
+arm-backtrack_to-requires t c =
+    let picked : c.if-depth-lt2.frame ≡ with_step c.args.frame.now (Has c.args.placement) = elim c.if-depth-lt2.branch [
+      | arm-then-depth-lt2 k ↦ k.frame-is ∙ k.pick.ensures
+      | arm-else-depth-lt2+in_default k ↦ k.frame-is ∙ k.in_default.ensures
+    ] in
+    omega (arith, ap (λ (x : Walk). x.given) (c.in_ok-tree.ensures.same ∙ picked), c.level-level.ensures, c.requires.begun)
+
+pub arm-returns-clause-grows : goal.arm-returns-clause-grows
+arm-returns-clause-grows t c =
+    let g = c.in_ok-tree.ensures.grows in
+    (g.0, g.1, subst (λ (x : Walk). Grows x c.args.depth (stand_of c.args.growth.now) (stand_of c.child.new.growth) g.0) (picked t c) g.2)
+
+pub arm-returns-clause-same : goal.arm-returns-clause-same
+arm-returns-clause-same t c = back_is c.args.frame.now c.if-depth-lt2.frame c.child.new.frame c.backtrack_to.new.self (Has c.args.placement) c.level-level.result c.level-level.ensures (picked t c) c.in_ok-tree.ensures.same c.backtrack_to.ensures
+
+pub branch-walk_arms-requires : goal.branch-walk_arms-requires
+branch-walk_arms-requires t c =
+    let r = c.requires in
+    (omega (arith, c.decreases), (omega (arith, r.room), (r.low, (omega (arith, r.room, r.steps), (r.begun, (r.once, (r.each_once, r.members)))))))
+
+pub branch-returns-clause-kept : goal.branch-returns-clause-kept
+branch-returns-clause-kept t c =
+    let w = c.in_ok-walked.ensures.walked in
+    omega (arith, w.2.few, w.2.room)
+
+pub child-grow-requires : goal.child-grow-requires
+child-grow-requires t c =
+    let r = c.requires in
+    (omega (arith, c.decreases), (r.room, (r.low, (r.steps, (r.begun, r.once)))))
+
+pub child-returns-clause-grows : goal.child-returns-clause-grows
+child-returns-clause-grows t c =
+    let g = c.in_ok-tree.ensures.grows in
+    (g.0, g.1, g.2)
+
+pub child-returns-then-inner-growth-clause-keep : goal.child-returns-then-inner-growth-clause-keep
+child-returns-then-inner-growth-clause-keep t c = IfOk-weaker c.rest.result _ _ (λ x e. e ∙ c.in_ok-tree.ensures.keep) c.rest.ensures.keep
+
+pub child-returns-then-inner-growth-clause-kept : goal.child-returns-then-inner-growth-clause-kept
+child-returns-then-inner-growth-clause-kept t c = IfOk-weaker c.rest.result _ _ (λ x e. omega (arith, e, c.requires.room)) c.rest.ensures.nodes
+
+pub child-returns-then-inner-growth-clause-same : goal.child-returns-then-inner-growth-clause-same
+child-returns-then-inner-growth-clause-same t c = IfOk-weaker c.rest.result _ _ (λ x e. c.in_ok-tree.ensures.same) c.rest.ensures.keep
+
+-- the frame and what has grown, if no Branch grows
+after : (t : ℕ) (c : goal.grow-After-split t) → (c.match-next_due.frame ≡ c.args.frame.now) × (stand_of c.match-next_due.growth ≡ stand_of c.args.growth.now) × (c.match-next_due.growth.keep ≡ c.args.growth.now.keep)
+after t c = elim c.match-next_due.branch [
+  | grow-in-Some-next_due+in_ok-options+else-is_empty+else-len-growth k ↦ (k.frame-is ∙ k.in_ok-options.ensures.same, ap stand_of k.growth-is, ap (λ (g : Growth). g.keep) k.growth-is)
+  | grow-in_default k ↦ (k.frame-is, ap stand_of k.growth-is, ap (λ (g : Growth). g.keep) k.growth-is)
+]
+
+pub grow-returns-clause-grows : goal.grow-returns-clause-grows
+grow-returns-clause-grows t c =
+    let s = after t c in
+    IfOk-weaker c.split.result _ _ (λ x e. (
+      e.0,
+      λ k. e.1 (s.2 ∙ k),
+      subst (λ y. Grows c.args.frame.now c.args.depth y (stand_of c.split.new.growth) e.0) s.1 (subst (λ y. Grows y c.args.depth (stand_of c.match-next_due.growth) (stand_of c.split.new.growth) e.0) s.0 e.2),
+      λ a b some d. e.3,
+    )) c.split.ensures.grows
+
+pub grow-returns-clause-same : goal.grow-returns-clause-same
+grow-returns-clause-same t c = IfOk-weaker c.split.result _ _ (λ x e. e ∙ (after t c).0) c.split.ensures.same
+
+pub grow-returns-clause-keep : goal.grow-returns-clause-keep
+grow-returns-clause-keep t c = IfOk-weaker c.split.result _ _ (λ x e. e ∙ (after t c).2) c.split.ensures.keep
+
+pub grow-returns-clause-kept : goal.grow-returns-clause-kept
+grow-returns-clause-kept t c = c.split.ensures.kept
+
+pub grow-split-requires : goal.grow-split-requires
+grow-split-requires t c =
+    let r = c.requires in
+    let p = c.in-Some.p in
+    let same : (c.match-next_due.frame ≡ c.args.frame.now) × (stand_of c.match-next_due.growth ≡ stand_of c.args.growth.now) = elim c.match-next_due.branch [
+      | grow-in-Some-next_due+in_ok-options+else-is_empty+else-len-growth k ↦ (k.frame-is ∙ k.in_ok-options.ensures.same, ap stand_of k.growth-is)
+      | grow-in_default k ↦ (k.frame-is, ap stand_of k.growth-is)
+    ] in
+    let nodes = ap (λ (s : Stand). s.nodes) same.1 in
+    let long = ap (λ (x : Walk). length x.atoms) same.0 in
+    let given = ap (λ (x : Walk). x.given) same.0 in
+    let here = sym same.0 in
+    let inner : 1 ≤ c.match-next_due.growth.inner = omega (arith, ap (λ (s : Stand). s.inner) same.1, c.if-growth-eq0.false) in
+    let once = subst (λ (x : Walk). distinct x.scene.live ≡ true) here r.once in
+    let place = subst (λ (x : Walk). mem x.scene.live p ≡ true) here c.in-Some.ensures.0 in
+    let still = subst (λ (x : Walk). is_open x p ≡ true) here c.in-Some.ensures.1 in
+    let steps : length c.match-next_due.frame.atoms + c.match-next_due.growth.nodes ≤ c.match-next_due.frame.given + 4096 + c.args.kept = omega (arith, long, nodes, given, r.steps) in
+    (omega (arith, c.decreases), (omega (arith, c.if-growth-kept-lt3.false), (inner, (omega (arith, c.if-depth-lt2.false), (steps, (omega (arith, long, given, r.begun), (once, (place, still))))))))
+
+pub grow-branch-alloc-requires : goal.grow-branch-alloc-requires
+grow-branch-alloc-requires t c =
+    let w = c.args.frame.now in
+    let r = c.requires in
+    let i = c.in-Some-next_due.item in
+    let ps = c.in_ok-options.options in
+    let o = c.in_ok-options.ensures in
+    let here = sym o.same in
+    let value = c.deref.ensures.value in
+    let long = ap (λ (x : Walk). length x.atoms) o.same in
+    let given = ap (λ (x : Walk). x.given) o.same in
+    let once = subst (λ (x : Walk). distinct x.scene.live ≡ true) here r.once in
+    let due = subst (λ (x : Walk). is_due x i ≡ true) here c.in-Some-next_due.ensures in
+    let members = subst (λ (x : Walk). (p : ℕ) → mem c.deref.result.now p ≡ (mem x.scene.live p && is_option x i p)) here (λ p. ap (λ xs. mem xs p) value ∙ o.members p) in
+    let room : c.args.kept + length c.deref.result.now < c.args.growth.now.nodes = omega (arith, c.if-len-growth.true, c.len.ensures, ps.ok, ap length value) in
+    let steps : length c.list_options.new.frame.atoms + c.args.growth.now.nodes ≤ c.list_options.new.frame.given + 4096 + c.args.kept = omega (arith, long, given, r.steps) in
+    (omega (arith, c.decreases), (room, (omega (arith, c.if-growth-eq0.false), (omega (arith, c.if-depth-lt2.false), (steps, (omega (arith, long, given, r.begun), (once, (due, (ap distinct value ∙ o.once, members)))))))))
+
+pub grow-returns-then-len-growth-clause-grows : goal.grow-returns-then-len-growth-clause-grows
+grow-returns-then-len-growth-clause-grows t c =
+    let g = c.in_ok-tree.ensures.grows in
+    (g.0, g.1, subst (λ (x : Walk). Grows x c.args.depth (stand_of c.args.growth.now) (stand_of c.branch-alloc.new.growth) g.0) c.in_ok-options.ensures.same g.2, λ a b some d. g.3)
+
+pub grow-returns-then-len-growth-clause-same : goal.grow-returns-then-len-growth-clause-same
+grow-returns-then-len-growth-clause-same t c = c.in_ok-tree.ensures.same ∙ c.in_ok-options.ensures.same
+
+pub grow-returns-then-growth-eq0-clause-kept : goal.grow-returns-then-growth-eq0-clause-kept
+grow-returns-then-growth-eq0-clause-kept t c = IfOk-weaker c.rest.result _ _ (λ x e. omega (arith, e, c.requires.room)) c.rest.ensures.nodes
+
+pub grow-returns-then-growth-eq0-clause-keep : goal.grow-returns-then-growth-eq0-clause-keep
+grow-returns-then-growth-eq0-clause-keep t c = c.rest.ensures.keep
+
+pub grow-returns-then-growth-eq0-clause-same : goal.grow-returns-then-growth-eq0-clause-same
+grow-returns-then-growth-eq0-clause-same t c = IfOk-weaker c.rest.result _ _ (λ x e. refl) c.rest.ensures.keep
+
+pub grow-returns-then-depth-lt2-clause-kept : goal.grow-returns-then-depth-lt2-clause-kept
+grow-returns-then-depth-lt2-clause-kept t c = IfOk-weaker c.rest-then-depth-lt2.result _ _ (λ x e. omega (arith, e, c.requires.room)) c.rest-then-depth-lt2.ensures.nodes
+
+pub grow-returns-then-depth-lt2-clause-keep : goal.grow-returns-then-depth-lt2-clause-keep
+grow-returns-then-depth-lt2-clause-keep t c = c.rest-then-depth-lt2.ensures.keep
+
+pub grow-returns-then-depth-lt2-clause-same : goal.grow-returns-then-depth-lt2-clause-same
+grow-returns-then-depth-lt2-clause-same t c = IfOk-weaker c.rest-then-depth-lt2.result _ _ (λ x e. refl) c.rest-then-depth-lt2.ensures.keep
+
+pub grow-returns-then-growth-lt2-clause-kept : goal.grow-returns-then-growth-lt2-clause-kept
+grow-returns-then-growth-lt2-clause-kept t c = IfOk-weaker c.rest-then-growth-lt2.result _ _ (λ x e. omega (arith, e, c.requires.room)) c.rest-then-growth-lt2.ensures.nodes
+
+pub grow-returns-then-growth-lt2-clause-keep : goal.grow-returns-then-growth-lt2-clause-keep
+grow-returns-then-growth-lt2-clause-keep t c = c.rest-then-growth-lt2.ensures.keep
+
+pub grow-returns-then-growth-lt2-clause-same : goal.grow-returns-then-growth-lt2-clause-same
+grow-returns-then-growth-lt2-clause-same t c = IfOk-weaker c.rest-then-growth-lt2.result _ _ (λ x e. c.in_ok-options.ensures.same) c.rest-then-growth-lt2.ensures.keep
+
+-- the same before a Rest
+before : (t : ℕ) (c : goal.grow-After-rest-then-growth-kept-lt3 t) → (c.match-next_due.frame ≡ c.args.frame.now) × (stand_of c.match-next_due.growth ≡ stand_of c.args.growth.now) × (c.match-next_due.growth.keep ≡ c.args.growth.now.keep)
+before t c = elim c.match-next_due.branch [
+  | grow-in-Some-next_due+in_ok-options+else-is_empty+else-len-growth k ↦ (k.frame-is ∙ k.in_ok-options.ensures.same, ap stand_of k.growth-is, ap (λ (g : Growth). g.keep) k.growth-is)
+  | grow-in_default k ↦ (k.frame-is, ap stand_of k.growth-is, ap (λ (g : Growth). g.keep) k.growth-is)
+]
+
+pub grow-returns-then-growth-kept-lt3-clause-same : goal.grow-returns-then-growth-kept-lt3-clause-same
+grow-returns-then-growth-kept-lt3-clause-same t c = IfOk-weaker c.rest-then-growth-kept-lt3.result _ _ (λ x e. (before t c).0) c.rest-then-growth-kept-lt3.ensures.keep
+
+pub grow-returns-then-growth-kept-lt3-clause-keep : goal.grow-returns-then-growth-kept-lt3-clause-keep
+grow-returns-then-growth-kept-lt3-clause-keep t c = IfOk-weaker c.rest-then-growth-kept-lt3.result _ _ (λ x e. e ∙ (before t c).2) c.rest-then-growth-kept-lt3.ensures.keep
+
+pub grow-returns-then-growth-kept-lt3-clause-kept : goal.grow-returns-then-growth-kept-lt3-clause-kept
+grow-returns-then-growth-kept-lt3-clause-kept t c = IfOk-weaker c.rest-then-growth-kept-lt3.result _ _ (λ x e. omega (arith, e, ap (λ (s : Stand). s.nodes) (before t c).1, c.requires.room)) c.rest-then-growth-kept-lt3.ensures.nodes
+
+pub grow-returns-then-is_empty-clause-kept : goal.grow-returns-then-is_empty-clause-kept
+grow-returns-then-is_empty-clause-kept t c = omega (arith, c.dead_end.ensures.nodes, c.requires.room)
+
+pub split-child-requires : goal.split-child-requires
+split-child-requires t c =
+    let w = c.args.frame.now in
+    let r = c.requires in
+    let long : length c.pick.new.self.atoms ≡ length w.atoms + 1 = omega (arith, ap (λ (x : Walk). length x.atoms) c.pick.ensures, length-append w.atoms (Has c.args.placement ∷ [])) in
+    let given = ap (λ (x : Walk). x.given) c.pick.ensures in
+    let once = subst (λ (x : Walk). distinct x.scene.live ≡ true) (sym c.pick.ensures) r.once in
+    (omega (arith, c.decreases, r.low), (omega (arith, r.room), (omega (arith, r.low), (omega (arith, long, given, r.steps, r.room), (omega (arith, long, given, r.begun), once)))))
+
+pub split-child-requires-2 : goal.split-child-requires-2
+split-child-requires-2 t c =
+    let w = c.args.frame.now in
+    let r = c.requires in
+    let a = c.in_ok-taken.ensures.grows in
+    let left = c.leave.ensures ∙ ap (λ (x : Walk). with_step x (Lacks c.args.placement)) (back_is w c.pick.new.self c.child.new.frame c.backtrack_to.new.self (Has c.args.placement) c.level-level.result c.level-level.ensures c.pick.ensures c.in_ok-taken.ensures.same c.backtrack_to.ensures) in
+    let long : length c.leave.new.self.atoms ≡ length w.atoms + 1 = omega (arith, ap (λ (x : Walk). length x.atoms) left, length-append w.atoms (Lacks c.args.placement ∷ [])) in
+    let given = ap (λ (x : Walk). x.given) left in
+    let once = subst (λ (x : Walk). distinct x.scene.live ≡ true) (sym left) r.once in
+    let steps : length c.leave.new.self.atoms + c.child.new.growth.nodes ≤ c.leave.new.self.given + 4096 + c.args.kept = omega (arith, long, given, total_some a.0, a.2.nodes, r.steps, r.room) in
+    (omega (arith, c.decreases, r.low), (omega (arith, c.in_ok-taken.ensures.kept), (omega (arith, r.low), (steps, (omega (arith, long, given, r.begun), once)))))
+
+pub split-leave-requires : goal.split-leave-requires
+split-leave-requires t c =
+    let w = c.args.frame.now in
+    let r = c.requires in
+    let room : length w.atoms < w.given + 4096 = omega (arith, r.steps, r.room) in
+    subst (λ (x : Walk). length x.atoms < x.given + 4096) (sym (back_is w c.pick.new.self c.child.new.frame c.backtrack_to.new.self (Has c.args.placement) c.level-level.result c.level-level.ensures c.pick.ensures c.in_ok-taken.ensures.same c.backtrack_to.ensures)) room
+
+pub split-backtrack_to-requires : goal.split-backtrack_to-requires
+split-backtrack_to-requires t c = omega (arith, ap (λ (x : Walk). x.given) (c.in_ok-taken.ensures.same ∙ c.pick.ensures), c.level-level.ensures, c.requires.begun)
+
+pub split-backtrack_to-requires-2 : goal.split-backtrack_to-requires-2
+split-backtrack_to-requires-2 t c =
+    let w = c.args.frame.now in
+    let left = c.leave.ensures ∙ ap (λ (x : Walk). with_step x (Lacks c.args.placement)) (back_is w c.pick.new.self c.child.new.frame c.backtrack_to.new.self (Has c.args.placement) c.level-level.result c.level-level.ensures c.pick.ensures c.in_ok-taken.ensures.same c.backtrack_to.ensures) in
+    omega (arith, ap (λ (x : Walk). x.given) (c.in_ok-left.ensures.same ∙ left), c.level-level.ensures, c.requires.begun)
+
+pub split-returns-clause-same : goal.split-returns-clause-same
+split-returns-clause-same t c =
+    let w = c.args.frame.now in
+    let left = c.leave.ensures ∙ ap (λ (x : Walk). with_step x (Lacks c.args.placement)) (back_is w c.pick.new.self c.child.new.frame c.backtrack_to.new.self (Has c.args.placement) c.level-level.result c.level-level.ensures c.pick.ensures c.in_ok-taken.ensures.same c.backtrack_to.ensures) in
+    IfOk-weaker c.over_both.result _ _ (λ x e. back_is w c.leave.new.self c.child-2.new.frame c.backtrack_to-2.new.self (Lacks c.args.placement) c.level-level.result c.level-level.ensures left c.in_ok-left.ensures.same c.backtrack_to-2.ensures) c.over_both.ensures.tree
+
+pub split-returns-clause-keep : goal.split-returns-clause-keep
+split-returns-clause-keep t c = IfOk-weaker c.over_both.result _ _ (λ x e. c.in_ok-left.ensures.keep ∙ c.in_ok-taken.ensures.keep) c.over_both.ensures.tree
+
+pub walk_arms-backtrack_to-requires : goal.walk_arms-backtrack_to-requires
+walk_arms-backtrack_to-requires t c = omega (arith, ap (λ (x : Walk). x.given) c.loop-j.invariant.3.front, c.level-start.ensures, c.requires.begun)
+
+pub walk_arms-backtrack_to-requires-2 : goal.walk_arms-backtrack_to-requires-2
+walk_arms-backtrack_to-requires-2 t c = omega (arith, ap (λ (x : Walk). x.given) c.loop-j.invariant.3.front, c.level-start.ensures, c.requires.begun)
+
+pub walk_arms-leave-requires : goal.walk_arms-leave-requires
+walk_arms-leave-requires t c =
+    let w = c.args.frame.now in
+    let r = c.requires in
+    let lt : c.loop-j.j < length c.args.options.now = c.loop-j-test.true in
+    let long = past_long w c.loop-j.frame c.args.options.now c.loop-j.j lt (c.loop-j.invariant.3.path lt) in
+    let room : length c.loop-j.frame.atoms < c.loop-j.frame.given + 4096 = omega (arith, long.0, long.1, lt, r.room, r.steps) in
+    subst (λ (x : Walk). length x.atoms < x.given + 4096) (sym c.in_ok-tree.ensures.same) room
+
+pub walk_arms-returns-clause-same : goal.walk_arms-returns-clause-same
+walk_arms-returns-clause-same t c = c.backtrack_to-2.ensures ∙ ap (λ n. backtrack_to c.loop-j.frame n) c.level-start.ensures ∙ c.loop-j.invariant.3.front
+
+pub walk_arms-returns-clause-keep : goal.walk_arms-returns-clause-keep
+walk_arms-returns-clause-keep t c = c.loop-j.invariant.2
+
+pub walk_arms-returns-then-j-growth-clause-same : goal.walk_arms-returns-then-j-growth-clause-same
+walk_arms-returns-then-j-growth-clause-same t c = c.backtrack_to.ensures ∙ ap (λ n. backtrack_to c.loop-j.frame n) c.level-start.ensures ∙ c.loop-j.invariant.3.front
+
+pub walk_arms-returns-then-j-growth-clause-keep : goal.walk_arms-returns-then-j-growth-clause-keep
+walk_arms-returns-then-j-growth-clause-keep t c = c.loop-j.invariant.2
+
+pub walk_arms-returns-clause-walked : goal.walk_arms-returns-clause-walked
+walk_arms-returns-clause-walked t c =
+    let w = c.args.frame.now in
+    let ps = c.args.options.now in
+    let i = c.loop-j.invariant in
+    let s = i.3 in
+    let left = c.loop-j.growth.gathered.paths in
+    let end : c.loop-j.j ≡ length ps = omega (arith, c.loop-j-test.false, c.loop-j.auto.j-end) in
+    let none = le-ltb (length ps) (length ps) (omega arith) in (
+      i.0,
+      i.1,
+      record {
+        left = left;
+        few = omega arith;
+        names = s.names ∙ ap (λ n. take n ps) end;
+        grows = s.grows;
+        rest = sym (append-nil left) ∙ ap (λ b. left ++ cond b (drop w.given (past w (take (length ps) ps)).atoms ∷ []) []) (sym none);
+        room = omega (arith, s.room, end);
+        early = λ h. absurd {A = CanChain w c.args.depth c.args.kept c.loop-j.growth.nodes c.loop-j.held (length ps) i.0} (omega (arith, h));
+      },
+    )
+
+pub walk_arms-returns-then-j-growth-clause-walked : goal.walk_arms-returns-then-j-growth-clause-walked
+walk_arms-returns-then-j-growth-clause-walked t c =
+    let w = c.args.frame.now in
+    let ps = c.args.options.now in
+    let j = c.loop-j.j in
+    let i = c.loop-j.invariant in
+    let s = i.3 in
+    let old = stand_of c.args.growth.now in
+    let mid = stand_of c.loop-j.growth in
+    let e = c.in_ok-push_rest.ensures in
+    let lt : j < length ps = c.loop-j-test.true in
+    let here = ap (λ (x : Walk). mid.left ++ drop x.given x.atoms ∷ []) (s.path lt) in
+    let some = lt-ltb j (length ps) lt in (
+      i.0,
+      i.1,
+      record {
+        left = mid.left;
+        few = omega (arith, lt);
+        names = s.names;
+        grows = subst (λ xs. ArmsGrow w (c.args.depth - 1) old (record mid { inner = mid.inner + c.loop-j.held; found = xs }) i.0) (sym e.tilings) s.grows;
+        rest = e.paths ∙ here ∙ ap (λ b. mid.left ++ cond b (drop w.given (past w (take j ps)).atoms ∷ []) []) (sym some);
+        room = s.room;
+        early = λ h. record {
+          some = omega (arith, c.if-j-gt0.true);
+          paid = omega (arith, c.if-j-held.true);
+          room = omega (arith, s.room, c.if-j-growth.true, c.if-options-j-gt1.true);
+          shallow = omega (arith, lt, s.short c.if-chained.true);
+          linked = s.linked c.if-chained.true;
+        };
+      },
+    )
+
+pub split-returns-clause-kept : goal.split-returns-clause-kept
+split-returns-clause-kept t c = IfOk-weaker c.over_both.result _ _ (λ x e. c.in_ok-left.ensures.kept) c.over_both.ensures.tree
+
+pub branch-returns-then-walked-options-clause-same : goal.branch-returns-then-walked-options-clause-same
+branch-returns-then-walked-options-clause-same t c = IfOk-weaker c.link.result _ _ (λ x e. c.in_ok-walked.ensures.same) c.link.ensures.tree
+
+pub branch-returns-then-walked-options-clause-keep : goal.branch-returns-then-walked-options-clause-keep
+branch-returns-then-walked-options-clause-keep t c = IfOk-weaker c.link.result _ _ (λ x e. c.in_ok-walked.ensures.keep) c.link.ensures.tree
+
+pub branch-returns-then-walked-options-clause-kept : goal.branch-returns-then-walked-options-clause-kept
+branch-returns-then-walked-options-clause-kept t c =
+    let early = c.in_ok-walked.ensures.walked.2.early c.if-walked-options.true in
+    IfOk-weaker c.link.result _ _ (λ x e. omega (arith, early.room)) c.link.ensures.tree
+
+pub branch-returns-then-walked-options-clause-why : goal.branch-returns-then-walked-options-clause-why
+branch-returns-then-walked-options-clause-why t c = c.link.ensures.why
+
+pub child-returns-then-inner-growth-clause-why : goal.child-returns-then-inner-growth-clause-why
+child-returns-then-inner-growth-clause-why t c = c.rest.ensures.why
+
+pub split-returns-clause-why : goal.split-returns-clause-why
+split-returns-clause-why t c = c.over_both.ensures.why

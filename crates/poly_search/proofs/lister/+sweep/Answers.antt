@@ -1,16 +1,19 @@
-use Rattle.std.proofs.Common.{◌≡◌, ℕ, ◌+◌, ◌<◌, ◌≤◌, ◌-◌, length, ◌++◌, [], ◌∷◌, List, true, arith, rules, sym, ap, subst, length-append, take, drop, ◌∙◌}
-use Rattle.poly_tiling.specs.Lists.{distinct}
+use Rattle.std.proofs.Common.{◌≡◌, ℕ, ◌+◌, ◌<◌, ◌≤◌, ◌-◌, length, ◌++◌, [], ◌∷◌, List, ◌&&◌, true, append-nil, arith, refl, sym, ap, subst, length-append, take, drop, ◌∙◌}
+use Rattle.poly_tiling.specs.Lists.{distinct, mem}
 use Rattle.poly_report.specs.Gather.{lists}
-use Rattle.poly_frame.specs.Walk.{Walk, with_step}
-use Rattle.std.proofs.lemmas.List.{length-take, take-append-le}
+use Rattle.poly_frame.specs.Walk.{Walk, is_due, is_option, step_back, with_step}
+use Rattle.poly_frame.proofs.Back.{step_undone}
+use Rattle.std.proofs.lemmas.List.{drop_at, length-take, take-append-le, take_all}
+use Rattle.std.proofs.lemmas.Result.{IfOk-weaker}
 use Rattle.poly_atom.specs.declared.atom.Atom.{Atom}
 use Rattle.poly_atom.specs.declared.atom.Atom.TheVariants.{Has, Lacks}
+use Rattle.poly_search.proofs.Gathered.{leaves_cut}
 use Rattle.poly_search.proofs.Nodes.{past_back}
 use Rattle.poly_search.specs.Sweeps.{Swept, IsLighter, Partly}
-use Rattle.poly_search.proofs.Swept.{behind, swept_rest, arm_partly, arm_swept, starved_swept, partly_more}
+use Rattle.poly_search.proofs.Swept.{behind, partly_none, swept_rest, arm_partly, arm_swept, starved_swept, partly_more}
 use Rattle.poly_search.proofs.Arms.{left_is, option_opens, option_partly, passed_more, passed_begun, options_end, open_end}
 use Rattle.poly_search.proofs.lister.+sweep.Goals as goal
-use Rattle.poly_search.proofs.lister.+sweep.Goals.{sweep_options-then-at-len, sweep_options-else-at-len}
+use Rattle.poly_search.proofs.lister.+sweep.Goals.{sweep_item-then-len-from+in_ok-focus, sweep_item-else-len-from, sweep_options-then-at-len, sweep_options-else-at-len}
 
 kept : (t : ℕ) (c : goal.sweep_arm-After-back-then-not-whole t) → Swept c.args.frame.now.scene c.args.frame.now.atoms c.args.list.now.found.items c.push_rest.new.list.found.items (lists c.args.list.now.rests.items) (lists c.push_rest.new.list.rests.items)
     × IsLighter c.args.frame.now.scene c.args.frame.now.atoms (lists c.args.list.now.rests.items) (lists c.push_rest.new.list.rests.items)
@@ -66,13 +69,13 @@ sweep_options-sweep_arm-requires t c =
     let xs = c.args.list.now.options.items in
     let i = c.loop-at.invariant in
     let r = c.requires in
-    let lt : c.loop-at.at < length xs = search rules in
+    let lt : c.loop-at.at < length xs = omega (arith, c.loop-at-test.true, c.len-at-end.ensures, c.args.list.now.options.ok) in
     let here = i.path lt in
     let o = option_opens w c.loop-at.frame c.args.item.now xs c.loop-at.list.options.items c.args.from c.loop-at.at c.index-placement.result.now i.low lt i.options c.index-placement.ensures (r.each_once, r.members) here in
     let begun = passed_begun w c.loop-at.frame _ here r.begun in
     let end : c.args.end ≤ c.loop-at.frame.given + 4096 = omega (arith, ap (λ (x : Walk). x.given) here, r.end) in
     let once = subst (λ (x : Walk). distinct x.scene.live ≡ true) (sym here) r.once in
-    (search rules, (begun, (i.room lt, (end, (once, (o.0, o.1))))))
+    (omega (arith, c.decreases), (begun, (i.room lt, (end, (once, (o.0, o.1))))))
 
 pub sweep_options-loop-at-preserved : goal.sweep_options-loop-at-preserved
 sweep_options-loop-at-preserved t c =
@@ -81,8 +84,8 @@ sweep_options-loop-at-preserved t c =
     let i = c.loop-at.invariant in
     let r = c.requires in
     let g = c.in_ok-whole.ensures in
-    let lt : c.loop-at.at < length xs = search rules in
-    let whole : c.in_ok-whole.whole ≡ true = search rules in
+    let lt : c.loop-at.at < length xs = omega (arith, c.loop-at-test.true, c.len-at-end.ensures, c.args.list.now.options.ok) in
+    let whole = c.if-not-whole.false in
     let here = i.path lt in
     let p = c.index-placement.result.now in
     let part = option_partly w c.loop-at.frame xs c.loop-at.list.options.items c.args.from c.loop-at.at p _ _ _ _ i.low lt i.options c.index-placement.ensures here (g.more whole) in
@@ -110,14 +113,14 @@ pub sweep_options-returns-clause-swept : goal.sweep_options-returns-clause-swept
 sweep_options-returns-clause-swept t c =
     let i = c.loop-at.invariant in
     let r = c.requires in
-    let over : length c.args.list.now.options.items ≤ c.loop-at.at = search rules in
+    let over : length c.args.list.now.options.items ≤ c.loop-at.at = omega (arith, c.loop-at-test.false, c.len-at-end.ensures, c.args.list.now.options.ok) in
     (options_end c.args.frame.now c.args.item.now c.args.list.now.options.items c.args.from c.loop-at.at _ _ _ _ over r.once r.due (r.each_once, r.members) i.swept).0
 
 pub sweep_options-returns-clause-lighter : goal.sweep_options-returns-clause-lighter
 sweep_options-returns-clause-lighter t c =
     let i = c.loop-at.invariant in
     let r = c.requires in
-    let over : length c.args.list.now.options.items ≤ c.loop-at.at = search rules in
+    let over : length c.args.list.now.options.items ≤ c.loop-at.at = omega (arith, c.loop-at-test.false, c.len-at-end.ensures, c.args.list.now.options.ok) in
     (options_end c.args.frame.now c.args.item.now c.args.list.now.options.items c.args.from c.loop-at.at _ _ _ _ over r.once r.due (r.each_once, r.members) i.swept).1
 
 pub sweep-sweep_item-requires : goal.sweep-sweep_item-requires
@@ -189,3 +192,178 @@ sweep_open-loop-placement-preserved t c =
       left = g.whole passed ∙ i.left;
       swept = partly_more w.scene w.atoms here.atoms new.atoms _ _ _ _ _ _ i.swept (subst (λ C. Partly w.scene here.atoms C found found1 rests rests1) (sym (ap (λ (x : Walk). x.atoms) left)) part);
     }
+
+pub sweep-returns-in-Some-clause-same : goal.sweep-returns-in-Some-clause-same
+sweep-returns-in-Some-clause-same t c = c.sweep_item.ensures.same
+
+pub sweep-returns-in-Some-clause-swept : goal.sweep-returns-in-Some-clause-swept
+sweep-returns-in-Some-clause-swept t c = c.sweep_item.ensures.swept
+
+pub sweep-returns-in-Some-clause-lighter : goal.sweep-returns-in-Some-clause-lighter
+sweep-returns-in-Some-clause-lighter t c = c.sweep_item.ensures.lighter
+
+pub sweep-returns-in-Some-clause-whole : goal.sweep-returns-in-Some-clause-whole
+sweep-returns-in-Some-clause-whole t c = c.sweep_item.ensures.whole
+
+pub sweep-returns-in-Some-clause-left : goal.sweep-returns-in-Some-clause-left
+sweep-returns-in-Some-clause-left t c = c.sweep_item.ensures.left
+
+pub sweep-returns-in-Some-clause-options : goal.sweep-returns-in-Some-clause-options
+sweep-returns-in-Some-clause-options t c = c.sweep_item.ensures.options
+
+pub sweep-returns-in-Some-clause-why : goal.sweep-returns-in-Some-clause-why
+sweep-returns-in-Some-clause-why t c = c.sweep_item.ensures.why
+
+pub sweep-returns-in-None-clause-same : goal.sweep-returns-in-None-clause-same
+sweep-returns-in-None-clause-same t c = c.sweep_open.ensures.same
+
+pub sweep-returns-in-None-clause-swept : goal.sweep-returns-in-None-clause-swept
+sweep-returns-in-None-clause-swept t c = c.sweep_open.ensures.swept
+
+pub sweep-returns-in-None-clause-lighter : goal.sweep-returns-in-None-clause-lighter
+sweep-returns-in-None-clause-lighter t c = c.sweep_open.ensures.lighter
+
+pub sweep-returns-in-None-clause-whole : goal.sweep-returns-in-None-clause-whole
+sweep-returns-in-None-clause-whole t c = c.sweep_open.ensures.whole
+
+pub sweep-returns-in-None-clause-left : goal.sweep-returns-in-None-clause-left
+sweep-returns-in-None-clause-left t c = c.sweep_open.ensures.left
+
+pub sweep-returns-in-None-clause-options : goal.sweep-returns-in-None-clause-options
+sweep-returns-in-None-clause-options t c = c.sweep_open.ensures.options
+
+pub sweep-returns-in-None-clause-why : goal.sweep-returns-in-None-clause-why
+sweep-returns-in-None-clause-why t c = c.sweep_open.ensures.why
+
+pub sweep_below-returns-clause-same : goal.sweep_below-returns-clause-same
+sweep_below-returns-clause-same t c = c.sweep.ensures.same
+
+pub sweep_below-returns-clause-swept : goal.sweep_below-returns-clause-swept
+sweep_below-returns-clause-swept t c = c.sweep.ensures.swept
+
+pub sweep_below-returns-clause-whole : goal.sweep_below-returns-clause-whole
+sweep_below-returns-clause-whole t c = c.sweep.ensures.whole
+
+pub sweep_below-returns-clause-left : goal.sweep_below-returns-clause-left
+sweep_below-returns-clause-left t c = c.sweep.ensures.left
+
+pub sweep_below-returns-clause-options : goal.sweep_below-returns-clause-options
+sweep_below-returns-clause-options t c = c.sweep.ensures.options
+
+pub sweep_below-returns-clause-why : goal.sweep_below-returns-clause-why
+sweep_below-returns-clause-why t c = c.sweep.ensures.why
+
+pub sweep_below-returns-clause-room : goal.sweep_below-returns-clause-room
+sweep_below-returns-clause-room t c = let short : length c.args.frame.now.atoms < c.args.end = omega (arith, c.level.ensures, c.if-level-end.false) in IfOk-weaker c.sweep.result _ _ (λ x e k. subst (λ (w : Walk). length w.atoms < c.args.end) (sym e) short) c.sweep.ensures.same
+
+-- a frame that narrowed itself stays as it was
+narrowed : (t : ℕ) (c : goal.sweep_item-After-truncate t) → c.if-len-from.frame ≡ c.args.frame.now
+narrowed t c = elim c.if-len-from.branch [
+  | sweep_item-then-len-from+in_ok-focus k ↦ k.frame-is ∙ k.in_ok-focus.ensures.same ∙ c.options.follows.holds-at-none
+  | sweep_item-else-len-from k ↦ k.frame-is ∙ c.options.follows.holds-at-none
+]
+
+pub sweep_item-returns-clause-same : goal.sweep_item-returns-clause-same
+sweep_item-returns-clause-same t c = c.in_ok-whole.ensures.same ∙ narrowed t c
+
+pub sweep_item-returns-clause-swept : goal.sweep_item-returns-clause-swept
+sweep_item-returns-clause-swept t c = subst (λ (x : Walk). Swept x.scene x.atoms c.args.list.now.found.items c.sweep_options.new.list.found.items (lists c.args.list.now.rests.items) (lists c.sweep_options.new.list.rests.items)) (narrowed t c) c.in_ok-whole.ensures.swept
+
+pub sweep_item-returns-clause-lighter : goal.sweep_item-returns-clause-lighter
+sweep_item-returns-clause-lighter t c = subst (λ (x : Walk). IsLighter x.scene x.atoms (lists c.args.list.now.rests.items) (lists c.sweep_options.new.list.rests.items)) (narrowed t c) c.in_ok-whole.ensures.lighter
+
+pub sweep_item-returns-clause-whole : goal.sweep_item-returns-clause-whole
+sweep_item-returns-clause-whole t c = c.in_ok-whole.ensures.whole
+
+pub sweep_item-returns-clause-left : goal.sweep_item-returns-clause-left
+sweep_item-returns-clause-left t c = c.in_ok-whole.ensures.left
+
+pub sweep_item-returns-clause-options : goal.sweep_item-returns-clause-options
+sweep_item-returns-clause-options t c =
+    let xs = c.args.list.now.options in
+    let from : c.len-from.result ≡ length xs.items = omega (arith, c.len-from.ensures, xs.ok) in
+    leaves_cut xs.items c.sweep_options.new.list.options.items c.truncate.new.self.items c.options.result.now c.len-from.result from (◌∙◌ {A = List ℕ} c.in_ok-whole.ensures.options c.in_ok-extend_from_slice.ensures.items) c.truncate.ensures.items
+
+pub sweep_item-sweep_options-requires : goal.sweep_item-sweep_options-requires
+sweep_item-sweep_options-requires t c =
+    let w = c.args.frame.now in
+    let i = c.args.item.now in
+    let r = c.requires in
+    let xs = c.args.list.now.options in
+    let ys = c.extend_from_slice.new.self.items in
+    let e = c.options.ensures in
+    let still : w ≡ c.if-len-from.frame = sym (elim c.if-len-from.branch [
+      | sweep_item-then-len-from+in_ok-focus k ↦ k.frame-is ∙ k.in_ok-focus.ensures.same ∙ c.options.follows.holds-at-none
+      | sweep_item-else-len-from k ↦ k.frame-is ∙ c.options.follows.holds-at-none
+    ]) in
+    let from : c.len-from.result ≡ length xs.items = omega (arith, c.len-from.ensures, xs.ok) in
+    let items = c.in_ok-extend_from_slice.ensures.items in
+    let low : c.len-from.result ≤ length ys = omega (arith, from, ap length items, length-append xs.items c.options.result.now) in
+    let rest : drop c.len-from.result ys ≡ c.options.result.now = ap (drop c.len-from.result) items ∙ drop_at xs.items c.options.result.now c.len-from.result (sym from) in
+    let begun = subst (λ (x : Walk). x.given ≤ length x.atoms) still r.begun in
+    let room = subst (λ (x : Walk). length x.atoms < c.args.end) still r.room in
+    let end = subst (λ (x : Walk). c.args.end ≤ x.given + 4096) still r.end in
+    let once = subst (λ (x : Walk). distinct x.scene.live ≡ true) still r.once in
+    let due = subst (λ (x : Walk). is_due x i ≡ true) still r.due in
+    let members = subst (λ (x : Walk). (p : ℕ) → mem (drop c.len-from.result ys) p ≡ (mem x.scene.live p && is_option x i p)) still (λ p. ap (λ zs. mem zs p) rest ∙ e.members p) in
+    (omega (arith, c.decreases), (begun, (room, (end, (once, (due, (low, (ap distinct rest ∙ e.once, members))))))))
+
+pub sweep_open-loop-placement-init : goal.sweep_open-loop-placement-init
+sweep_open-loop-placement-init t c =
+    let w = c.args.frame.now in
+    let same = c.in_ok-focus.ensures.same in
+    let found = c.args.list.now.found.items in
+    let rests = lists c.args.list.now.rests.items in
+    record {
+      path = same ∙ ap (λ xs. record w { atoms = xs }) (sym (ap (λ (x : Walk). x.atoms) same));
+      back = ap (λ (x : Walk). take (length w.atoms) x.atoms) same ∙ take_all (length w.atoms) w.atoms (omega arith);
+      room = subst (λ (x : Walk). length x.atoms < c.args.end) (sym same) c.requires.room;
+      options = refl;
+      left = refl;
+      swept = subst (λ (x : Walk). Partly w.scene w.atoms x.atoms found found rests rests) (sym same) (partly_none w.scene w.atoms found rests);
+    }
+
+pub sweep_options-loop-at-init : goal.sweep_options-loop-at-init
+sweep_options-loop-at-init t c =
+    let w = c.args.frame.now in
+    let ps = drop c.args.from c.args.list.now.options.items in
+    let found = c.args.list.now.found.items in
+    let rests = lists c.args.list.now.rests.items in
+    let zero : c.args.from - c.args.from ≡ 0 = omega arith in
+    let none : behind w.atoms (take (c.args.from - c.args.from) ps) ≡ w.atoms = ap (λ n. behind w.atoms (take n ps)) zero ∙ append-nil w.atoms in
+    record {
+      low = omega arith;
+      path = λ h. ap (λ xs. record w { atoms = xs }) (sym none);
+      front = ap (λ xs. record w { atoms = xs }) (take_all (length w.atoms) w.atoms (omega arith));
+      room = λ h. c.requires.room;
+      options = refl;
+      left = refl;
+      swept = subst (λ xs. Partly w.scene w.atoms xs found found rests rests) (sym none) (partly_none w.scene w.atoms found rests);
+    }
+
+pub sweep_arm-leads_on-requires : goal.sweep_arm-leads_on-requires
+sweep_arm-leads_on-requires t c = record { room = c.requires.room; end = c.requires.end }
+
+pub sweep_arm-leave-requires : goal.sweep_arm-leave-requires
+sweep_arm-leave-requires t c =
+    let w = c.args.frame.now in
+    let r = c.requires in
+    let picked = c.leads_on.ensures.taken c.if-not-leads_on.false in
+    let back = c.back.ensures ∙ ap step_back (c.in_ok-whole.ensures.same ∙ picked) ∙ step_undone w (Has c.args.placement) in
+    let room : length w.atoms < w.given + 4096 = omega (arith, r.room, r.end) in
+    subst (λ (x : Walk). length x.atoms < x.given + 4096) (sym back) room
+
+pub sweep_open-leave-requires : goal.sweep_open-leave-requires
+sweep_open-leave-requires t c =
+    let here = c.loop-placement.frame in
+    let i = c.loop-placement.invariant in
+    let room : length here.atoms < here.given + 4096 = omega (arith, i.room, ap (λ (x : Walk). x.given) i.path, c.requires.end) in
+    subst (λ (x : Walk). length x.atoms < x.given + 4096) (sym c.in_ok-whole.ensures.same) room
+
+pub sweep_options-leave-requires : goal.sweep_options-leave-requires
+sweep_options-leave-requires t c =
+    let here = c.loop-at.frame in
+    let i = c.loop-at.invariant in
+    let lt : c.loop-at.at < length c.args.list.now.options.items = omega (arith, c.loop-at-test.true, c.len-at-end.ensures, c.args.list.now.options.ok) in
+    let room : length here.atoms < here.given + 4096 = omega (arith, i.room lt, ap (λ (x : Walk). x.given) (i.path lt), c.requires.end) in
+    subst (λ (x : Walk). length x.atoms < x.given + 4096) (sym c.in_ok-whole.ensures.same) room

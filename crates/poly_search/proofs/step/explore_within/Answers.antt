@@ -1,4 +1,5 @@
-use Rattle.std.proofs.Common.{subst, true, ◌∙◌, ◌≡◌}
+use Rattle.std.proofs.Common.{ap, subst, sym, true, ◌∙◌, ◌≡◌}
+use Rattle.poly_tiling.specs.Lists.{distinct}
 use Rattle.std.specs.Prelude.{IfSome, None, Option, Some}
 use Rattle.poly_frame.specs.FrameTable.{HasOpen}
 use Rattle.poly_frame.specs.Matrices.{IsMatrix}
@@ -24,3 +25,20 @@ returns-clause-own c =
     let w = c.explore_on.new.frame in
     let both = both_some m.result.0 (λ x. IsMatrix w.scene x) (λ x. HasOpen w.scene w.atoms x) m.ensures.part m.ensures.all in
     subst (λ (x : Walk). IfSome m.result.0 (λ y. IsMatrix x.scene y × HasOpen x.scene x.atoms y)) here both
+
+pub explore_on-requires : goal.explore_on-requires
+explore_on-requires c =
+    let r = c.requires in
+    let made = c.in_ok-frame.ensures.made in
+    record {
+      atoms = ap (λ (w : Walk). w.atoms) made;
+      given = ap (λ (w : Walk). w.given) made;
+      once = subst (λ (w : Walk). distinct w.scene.live ≡ true) (sym made) c.in_ok-frame.ensures.once;
+      some = r.some;
+      few = r.few;
+    }
+
+pub within-requires : goal.within-requires
+within-requires c =
+    let r = c.requires in
+    record { whole = r.whole; part = r.part; all = r.all }

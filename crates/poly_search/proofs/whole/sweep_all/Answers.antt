@@ -1,54 +1,13 @@
-use Rattle.std.proofs.Common.{◌≡◌, ◌<◌, [], length, rules, subst}
-use Rattle.poly_report.specs.Gather.{lists}
-use Rattle.poly_search.specs.Whole.{SharedOut}
-use Rattle.poly_search.proofs.Families.{at_most, last_rest, none_left, shared_next, weighs_less, whole_family}
 use Rattle.poly_search.proofs.whole.sweep_all.Goals as goal
 
-pub returns-then-len-gt-MAX_TILINGS-clause-too_many : goal.returns-then-len-gt-MAX_TILINGS-clause-too_many
-returns-then-len-gt-MAX_TILINGS-clause-too_many c =
-    let v = c.args.view.now in
-    let A = c.args.atoms.now in
-    let i = c.loop-next.invariant in
-    let B = c.deref.result.now in
-    let e = last_rest c.loop-next.list.rests.items c.pop.new.self.items c.in-Some.next B c.in-Some.ensures.items c.deref.ensures.value in
-    let found = c.sweep_rest.new.list.found.items in
-    let rests = lists c.sweep_rest.new.list.rests.items in
-    let swept = c.in_ok-sweep_rest.ensures.swept in
-    let shared = shared_next v A B c.loop-next.list.found.items found (lists c.loop-next.list.rests.items) (lists c.pop.new.self.items) rests e i.shared swept in
-    let many : 1000000 < length found = search rules in
-    λ _. (found, at_most v A found rests shared (swept.only i.only), many)
-
-pub loop-next-smaller : goal.loop-next-smaller
-loop-next-smaller c =
-    let B = c.deref.result.now in
-    let e = last_rest c.loop-next.list.rests.items c.pop.new.self.items c.in-Some.next B c.in-Some.ensures.items c.deref.ensures.value in
-    let rests = lists c.sweep_rest.new.list.rests.items in
-    let lighter = c.in_ok-sweep_rest.ensures.lighter in
-    weighs_less c.args.view.now B (lists c.loop-next.list.rests.items) (lists c.pop.new.self.items) rests e lighter
-
-pub loop-next-preserved : goal.loop-next-preserved
-loop-next-preserved c =
-    let v = c.args.view.now in
-    let A = c.args.atoms.now in
-    let i = c.loop-next.invariant in
-    let B = c.deref.result.now in
-    let e = last_rest c.loop-next.list.rests.items c.pop.new.self.items c.in-Some.next B c.in-Some.ensures.items c.deref.ensures.value in
-    let found = c.sweep_rest.new.list.found.items in
-    let rests = lists c.sweep_rest.new.list.rests.items in
-    let swept = c.in_ok-sweep_rest.ensures.swept in
-    record {
-      shared = shared_next v A B c.loop-next.list.found.items found (lists c.loop-next.list.rests.items) (lists c.pop.new.self.items) rests e i.shared swept;
-      only = swept.only i.only;
-      few = search rules;
-    }
-
 pub returns-clause-all : goal.returns-clause-all
-returns-clause-all c =
-    let v = c.args.view.now in
-    let A = c.args.atoms.now in
-    let i = c.loop-next.invariant in
-    let found = c.loop-next.list.found.items in
-    let h = c.in_default.ensures.cases.0 in
-    let zero : length c.loop-next.list.rests.items ≡ 0 = search rules in
-    let none : lists c.loop-next.list.rests.items ≡ [] = none_left c.loop-next.list.rests.items zero in
-    whole_family v A found (subst (λ xs. SharedOut v A found xs) none i.shared) i.only
+returns-clause-all c = c.sweep_each.ensures.all
+
+pub returns-clause-few : goal.returns-clause-few
+returns-clause-few c = c.sweep_each.ensures.few
+
+pub returns-clause-too_many : goal.returns-clause-too_many
+returns-clause-too_many c = c.sweep_each.ensures.too_many
+
+pub returns-clause-why : goal.returns-clause-why
+returns-clause-why c = c.sweep_each.ensures.why

@@ -1,4 +1,5 @@
-use Rattle.std.proofs.Common.{subst}
+use Rattle.std.proofs.Common.{ap, arith, length, subst, sym, true, ◌+◌, ◌≤◌, ◌≡◌, ◌∙◌}
+use Rattle.poly_tiling.specs.Lists.{distinct, mem}
 use Rattle.poly_report.specs.Gather.{lists}
 use Rattle.poly_frame.specs.Walk.{Walk}
 use Rattle.poly_search.specs.Sweeps.{IsLighter, Swept}
@@ -15,3 +16,19 @@ returns-clause-lighter c =
     let list = c.args.list.now in
     let new = c.sweep.new.list in
     subst (λ (w : Walk). IsLighter w.scene w.atoms (lists list.rests.items) (lists new.rests.items)) c.in_ok-frame.ensures.made c.in_ok-sweep.ensures.lighter
+
+pub sweep-requires : goal.sweep-requires
+sweep-requires c =
+    let e = c.in_ok-frame.ensures in
+    let long = ap (λ (w : Walk). length w.atoms) e.made in
+    let given = ap (λ (w : Walk). w.given) e.made in
+    let end : c.level-end.result + 4096 ≤ c.in_ok-frame.frame.given + 4096 = omega (arith, c.level-end.ensures, long, given) in
+    record {
+      begun = omega (arith, long, given);
+      room = omega (arith, c.level-end.ensures);
+      end = end;
+      once = subst (λ (w : Walk). distinct w.scene.live ≡ true) (sym e.made) e.once;
+    }
+
+pub within-requires : goal.within-requires
+within-requires c = record { whole = c.requires; part = c.requires.part; all = λ q live is_open. ap (λ xs. mem xs q) c.requires.all ∙ live }

@@ -2,7 +2,7 @@ use Rattle.std.proofs.Common.{◌≤◌, length}
 use Rattle.poly_report.specs.Gather.{lists}
 use Rattle.poly_search.specs.Sweeps.{weights, all_tilings}
 use Rattle.poly_search.specs.Whole.{SharedOut}
-use Rattle.poly_search.proofs.whole.sweep_all.Given as goal
+use Rattle.poly_search.proofs.whole.sweep_each.Given as goal
 
 abbrev pub invariant-loop-next : goal.invariant-loop-next
 invariant-loop-next l = record {
