@@ -8,7 +8,7 @@ use Rattle.poly_atom.specs.Logs.{flat, forgotten}
 use Rattle.poly_atom.proofs.Forgets.{drop-forgotten, is_stair-forgotten, length-forgotten, stair_of-forgotten}
 use Rattle.poly_atom.proofs.Offsets.{flat_push}
 use Rattle.poly_atom.proofs.Walks.{is_stair_stays, stair_stays}
-use Rattle.poly_report.specs.Words.{is_other}
+use Rattle.poly_lists.specs.Words.{is_other}
 use Rattle.poly_book.specs.declared.base.Base.{Base}
 use Rattle.poly_book.specs.declared.excerpt.Excerpt.{Excerpt}
 use Rattle.poly_book.specs.declared.excerpt.Excerpt.TheVariants.{Guards, Stair as StairExcerpt}

@@ -14,7 +14,7 @@ use Rattle.poly_atom.specs.Stairs.{stairs}
 use Rattle.poly_atom.proofs.Asked.{asked_append, found_is}
 use Rattle.poly_atom.proofs.Bases.{asked_in}
 use Rattle.poly_atom.proofs.Walks.{length-stairs, stairs_at}
-use Rattle.poly_report.specs.Words.{is_other}
+use Rattle.poly_lists.specs.Words.{is_other}
 use Rattle.poly_book.specs.declared.shelf.Frozen.{Frozen}
 use Rattle.poly_book.specs.Judged.{AreJudged, is_harmful, named}
 use Rattle.poly_book.specs.Meaning.{frozen_brief, frozen_of, laid_of, own_of}

@@ -16,7 +16,7 @@ use Rattle.poly_atom.specs.Logs.{IsStairOf, stair_of}
 use Rattle.poly_atom.specs.Stairs.{stairs}
 use Rattle.poly_atom.proofs.Stays.{hopeless_more}
 use Rattle.poly_atom.proofs.Walks.{length-stairs, stairs_at}
-use Rattle.poly_report.specs.Words.{is_other}
+use Rattle.poly_lists.specs.Words.{is_other}
 use Rattle.poly_book.specs.declared.shelf.Frozen.{Frozen}
 use Rattle.poly_book.specs.declared.task.Pending.{Pending}
 use Rattle.poly_book.specs.declared.task.Own.{Own}

@@ -24,7 +24,7 @@ use Rattle.poly_atom.specs.declared.stair.Stair.{Stair}
 use Rattle.poly_atom.proofs.Asked.{asked_append, found_is}
 use Rattle.poly_atom.proofs.Bases.{asked_in, in_asked}
 use Rattle.poly_atom.proofs.Walks.{stairs_at}
-use Rattle.poly_report.specs.Words.{is_other}
+use Rattle.poly_lists.specs.Words.{is_other}
 use Rattle.poly_book.specs.Judged.{AreAlone, AreCalm, AreJudged, AreLacks, AreRuledOut, IsSpoiler, LackOnce}
 use Rattle.poly_book.proofs.Judging.{hopeless_within, judged_at, stair_next}
 

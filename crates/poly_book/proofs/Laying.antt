@@ -8,7 +8,7 @@ use Rattle.poly_atom.specs.declared.atom.Atom.{Atom}
 use Rattle.poly_atom.specs.declared.atom.Atom.TheVariants.{AtLeast, AtMost, Has, Lacks}
 use Rattle.poly_atom.specs.Hopeless.{asked, beyond, hopeless, lost}
 use Rattle.poly_atom.proofs.Asked.{asked_append, found_is}
-use Rattle.poly_report.specs.Words.{is_other}
+use Rattle.poly_lists.specs.Words.{is_other}
 use Rattle.poly_book.specs.declared.shelf.Frozen.{Frozen}
 use Rattle.poly_book.specs.Judged.{AreAlone, AreJudged, AreRuledOut, is_has}
 use Rattle.poly_book.specs.Meaning.{frozen_of, laid_of, own_of}

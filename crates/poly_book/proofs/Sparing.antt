@@ -13,7 +13,7 @@ use Rattle.poly_atom.specs.declared.atom.Atom.TheVariants.{AtLeast, AtMost, Has,
 use Rattle.poly_atom.specs.Guards.{guards, guards_fresh, guards_least, guards_most, guards_pins}
 use Rattle.poly_atom.specs.Hopeless.{asked, base, hopeless, lacks, lost}
 use Rattle.poly_atom.proofs.Bases.{asked_in}
-use Rattle.poly_report.specs.Words.{is_other}
+use Rattle.poly_lists.specs.Words.{is_other}
 use Rattle.poly_book.specs.declared.task.Pending.{Pending}
 use Rattle.poly_book.specs.Meaning.{own_of, task_of, tasks_of}
 use Rattle.poly_book.specs.Tasks.{AreAlive, AreSparing, Spares, Task, atoms_of, drop_task, hopeful, lay, tasks_from}

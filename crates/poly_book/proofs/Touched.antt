@@ -15,7 +15,7 @@ use Rattle.poly_atom.specs.Hopeless.{asked, bad, beyond, hopeless, lost}
 use Rattle.poly_atom.specs.Newly.{touched}
 use Rattle.poly_atom.proofs.Asked.{found_is}
 use Rattle.poly_atom.proofs.Newly.{newly_hopeless_is_touched_lem}
-use Rattle.poly_report.specs.Words.{is_other}
+use Rattle.poly_lists.specs.Words.{is_other}
 use Rattle.poly_book.specs.declared.task.Pending.{Pending}
 use Rattle.poly_book.specs.declared.touch.Touch.{Touch}
 use Rattle.poly_book.specs.declared.task.Own.{Own}

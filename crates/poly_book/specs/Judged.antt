@@ -10,7 +10,7 @@ use Rattle.poly_atom.specs.Hopeless.{hopeless, lacks}
 use Rattle.poly_atom.specs.Logs.{IsStairOf}
 use Rattle.poly_atom.specs.Stairs.{stairs}
 use Rattle.poly_atom.specs.declared.stair.Stair.{Stair}
-use Rattle.poly_report.specs.Words.{is_other}
+use Rattle.poly_lists.specs.Words.{is_other}
 
 -- the flags say which of the lists aren't hopeless after the base
 abbrev pub AreJudged : View → List Atom → List (List Atom) → List Bool → Type 0

@@ -7,7 +7,7 @@ ghost use Rattle.std.specs.Prelude.{◌≡◌, ◌++◌, ◌∷◌, ◌≤◌, �
 ghost use Rattle.std.specs.List.{filter};
 ghost use Rattle.poly_atom.specs.declared.atom.Atom.{Atom as AtomOf};
 ghost use Rattle.poly_atom.specs.Logs.{IsStairOf, stair_of};
-ghost use Rattle.poly_report.specs.Words.{is_other};
+ghost use Rattle.poly_lists.specs.Words.{is_other};
 ghost use Rattle.poly_book.specs.Judged.{is_harmful};
 ghost use Rattle.poly_book.specs.Meaning.{IsBase, IsFrozen, IsOwn, base_of, frozen_of, laid_of, own_of};
 ghost use Rattle.poly_book.specs.Needed.{AreExcerptsFrom};
@@ -21,7 +21,7 @@ use crate::spots::Spots;
 use crate::task::{Own, append_others};
 use poly_atom::{Atom, GuardLog, Stair};
 use poly_grid::Refusal;
-use poly_report::SharedLists;
+use poly_lists::SharedLists;
 use std::alloc::Global;
 
 // The most excerpts that a base goes on from. An undo or a redo adds at most two, so only a base that lies under a dozen others is

@@ -18,7 +18,7 @@ use poly_catalogue::Catalogue;
 use poly_design::Design;
 use poly_grid::Refusal;
 use poly_place::Table;
-use poly_report::SharedLists;
+use poly_lists::SharedLists;
 use poly_tiling::View;
 use poly_undo::History;
 use std::alloc::Global;

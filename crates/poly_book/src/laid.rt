@@ -6,7 +6,7 @@ ghost use Rattle.std.specs.Prelude.{◌≡◌, ◌++◌, ◌∷◌, [], IfErr, L
 ghost use Rattle.std.specs.List.{filter, list_any};
 ghost use Rattle.poly_atom.specs.declared.atom.Atom.{Atom as AtomOf};
 ghost use Rattle.poly_atom.specs.Hopeless.{hopeless};
-ghost use Rattle.poly_report.specs.Words.{is_other};
+ghost use Rattle.poly_lists.specs.Words.{is_other};
 ghost use Rattle.poly_tiling.specs.Puzzle.{View as ViewOf};
 ghost use Rattle.poly_book.specs.Judged.{is_has};
 ghost use Rattle.poly_book.specs.Meaning.{IsFrozen, IsLaid, laid_of};

@@ -23,7 +23,7 @@ use crate::rows::{Row, Span, note_span, tidy_rows};
 use crate::task::{Own, Pending, is_same_list};
 use poly_atom::{Atom, GuardLog, Stair};
 use poly_grid::{Refusal, SIDE};
-use poly_report::SharedLists;
+use poly_lists::SharedLists;
 use poly_tiling::Item;
 use std::alloc::Global;
 use std::collections::BTreeMap;

@@ -7,8 +7,3 @@ pub mod Measures
 pub mod Cuts
 pub mod Followed
 pub mod OpenPaths
-pub mod Exact
-mod Linking
-mod Stored
-mod Trails
-mod Stems

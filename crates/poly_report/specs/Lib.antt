@@ -7,9 +7,3 @@ pub mod Paths
 pub mod Gather
 pub mod Opened
 pub mod Laws
-pub mod Linked
-pub mod Words
-pub mod Jumps
-pub mod Tries
-pub mod Stems
-pub mod Trails

@@ -6,11 +6,11 @@ ghost use Rattle.std.specs.Prelude.{IfErr, IfOk, OnErr, OnOk, [], drop, length, 
 ghost use Rattle.poly_report.specs.Leaves.{tilings};
 ghost use Rattle.poly_report.specs.Trees.{Finds};
 
-use crate::atom_lists::AtomLists;
 use crate::leaf::{Leaves, Rests};
 use poly_atom::Atom;
 use poly_frame::Frame;
 use poly_grid::Refusal;
+use poly_lists::AtomLists;
 use poly_tiling::Tiling;
 use std::alloc::Global;
 

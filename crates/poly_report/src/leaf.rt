@@ -1,10 +1,9 @@
 //! The leaves of a tree that holds.
 ghost use Rattle.std.specs.Prelude.{◌≡◌, ◌++◌, ◌<◌, ◌↔◌, [], IfErr, IfOk, IsTrue, MatchOption, OnOk, length, map, slice_index_or, ⊤};
 
-use crate::atom_lists::AtomLists;
-use crate::shared_lists::SharedLists;
 use poly_atom::Atom;
 use poly_grid::Refusal;
+use poly_lists::{AtomLists, SharedLists};
 use poly_tiling::Tiling;
 use std::alloc::Global;
 use std::marker::Model;

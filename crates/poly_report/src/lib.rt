@@ -7,32 +7,24 @@
 //!   isn't checked, since no tiling of the family has that placement.
 //! - [`leaves`], [`Leaves`]: the tilings and the rests of a tree that holds. [`cut_up`], [`cut_up_over`]: the check and the
 //!   leaves in one walk.
-//! - [`Gathered`], [`AtomLists`]: the leaves while a walk over a frame gathers them. Of each rest it keeps only the path, which
-//!   follows the atoms that the tree is for. `Gathered::into_leaves` puts these before the paths.
-//! - [`Rests`], [`SharedLists`]: the rests of a tree. Shared lists can begin in other shared lists, as the rests of a report do
-//!   in the lists of the task that it cuts up. `SharedLists::after` makes a list of one of them and the atoms that follow it.
-//!   `SharedLists::read_others` reads a list without its `Lacks`, and takes no time for them.
+//! - [`Gathered`]: the leaves while a walk over a frame gathers them. Of each rest it keeps only the path, which follows the
+//!   atoms that the tree is for. `Gathered::into_leaves` puts these before the paths.
+//! - [`Rests`]: the rests of a tree. `Rests::share` finishes them, to be shared.
 //! - [`Frame`], [`Matrix`], [`STEPS`] come from `poly_frame`: `Gathered` reads a frame, and `cut_up_over` takes a matrix.
+//!   [`AtomLists`], [`SharedLists`] come from `poly_lists`, which stores the paths and the rests.
 //! - The laws give the limits of trees. They say that a tree that holds shares out its family, and that it keeps holding after
 //!   a change if the guards of the change are added; that the tilings of a tree belong to its family; and that if a tree takes
 //!   and leaves only open placements of the design, each of its rests is hopeless exactly if the atoms are.
 #![tactic(auto)]
 
 mod arms;
-mod atom_lists;
 mod cut;
 mod gathered;
-mod growing;
 mod laws;
 mod leaf;
-mod nodes;
-mod others;
-mod shared_lists;
 mod size;
 mod tree;
-mod walk;
 
-pub use atom_lists::AtomLists;
 pub use cut::{cut_up, cut_up_over, holds, leaves};
 pub use gathered::Gathered;
 pub use laws::{
@@ -41,6 +33,6 @@ pub use laws::{
 };
 pub use leaf::{Leaves, Rests};
 pub use poly_frame::{Frame, Matrix, Room, STEPS};
-pub use shared_lists::SharedLists;
+pub use poly_lists::{AtomLists, SharedLists};
 pub use size::{DEPTH, NODES, fits};
 pub use tree::{Arm, Report, Tree, discard};

@@ -1,6 +1,6 @@
 use Rattle.std.proofs.Common.{ap, refl, ◌++◌, ◌∙◌, ◌≡◌}
 use Rattle.std.specs.List.{filter}
-use Rattle.poly_report.specs.Words.{is_other}
+use Rattle.poly_lists.specs.Words.{is_other}
 use Rattle.poly_book.specs.declared.base.Base.{Base}
 use Rattle.poly_book.specs.declared.excerpt.Excerpt.{Excerpt}
 use Rattle.poly_book.specs.declared.excerpt.Excerpt.TheVariants.{Guards}

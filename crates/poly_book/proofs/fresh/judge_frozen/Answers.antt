@@ -8,7 +8,7 @@ use Rattle.poly_atom.specs.declared.atom.Atom.{Atom}
 use Rattle.poly_atom.specs.declared.atom.Atom.TheVariants.{Has}
 use Rattle.poly_atom.specs.Hopeless.{hopeless}
 use Rattle.poly_atom.specs.Stairs.{stairs}
-use Rattle.poly_report.specs.Words.{is_other}
+use Rattle.poly_lists.specs.Words.{is_other}
 use Rattle.poly_book.specs.declared.fresh.Buffers.{Buffers}
 use Rattle.poly_book.specs.declared.laid.Laid.{Laid}
 use Rattle.poly_book.specs.declared.shelf.Frozen.{Frozen}

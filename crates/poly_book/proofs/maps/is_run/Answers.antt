@@ -1,5 +1,5 @@
 use Rattle.std.proofs.Common.{rules, sym, ◌∙◌}
-use Rattle.poly_report.proofs.Exact.{atom_decides}
+use Rattle.poly_lists.proofs.Exact.{atom_decides}
 use Rattle.poly_book.proofs.maps.is_run.Goals as goal
 
 pub returns-then-run-number : goal.returns-then-run-number

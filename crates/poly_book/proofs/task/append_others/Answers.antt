@@ -3,7 +3,7 @@ use Rattle.std.specs.List.{filter}
 use Rattle.poly_atom.specs.Atoms.{IsSmall, negated}
 use Rattle.poly_atom.specs.Stairs.{stairs}
 use Rattle.poly_atom.proofs.Walks.{small_at}
-use Rattle.poly_report.specs.Words.{is_other}
+use Rattle.poly_lists.specs.Words.{is_other}
 use Rattle.poly_book.proofs.Lacking.{stair_filter}
 use Rattle.poly_book.proofs.task.append_others.Goals as goal
 

@@ -2,7 +2,7 @@ use Rattle.std.proofs.Common.{[], Global, Vec, ap, sym, take, ◌++◌, ◌∙�
 use Rattle.std.proofs.lemmas.List.{append-nil}
 use Rattle.std.specs.List.{filter}
 use Rattle.poly_atom.specs.declared.atom.Atom.{Atom}
-use Rattle.poly_report.specs.Words.{is_other}
+use Rattle.poly_lists.specs.Words.{is_other}
 use Rattle.poly_book.proofs.Lacking.{filter_more}
 use Rattle.poly_book.proofs.task.append_others_of.Goals as goal
 use Rattle.poly_book.proofs.task.append_others_of.Goals.{else-is_other, then-is_other+in_ok-push}

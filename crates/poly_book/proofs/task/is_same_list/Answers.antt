@@ -1,5 +1,5 @@
 use Rattle.std.proofs.lemmas.Slice.Eq.{slice_eq-Decides}
-use Rattle.poly_report.proofs.Exact.{atom_decides}
+use Rattle.poly_lists.proofs.Exact.{atom_decides}
 use Rattle.poly_book.proofs.task.is_same_list.Goals as goal
 
 pub returns : goal.returns

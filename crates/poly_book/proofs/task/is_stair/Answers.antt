@@ -2,7 +2,7 @@ use Rattle.std.proofs.Common.{[], ap, arith, get_or, length, rules, subst, sym, 
 use Rattle.poly_atom.specs.Atoms.{IsSmall, negated}
 use Rattle.poly_atom.specs.Stairs.{stairs}
 use Rattle.poly_atom.proofs.Walks.{small_at}
-use Rattle.poly_report.proofs.Exact.{atom_decides}
+use Rattle.poly_lists.proofs.Exact.{atom_decides}
 use Rattle.poly_book.proofs.Comparing.{stair_by}
 use Rattle.poly_book.proofs.task.is_stair.Goals as goal
 

@@ -2,7 +2,7 @@ use Rattle.std.specs.Arc.{arc_value}
 use Rattle.std.proofs.Common.{Bool, ap, refl, subst, sym, true, ◌∙◌, ◌≡◌}
 use Rattle.std.specs.List.{filter, list_all}
 use Rattle.poly_atom.specs.declared.atom.Atom.{Atom}
-use Rattle.poly_report.specs.Words.{is_other}
+use Rattle.poly_lists.specs.Words.{is_other}
 use Rattle.poly_book.specs.Mapped.{below, under}
 use Rattle.poly_book.specs.Meaning.{IsOwn, base_of}
 use Rattle.poly_book.proofs.Mapping.{all_others, on_ok_then}

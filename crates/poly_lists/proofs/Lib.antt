@@ -1,0 +1,5 @@
+pub mod Exact
+mod Linking
+mod Stored
+mod Trails
+mod Stems

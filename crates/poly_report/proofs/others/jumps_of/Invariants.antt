@@ -1,6 +1,0 @@
-use Rattle.std.proofs.Common.{length, ◌+◌, ◌≡◌}
-use Rattle.poly_report.specs.Jumps.{AreRight}
-use Rattle.poly_report.proofs.others.jumps_of.Given as goal
-
-abbrev pub invariant-loop : goal.invariant-loop
-invariant-loop l = (length l.jumps.items ≡ l.counter + 1) × AreRight l.nodes l.jumps.items
