@@ -29,7 +29,7 @@ use std::alloc::Global;
 const MOST_EXCERPTS: usize = 32;
 
 /// The atoms of a frozen task.
-#[derive(Debug, Drop)]
+#[derive(Drop)]
 pub struct Base {
     /// Lists of atoms. The base begins with one of them.
     lists: SharedLists,

@@ -13,7 +13,7 @@ use poly_atom::{Atom, GuardLog, Stair};
 use poly_grid::Refusal;
 
 /// Atoms that are read from the guard log.
-#[derive(Clone, Copy, Debug)]
+#[derive(Clone, Copy)]
 pub enum Excerpt {
     /// Some of the guards that the log has from an edition on: that edition, and how many of them.
     Guards(u64, usize),

@@ -43,7 +43,7 @@ pub(crate) struct Maps {
 }
 
 /// The first guards of a change, each of them noted for all tasks of a span.
-#[derive(Clone, Copy, Debug)]
+#[derive(Clone, Copy)]
 pub(crate) struct Prefix {
     /// The edition before the change.
     edition: u64,
@@ -54,7 +54,7 @@ pub(crate) struct Prefix {
 }
 
 /// A base, but for its `Lacks`, and the tasks for which it is noted.
-#[derive(Debug, Drop)]
+#[derive(Drop)]
 pub(crate) struct NotedBase {
     /// The atoms of the base that are no `Lacks`.
     others: Vec<Atom>,
@@ -64,7 +64,7 @@ pub(crate) struct NotedBase {
 
 /// Successive tasks whose lists have the same atom, and the same atoms before it. The atom is noted for all of them once it is
 /// known which task is the last.
-#[derive(Clone, Copy, Debug)]
+#[derive(Clone, Copy)]
 pub(crate) struct Run {
     /// The atom.
     atom: Atom,
@@ -73,7 +73,7 @@ pub(crate) struct Run {
 }
 
 /// The runs that may go on. All of them have the last task that had a list of its own.
-#[derive(Debug, Drop)]
+#[derive(Drop)]
 pub(crate) struct Runs {
     /// A run for each atom of that task's list that is no `Lacks`, in the list's order.
     begun: Vec<Run>,

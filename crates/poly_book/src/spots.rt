@@ -15,7 +15,7 @@ use poly_grid::Refusal;
 use std::alloc::Global;
 
 /// A guard of the log.
-#[derive(Clone, Copy, Debug)]
+#[derive(Clone, Copy)]
 pub(crate) struct Spot {
     /// Its index among all guards of the log.
     pub at: usize,

@@ -24,7 +24,7 @@ use std::alloc::Global;
 use std::sync::Arc;
 
 /// A task's own atoms.
-#[derive(Debug, Drop)]
+#[derive(Drop)]
 pub enum Own {
     /// The list at this index. The tasks that were opened for the rests of one report share their lists.
     Listed(SharedLists, usize),
@@ -36,7 +36,7 @@ pub enum Own {
 }
 
 /// A pending task.
-#[derive(Debug, Drop)]
+#[derive(Drop)]
 pub struct Pending {
     /// Its number.
     pub number: u32,

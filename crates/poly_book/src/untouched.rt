@@ -12,7 +12,7 @@ use crate::touch::Touch;
 use poly_atom::GuardLog;
 
 /// The first guards of an edition, none of which the change touches.
-#[derive(Clone, Copy, Debug)]
+#[derive(Clone, Copy)]
 pub(crate) struct Untouched {
     /// The edition before the change that laid the guards.
     pub edition: u64,

@@ -17,7 +17,7 @@ use std::marker::Model;
 
 /// Lists of atoms, in the order in which they were added. What lists have in common at their beginning is stored once, if they
 /// were added one right after the other.
-#[derive(Debug, Drop)]
+#[derive(Drop)]
 pub struct AtomLists {
     /// The nodes.
     nodes: Growing,

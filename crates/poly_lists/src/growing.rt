@@ -14,7 +14,7 @@ use std::alloc::Global;
 use std::marker::Model;
 
 /// Nodes that grow. A contract sees the list of their links.
-#[derive(Debug, Drop)]
+#[derive(Drop)]
 pub(crate) struct Growing {
     /// The nodes.
     nodes: Nodes,

@@ -22,7 +22,7 @@ pub(crate) struct Link {
 }
 
 // A link as it is stored.
-#[derive(Clone, Copy, Debug)]
+#[derive(Clone, Copy)]
 enum Word {
     // The list of the node right before, followed by `Has` of this placement.
     Has(u32),
@@ -38,7 +38,7 @@ enum Word {
 const _: () = prove!(size_of::<Word>() == 8);
 
 /// The nodes after node 0, which is the empty list, in the order of their numbers. A contract sees the list of their links.
-#[derive(Debug, Drop)]
+#[derive(Drop)]
 pub(crate) struct Nodes {
     /// A word for each node.
     words: Vec<Word>,

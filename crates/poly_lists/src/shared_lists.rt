@@ -28,7 +28,7 @@ use std::sync::Arc;
 const DEEPEST: u32 = 64;
 
 /// Lists of atoms to which none is added any more. A clone shares them.
-#[derive(Debug, Drop)]
+#[derive(Drop)]
 pub struct SharedLists {
     trie: Arc<Trie>,
 }
@@ -44,7 +44,7 @@ impl Model for SharedLists {
 }
 
 /// A trie whose lists all begin with the same list of an earlier trie, or with no list.
-#[derive(Debug, Drop)]
+#[derive(Drop)]
 #[cycle(trie)]
 pub(crate) struct Trie {
     /// What each list begins with.
@@ -62,7 +62,7 @@ pub(crate) struct Trie {
 }
 
 /// What each list of a trie begins with.
-#[derive(Debug, Drop)]
+#[derive(Drop)]
 #[cycle(trie)]
 pub(crate) enum Stem {
     /// No atoms.

@@ -4,7 +4,7 @@ use std::mem;
 
 /// A certificate of how a family is cut up. A tree that is dropped without [`discard`] is dropped by a recursion that is as
 /// deep as the tree.
-#[derive(Debug, Drop)]
+#[derive(Drop)]
 #[cycle(tree)]
 pub enum Tree {
     /// The family is left to another task.
@@ -25,7 +25,7 @@ pub enum Tree {
 }
 
 /// An arm of a Branch: a placement that has the Branch's item, and a tree.
-#[derive(Debug, Drop)]
+#[derive(Drop)]
 #[cycle(tree)]
 pub struct Arm {
     /// The number of the placement.
@@ -35,7 +35,6 @@ pub struct Arm {
 }
 
 /// What a worker hands in: a tree for a task, made at an edition.
-#[derive(Debug)]
 pub struct Report {
     /// The task's number.
     pub task: u32,
