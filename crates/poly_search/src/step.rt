@@ -148,10 +148,16 @@ fn explore_within(
 {
     let taken = room.take(alloc);
     let mut frame = Frame::within(alloc, view, whole, part, atoms, taken)?;
-    let explored = explore_on(alloc, &mut frame, atoms, nodes, keep)?;
+    let explored = explore_on(alloc, &mut frame, atoms, nodes, keep);
     let (own, left) = frame.into_parts(alloc);
     room.put_back(left);
-    Ok((explored, own))
+    match explored {
+        Ok(e) => Ok((e, own)),
+        Err(e) => {
+            drop(own);
+            Err(e)
+        }
+    }
 }
 
 // Searches the atoms on a frame with these atoms and no step, and keeps the tree if `keep` is set.

@@ -87,8 +87,10 @@ fn sweep_rest(
 {
     let mut frame = Frame::within(alloc, view, whole, whole, atoms, room.take(alloc))?;
     let end = frame.level() + STEPS;
-    sweep(alloc, &mut frame, list, end, DEPTH)?;
-    let (_, left) = frame.into_parts(alloc);
+    let swept = sweep(alloc, &mut frame, list, end, DEPTH);
+    let (own, left) = frame.into_parts(alloc);
+    drop(own);
     room.put_back(left);
+    swept?;
     Ok(())
 }

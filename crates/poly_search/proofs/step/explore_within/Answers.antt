@@ -13,21 +13,21 @@ both_some : {X : Type 0} (o : Option X) (P Q : X → Type 0) → IfSome o P → 
 both_some (Some x) P Q p q = (p, q)
 both_some None P Q p q = tt
 
-pub returns-clause-tree : goal.returns-clause-tree
-returns-clause-tree c =
-    let found = c.in_ok-explored.explored in
-    subst (λ (w : Walk). (t : Plan) × (c.args.keep ≡ true → plan_of found.tree ≡ t) × IsExplored w.scene c.args.atoms.now c.args.nodes t found.leaves.tilings.items found.leaves.rests) c.in_ok-frame.ensures.made c.in_ok-explored.ensures.tree
+pub returns-in-Ok-clause-tree : goal.returns-in-Ok-clause-tree
+returns-in-Ok-clause-tree c =
+    let found = c.in-Ok.e in
+    subst (λ (w : Walk). (t : Plan) × (c.args.keep ≡ true → plan_of found.tree ≡ t) × IsExplored w.scene c.args.atoms.now c.args.nodes t found.leaves.tilings.items found.leaves.rests) c.in_ok-frame.ensures.made c.in-Ok.ensures.tree
 
-pub returns-clause-own : goal.returns-clause-own
-returns-clause-own c =
-    let here = c.in_ok-explored.ensures.same ∙ c.in_ok-frame.ensures.made in
+pub returns-in-Ok-clause-own : goal.returns-in-Ok-clause-own
+returns-in-Ok-clause-own c =
+    let here = c.in-Ok.ensures.same ∙ c.in_ok-frame.ensures.made in
     let m = c.into_parts-own in
-    let w = c.explore_on.new.frame in
+    let w = c.explore_on-explored.new.frame in
     let both = both_some m.result.0 (λ x. IsMatrix w.scene x) (λ x. HasOpen w.scene w.atoms x) m.ensures.part m.ensures.all in
     subst (λ (x : Walk). IfSome m.result.0 (λ y. IsMatrix x.scene y × HasOpen x.scene x.atoms y)) here both
 
-pub explore_on-requires : goal.explore_on-requires
-explore_on-requires c =
+pub explore_on-explored-requires : goal.explore_on-explored-requires
+explore_on-explored-requires c =
     let r = c.requires in
     let made = c.in_ok-frame.ensures.made in
     record {

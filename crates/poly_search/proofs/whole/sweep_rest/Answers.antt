@@ -8,17 +8,17 @@ use Rattle.poly_search.proofs.whole.sweep_rest.Goals as goal
 pub returns-clause-swept : goal.returns-clause-swept
 returns-clause-swept c =
     let list = c.args.list.now in
-    let new = c.sweep.new.list in
-    subst (λ (w : Walk). Swept w.scene w.atoms list.found.items new.found.items (lists list.rests.items) (lists new.rests.items)) c.in_ok-frame.ensures.made c.in_ok-sweep.ensures.swept
+    let new = c.sweep-swept.new.list in
+    subst (λ (w : Walk). Swept w.scene w.atoms list.found.items new.found.items (lists list.rests.items) (lists new.rests.items)) c.in_ok-frame.ensures.made c.in_ok-swept.ensures.swept
 
 pub returns-clause-lighter : goal.returns-clause-lighter
 returns-clause-lighter c =
     let list = c.args.list.now in
-    let new = c.sweep.new.list in
-    subst (λ (w : Walk). IsLighter w.scene w.atoms (lists list.rests.items) (lists new.rests.items)) c.in_ok-frame.ensures.made c.in_ok-sweep.ensures.lighter
+    let new = c.sweep-swept.new.list in
+    subst (λ (w : Walk). IsLighter w.scene w.atoms (lists list.rests.items) (lists new.rests.items)) c.in_ok-frame.ensures.made c.in_ok-swept.ensures.lighter
 
-pub sweep-requires : goal.sweep-requires
-sweep-requires c =
+pub sweep-swept-requires : goal.sweep-swept-requires
+sweep-swept-requires c =
     let e = c.in_ok-frame.ensures in
     let long = ap (λ (w : Walk). length w.atoms) e.made in
     let given = ap (λ (w : Walk). w.given) e.made in
