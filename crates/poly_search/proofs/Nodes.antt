@@ -99,12 +99,6 @@ arm_grown v A d arms p t dis m o ga gt =
 pub branch_grown : (v : View) (A : List Atom) (d : ℕ) (i : Item) (arms : Arms) → arms_fit v A i (heads arms) ≡ true → ArmsGrown v A d arms → Grown v A (d + 1) (Branches i arms)
 branch_grown v A d i arms f g = record { right = and_from _ _ f g.right; low = let a = g.low in omega arith; less = g.less }
 
--- a step that is undone changes nothing
-pub back_is : (w wp wq wb : Walk) (a : Atom) (m : ℕ) → m ≡ length w.atoms → wp ≡ with_step w a → wq ≡ wp → wb ≡ backtrack_to wq m → wb ≡ w
-back_is w wp wq wb a m e p q b =
-    let t = take_at w.atoms (a ∷ []) m (sym e) in
-    b ∙ ap (λ x. backtrack_to x m) (q ∙ p) ∙ ap (λ xs. record w { atoms = xs }) t
-
 pub past_next : (w wl wn : Walk) (ps : List ℕ) (j : ℕ) → j < length ps → wl ≡ past w (take j ps) → wn ≡ with_step wl (Lacks (get_or ps j 0)) → wn ≡ past w (take (j + 1) ps)
 past_next w wl wn ps j h e n =
     let p = get_or ps j 0 in

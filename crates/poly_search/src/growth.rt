@@ -44,7 +44,7 @@ pub struct Growth {
     pub gathered: Gathered,
     /// Lists of options that have been walked. The next Branch reuses one of them instead of making its own list.
     pub spare: Vec<Vec<u32>>,
-    /// Whether the tree is kept. If not, no Branch gets its arms, and a Rest stands in the place of each Split.
+    /// Whether the tree is kept. If not, no Branch gets its arms, and one of its trees stands in the place of each Split.
     pub keep: bool,
 }
 
@@ -90,6 +90,7 @@ fn dead_end(alloc: Global, growth: &mut Growth, item: Item) -> Tree
     }
 }
 
+// A Rest, whose path is gathered.
 fn rest(frame: &Frame<'_>, growth: &mut Growth) -> Result<Tree, Refusal>
     requires { 1 ≤ growth.old.nodes }
     ensures grows { IfOk result (λ t. (plan_of t ≡ Rests) × ((d : ℕ) → 1 ≤ d → Grows frame.now d (stand_of growth.old) (stand_of growth.new) Rests)) }
@@ -140,24 +141,24 @@ pub fn grow(
     if depth < 2 {
         return rest(frame, growth);
     }
-    if let Some(item) = frame.next_due() {
-        let options = list_options(alloc, frame, item, &mut growth.spare)?;
-        if options.is_empty() {
-            return Ok(dead_end(alloc, growth, item));
-        }
-        if options.len() < (growth.nodes - kept) as usize {
-            if !root && growth.inner < 2 {
-                return rest(frame, growth);
-            }
-            let tree = branch(alloc, frame, growth, kept, depth, &item, &options)?;
-            growth.spare.push(options)?;
-            return Ok(tree);
-        }
+    let Some(item) = frame.next_due() else {
+        return split(alloc, frame, growth, kept, depth, open);
+    };
+    let options = list_options(alloc, frame, item, &mut growth.spare)?;
+    let many = options.len();
+    if many == 0 {
+        return Ok(dead_end(alloc, growth, item));
     }
-    if growth.nodes - kept < 3 {
+    if many >= (growth.nodes - kept) as usize {
+        return split(alloc, frame, growth, kept, depth, open);
+    }
+    if !root && growth.inner < 2 {
         return rest(frame, growth);
     }
-    split(alloc, frame, growth, kept, depth, open)
+    let tree = branch(alloc, frame, growth, kept, depth, &item, &options);
+    // If there is no memory to keep the list, a later Branch makes its own.
+    let _ = growth.spare.push(options);
+    tree
 }
 
 // Grows a tree below the root. If the tree has a Rest and used fewer nodes than an eighth of the whole budget, rounded down,
@@ -195,8 +196,8 @@ fn child(
     Ok(tree)
 }
 
-// The tree of an arm: what `child` grows once the placement is taken, or a dead end if the frame sees an item that would have too
-// few placements left.
+// Adds the arm of the placement, if the tree is kept. The arm's tree is what `child` grows once the placement is taken, or a
+// dead end if the frame sees an item that would have too few placements left.
 #[cycle(grow)]
 fn arm(
     alloc: Global,
@@ -205,40 +206,39 @@ fn arm(
     kept: u32,
     depth: u32,
     placement: u32,
-) -> Result<Tree, Refusal>
+    arms: &mut Vec<Arm>,
+) -> Result<(), Refusal>
     requires room { kept < growth.old.nodes }
     requires low { 1 ≤ depth }
     requires steps { length frame.old.atoms + growth.old.nodes + 1 ≤ frame.old.given + STEPS + kept }
     requires begun { frame.old.given ≤ length frame.old.atoms }
     requires once { distinct frame.old.scene.live ≡ true }
     ensures same { OnOk result (frame.new ≡ frame.old) }
-    ensures grows { IfOk result (λ t. (p : Plan) × (growth.old.keep ≡ true → plan_of t ≡ p) × Grows (with_step frame.old (Has placement)) depth (stand_of growth.old) (stand_of growth.new) p) }
+    ensures grows { OnOk result ((p : Plan) × (growth.old.keep ≡ true → arms_list arms.new.items ≡ snoc (arms_list arms.old.items) placement p) × Grows (with_step frame.old (Has placement)) depth (stand_of growth.old) (stand_of growth.new) p) }
     ensures kept { OnOk result (kept ≤ growth.new.nodes) }
     ensures keep { OnOk result (growth.new.keep ≡ growth.old.keep) }
     ensures why { IfErr result (λ e. e ≡ Refusal.Memory) }
 {
-    let level = frame.level();
     if growth.inner == 0 || depth < 2 {
         frame.pick(placement);
     } else if let Some(item) = frame.pick_unless_starved(placement) {
-        return Ok(dead_end(alloc, growth, item));
+        let tree = dead_end(alloc, growth, item);
+        return push_arm(arms, growth.keep, placement, tree);
     }
     let tree = child(alloc, frame, growth, kept, depth)?;
-    frame.backtrack_to(level);
-    Ok(tree)
+    frame.back();
+    push_arm(arms, growth.keep, placement, tree)
 }
 
-// The arms of the options that were walked, if the tree is kept, how many options these are, and how many nodes are held back
-// for a chain over the arms.
+// How many options were walked, and how many nodes are held back for a chain over their arms.
 #[derive(Drop)]
-struct Arms {
-    arms: Vec<Arm>,
+struct Extent {
     walked: usize,
     held: u32,
 }
 
 // Walks the options one after another, and adds an atom that leaves out each walked option before it walks the next one. May
-// stop with at least two options not walked, if the budget ends and a chain can be made.
+// stop with at least two options not walked, if the budget ends and a chain can be made. Adds the arms, if the tree is kept.
 #[cycle(grow)]
 fn walk_arms(
     alloc: Global,
@@ -248,7 +248,8 @@ fn walk_arms(
     depth: u32,
     item: &Item,
     options: &[u32],
-) -> Result<Arms, Refusal>
+    arms: &mut Vec<Arm>,
+) -> Result<Extent, Refusal>
     requires room { kept + length options.now ≤ growth.old.nodes }
     requires low { 2 ≤ depth }
     requires steps { length frame.old.atoms + growth.old.nodes + 1 ≤ frame.old.given + STEPS + kept }
@@ -256,15 +257,14 @@ fn walk_arms(
     requires once { distinct frame.old.scene.live ≡ true }
     requires each_once { distinct options.now ≡ true }
     requires members { (p : ℕ) → mem options.now p ≡ (mem frame.old.scene.live p && is_option frame.old item.now p) }
+    requires none { arms.old.items ≡ [] }
     ensures same { OnOk result (frame.new ≡ frame.old) }
-    ensures walked { IfOk result (λ a. (arms : ArmsOf) × (growth.old.keep ≡ true → arms_list a.arms.items ≡ arms) × Walked frame.old depth kept options.now (stand_of growth.old) (stand_of growth.new) a.held a.walked arms) }
+    ensures walked { IfOk result (λ e. (made : ArmsOf) × (growth.old.keep ≡ true → arms_list arms.new.items ≡ made) × Walked frame.old depth kept options.now (stand_of growth.old) (stand_of growth.new) e.held e.walked made) }
     ensures keep { OnOk result (growth.new.keep ≡ growth.old.keep) }
     ensures why { IfErr result (λ e. e ≡ Refusal.Memory) }
 {
     let start = frame.level();
     let chained = growth.inner > 0 && options.len() < (depth / 2) as usize;
-    let room = if growth.keep { options.len() } else { 0 };
-    let mut arms = Vec::with_capacity(alloc, room)?;
     let mut held: u32 = 0;
     for j in 0..options.len() {
         if chained && j > 0 {
@@ -277,11 +277,7 @@ fn walk_arms(
             {
                 growth.gathered.push_rest(frame)?;
                 frame.backtrack_to(start);
-                return Ok(Arms {
-                    arms,
-                    walked: j,
-                    held,
-                });
+                return Ok(Extent { walked: j, held });
             }
         }
         let placement = options[j];
@@ -291,15 +287,13 @@ fn walk_arms(
         } else {
             depth - 1
         };
-        let tree = arm(alloc, frame, growth, kept + after, deeper, placement)?;
+        arm(alloc, frame, growth, kept + after, deeper, placement, arms)?;
         if after > 0 {
             frame.leave(placement);
         }
-        push_arm(&mut arms, growth.keep, placement, tree)?;
     }
     frame.backtrack_to(start);
-    Ok(Arms {
-        arms,
+    Ok(Extent {
         walked: options.len(),
         held,
     })
@@ -345,8 +339,10 @@ fn branch(
 {
     growth.nodes -= 1;
     growth.inner -= 1;
-    let walked = walk_arms(alloc, frame, growth, kept, depth, item, options)?;
-    let Arms { arms, walked, held } = walked;
+    let room = if growth.keep { options.len() } else { 0 };
+    let mut arms = Vec::with_capacity(alloc, room)?;
+    let extent = walk_arms(alloc, frame, growth, kept, depth, item, options, &mut arms)?;
+    let Extent { walked, held } = extent;
     if walked < options.len() {
         growth.nodes -= walked as u32;
         return link(alloc, arms);
@@ -367,18 +363,12 @@ fn link(alloc: Global, arms: Vec<Arm>) -> Result<Tree, Refusal>
             placement,
             tree: taken,
         } = arm;
-        let taken = Box::new(alloc, taken)?;
-        let left = Box::new(alloc, tree)?;
-        tree = Tree::Split {
-            placement,
-            taken,
-            left,
-        };
+        tree = over(alloc, placement, taken, tree)?;
     }
     Ok(tree)
 }
 
-// Grows a Split on an open placement.
+// Grows a Split on an open placement, or a Rest if the budget is less than three nodes.
 #[cycle(grow)]
 fn split(
     alloc: Global,
@@ -388,7 +378,7 @@ fn split(
     depth: u32,
     placement: u32,
 ) -> Result<Tree, Refusal>
-    requires room { kept + 3 ≤ growth.old.nodes }
+    requires room { kept < growth.old.nodes }
     requires inner { 1 ≤ growth.old.inner }
     requires low { 2 ≤ depth }
     requires steps { length frame.old.atoms + growth.old.nodes ≤ frame.old.given + STEPS + kept }
@@ -397,24 +387,26 @@ fn split(
     requires place { mem frame.old.scene.live placement ≡ true }
     requires open { is_open frame.old placement ≡ true }
     ensures same { OnOk result (frame.new ≡ frame.old) }
-    ensures grows { IfOk result (λ t. (p : Plan) × (growth.old.keep ≡ true → plan_of t ≡ p) × Grows frame.old depth (stand_of growth.old) (stand_of growth.new) p × (is_rest p ≡ false)) }
+    ensures grows { IfOk result (λ t. (p : Plan) × (growth.old.keep ≡ true → plan_of t ≡ p) × Grows frame.old depth (stand_of growth.old) (stand_of growth.new) p × (kept + 3 ≤ growth.old.nodes → is_rest p ≡ false)) }
     ensures kept { OnOk result (kept ≤ growth.new.nodes) }
     ensures keep { OnOk result (growth.new.keep ≡ growth.old.keep) }
     ensures why { IfErr result (λ e. e ≡ Refusal.Memory) }
 {
+    if growth.nodes - kept < 3 {
+        return rest(frame, growth);
+    }
     growth.nodes -= 1;
     growth.inner -= 1;
-    let level = frame.level();
     frame.pick(placement);
     let taken = child(alloc, frame, growth, kept + 1, depth - 1)?;
-    frame.backtrack_to(level);
+    frame.back();
     frame.leave(placement);
     let left = child(alloc, frame, growth, kept, depth - 1)?;
-    frame.backtrack_to(level);
+    frame.back();
     over_both(alloc, growth.keep, placement, taken, left)
 }
 
-// The Split over both trees, if the tree is kept. If not, a Rest stands for it.
+// The Split over both trees, if the tree is kept. If not, one of them stands for it.
 fn over_both(
     alloc: Global,
     keep: bool,
@@ -426,8 +418,16 @@ fn over_both(
     ensures why { IfErr result (λ e. e ≡ Refusal.Memory) }
 {
     if !keep {
-        return Ok(Tree::Rest);
+        return Ok(left);
     }
+    over(alloc, placement, taken, left)
+}
+
+// The Split over both trees.
+fn over(alloc: Global, placement: u32, taken: Tree, left: Tree) -> Result<Tree, Refusal>
+    ensures tree { IfOk result (λ t. plan_of t ≡ Splits placement (plan_of taken) (plan_of left)) }
+    ensures why { IfErr result (λ e. e ≡ Refusal.Memory) }
+{
     let taken = Box::new(alloc, taken)?;
     let left = Box::new(alloc, left)?;
     Ok(Tree::Split {
