@@ -188,6 +188,7 @@ fn child(
     let rests = growth.gathered.paths.len();
     let tree = grow(alloc, frame, growth, kept, depth, false)?;
     if rests < growth.gathered.paths.len() && inner - growth.inner < growth.whole / 8 {
+        drop(tree);
         growth.nodes = nodes;
         growth.gathered.tilings.truncate(tilings);
         growth.gathered.paths.truncate(rests);
@@ -304,9 +305,11 @@ fn push_arm(arms: &mut Vec<Arm>, keep: bool, placement: u32, tree: Tree) -> Resu
     ensures arms { OnOk result (keep ≡ true → arms_list arms.new.items ≡ snoc (arms_list arms.old.items) placement (plan_of tree)) }
     ensures why { IfErr result (λ e. e ≡ Refusal.Memory) }
 {
-    if keep {
-        arms.push(Arm { placement, tree })?;
+    if !keep {
+        drop(tree);
+        return Ok(());
     }
+    arms.push(Arm { placement, tree })?;
     Ok(())
 }
 
@@ -418,6 +421,7 @@ fn over_both(
     ensures why { IfErr result (λ e. e ≡ Refusal.Memory) }
 {
     if !keep {
+        drop(taken);
         return Ok(left);
     }
     over(alloc, placement, taken, left)

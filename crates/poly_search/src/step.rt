@@ -1,5 +1,7 @@
 //! The worker's step.
-ghost use Rattle.std.specs.Prelude.{◌≡◌, ◌≤◌, true, false, length, IfOk, IfErr, IfSome, OnOk};
+//!
+//! Large values are dropped by name at the end of a function: the proof is shorter than with a drop of each of their parts.
+ghost use Rattle.std.specs.Prelude.{◌≡◌, ◌≤◌, ◌++◌, map, true, false, length, IfOk, IfErr, IfSome, OnOk};
 ghost use Rattle.poly_tiling.specs.Lists.{distinct};
 ghost use Rattle.poly_frame.specs.FrameTable.{HasOpen};
 ghost use Rattle.poly_frame.specs.Matrices.{IsMatrix, IsWhole};
@@ -49,7 +51,9 @@ pub fn explore_with_leaves(
     ensures why { IfErr result (λ e. e ≡ Refusal.Memory) }
 {
     let whole = Matrix::new(alloc, view)?;
-    explore_over(alloc, view, &whole, atoms, nodes)
+    let explored = explore_over(alloc, view, &whole, atoms, nodes);
+    drop(whole);
+    explored
 }
 
 /// Does what `explore_with_leaves` does, but takes the view's matrix, so that many tasks can be searched with one matrix.
@@ -75,7 +79,9 @@ pub fn explore_over(
     ensures why { IfErr result (λ e. e ≡ Refusal.Memory) }
 {
     let mut room = Room::new(alloc);
-    explore_tree(alloc, view, whole, atoms, nodes, &mut room)
+    let explored = explore_tree(alloc, view, whole, atoms, nodes, &mut room);
+    drop(room);
+    explored
 }
 
 // The tree that `explore_over` grows, and its leaves. The search uses the memory of `room`, and leaves it there.
@@ -93,7 +99,8 @@ fn explore_tree(
     ensures tree { IfOk result (λ e. IsExplored view.now atoms.now nodes (plan_of e.tree) e.leaves.tilings.items e.leaves.rests) }
     ensures why { IfErr result (λ e. e ≡ Refusal.Memory) }
 {
-    let (explored, _) = explore_within(alloc, view, whole, whole, atoms, nodes, true, room)?;
+    let (explored, own) = explore_within(alloc, view, whole, whole, atoms, nodes, true, room)?;
+    drop(own);
     Ok(explored)
 }
 
@@ -121,7 +128,8 @@ pub fn leaves_within(
     ensures why { IfErr result (λ e. e ≡ Refusal.Memory) }
 {
     let (explored, own) = explore_within(alloc, view, whole, part, atoms, nodes, false, room)?;
-    let Explored { leaves, tree: _ } = explored;
+    let Explored { leaves, tree } = explored;
+    drop(tree);
     Ok((leaves, own))
 }
 
@@ -185,9 +193,38 @@ fn explore_on(
         spare: Vec::new(alloc),
         keep,
     };
-    let tree = grow(alloc, frame, &mut growth, 0, DEPTH, true)?;
-    let leaves = growth.gathered.into_leaves(alloc, atoms)?;
-    Ok(Explored { tree, leaves })
+    match grow(alloc, frame, &mut growth, 0, DEPTH, true) {
+        Ok(tree) => with_leaves(alloc, atoms, tree, growth),
+        Err(e) => {
+            drop(growth);
+            Err(e)
+        }
+    }
+}
+
+// The tree, and the leaves that were gathered when it grew for these atoms.
+fn with_leaves(
+    alloc: Global,
+    atoms: &[Atom],
+    tree: Tree,
+    growth: Growth,
+) -> Result<Explored, Refusal>
+    ensures made { IfOk result (λ e. (e.tree ≡ tree) × (e.leaves.tilings.items ≡ growth.gathered.tilings.items) × (e.leaves.rests ≡ map (λ p. atoms.now ++ p) growth.gathered.paths)) }
+    ensures why { IfErr result (λ e. e ≡ Refusal.Memory) }
+{
+    let Growth {
+        gathered,
+        spare,
+        ..
+    } = growth;
+    drop(spare);
+    match gathered.into_leaves(alloc, atoms) {
+        Ok(leaves) => Ok(Explored { tree, leaves }),
+        Err(e) => {
+            drop(tree);
+            Err(e)
+        }
+    }
 }
 
 /// Returns a tree that divides the family of the atoms, with at most `nodes` nodes that aren't Rest; `nodes` is from 1 to

@@ -1,4 +1,6 @@
 //! Lists a whole family, one sweep after another.
+//!
+//! As in the worker's step, large values are dropped by name.
 ghost use Rattle.std.specs.Prelude.{◌≡◌, ◌⊎◌, ◌≤◌, [], length, IfOk, IfErr, Err, OnOk};
 ghost use Rattle.poly_frame.specs.Matrices.{IsWhole};
 ghost use Rattle.poly_report.specs.Gather.{lists};
@@ -41,7 +43,10 @@ fn sweep_all(alloc: Global, view: &View, atoms: &[Atom], list: &mut Listing) -> 
 {
     let whole = Matrix::new(alloc, view)?;
     let mut room = Room::new(alloc);
-    sweep_each(alloc, view, &whole, atoms, list, &mut room)
+    let swept = sweep_each(alloc, view, &whole, atoms, list, &mut room);
+    drop(room);
+    drop(whole);
+    swept
 }
 
 // Sweeps what `sweep_all` sweeps, with the view's matrix and the memory of `room`. Refuses what `sweep_all` refuses.

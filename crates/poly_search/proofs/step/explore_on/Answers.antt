@@ -1,15 +1,19 @@
-use Rattle.std.proofs.Common.{ap, arith, length, refl, ◌+◌, ◌≤◌}
+use Rattle.std.proofs.Common.{ap, arith, length, refl, ◌+◌, ◌≤◌, ◌∙◌}
+use Rattle.std.proofs.lemmas.Result.{IfOk-weaker}
+use Rattle.poly_report.specs.Shapes.{plan_of}
 use Rattle.poly_search.proofs.Growing.{explored}
 use Rattle.poly_search.proofs.step.explore_on.Goals as goal
 
-pub returns-clause-tree : goal.returns-clause-tree
-returns-clause-tree c =
-    let g = c.in_ok-tree.ensures.grows in
-    let l = c.in_ok-leaves.leaves in
-    let e = c.in_ok-leaves.ensures in
+pub returns-in-Ok-clause-tree : goal.returns-in-Ok-clause-tree
+returns-in-Ok-clause-tree c =
+    let g = c.in-Ok.ensures.grows in
     let w = c.args.frame.now in
     let root = g.3 refl (omega arith) c.requires.some (omega arith) in
-    (g.0, g.1, explored w w.scene c.args.atoms.now c.args.nodes _ _ g.0 l.tilings.items l.rests g.2 (λ i. record { scene = w.scene; atoms = c.requires.atoms i; given = c.requires.given i }) refl refl c.new.ensures.tilings c.new.ensures.paths root e.tilings e.rests)
+    IfOk-weaker c.with_leaves.result _ _ (λ x e. (
+      g.0,
+      λ k. ap plan_of e.0 ∙ g.1 k,
+      explored w w.scene c.args.atoms.now c.args.nodes _ _ g.0 x.leaves.tilings.items x.leaves.rests g.2 (λ i. record { scene = w.scene; atoms = c.requires.atoms i; given = c.requires.given i }) refl refl c.new.ensures.tilings c.new.ensures.paths root e.1 e.2,
+    )) c.with_leaves.ensures.made
 
 pub grow-requires : goal.grow-requires
 grow-requires c =
