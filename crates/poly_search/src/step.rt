@@ -195,10 +195,7 @@ fn explore_on(
     };
     match grow(alloc, frame, &mut growth, 0, DEPTH, true) {
         Ok(tree) => with_leaves(alloc, atoms, tree, growth),
-        Err(e) => {
-            drop(growth);
-            Err(e)
-        }
+        Err(e) => Err(e),
     }
 }
 
