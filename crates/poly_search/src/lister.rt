@@ -118,9 +118,9 @@ fn sweep_item(
     if list.options.len() > from {
         frame.focus(alloc)?;
     }
-    let whole = sweep_options(alloc, frame, list, end, depth, item, from)?;
+    let whole = sweep_options(alloc, frame, list, end, depth, item, from);
     list.options.truncate(from);
-    Ok(whole)
+    whole
 }
 
 #[cycle(sweep)]

@@ -264,28 +264,28 @@ narrowed t c = elim c.if-len-from.branch [
 ]
 
 pub sweep_item-returns-clause-same : goal.sweep_item-returns-clause-same
-sweep_item-returns-clause-same t c = c.in_ok-whole.ensures.same ∙ narrowed t c
+sweep_item-returns-clause-same t c = IfOk-weaker c.sweep_options-whole.result _ _ (λ x e. e ∙ narrowed t c) c.sweep_options-whole.ensures.same
 
 pub sweep_item-returns-clause-swept : goal.sweep_item-returns-clause-swept
-sweep_item-returns-clause-swept t c = subst (λ (x : Walk). Swept x.scene x.atoms c.args.list.now.found.items c.sweep_options.new.list.found.items (lists c.args.list.now.rests.items) (lists c.sweep_options.new.list.rests.items)) (narrowed t c) c.in_ok-whole.ensures.swept
+sweep_item-returns-clause-swept t c = IfOk-weaker c.sweep_options-whole.result _ _ (λ y e. subst (λ (x : Walk). Swept x.scene x.atoms c.args.list.now.found.items c.sweep_options-whole.new.list.found.items (lists c.args.list.now.rests.items) (lists c.sweep_options-whole.new.list.rests.items)) (narrowed t c) e) c.sweep_options-whole.ensures.swept
 
 pub sweep_item-returns-clause-lighter : goal.sweep_item-returns-clause-lighter
-sweep_item-returns-clause-lighter t c = subst (λ (x : Walk). IsLighter x.scene x.atoms (lists c.args.list.now.rests.items) (lists c.sweep_options.new.list.rests.items)) (narrowed t c) c.in_ok-whole.ensures.lighter
+sweep_item-returns-clause-lighter t c = IfOk-weaker c.sweep_options-whole.result _ _ (λ y e. subst (λ (x : Walk). IsLighter x.scene x.atoms (lists c.args.list.now.rests.items) (lists c.sweep_options-whole.new.list.rests.items)) (narrowed t c) e) c.sweep_options-whole.ensures.lighter
 
 pub sweep_item-returns-clause-whole : goal.sweep_item-returns-clause-whole
-sweep_item-returns-clause-whole t c = c.in_ok-whole.ensures.whole
+sweep_item-returns-clause-whole t c = c.sweep_options-whole.ensures.whole
 
 pub sweep_item-returns-clause-left : goal.sweep_item-returns-clause-left
-sweep_item-returns-clause-left t c = c.in_ok-whole.ensures.left
+sweep_item-returns-clause-left t c = c.sweep_options-whole.ensures.left
 
 pub sweep_item-returns-clause-options : goal.sweep_item-returns-clause-options
 sweep_item-returns-clause-options t c =
     let xs = c.args.list.now.options in
     let from : c.len-from.result ≡ length xs.items = omega (arith, c.len-from.ensures, xs.ok) in
-    leaves_cut xs.items c.sweep_options.new.list.options.items c.truncate.new.self.items c.options.result.now c.len-from.result from (◌∙◌ {A = List ℕ} c.in_ok-whole.ensures.options c.in_ok-extend_from_slice.ensures.items) c.truncate.ensures.items
+    IfOk-weaker c.sweep_options-whole.result _ _ (λ x e. leaves_cut xs.items c.sweep_options-whole.new.list.options.items c.truncate.new.self.items c.options.result.now c.len-from.result from (◌∙◌ {A = List ℕ} e c.in_ok-extend_from_slice.ensures.items) c.truncate.ensures.items) c.sweep_options-whole.ensures.options
 
-pub sweep_item-sweep_options-requires : goal.sweep_item-sweep_options-requires
-sweep_item-sweep_options-requires t c =
+pub sweep_item-sweep_options-whole-requires : goal.sweep_item-sweep_options-whole-requires
+sweep_item-sweep_options-whole-requires t c =
     let w = c.args.frame.now in
     let i = c.args.item.now in
     let r = c.requires in
@@ -367,3 +367,6 @@ sweep_options-leave-requires t c =
     let lt : c.loop-at.at < length c.args.list.now.options.items = omega (arith, c.loop-at-test.true, c.len-at-end.ensures, c.args.list.now.options.ok) in
     let room : length here.atoms < here.given + 4096 = omega (arith, i.room lt, ap (λ (x : Walk). x.given) (i.path lt), c.requires.end) in
     subst (λ (x : Walk). length x.atoms < x.given + 4096) (sym c.in_ok-whole.ensures.same) room
+
+pub sweep_item-returns-clause-why : goal.sweep_item-returns-clause-why
+sweep_item-returns-clause-why t c = c.sweep_options-whole.ensures.why
