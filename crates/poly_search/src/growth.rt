@@ -404,7 +404,13 @@ fn split(
     let taken = child(alloc, frame, growth, kept + 1, depth - 1)?;
     frame.back();
     frame.leave(placement);
-    let left = child(alloc, frame, growth, kept, depth - 1)?;
+    let left = match child(alloc, frame, growth, kept, depth - 1) {
+        Ok(left) => left,
+        Err(e) => {
+            drop(taken);
+            return Err(e);
+        }
+    };
     frame.back();
     over_both(alloc, growth.keep, placement, taken, left)
 }

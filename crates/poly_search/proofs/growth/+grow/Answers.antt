@@ -329,14 +329,14 @@ split-returns-clause-grows t c =
     let p = c.args.placement in
     let r = c.requires in
     let a = c.in_ok-taken.ensures.grows in
-    let b = c.in_ok-left.ensures.grows in
+    let b = c.in-Ok.ensures.grows in
     let some : 1 ≤ c.args.growth.now.nodes = omega (arith, c.if-growth-kept-lt3.false, r.room) in
     let back = c.back.ensures ∙ ap step_back (c.in_ok-taken.ensures.same ∙ c.pick.ensures) ∙ step_undone w (Has p) in
     let left : c.leave.new.self ≡ with_step w (Lacks p) = c.leave.ensures ∙ ap (λ (x : Walk). with_step x (Lacks p)) back in
     let made = split_grows w c.pick.new.self c.leave.new.self c.args.depth p (stand_of c.args.growth.now) (stand_of c.child.new.growth) (stand_of c.child-2.new.growth) a.0 b.0 r.low some r.inner r.once r.place r.open c.pick.ensures left a.2 b.2 in
     IfOk-weaker c.over_both.result _ _ (λ x e. (
       Splits p a.0 b.0,
-      λ k. e (c.in_ok-left.ensures.keep ∙ c.in_ok-taken.ensures.keep ∙ k) ∙ ap (λ x. Splits p x (plan_of c.in_ok-left.left)) (a.1 k) ∙ ap (λ x. Splits p a.0 x) (b.1 (c.in_ok-taken.ensures.keep ∙ k)),
+      λ k. e (c.in-Ok.ensures.keep ∙ c.in_ok-taken.ensures.keep ∙ k) ∙ ap (λ x. Splits p x (plan_of c.in-Ok.left)) (a.1 k) ∙ ap (λ x. Splits p a.0 x) (b.1 (c.in_ok-taken.ensures.keep ∙ k)),
       made,
       λ b. refl,
     )) c.over_both.ensures.tree
@@ -431,20 +431,20 @@ pub split-back-requires-2 : goal.split-back-requires-2
 split-back-requires-2 t c =
     let w = c.args.frame.now in
     let left = c.leave.ensures ∙ ap (λ (x : Walk). with_step x (Lacks c.args.placement)) (c.back.ensures ∙ ap step_back (c.in_ok-taken.ensures.same ∙ c.pick.ensures) ∙ step_undone w (Has c.args.placement)) in
-    let same = c.in_ok-left.ensures.same ∙ left in
+    let same = c.in-Ok.ensures.same ∙ left in
     omega (arith, ap (λ (x : Walk). x.given) same, ap (λ (x : Walk). length x.atoms) same, length-append w.atoms (Lacks c.args.placement ∷ []), c.requires.begun)
 
 pub split-returns-clause-same : goal.split-returns-clause-same
 split-returns-clause-same t c =
     let w = c.args.frame.now in
     let left = c.leave.ensures ∙ ap (λ (x : Walk). with_step x (Lacks c.args.placement)) (c.back.ensures ∙ ap step_back (c.in_ok-taken.ensures.same ∙ c.pick.ensures) ∙ step_undone w (Has c.args.placement)) in
-    IfOk-weaker c.over_both.result _ _ (λ x e. c.back-2.ensures ∙ ap step_back (c.in_ok-left.ensures.same ∙ left) ∙ step_undone w (Lacks c.args.placement)) c.over_both.ensures.tree
+    IfOk-weaker c.over_both.result _ _ (λ x e. c.back-2.ensures ∙ ap step_back (c.in-Ok.ensures.same ∙ left) ∙ step_undone w (Lacks c.args.placement)) c.over_both.ensures.tree
 
 pub split-returns-clause-keep : goal.split-returns-clause-keep
-split-returns-clause-keep t c = IfOk-weaker c.over_both.result _ _ (λ x e. c.in_ok-left.ensures.keep ∙ c.in_ok-taken.ensures.keep) c.over_both.ensures.tree
+split-returns-clause-keep t c = IfOk-weaker c.over_both.result _ _ (λ x e. c.in-Ok.ensures.keep ∙ c.in_ok-taken.ensures.keep) c.over_both.ensures.tree
 
 pub split-returns-clause-kept : goal.split-returns-clause-kept
-split-returns-clause-kept t c = IfOk-weaker c.over_both.result _ _ (λ x e. c.in_ok-left.ensures.kept) c.over_both.ensures.tree
+split-returns-clause-kept t c = IfOk-weaker c.over_both.result _ _ (λ x e. c.in-Ok.ensures.kept) c.over_both.ensures.tree
 
 pub branch-returns-then-walked-options-clause-same : goal.branch-returns-then-walked-options-clause-same
 branch-returns-then-walked-options-clause-same t c = IfOk-weaker c.link.result _ _ (λ x e. c.in_ok-extent.ensures.same) c.link.ensures.tree
