@@ -26,6 +26,7 @@ pub mod Reached
 pub mod Placing
 pub mod Flagging
 pub mod Applying
+pub mod Entering
 pub mod Tops
 pub mod Indices
 pub mod Halving

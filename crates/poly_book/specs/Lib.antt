@@ -20,6 +20,7 @@ pub mod Opens
 pub mod Planned
 pub mod Changing
 pub mod Keeps
+pub mod Entering
 pub mod Steps
 pub mod Refused
 pub mod Reports

@@ -10,6 +10,7 @@ ghost use Rattle.poly_atom.specs.Atoms.{AllSmall};
 ghost use Rattle.poly_catalogue.specs.Listed.{AreOfEither, AreOnce, AreSame};
 ghost use Rattle.poly_book.specs.Amounts.{IsNarrow};
 ghost use Rattle.poly_book.specs.Changing.{CanNote, IsTop, Noted, shelved_by};
+ghost use Rattle.poly_book.specs.Entering.{IsEntered};
 ghost use Rattle.poly_book.specs.Keeps.{Keeps, state_of};
 ghost use Rattle.poly_book.specs.Mapped.{AreNoted};
 ghost use Rattle.poly_book.specs.Refused.{IsNotMade};
@@ -45,21 +46,71 @@ pub(crate) fn apply_change(parts: &mut Parts, kind: Kind, change: Change) -> Res
     ensures err { OnErr result (state_of parts.new ≡ state_of parts.old) }
     ensures why { IfErr result (λ e. IsNotMade kind change (state_of parts.old) e) }
 {
+    let (steps, ready) = enter_change(parts, kind, &change)?;
+    let Steps { noted, told } = steps;
+    finish_change(parts, kind, change, noted, ready);
+    let place = parts.steps.len() as u64;
+    forget(parts);
+    Ok(Done { place, step: told })
+}
+
+// Does all of the change that may be refused: its guards are in the log, and the listed tilings are exchanged. What is left of it
+// is handed back, with the step that it becomes.
+fn enter_change(
+    parts: &mut Parts,
+    kind: Kind,
+    change: &Change,
+) -> Result<(Steps, Prepared), Refusal>
+    requires keeps { Keeps parts.old }
+    requires before { HasBefore parts.old.design change.now }
+    requires design { IsDesign (changed parts.old.design change.now) }
+    requires top { IsTop kind parts.old.history change.now }
+    ensures ok { IfOk result (λ r. IsEntered kind change.now parts.old parts.new r.1) }
+    ensures noted { IfOk result (λ r. r.0.noted ≡ record { kind = kind; change = change.now; pending = length parts.old.tasks.items; shelved = shelved_by parts.old.log kind parts.old.history }) }
+    ensures told { IfOk result (λ r. r.0.told ≡ r.0.noted) }
+    ensures narrow { OnOk result (kind ≡ Kind.Edit → IsNarrow parts.old.design (changed parts.old.design change.now)) }
+    ensures keeps { OnErr result (Keeps parts.new) }
+    ensures err { OnErr result (state_of parts.new ≡ state_of parts.old) }
+    ensures why { IfErr result (λ e. IsNotMade kind change.now (state_of parts.old) e) }
+{
     catch_up(parts)?;
-    let step = step_of(parts, kind, &change)?;
-    let told = step_of(parts, kind, &change)?;
-    let (entry, ready) = prepare(parts, kind, &change)?;
-    enter(
+    let steps = steps_of(parts, kind, change)?;
+    match prepare_and_enter(parts, kind, change) {
+        Ok(ready) => Ok((steps, ready)),
+        Err(refusal) => {
+            drop(steps);
+            Err(refusal)
+        }
+    }
+}
+
+// Prepares the change, adds its guards to the log and exchanges the listed tilings.
+fn prepare_and_enter(parts: &mut Parts, kind: Kind, change: &Change) -> Result<Prepared, Refusal>
+    requires keeps { Keeps parts.old }
+    requires noted { AreNoted parts.old.register.maps parts.old.log parts.old.tasks.items }
+    requires before { HasBefore parts.old.design change.now }
+    requires design { IsDesign (changed parts.old.design change.now) }
+    requires top { IsTop kind parts.old.history change.now }
+    ensures ok { IfOk result (λ r. IsEntered kind change.now parts.old parts.new r) }
+    ensures narrow { OnOk result (kind ≡ Kind.Edit → IsNarrow parts.old.design (changed parts.old.design change.now)) }
+    ensures keeps { OnErr result (Keeps parts.new) }
+    ensures err { OnErr result (state_of parts.new ≡ state_of parts.old) }
+    ensures why { IfErr result (λ e. IsNotMade kind change.now (state_of parts.old) e) }
+{
+    let (entry, ready) = prepare(parts, kind, change)?;
+    match enter(
         &mut parts.log,
         &mut parts.listed,
         &ready.view,
         &ready.plan.delta,
         entry,
-    )?;
-    finish_change(parts, kind, change, step, ready);
-    let place = parts.steps.len() as u64;
-    forget(parts);
-    Ok(Done { place, step: told })
+    ) {
+        Ok(()) => Ok(ready),
+        Err(refusal) => {
+            drop(ready);
+            Err(refusal)
+        }
+    }
 }
 
 /// Notes the pending tasks that aren't noted yet. Fails only when out of memory.
@@ -110,6 +161,31 @@ fn finish_change(parts: &mut Parts, kind: Kind, change: Change, step: Step, read
     parts.next += tasks.fresh.len() as u64;
     note(&mut parts.history, kind, change, Kept { made, shelf });
     replace_tasks(&mut parts.tasks, &mut parts.endings, tasks);
+}
+
+// The step that a change becomes, twice.
+#[derive(Drop)]
+struct Steps {
+    // The book keeps this one.
+    noted: Step,
+    // The answer tells this one.
+    told: Step,
+}
+
+// The step that the change is about to become, twice.
+fn steps_of(parts: &Parts, kind: Kind, change: &Change) -> Result<Steps, Refusal>
+    ensures noted { IfOk result (λ s. s.noted ≡ record { kind = kind; change = change.now; pending = length parts.now.tasks.items; shelved = shelved_by parts.now.log kind parts.now.history }) }
+    ensures told { IfOk result (λ s. s.told ≡ s.noted) }
+    ensures why { IfErr result (λ e. e ≡ Refusal.Memory) }
+{
+    let noted = step_of(parts, kind, change)?;
+    match step_of(parts, kind, change) {
+        Ok(told) => Ok(Steps { noted, told }),
+        Err(refusal) => {
+            drop(noted);
+            Err(refusal)
+        }
+    }
 }
 
 // The step that the change is about to become.

@@ -1,6 +1,6 @@
 //! Prepares all that a change needs, while what the book shows stays the same. Afterwards only adding to the log and
 //! exchanging the listed tilings can fail.
-ghost use Rattle.std.specs.Prelude.{◌≡◌, ◌↔◌, ◌≤◌, ◌<◌, ◌*◌, ◌⊎◌, IfErr, IfOk, List, OnOk, cond, length, map, nat_le, option_copied, true};
+ghost use Rattle.std.specs.Prelude.{◌≡◌, ◌↔◌, ◌≤◌, ◌<◌, ◌*◌, ◌+◌, ◌⊎◌, IfErr, IfOk, List, OnOk, cond, length, map, nat_le, option_copied, true, vec_capacity, vec_len};
 ghost use Rattle.std.specs.Arc.{arc_value};
 ghost use Rattle.poly_design.specs.Changes.{HasBefore, changed};
 ghost use Rattle.poly_design.specs.Limits.{IsDesign};
@@ -28,7 +28,7 @@ use crate::next_tasks::{NextTasks, next_tasks};
 use crate::parts::Parts;
 use crate::quiet::copies;
 use crate::shelf::{Frozen, Kept, Shelf};
-use crate::step::Kind;
+use crate::step::{Ending, Kind};
 use crate::task::{Pending, freeze};
 use poly_atom::{Atom, BothGuards, GuardLog, both_guards};
 use poly_design::{Change, Design};
@@ -95,18 +95,25 @@ pub(crate) fn prepare(
     ensures why { IfErr result (λ e. IsNotMade kind change.now (state_of parts.old) e) }
 {
     parts.steps.reserve(1)?;
-    let after = changed_design(&parts.design, change)?;
-    let plan = plan_of_change(
-        &mut parts.table,
-        parts.scene.view(),
-        &parts.design,
-        change,
-        &after,
-    )?;
-    let view = Arc::try_clone(&plan.view)?;
-    let (entry, tasks, shelf) = gather(parts, kind, change, &view, &plan.delta)?;
-    parts.endings.reserve(tasks.ended.len())?;
-    parts.tasks.reserve(tasks.fresh.len())?;
+    let planned = plan_ahead(&mut parts.table, parts.scene.view(), &parts.design, change)?;
+    let gathered = match gather(parts, kind, change, &planned.view, &planned.plan.delta) {
+        Ok(gathered) => gathered,
+        Err(refusal) => {
+            drop(planned);
+            return Err(refusal);
+        }
+    };
+    let Ok(()) = make_room(&mut parts.tasks, &mut parts.endings, &gathered.tasks) else {
+        drop(gathered);
+        drop(planned);
+        return Err(Refusal::Memory);
+    };
+    let Planned { after, plan, view } = planned;
+    let Gathered {
+        entry,
+        tasks,
+        shelf,
+    } = gathered;
     Ok((
         entry,
         Prepared {
@@ -117,6 +124,69 @@ pub(crate) fn prepare(
             shelf,
         },
     ))
+}
+
+// Makes room for the new tasks, and for the endings of the tasks that don't go on.
+fn make_room(
+    tasks: &mut Vec<Pending>,
+    endings: &mut Vec<Ending>,
+    next: &NextTasks,
+) -> Result<(), Refusal>
+    ensures tasks { tasks.new.items ≡ tasks.old.items }
+    ensures endings { endings.new.items ≡ endings.old.items }
+    ensures room_tasks { OnOk result (vec_len tasks.new + length next.now.fresh.items ≤ vec_capacity tasks.new) }
+    ensures room_endings { OnOk result (vec_len endings.new + length next.now.ended.items ≤ vec_capacity endings.new) }
+    ensures why { IfErr result (λ e. e ≡ Refusal.Memory) }
+{
+    endings.reserve(next.ended.len())?;
+    tasks.reserve(next.fresh.len())?;
+    Ok(())
+}
+
+// What is planned of a change.
+#[derive(Drop)]
+struct Planned {
+    // The design after it.
+    after: Design,
+    // What it does to the table.
+    plan: Plan,
+    // The design after it, by numbers.
+    view: Arc<View>,
+}
+
+// Plans the change.
+fn plan_ahead(
+    table: &mut Table,
+    view: &View,
+    design: &Design,
+    change: &Change,
+) -> Result<Planned, Refusal>
+    requires well { WellNamed view.now }
+    requires shows { Shows view.now design.now }
+    requires first { Grown view.now table.old }
+    requires right { IsRight table.old design.now }
+    requires design { IsDesign (changed design.now change.now) }
+    ensures after { IfOk result (λ p. p.after ≡ changed design.now change.now) }
+    ensures plan { IfOk result (λ p. IsPlanOver view.now design.now (changed design.now change.now) p.plan) }
+    ensures view { IfOk result (λ p. arc_value p.view ≡ arc_value p.plan.view) }
+    ensures last { IfOk result (λ p. (arc_value p.plan.view).placements ≡ table.new.placements) }
+    ensures enough { OnOk result (¬ NumbersAreSpent view.now.placements (changed design.now change.now)) }
+    ensures first { Grown view.now table.new }
+    ensures right { IsRight table.new design.now }
+    ensures why { IfErr result (λ e. ((e ≡ Refusal.Spent) × NumbersAreSpent view.now.placements (changed design.now change.now)) ⊎ (e ≡ Refusal.Memory)) }
+{
+    let after = changed_design(design, change)?;
+    let plan = plan_of_change(table, view, design, change, &after)?;
+    let Ok(shared) = Arc::try_clone(&plan.view) else {
+        drop(plan);
+        drop(after);
+        return Err(Refusal::Memory);
+    };
+    Ok(Planned {
+        after,
+        plan,
+        view: shared,
+    })
 }
 
 // The design after the change.
@@ -181,6 +251,17 @@ fn plan_again(
     table.plan_by(design, change, after)
 }
 
+// What a change adds and stores, and its effect on the tasks.
+#[derive(Drop)]
+struct Gathered {
+    // What it adds to the log and to the listed tilings.
+    entry: Entry,
+    // What it does to the tasks.
+    tasks: NextTasks,
+    // What it stores for its undo or redo, if a shelf is kept.
+    shelf: Option<Shelf>,
+}
+
 // Gathers what the change that leads to the view adds and stores, and its effect on the tasks.
 fn gather(
     parts: &Parts,
@@ -188,12 +269,12 @@ fn gather(
     change: &Change,
     view: &View,
     delta: &Delta,
-) -> Result<(Entry, NextTasks, Option<Shelf>), Refusal>
+) -> Result<Gathered, Refusal>
     requires keeps { Keeps parts.now }
     requires noted { AreNoted parts.now.register.maps parts.now.log parts.now.tasks.items }
     requires made { IsMadeBy parts.now.scene view.now delta.now change.now }
     requires either { AreOfEither view.now delta.now parts.now.listed }
-    ensures ok { IfOk result (λ r. IsGathered parts.now.scene view.now parts.now.listed parts.now.log parts.now.tasks.items (stood_by parts.now.log kind parts.now.history) parts.now.next r.0 r.1 r.2) }
+    ensures ok { IfOk result (λ r. IsGathered parts.now.scene view.now parts.now.listed parts.now.log parts.now.tasks.items (stood_by parts.now.log kind parts.now.history) parts.now.next r.entry r.tasks r.shelf) }
     ensures few { IfOk result (λ r. length parts.now.steps.items < MAX_CHANGES) }
     ensures narrow { OnOk result (kind ≡ Kind.Edit → (length (guards parts.now.scene view.now) ≤ MAX_GUARDS) × (length (guards view.now parts.now.scene) ≤ MAX_GUARDS)) }
     ensures why { IfErr result (λ e. IsNotGathered parts.now.scene view.now kind (length parts.now.steps.items) parts.now.next (stood_by parts.now.log kind parts.now.history) e) }
@@ -206,7 +287,11 @@ fn gather(
     let returned = returning(parts.alloc, stood)?;
     let shelf = shelve(parts, view, delta, width)?;
     let tasks = next_tasks(parts, view, delta, change, &guards, stood)?;
-    Ok((Entry { guards, returned }, tasks, shelf))
+    Ok(Gathered {
+        entry: Entry { guards, returned },
+        tasks,
+        shelf,
+    })
 }
 
 // The guards of the change that leads to the view, and how many its inverse has. Refuses an edit if it or its inverse has too

@@ -32,14 +32,14 @@ use Rattle.poly_book.proofs.prepare.prepare.Goals as goal
 over : (p : Parts) (x : Change) (r : Plan) (v : View) → v ≡ p.scene → IsPlanOver v p.design (changed p.design x) r → IsPlanOver p.scene p.design (changed p.design x) r
 over p x r v e q = subst (λ z. IsPlanOver z p.design (changed p.design x) r) e q
 
-pub plan_of_change-requires-clause-well : goal.plan_of_change-requires-clause-well
-plan_of_change-requires-clause-well c = subst WellNamed (sym c.view.ensures) c.requires.keeps.whole.consistent.well
+pub plan_ahead-requires-clause-well : goal.plan_ahead-requires-clause-well
+plan_ahead-requires-clause-well c = subst WellNamed (sym c.view.ensures) c.requires.keeps.whole.consistent.well
 
-pub plan_of_change-requires-clause-shows : goal.plan_of_change-requires-clause-shows
-plan_of_change-requires-clause-shows c = subst (λ (v : View). Shows v c.args.parts.now.design) (sym c.view.ensures) c.requires.keeps.whole.consistent.shows
+pub plan_ahead-requires-clause-shows : goal.plan_ahead-requires-clause-shows
+plan_ahead-requires-clause-shows c = subst (λ (v : View). Shows v c.args.parts.now.design) (sym c.view.ensures) c.requires.keeps.whole.consistent.shows
 
-pub plan_of_change-requires-clause-first : goal.plan_of_change-requires-clause-first
-plan_of_change-requires-clause-first c = subst (λ (v : View). Grown v c.args.parts.now.table) (sym c.view.ensures) c.requires.keeps.grown
+pub plan_ahead-requires-clause-first : goal.plan_ahead-requires-clause-first
+plan_ahead-requires-clause-first c = subst (λ (v : View). Grown v c.args.parts.now.table) (sym c.view.ensures) c.requires.keeps.grown
 
 -- the change leads to the plan's view
 leads_by : (p : Parts) (x : Change) (r : Plan) → Keeps p → HasBefore p.design x → IsDesign (changed p.design x) → IsPlanOver p.scene p.design (changed p.design x) r → Leads (state_of p) x (arc_value r.view)
@@ -74,15 +74,15 @@ widths_by p x r k is q = widths_show_lem p.scene (arc_value r.view) r.delta (cha
 
 pub gather-requires-clause-made : goal.gather-requires-clause-made
 gather-requires-clause-made c =
-    let shown : arc_value c.in_ok-view.view ≡ arc_value c.in_ok-plan.plan.view = search rules in
-    let at : c.deref.result.now ≡ arc_value c.in_ok-plan.plan.view = c.deref.ensures ∙ shown in
-    subst (λ w. IsMadeBy c.args.parts.now.scene w c.in_ok-plan.plan.delta c.args.change.now) (sym at) (change_by c.args.parts.now c.args.change.now c.in_ok-plan.plan c.requires.keeps c.requires.design (over c.args.parts.now c.args.change.now c.in_ok-plan.plan c.view.result.now c.view.ensures c.in_ok-plan.ensures.ok), refl)
+    let shown : arc_value c.in_ok-planned.planned.view ≡ arc_value c.in_ok-planned.planned.plan.view = c.in_ok-planned.ensures.view in
+    let at : c.deref.result.now ≡ arc_value c.in_ok-planned.planned.plan.view = c.deref.ensures ∙ shown in
+    subst (λ w. IsMadeBy c.args.parts.now.scene w c.in_ok-planned.planned.plan.delta c.args.change.now) (sym at) (change_by c.args.parts.now c.args.change.now c.in_ok-planned.planned.plan c.requires.keeps c.requires.design (over c.args.parts.now c.args.change.now c.in_ok-planned.planned.plan c.view.result.now c.view.ensures c.in_ok-planned.ensures.plan), refl)
 
 pub gather-requires-clause-either : goal.gather-requires-clause-either
 gather-requires-clause-either c =
-    let shown : arc_value c.in_ok-view.view ≡ arc_value c.in_ok-plan.plan.view = search rules in
-    let at : c.deref.result.now ≡ arc_value c.in_ok-plan.plan.view = c.deref.ensures ∙ shown in
-    subst (λ w. AreOfEither w c.in_ok-plan.plan.delta c.args.parts.now.listed) (sym at) (either_by c.args.parts.now c.args.change.now c.in_ok-plan.plan c.requires.keeps (over c.args.parts.now c.args.change.now c.in_ok-plan.plan c.view.result.now c.view.ensures c.in_ok-plan.ensures.ok))
+    let shown : arc_value c.in_ok-planned.planned.view ≡ arc_value c.in_ok-planned.planned.plan.view = c.in_ok-planned.ensures.view in
+    let at : c.deref.result.now ≡ arc_value c.in_ok-planned.planned.plan.view = c.deref.ensures ∙ shown in
+    subst (λ w. AreOfEither w c.in_ok-planned.planned.plan.delta c.args.parts.now.listed) (sym at) (either_by c.args.parts.now c.args.change.now c.in_ok-planned.planned.plan c.requires.keeps (over c.args.parts.now c.args.change.now c.in_ok-planned.planned.plan c.view.result.now c.view.ensures c.in_ok-planned.ensures.plan))
 
 pub returns-in_err-reserve-clause-keeps : goal.returns-in_err-reserve-clause-keeps
 returns-in_err-reserve-clause-keeps c = rw c.reserve.ensures.items c.requires.keeps
@@ -92,82 +92,55 @@ returns-in_err-reserve-clause-why c =
     let p = err_from_is_err_and c.from_residual.result c.from_residual.ensures.1 in
     rw p.1 (memory_not_made c.args.kind c.args.change.now (state_of c.args.parts.now) p.0 p.2)
 
-pub returns-in_err-after-clause-keeps : goal.returns-in_err-after-clause-keeps
-returns-in_err-after-clause-keeps c = rw c.reserve.ensures.items c.requires.keeps
+pub returns-in_err-planned-clause-keeps : goal.returns-in_err-planned-clause-keeps
+returns-in_err-planned-clause-keeps c = rw c.reserve.ensures.items (still_keeps c.requires.keeps (subst (λ (v : View). Grown v c.plan_ahead.new.table) c.view.ensures c.in_err-planned.ensures.first) c.in_err-planned.ensures.right)
 
-pub returns-in_err-after-clause-why : goal.returns-in_err-after-clause-why
-returns-in_err-after-clause-why c =
-    let p = err_from_is_err_and c.from_residual-in_err-after.result c.from_residual-in_err-after.ensures.1 in
-    rw (p.1, p.2) (memory_not_made c.args.kind c.args.change.now (state_of c.args.parts.now) _ c.in_err-after.ensures.why)
-
-pub returns-in_err-plan-clause-keeps : goal.returns-in_err-plan-clause-keeps
-returns-in_err-plan-clause-keeps c = rw c.reserve.ensures.items (still_keeps c.requires.keeps (subst (λ (v : View). Grown v c.plan_of_change.new.table) c.view.ensures c.in_err-plan.ensures.first) c.in_err-plan.ensures.right)
-
-pub returns-in_err-view-clause-keeps : goal.returns-in_err-view-clause-keeps
-returns-in_err-view-clause-keeps c = rw c.reserve.ensures.items (still_keeps c.requires.keeps (subst (λ (v : View). Grown v c.plan_of_change.new.table) c.view.ensures c.in_ok-plan.ensures.first) c.in_ok-plan.ensures.right)
-
-pub returns-in_err-view-clause-why : goal.returns-in_err-view-clause-why
-returns-in_err-view-clause-why c =
-    let p = err_from_is_err_and c.from_residual-in_err-view.result c.from_residual-in_err-view.ensures.1 in
-    rw p.1 (memory_not_made c.args.kind c.args.change.now (state_of c.args.parts.now) p.0 p.2)
-
-pub returns-in_err-entry-clause-keeps : goal.returns-in_err-entry-clause-keeps
-returns-in_err-entry-clause-keeps c = rw c.reserve.ensures.items (still_keeps c.requires.keeps (subst (λ (v : View). Grown v c.plan_of_change.new.table) c.view.ensures c.in_ok-plan.ensures.first) c.in_ok-plan.ensures.right)
+pub returns-in-Err-clause-keeps : goal.returns-in-Err-clause-keeps
+returns-in-Err-clause-keeps c = rw c.reserve.ensures.items (still_keeps c.requires.keeps (subst (λ (v : View). Grown v c.plan_ahead.new.table) c.view.ensures c.in_ok-planned.ensures.first) c.in_ok-planned.ensures.right)
 
 pub gather-requires-clause-keeps : goal.gather-requires-clause-keeps
-gather-requires-clause-keeps c = rw c.reserve.ensures.items (still_keeps c.requires.keeps (subst (λ (v : View). Grown v c.plan_of_change.new.table) c.view.ensures c.in_ok-plan.ensures.first) c.in_ok-plan.ensures.right)
+gather-requires-clause-keeps c = rw c.reserve.ensures.items (still_keeps c.requires.keeps (subst (λ (v : View). Grown v c.plan_ahead.new.table) c.view.ensures c.in_ok-planned.ensures.first) c.in_ok-planned.ensures.right)
 
 pub returns-clause-stays : goal.returns-clause-stays
 returns-clause-stays c = refl
 
-pub returns-in_err-plan-clause-why : goal.returns-in_err-plan-clause-why
-returns-in_err-plan-clause-why c =
-    let p = err_from_is_err_and c.from_residual-in_err-plan.result c.from_residual-in_err-plan.ensures.1 in
+pub returns-in_err-planned-clause-why : goal.returns-in_err-planned-clause-why
+returns-in_err-planned-clause-why c =
+    let p = err_from_is_err_and c.from_residual-in_err-planned.result c.from_residual-in_err-planned.ensures.1 in
     let a = c.args.parts.now in
-    rw (p.1, p.2) (elim c.in_err-plan.ensures.why [
+    rw (p.1, p.2) (elim c.in_err-planned.ensures.why [
       | inl m ↦ spent_not_made c.args.kind c.args.change.now (state_of a) _ m.0 (subst (λ (v : View). NumbersAreSpent v.placements (changed a.design c.args.change.now)) c.view.ensures m.1)
       | inr m ↦ memory_not_made c.args.kind c.args.change.now (state_of a) _ m
     ])
 
-pub returns-in_err-entry-clause-why : goal.returns-in_err-entry-clause-why
-returns-in_err-entry-clause-why c =
-    let p = err_from_is_err_and c.from_residual-in_err-entry.result c.from_residual-in_err-entry.ensures.1 in
+pub returns-in-Err-clause-why : goal.returns-in-Err-clause-why
+returns-in-Err-clause-why c =
     let s = state_of c.args.parts.now in
-    let shown : arc_value c.in_ok-view.view ≡ arc_value c.in_ok-plan.plan.view = search rules in
-    let at : c.deref.result.now ≡ arc_value c.in_ok-plan.plan.view = c.deref.ensures ∙ shown in
-    let l = leads_by c.args.parts.now c.args.change.now c.in_ok-plan.plan c.requires.keeps c.requires.before c.requires.design (over c.args.parts.now c.args.change.now c.in_ok-plan.plan c.view.result.now c.view.ensures c.in_ok-plan.ensures.ok) in
-    let g = widths_by c.args.parts.now c.args.change.now c.in_ok-plan.plan c.requires.keeps c.requires.design (over c.args.parts.now c.args.change.now c.in_ok-plan.plan c.view.result.now c.view.ensures c.in_ok-plan.ensures.ok) in
+    let shown : arc_value c.in_ok-planned.planned.view ≡ arc_value c.in_ok-planned.planned.plan.view = c.in_ok-planned.ensures.view in
+    let at : c.deref.result.now ≡ arc_value c.in_ok-planned.planned.plan.view = c.deref.ensures ∙ shown in
+    let l = leads_by c.args.parts.now c.args.change.now c.in_ok-planned.planned.plan c.requires.keeps c.requires.before c.requires.design (over c.args.parts.now c.args.change.now c.in_ok-planned.planned.plan c.view.result.now c.view.ensures c.in_ok-planned.ensures.plan) in
+    let g = widths_by c.args.parts.now c.args.change.now c.in_ok-planned.planned.plan c.requires.keeps c.requires.design (over c.args.parts.now c.args.change.now c.in_ok-planned.planned.plan c.view.result.now c.view.ensures c.in_ok-planned.ensures.plan) in
     let n : length c.reserve.new.self.items ≡ length s.steps = ap length c.reserve.ensures.items ∙ sym (length-reverse c.args.parts.now.steps.items) in
-    rw (p.1, p.2) (gather_not_made c.args.parts.now.log s c.args.parts.now.history c.args.change.now (arc_value c.in_ok-plan.plan.view) refl refl l g (length c.reserve.new.self.items) n c.args.kind c.requires.top _ (rw (sym at) c.in_err-entry.ensures.why))
+    (gather_not_made c.args.parts.now.log s c.args.parts.now.history c.args.change.now (arc_value c.in_ok-planned.planned.plan.view) refl refl l g (length c.reserve.new.self.items) n c.args.kind c.requires.top _ (rw (sym at) c.in-Err.ensures.why))
 
-pub returns-in_err-reserve-2-clause-keeps : goal.returns-in_err-reserve-2-clause-keeps
-returns-in_err-reserve-2-clause-keeps c = rw (c.reserve.ensures.items, c.reserve-2.ensures.items) (still_keeps c.requires.keeps (subst (λ (v : View). Grown v c.plan_of_change.new.table) c.view.ensures c.in_ok-plan.ensures.first) c.in_ok-plan.ensures.right)
+pub returns-in_default-clause-keeps : goal.returns-in_default-clause-keeps
+returns-in_default-clause-keeps c = rw (c.reserve.ensures.items, c.make_room.ensures.endings, c.make_room.ensures.tasks) (still_keeps c.requires.keeps (subst (λ (v : View). Grown v c.plan_ahead.new.table) c.view.ensures c.in_ok-planned.ensures.first) c.in_ok-planned.ensures.right)
 
-pub returns-in_err-reserve-2-clause-why : goal.returns-in_err-reserve-2-clause-why
-returns-in_err-reserve-2-clause-why c =
-    let p = err_from_is_err_and c.from_residual-in_err-reserve-2.result c.from_residual-in_err-reserve-2.ensures.1 in
-    rw p.1 (memory_not_made c.args.kind c.args.change.now (state_of c.args.parts.now) p.0 p.2)
-
-pub returns-in_err-reserve-3-clause-keeps : goal.returns-in_err-reserve-3-clause-keeps
-returns-in_err-reserve-3-clause-keeps c = rw (c.reserve.ensures.items, c.reserve-2.ensures.items, c.reserve-3.ensures.items) (still_keeps c.requires.keeps (subst (λ (v : View). Grown v c.plan_of_change.new.table) c.view.ensures c.in_ok-plan.ensures.first) c.in_ok-plan.ensures.right)
-
-pub returns-in_err-reserve-3-clause-why : goal.returns-in_err-reserve-3-clause-why
-returns-in_err-reserve-3-clause-why c =
-    let p = err_from_is_err_and c.from_residual-in_err-reserve-3.result c.from_residual-in_err-reserve-3.ensures.1 in
-    rw p.1 (memory_not_made c.args.kind c.args.change.now (state_of c.args.parts.now) p.0 p.2)
+pub returns-in_default-clause-why : goal.returns-in_default-clause-why
+returns-in_default-clause-why c = memory_not_made c.args.kind c.args.change.now (state_of c.args.parts.now) _ refl
 
 pub returns-clause-keeps : goal.returns-clause-keeps
-returns-clause-keeps c = rw (c.reserve.ensures.items, c.reserve-2.ensures.items, c.reserve-3.ensures.items) (still_keeps c.requires.keeps (subst (λ (v : View). Grown v c.plan_of_change.new.table) c.view.ensures c.in_ok-plan.ensures.first) c.in_ok-plan.ensures.right)
+returns-clause-keeps c = rw (c.reserve.ensures.items, c.make_room.ensures.endings, c.make_room.ensures.tasks) (still_keeps c.requires.keeps (subst (λ (v : View). Grown v c.plan_ahead.new.table) c.view.ensures c.in_ok-planned.ensures.first) c.in_ok-planned.ensures.right)
 
 pub returns-clause-narrow : goal.returns-clause-narrow
 returns-clause-narrow c = λ edit.
     let a = c.args.parts.now in
     let x = c.args.change.now in
-    let w = arc_value c.in_ok-plan.plan.view in
-    let shown : arc_value c.in_ok-view.view ≡ w = search rules in
+    let w = arc_value c.in_ok-planned.planned.plan.view in
+    let shown : arc_value c.in_ok-planned.planned.view ≡ w = c.in_ok-planned.ensures.view in
     let at : c.deref.result.now ≡ w = c.deref.ensures ∙ shown in
-    let widths = widths_by a x c.in_ok-plan.plan c.requires.keeps c.requires.design (over c.args.parts.now c.args.change.now c.in_ok-plan.plan c.view.result.now c.view.ensures c.in_ok-plan.ensures.ok) in
-    let few = subst (λ v. (length (guards a.scene v) ≤ 20000) × (length (guards v a.scene) ≤ 20000)) at (c.in_ok-entry.ensures.narrow edit) in
+    let widths = widths_by a x c.in_ok-planned.planned.plan c.requires.keeps c.requires.design (over c.args.parts.now c.args.change.now c.in_ok-planned.planned.plan c.view.result.now c.view.ensures c.in_ok-planned.ensures.plan) in
+    let few = subst (λ v. (length (guards a.scene v) ≤ 20000) × (length (guards v a.scene) ≤ 20000)) at (c.in-Ok.ensures.narrow edit) in
     record {
       forth = _;
       back = _;
@@ -181,24 +154,24 @@ pub returns-clause-ok : goal.returns-clause-ok
 returns-clause-ok c =
     let a = c.args.parts.now in
     let x = c.args.change.now in
-    let w = arc_value c.in_ok-plan.plan.view in
-    let q = over a x c.in_ok-plan.plan c.view.result.now c.view.ensures c.in_ok-plan.ensures.ok in
-    let shown_view : arc_value c.in_ok-view.view ≡ w = search rules in
+    let w = arc_value c.in_ok-planned.planned.plan.view in
+    let q = over a x c.in_ok-planned.planned.plan c.view.result.now c.view.ensures c.in_ok-planned.ensures.plan in
+    let shown_view : arc_value c.in_ok-planned.planned.view ≡ w = c.in_ok-planned.ensures.view in
     let at : c.deref.result.now ≡ w = c.deref.ensures ∙ shown_view in
     let steps : c.reserve.new.self.items ≡ a.steps.items = c.reserve.ensures.items in
-    let ends : c.reserve-2.new.self.items ≡ a.endings.items = c.reserve-2.ensures.items in
-    let tasks : c.reserve-3.new.self.items ≡ a.tasks.items = c.reserve-3.ensures.items in
-    let l = leads_by a x c.in_ok-plan.plan c.requires.keeps c.requires.before c.requires.design q in
+    let ends : c.make_room.new.endings.items ≡ a.endings.items = c.make_room.ensures.endings in
+    let tasks : c.make_room.new.tasks.items ≡ a.tasks.items = c.make_room.ensures.tasks in
+    let l = leads_by a x c.in_ok-planned.planned.plan c.requires.keeps c.requires.before c.requires.design q in
     record {
-      after_is = c.in_ok-after.ensures.ok;
+      after_is = c.in_ok-planned.ensures.after;
       view_is = shown_view;
       leads = transport (λ i. Leads (shown a.opened a.design a.scene a.listed a.log (sym tasks i) a.next a.history (sym steps i) (sym ends i)) x w) l;
       right = q.plan.right;
-      last = c.in_ok-plan.ensures.last;
-      either = either_by a x c.in_ok-plan.plan c.requires.keeps q;
-      gathered = transport (λ i. IsGathered a.scene (at i) a.listed a.log (sym tasks i) (stood_by a.log c.args.kind a.history) a.next c.in_ok-entry.entry c.in_ok-entry.tasks c.in_ok-entry.shelf) c.in_ok-entry.ensures.ok;
-      few_steps = c.in_ok-entry.ensures.few;
-      enough = subst (λ (v : View). ¬ NumbersAreSpent v.placements (changed a.design x)) c.view.ensures c.in_ok-plan.ensures.enough;
+      last = c.in_ok-planned.ensures.last;
+      either = either_by a x c.in_ok-planned.planned.plan c.requires.keeps q;
+      gathered = transport (λ i. IsGathered a.scene (at i) a.listed a.log (sym tasks i) (stood_by a.log c.args.kind a.history) a.next c.in-Ok.gathered.entry c.in-Ok.gathered.tasks c.in-Ok.gathered.shelf) c.in-Ok.ensures.ok;
+      few_steps = c.in-Ok.ensures.few;
+      enough = subst (λ (v : View). ¬ NumbersAreSpent v.placements (changed a.design x)) c.view.ensures c.in_ok-planned.ensures.enough;
       room_steps = search rules;
       room_endings = search rules;
       room_tasks = search rules;

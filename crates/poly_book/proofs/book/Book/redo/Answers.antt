@@ -1,77 +1,23 @@
-use Rattle.std.proofs.Common.{Some, inr, refl, rules, subst, sym, ◌≡◌}
-use Rattle.std.specs.Prelude.{IfErr, IfOk}
-use Rattle.std.proofs.lemmas.Result.{IfErr-weaker, IfOk-weaker, err_from_is_err_and}
-use Rattle.poly_grid.specs.declared.refusal.Refusal.TheVariants.{CatalogueFull}
-use Rattle.poly_design.specs.Changes.{HasBefore, changed}
-use Rattle.poly_design.specs.Limits.{IsDesign}
-use Rattle.poly_undo.specs.Steps.{next_of}
+use Rattle.std.proofs.Common.{subst}
+use Rattle.std.specs.Prelude.{IfOk}
+use Rattle.std.proofs.lemmas.Result.{IfErr-weaker, IfOk-weaker}
+use Rattle.poly_book.specs.Amounts.{RedoIsFull}
 use Rattle.poly_book.specs.Keeps.{state_of}
-use Rattle.poly_book.specs.declared.step.Kind.TheVariants.{Redo}
 use Rattle.poly_book.specs.QuietReturns.{ReturnsQuietly}
 use Rattle.poly_book.specs.Replay.{origins}
-use Rattle.poly_book.specs.Steps.{IsDone}
-use Rattle.poly_book.specs.Refused.{IsNotMade, IsNotRedone}
-use Rattle.poly_book.specs.Amounts.{RedoIsFull}
+use Rattle.poly_book.specs.States.{State}
+use Rattle.poly_book.specs.Steps.{IsRedone}
 use Rattle.poly_book.proofs.Amounts.{redone_full}
 use Rattle.poly_book.proofs.Returning.{redone_returns}
-use Rattle.poly_book.proofs.Tops.{can_redo, not_redone_from, redone_from}
 use Rattle.poly_book.proofs.book.Book.redo.Goals as goal
 
-pub apply_change-requires-clause-before : goal.apply_change-requires-clause-before
-apply_change-requires-clause-before c =
-    let e : next_of c.self.inside.parts.history.redo ≡ Some c.in-Some.step.now = search rules in
-    let x : c.in_ok-change.change ≡ c.in-Some.step.now.change = c.in_ok-change.ensures.ok in
-    subst (λ y. HasBefore c.self.inside.parts.design y) (sym x) (can_redo c.self.invariant c.in-Some.step.now e).0
-
-pub apply_change-requires-clause-design : goal.apply_change-requires-clause-design
-apply_change-requires-clause-design c =
-    let e : next_of c.self.inside.parts.history.redo ≡ Some c.in-Some.step.now = search rules in
-    let x : c.in_ok-change.change ≡ c.in-Some.step.now.change = c.in_ok-change.ensures.ok in
-    subst (λ y. IsDesign (changed c.self.inside.parts.design y)) (sym x) (can_redo c.self.invariant c.in-Some.step.now e).1
-
-pub returns-clause-ok : goal.returns-clause-ok
-returns-clause-ok c =
-    let top = c.in-Some.step.now in
-    let h = c.self.inside.parts.history in
-    let e : next_of h.redo ≡ Some top = search rules in
-    let x : c.in_ok-change.change ≡ top.change = c.in_ok-change.ensures.ok in
-    rw (← c.self.view_is) (IfOk-weaker c.apply_change.result _ _ (λ done made. redone_from c.self.inside.parts.log h top c.in_ok-change.change done refl e x made) c.apply_change.ensures.ok)
-
-pub returns-clause-why : goal.returns-clause-why
-returns-clause-why c =
-    let top = c.in-Some.step.now in
-    let h = c.self.inside.parts.history in
-    let s = state_of c.self.inside.parts in
-    let e : next_of h.redo ≡ Some top = search rules in
-    let x : c.in_ok-change.change ≡ top.change = c.in_ok-change.ensures.ok in
-    subst (λ z. IfErr c.apply_change.result (λ r. IsNotRedone z r)) c.self.view_is (IfErr-weaker c.apply_change.result (λ r. IsNotMade Redo c.in_ok-change.change s r) (λ r. IsNotRedone s r) (λ r made. not_redone_from {s = s} c.self.inside.parts.log h top c.in_ok-change.change r refl e x made) c.apply_change.ensures.why)
-
 pub returns-clause-full : goal.returns-clause-full
-returns-clause-full c =
-    let top = c.in-Some.step.now in
-    let h = c.self.inside.parts.history in
-    let s = state_of c.self.inside.parts in
-    let e : next_of h.redo ≡ Some top = search rules in
-    let x : c.in_ok-change.change ≡ top.change = c.in_ok-change.ensures.ok in
-    subst (λ z. IfErr c.apply_change.result (λ r. r ≡ CatalogueFull → RedoIsFull z)) c.self.view_is (IfErr-weaker c.apply_change.result (λ r. IsNotMade Redo c.in_ok-change.change s r) (λ r. r ≡ CatalogueFull → RedoIsFull s)
-    (λ r made q. redone_full s r c.self.invariant.whole (not_redone_from {s = s} c.self.inside.parts.log h top c.in_ok-change.change r refl e x made) q) c.apply_change.ensures.why)
-
-pub returns-in_err-change-clause-why : goal.returns-in_err-change-clause-why
-returns-in_err-change-clause-why c =
-    let p = err_from_is_err_and c.from_residual.result c.from_residual.ensures.1 in
-    let top = c.in-Some.step.now in
-    let h = c.self.inside.parts.history in
-    let s = state_of c.self.inside.parts in
-    let e : next_of h.redo ≡ Some top = search rules in
-    rw (p.1, p.2) (subst (λ z. IsNotRedone z c.in_err-change.field-0.0) c.self.view_is (not_redone_from {s = s} c.self.inside.parts.log h top top.change c.in_err-change.field-0.0 refl e refl (inr (inr c.in_err-change.ensures.why))))
+returns-clause-full c = IfErr-weaker c.redo_change.result _ _ (λ e why q. subst (λ (s : State). RedoIsFull s) c.self.view_is
+    (redone_full (state_of c.self.inside.parts) e c.self.invariant.whole why q)) c.redo_change.ensures.why
 
 pub returns-clause-quiet : goal.returns-clause-quiet
 returns-clause-quiet c =
-    let top = c.in-Some.step.now in
-    let h = c.self.inside.parts.history in
     let s = state_of c.self.inside.parts in
-    let t = state_of c.apply_change.new.parts in
-    let e : next_of h.redo ≡ Some top = search rules in
-    let x : c.in_ok-change.change ≡ top.change = c.in_ok-change.ensures.ok in
-    subst (λ z. IfOk c.apply_change.result (λ _. ReturnsQuietly (origins z.steps).forth z t)) c.self.view_is (IfOk-weaker c.apply_change.result (λ done. IsDone Redo c.in_ok-change.change s t done) (λ _. ReturnsQuietly (origins s.steps).forth s t)
-    (λ done made. redone_returns s t done c.self.invariant.whole (redone_from {s = s} {t = t} c.self.inside.parts.log h top c.in_ok-change.change done refl e x made)) c.apply_change.ensures.ok)
+    let t = state_of c.redo_change.new.parts in
+    subst (λ (z : State). IfOk c.redo_change.result (λ _. ReturnsQuietly (origins z.steps).forth z t)) c.self.view_is (IfOk-weaker c.redo_change.result (λ done. IsRedone s t done) (λ _. ReturnsQuietly (origins s.steps).forth s t)
+    (λ done made. redone_returns s t done c.self.invariant.whole made) c.redo_change.ensures.ok)
