@@ -32,6 +32,7 @@ use poly_grid::Refusal;
 use poly_place::Delta;
 use poly_tiling::View;
 use poly_undo::History;
+use std::mem::replace;
 
 /// Applies the change. First notes the pending tasks that aren't noted yet. Afterwards drops guards that nothing reads any
 /// more.
@@ -157,7 +158,7 @@ fn finish_change(parts: &mut Parts, kind: Kind, change: Change, step: Step, read
     let made = parts.steps.len() as u64;
     parts.table.make(plan);
     parts.design = after;
-    parts.scene = Scene::new(parts.alloc, view);
+    drop(replace(&mut parts.scene, Scene::new(parts.alloc, view)));
     parts.next += tasks.fresh.len() as u64;
     note(&mut parts.history, kind, change, Kept { made, shelf });
     replace_tasks(&mut parts.tasks, &mut parts.endings, tasks);

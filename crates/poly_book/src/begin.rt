@@ -78,6 +78,13 @@ fn numbered(alloc: Global, design: &Design) -> Result<(Table, Arc<View>), Refusa
     ensures why { IfErr result (λ e. e ≡ Refusal.Memory) }
 {
     let table = Table::of(alloc, design)?;
-    let view = Arc::new(alloc, table.view()?)?;
-    Ok((table, view))
+    let Ok(view) = table.view() else {
+        drop(table);
+        return Err(Refusal::Memory);
+    };
+    let Ok(shared) = Arc::new(alloc, view) else {
+        drop(table);
+        return Err(Refusal::Memory);
+    };
+    Ok((table, shared))
 }

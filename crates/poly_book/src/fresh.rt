@@ -271,7 +271,7 @@ fn opened_crossed(
     let mut buffers = Buffers::new(alloc, view, guards)?;
     let mut number = next;
     for task in frozen {
-        number = cross(
+        let crossed = cross(
             alloc,
             view,
             log,
@@ -280,8 +280,16 @@ fn opened_crossed(
             &mut buffers,
             number,
             &mut tasks,
-        )?;
+        );
+        match crossed {
+            Ok(after) => number = after,
+            Err(refusal) => {
+                drop(buffers);
+                return Err(refusal);
+            }
+        }
     }
+    drop(buffers);
     Ok(tasks)
 }
 

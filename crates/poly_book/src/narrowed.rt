@@ -87,9 +87,13 @@ pub(crate) fn keep(
         return Ok(());
     };
     if narrower.len() >= KEPT {
+        drop(matrix);
         return Ok(());
     }
-    let atoms = Vec::from_slice(alloc, atoms)?;
+    let Ok(atoms) = Vec::from_slice(alloc, atoms) else {
+        drop(matrix);
+        return Err(Refusal::Memory);
+    };
     narrower.push(Narrowed { atoms, matrix })?;
     Ok(())
 }

@@ -136,14 +136,19 @@ fn leaves_from(
     drop_others(narrower, atoms);
     let part = nearest(&whole, narrower, atoms);
     let found = leaves_within(alloc, view, &whole, part, atoms, nodes, room);
-    *slot = Some(whole);
+    drop(slot.replace(whole));
     let (leaves, own) = found?;
     if leaves.rests.is_empty() {
         reuse(own, room);
         return Ok(leaves);
     }
-    keep(alloc, narrower, atoms, own)?;
-    Ok(leaves)
+    match keep(alloc, narrower, atoms, own) {
+        Ok(()) => Ok(leaves),
+        Err(refusal) => {
+            drop(leaves);
+            Err(refusal)
+        }
+    }
 }
 
 // The leaves of the tree, if it holds, and `None` if it doesn't. Uses the matrix in the slot, which is made if the slot is
@@ -163,7 +168,7 @@ fn cut_up_from(
 {
     let whole = take_matrix(alloc, view, slot)?;
     let cut = cut_up_over(alloc, view, &whole, atoms, tree);
-    *slot = Some(whole);
+    drop(slot.replace(whole));
     cut
 }
 

@@ -1,6 +1,5 @@
 use Rattle.std.proofs.Common.{[], ap, arith, drop, inl, inr, length, map, refl, rules, subst, sym, ◌++◌, ◌+◌, ◌∷◌, ◌≡◌}
 use Rattle.std.proofs.lemmas.List.{drop_all, length-map}
-use Rattle.std.proofs.lemmas.Result.{err_from_is_err_and}
 use Rattle.poly_atom.specs.Stairs.{stairs}
 use Rattle.poly_book.specs.Meaning.{IsFrozen, frozen_of}
 use Rattle.poly_book.specs.Opens.{Opening}
@@ -9,17 +8,17 @@ use Rattle.poly_book.proofs.Held.{opening_end, opening_start}
 use Rattle.poly_book.proofs.Holding.{frozen_at, frozen_head, opens_none}
 use Rattle.poly_book.proofs.fresh.opened_crossed.Goals as goal
 
-pub cross-requires-clause-start : goal.cross-requires-clause-start
-cross-requires-clause-start c = c.loop-task.invariant.few
+pub cross-crossed-requires-clause-start : goal.cross-crossed-requires-clause-start
+cross-crossed-requires-clause-start c = c.loop-task.invariant.few
 
-pub cross-requires-clause-edition : goal.cross-requires-clause-edition
-cross-requires-clause-edition c = omega (arith, c.requires.log, c.requires.edition)
+pub cross-crossed-requires-clause-edition : goal.cross-crossed-requires-clause-edition
+cross-crossed-requires-clause-edition c = omega (arith, c.requires.log, c.requires.edition)
 
-pub cross-requires-clause-frozen : goal.cross-requires-clause-frozen
-cross-requires-clause-frozen c = subst (λ f. IsFrozen c.args.log.now f) (sym c.task-item.is) (frozen_at c.args.log.now c.args.frozen.now c.loop-task.task-index c.task-item.result c.requires.frozen c.loop-task-test.true)
+pub cross-crossed-requires-clause-frozen : goal.cross-crossed-requires-clause-frozen
+cross-crossed-requires-clause-frozen c = subst (λ f. IsFrozen c.args.log.now f) (sym c.task-item.is) (frozen_at c.args.log.now c.args.frozen.now c.loop-task.task-index c.task-item.result c.requires.frozen c.loop-task-test.true)
 
-pub cross-requires-clause-ready : goal.cross-requires-clause-ready
-cross-requires-clause-ready c = c.loop-task.invariant.ready
+pub cross-crossed-requires-clause-ready : goal.cross-crossed-requires-clause-ready
+cross-crossed-requires-clause-ready c = c.loop-task.invariant.ready
 
 pub returns-then-is_empty-clause-ok : goal.returns-then-is_empty-clause-ok
 returns-then-is_empty-clause-ok c =
@@ -51,15 +50,14 @@ loop-task-preserved c =
     let rest = crossed (drop (i + 1) L) S in
     let head = frozen_head log S fs i c.task-item.result (frozen_of log c.task-item.result) c.loop-task-test.true c.task-item.is refl in
     record {
-      same = c.in_ok-number.ensures.ok c.args.next (crossed L S) rest (subst (λ r. Opening (log ++ g ∷ []) c.args.next c.loop-task.number w (crossed L S) r c.loop-task.tasks.items) head c.loop-task.invariant.same);
-      number = let a = c.loop-task.invariant.number in let b = c.in_ok-number.ensures.count in omega (arith, a, b);
-      few = c.in_ok-number.ensures.few;
-      ready = c.in_ok-number.ensures.ready;
+      same = c.in-Ok.ensures.ok c.args.next (crossed L S) rest (subst (λ r. Opening (log ++ g ∷ []) c.args.next c.loop-task.number w (crossed L S) r c.loop-task.tasks.items) head c.loop-task.invariant.same);
+      number = let a = c.loop-task.invariant.number in let b = c.in-Ok.ensures.count in omega (arith, a, b);
+      few = c.in-Ok.ensures.few;
+      ready = c.in-Ok.ensures.ready;
     }
 
-pub returns-in_err-number-clause-why : goal.returns-in_err-number-clause-why
-returns-in_err-number-clause-why c =
-    let p = err_from_is_err_and c.from_residual-in_err-number.result c.from_residual-in_err-number.ensures.1 in
+pub returns-in-Err-clause-why : goal.returns-in-Err-clause-why
+returns-in-Err-clause-why c =
     let log = c.args.log.now in
     let g = c.args.guards.now in
     let w = c.args.view.now in
@@ -69,10 +67,10 @@ returns-in_err-number-clause-why c =
     let i = c.loop-task.task-index in
     let rest = crossed (drop (i + 1) L) S in
     let head = frozen_head log S fs i c.task-item.result (frozen_of log c.task-item.result) c.loop-task-test.true c.task-item.is refl in
-    rw (p.1, p.2) (elim c.in_err-number.ensures.why [
+    elim c.in-Err.ensures.why [
       | inl m ↦ inl (m.0, m.1 c.args.next (crossed L S) rest c.loop-task.invariant.number (subst (λ r. Opening (log ++ g ∷ []) c.args.next c.loop-task.number w (crossed L S) r c.loop-task.tasks.items) head c.loop-task.invariant.same))
       | inr m ↦ inr m
-    ])
+    ]
 
 pub returns-clause-ok : goal.returns-clause-ok
 returns-clause-ok c =
