@@ -143,8 +143,9 @@ impl Book {
             report,
             atoms,
             view,
-            leaves: _,
+            leaves,
         } = found;
+        drop(leaves);
         let applied = apply_report(&mut self.parts, &report)?;
         Ok((
             applied,
@@ -172,12 +173,14 @@ fn apply_found(
     ensures why { IfErr result (λ e. IsNotApplied report.now.task (plan_of report.now.tree) (state_of parts.old) e) }
 {
     let Some(at) = index_of(&parts.tasks, report.task) else {
+        drop(leaves);
         return Err(Refusal::Gone);
     };
     if has_atoms(parts, at, report.task, atoms) {
         let sure = is_hopeful(parts.scene.view(), atoms, &leaves);
         return apply_leaves(parts, at, report.edition, leaves, sure);
     }
+    drop(leaves);
     apply_report(parts, report)
 }
 
