@@ -53,6 +53,7 @@ fn settle_all(parts: &mut Parts, turns: u64, nodes: u32) -> Result<u64, Refusal>
     let mut atoms = Vec::new(parts.alloc);
     let mut room = Room::new(parts.alloc);
     let settled = settle_turns(parts, turns, nodes, &mut atoms, &mut room);
+    drop(room);
     note_for_change(parts);
     settled
 }
