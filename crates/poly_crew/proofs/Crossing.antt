@@ -42,14 +42,14 @@ use Rattle.poly_frame.proofs.frame.matrix.Matrix.TheSendSync as Matrix
 use Rattle.poly_frame.proofs.frame.occupied.Occupied.TheSendSync as Occupied
 use Rattle.poly_grid.proofs.cell.Cell.TheSendSync as Cell
 use Rattle.poly_grid.proofs.grid.Grid.TheSendSync as Grid
+use Rattle.poly_lists.proofs.nodes.Nodes.TheSendSync as Nodes
+use Rattle.poly_lists.proofs.nodes.Word.TheSendSync as Word
+use Rattle.poly_lists.proofs.shared_lists.Trie.TheLaws.TheKnot as TrieKnot
 use Rattle.poly_place.proofs.index.Index.TheSendSync as Index
 use Rattle.poly_place.proofs.index.Row.TheSendSync as Row3
 use Rattle.poly_place.proofs.interner.Interner.TheSendSync as Interner
 use Rattle.poly_place.proofs.numbered.Numbered.TheSendSync as Numbered
 use Rattle.poly_place.proofs.table.Table.TheSendSync as Table
-use Rattle.poly_report.proofs.nodes.Nodes.TheSendSync as Nodes
-use Rattle.poly_report.proofs.nodes.Word.TheSendSync as Word
-use Rattle.poly_report.proofs.shared_lists.Trie.TheLaws.TheKnot as TrieKnot
 use Rattle.poly_shape.proofs.cells.Cells.TheSendSync as Cells2
 use Rattle.poly_shape.proofs.shape.Shape.TheSendSync as Shape
 use Rattle.poly_tiling.proofs.bound.Bound.TheSendSync as Bound
