@@ -158,3 +158,11 @@ spotted_more f ss k d old l e =
     through : (b : Bool) (d : Spot) → map (λ (s : Spot). s.atom) (cond b (d ∷ []) []) ≡ cond b (d.atom ∷ []) []
     through true d = refl
     through false d = refl
+
+-- no atom lacks one of no placements
+pub none_harmful : (A : List Atom) → filter (is_harmful []) A ≡ []
+none_harmful [] = refl
+none_harmful (Has p ∷ A) = none_harmful A
+none_harmful (Lacks p ∷ A) = none_harmful A
+none_harmful (AtLeast i n ∷ A) = none_harmful A
+none_harmful (AtMost i n ∷ A) = none_harmful A

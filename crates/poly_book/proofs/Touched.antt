@@ -1,12 +1,12 @@
 -- The tasks that a change touches.
-use Rattle.std.proofs.Common.{Bool, List, [], ap, arith, cond, false, get_or, inl, inr, length, refl, subst, suc, sym, true, zero, ℕ, ◌<◌, ◌∙◌, ◌∷◌, ◌≡◌, ◌||◌}
+use Rattle.std.proofs.Common.{Bool, List, [], ap, arith, cond, false, get_or, inl, inr, length, refl, subst, suc, sym, true, zero, ℕ, ◌++◌, ◌<◌, ◌∙◌, ◌∷◌, ◌≡◌}
 use Rattle.std.proofs.lemmas.Bool.{and_parts, both_ways, cond_both, false_from_ne_true, not-true, or_cases, or_left, or_right, true≢false}
 use Rattle.std.specs.List.{filter, list_all, list_any}
 use Rattle.std.specs.Prelude.{not}
 use Rattle.poly_design.specs.declared.change.Change.{Change}
 use Rattle.poly_tiling.specs.Lists.{mem}
 use Rattle.poly_tiling.specs.Puzzle.{View}
-use Rattle.poly_tiling.proofs.Lists.{In, any_in, filter_in, in_filter}
+use Rattle.poly_tiling.proofs.Lists.{In, any_in, filter_in, in_append_cases, in_append_left, in_append_right, in_filter, same_truth}
 use Rattle.poly_place.specs.Index.{item_of}
 use Rattle.poly_place.specs.declared.delta.Delta.{Delta}
 use Rattle.poly_atom.specs.declared.atom.Atom.{Atom}
@@ -19,11 +19,12 @@ use Rattle.poly_lists.specs.Words.{is_other}
 use Rattle.poly_book.specs.declared.task.Pending.{Pending}
 use Rattle.poly_book.specs.declared.touch.Touch.{Touch}
 use Rattle.poly_book.specs.declared.task.Own.{Own}
+use Rattle.poly_book.specs.Judged.{is_harmful}
 use Rattle.poly_book.specs.Meaning.{brief_of, own_of, tasks_of}
 use Rattle.poly_book.specs.Tasks.{AreAlive}
-use Rattle.poly_book.specs.Touching.{AreBrief, AreTouched, IsBrief, IsMadeBy, matters, touches}
+use Rattle.poly_book.specs.Touching.{AreTold, AreTouched, IsMadeBy, IsTold, matters, touches}
 use Rattle.poly_book.proofs.Judging.{hopeless_within}
-use Rattle.poly_book.proofs.Lacking.{by_beyond, by_lost, empty, filter_asks, one_in, other_or}
+use Rattle.poly_book.proofs.Lacking.{by_beyond, by_lost, one_in, other_or}
 
 pub touched_at : (t : Touch) (log : List (List Atom)) (ps : List Pending) (i : ℕ) (d : Pending) → AreTouched t log ps → i < length ps →
     hopeless t.view.now (own_of log (get_or ps i d).own) ≡ true → list_any (touches t) (own_of log (get_or ps i d).own) ≡ true
@@ -53,39 +54,17 @@ touched_alone v w x y A a made alive i after =
       | inr e ↦ absurd (true≢false (sym e))
     ]
 
--- a list that a change makes hopeless without a new pin is hopeless without each Lacks
-brief_enough : (v w : View) (x : Delta) (y : Change) (A : List Atom) → IsMadeBy v w x y → hopeless v A ≡ false → x.pinned.items ≡ [] → hopeless w A ≡ true → hopeless w (filter is_other A) ≡ true
-brief_enough v w x y A made alive none h =
-    let D = filter is_other A in
-    let same : asked A ≡ asked D = sym (filter_asks A) in
-    let harmless : (p : ℕ) → In (Lacks p) A → beyond w A (Lacks p) ≡ true → ⊥ = λ p i b. elim (or_cases (mem w.pins p) (mem (asked A) p) b) [
-      | inl k ↦ true≢false (sym (touched_alone v w x y A (Lacks p) made alive i (or_left (mem w.pins p) false k)) ∙ ap (λ ps. mem ps p) none)
-      | inr k ↦ both_ways (hopeless v A) alive (by_beyond v A A (Lacks p) refl i (or_right (mem v.pins p) (mem (asked A) p) k))
-    ] in
-    elim (or_cases (list_any (λ a. lost w A a) A) (list_any (λ a. beyond w A a) A) (found_is w A A (λ q. refl) ∙ h)) [
-      | inl l ↦ let r = any_in (λ a. lost w A a) A l in elim (other_or r.0) [
-        | inl o ↦ by_lost w A D r.0 same (in_filter is_other A r.0 r.1 o) r.2
-        | inr q ↦ absurd (true≢false (sym (subst (λ a. lost w A a ≡ true) q.1 r.2)))
-      ]
-      | inr l ↦ let r = any_in (λ a. beyond w A a) A l in elim (other_or r.0) [
-        | inl o ↦ by_beyond w A D r.0 same (in_filter is_other A r.0 r.1 o) r.2
-        | inr q ↦ absurd (harmless q.0 (subst (λ a. In a A) q.1 r.1) (subst (λ a. beyond w A a ≡ true) q.1 r.2))
-      ]
-    ]
-
--- without each Lacks, it is hopeless already by those atoms that are a Has or are touched
+-- a list that a change makes hopeless is so already by those atoms that are a Has or are touched
 few_enough : (v w : View) (x : Delta) (y : Change) (A : List Atom) (m : Atom → Bool) → IsMadeBy v w x y → hopeless v A ≡ false → ((p : ℕ) → m (Has p) ≡ true) → ((a : Atom) → touched w x (item_of y) a ≡ true → m a ≡ true) →
-    hopeless w (filter is_other A) ≡ true → hopeless w (filter m (filter is_other A)) ≡ true
+    hopeless w A ≡ true → hopeless w (filter m A) ≡ true
 few_enough v w x y A m made alive has by h =
-    let D = filter is_other A in
-    let E = filter m D in
-    let same : asked D ≡ asked E = sym (kept m has D) in
-    elim (or_cases (list_any (λ a. lost w D a) D) (list_any (λ a. beyond w D a) D) (found_is w D D (λ q. refl) ∙ h)) [
-      | inl l ↦ let r = any_in (λ a. lost w D a) D l in by_lost w D E r.0 same (in_filter m D r.0 r.1 (of_lost w D m has r.0 r.2)) r.2
+    let E = filter m A in
+    let same : asked A ≡ asked E = sym (kept m has A) in
+    elim (or_cases (list_any (λ a. lost w A a) A) (list_any (λ a. beyond w A a) A) (found_is w A A (λ q. refl) ∙ h)) [
+      | inl l ↦ let r = any_in (λ a. lost w A a) A l in by_lost w A E r.0 same (in_filter m A r.0 r.1 (of_lost w A m has r.0 r.2)) r.2
       | inr l ↦
-          let r = any_in (λ a. beyond w D a) D l in
-          let i = filter_in is_other A r.0 r.1 in
-          by_beyond w D E r.0 same (in_filter m D r.0 r.1 (by r.0 (touched_alone v w x y A r.0 made alive i.0 (alone w D r.0 i.1 r.2)))) r.2
+          let r = any_in (λ a. beyond w A a) A l in
+          by_beyond w A E r.0 same (in_filter m A r.0 r.1 (by r.0 (touched_alone v w x y A r.0 made alive r.1 (alone v w A r.0 alive r.1 r.2)))) r.2
     ]
   where
     kept : (m : Atom → Bool) → ((p : ℕ) → m (Has p) ≡ true) → (D : List Atom) → asked (filter m D) ≡ asked D
@@ -101,11 +80,14 @@ few_enough v w x y A m made alive has by h =
     of_lost w D m has (AtLeast i n) h = absurd (true≢false (sym h))
     of_lost w D m has (AtMost i n) h = absurd (true≢false (sym h))
 
-    alone : (w : View) (D : List Atom) (a : Atom) → is_other a ≡ true → beyond w D a ≡ true → hopeless w (a ∷ []) ≡ true
-    alone w D (Has p) o h = absurd (true≢false (sym h))
-    alone w D (Lacks p) o h = absurd (true≢false (sym o))
-    alone w D (AtLeast i n) o h = or_left (bad w D (AtLeast i n)) false h
-    alone w D (AtMost i n) o h = or_left (bad w D (AtMost i n)) false h
+    alone : (v w : View) (A : List Atom) (a : Atom) → hopeless v A ≡ false → In a A → beyond w A a ≡ true → hopeless w (a ∷ []) ≡ true
+    alone v w A (Has p) alive i h = absurd (true≢false (sym h))
+    alone v w A (Lacks p) alive i h = elim (or_cases (mem w.pins p) (mem (asked A) p) h) [
+      | inl k ↦ or_left (mem w.pins p) false k
+      | inr k ↦ absurd (both_ways (hopeless v A) alive (by_beyond v A A (Lacks p) refl i (or_right (mem v.pins p) (mem (asked A) p) k)))
+    ]
+    alone v w A (AtLeast i n) alive j h = or_left (bad w A (AtLeast i n)) false h
+    alone v w A (AtMost i n) alive j h = or_left (bad w A (AtMost i n)) false h
 
 touches_matters : (t : Touch) (a : Atom) → touches t a ≡ true → matters t a ≡ true
 touches_matters t (Has p) h = refl
@@ -113,32 +95,36 @@ touches_matters t (Lacks p) h = h
 touches_matters t (AtLeast i n) h = h
 touches_matters t (AtMost i n) h = h
 
-pub brief_at : (t : Touch) (log : List (List Atom)) (ps : List Pending) (i : ℕ) (d : Pending) → AreBrief t log ps → i < length ps → IsBrief t log (get_or ps i d).own
-brief_at t log [] i d h l = absurd (omega (arith, l))
-brief_at t log (p ∷ ps) zero d h l = h.0
-brief_at t log (p ∷ ps) (suc i) d h l = brief_at t log ps i d h.1 (omega (arith, l))
+pub told_at : (t : Touch) (log : List (List Atom)) (ps : List Pending) (i : ℕ) (d : Pending) → AreTold t log ps → i < length ps → IsTold t log (get_or ps i d).own
+told_at t log [] i d h l = absurd (omega (arith, l))
+told_at t log (p ∷ ps) zero d h l = h.0
+told_at t log (p ∷ ps) (suc i) d h l = told_at t log ps i d h.1 (omega (arith, l))
 
--- which atoms of the tasks need to be judged after a change
-pub all_brief : (t : Touch) (v w : View) (x : Delta) (y : Change) (log : List (List Atom)) (ps : List Pending) → IsMadeBy v w x y → t.view.now ≡ w → t.delta.now ≡ x → t.item ≡ item_of y → AreAlive v (tasks_of log ps) → AreBrief t log ps
-all_brief t v w x y log [] made ev ed ei alive = tt
-all_brief t v w x y log (p ∷ ps) made ev ed ei alive =
+-- the atoms that matter tell which of the tasks are hopeless after a change
+pub all_told : (t : Touch) (v w : View) (x : Delta) (y : Change) (log : List (List Atom)) (ps : List Pending) → IsMadeBy v w x y → t.view.now ≡ w → t.delta.now ≡ x → t.item ≡ item_of y → AreAlive v (tasks_of log ps) → AreTold t log ps
+all_told t v w x y log [] made ev ed ei alive = tt
+all_told t v w x y log (p ∷ ps) made ev ed ei alive =
     let A = own_of log p.own in
     let hs = and_parts (not (hopeless v A)) (list_all (λ u. not (hopeless v u.own)) (tasks_of log ps)) alive in
-    let lives : hopeless v A ≡ false = not-true _ hs.0 in
     let same : (a : Atom) → touches t a ≡ touched w x (item_of y) a = λ a i. touched (ev i) (ed i) (ei i) a in
-    let first : IsBrief t log p.own = record {
-      brief = λ none h. ap (λ z. hopeless z (filter is_other A)) ev ∙ brief_enough v w x y A made lives (ap (λ z. z.pinned.items) (sym ed) ∙ none) (ap (λ z. hopeless z A) (sym ev) ∙ h);
-      few = λ h.
-          ap (λ z. hopeless z (filter (matters t) (filter is_other A))) ev
-          ∙ few_enough v w x y A (matters t) made lives (λ p. refl) (λ a e. touches_matters t a (same a ∙ e)) (ap (λ z. hopeless z (filter is_other A)) (sym ev) ∙ h);
-    } in
-    (first, all_brief t v w x y log ps made ev ed ei hs.1)
+    let first : IsTold t log p.own = λ h.
+    ap (λ z. hopeless z (filter (matters t) A)) ev
+    ∙ few_enough v w x y A (matters t) made (not-true _ hs.0) (λ p. refl) (λ a e. touches_matters t a (same a ∙ e)) (ap (λ z. hopeless z A) (sym ev) ∙ h) in
+    (first, all_told t v w x y log ps made ev ed ei hs.1)
 
--- the atoms that matter tell whether a task's own atoms are hopeless, if they are, or if the change pins nothing
-pub few_tells : (t : Touch) (log : List (List Atom)) (o : Own) (ends none : Bool) → IsBrief t log o → ends ≡ hopeless t.view.now (filter (matters t) (brief_of log o)) → (ends || none) ≡ true → (none ≡ true → length t.delta.now.pinned.items ≡ 0) → ends ≡ hopeless t.view.now (own_of log o)
-few_tells t log o true none brief is either pinned =
+-- own atoms are hopeless exactly if those are that matter without each Lacks, with each Lacks of a new pin
+pub few_tell : (t : Touch) (log : List (List Atom)) (o : Own) (B : List Atom) → IsTold t log o → B ≡ filter (matters t) (brief_of log o) ++ filter (is_harmful t.delta.now.pinned.items) (own_of log o) → hopeless t.view.now B ≡ hopeless t.view.now (own_of log o)
+few_tell t log o B told is =
     let w = t.view.now in
-    sym (hopeless_within w (filter (matters t) (brief_of log o)) (own_of log o) (λ a i. (filter_in is_other (own_of log o) a (filter_in (matters t) (brief_of log o) a i).0).0) (sym is))
-few_tells t log o false none brief is either pinned =
-    let w = t.view.now in
-    sym (false_from_ne_true (hopeless w (own_of log o)) (λ h. both_ways (hopeless w (filter (matters t) (brief_of log o))) (sym is) (brief.few (brief.brief (empty t.delta.now.pinned.items (pinned either)) h))))
+    let A = own_of log o in
+    let D = filter (matters t) (filter is_other A) in
+    let H = filter (is_harmful t.delta.now.pinned.items) A in
+    ap (λ C. hopeless w C) is ∙ same_truth (hopeless w (D ++ H)) (hopeless w A)
+    (hopeless_within w (D ++ H) A (λ a i. elim (in_append_cases a D H i) [
+      | inl j ↦ (filter_in is_other A a (filter_in (matters t) (filter is_other A) a j).0).0
+      | inr j ↦ (filter_in (is_harmful t.delta.now.pinned.items) A a j).0
+    ]))
+    (λ h. hopeless_within w (filter (matters t) A) (D ++ H) (λ a i. let r = filter_in (matters t) A a i in elim (other_or a) [
+      | inl e ↦ in_append_left a D H (in_filter (matters t) (filter is_other A) a (in_filter is_other A a r.0 e) r.1)
+      | inr q ↦ in_append_right a D H (in_filter (is_harmful t.delta.now.pinned.items) A a r.0 (subst (λ b. is_harmful t.delta.now.pinned.items b ≡ true) (sym q.1) (subst (λ b. matters t b ≡ true) q.1 r.1)))
+    ]) (told h))

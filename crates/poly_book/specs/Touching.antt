@@ -1,6 +1,6 @@
 -- Which pending tasks a change can make hopeless by their own atoms: those with an own atom that the change touches.
 use Rattle.std.specs.List.{filter, list_any}
-use Rattle.std.specs.Prelude.{Bool, List, [], false, slice_index_or, take, true, ◌∷◌, ◌≡◌}
+use Rattle.std.specs.Prelude.{Bool, List, MatchOption, [], false, slice_index_or, take, true, ◌∷◌, ◌≡◌, ⊤}
 use Rattle.poly_design.specs.Changes.{changed}
 use Rattle.poly_design.specs.declared.change.Change.{Change}
 use Rattle.poly_tiling.specs.Puzzle.{View}
@@ -10,11 +10,14 @@ use Rattle.poly_atom.specs.declared.atom.Atom.{Atom}
 use Rattle.poly_atom.specs.declared.atom.Atom.TheVariants.{AtLeast, AtMost, Has, Lacks}
 use Rattle.poly_atom.specs.Hopeless.{hopeless}
 use Rattle.poly_atom.specs.Newly.{touched}
+use Rattle.poly_book.specs.declared.next_tasks.Survey.{Survey}
 use Rattle.poly_book.specs.declared.task.Own.{Own}
 use Rattle.poly_book.specs.declared.task.Pending.{Pending}
 use Rattle.poly_book.specs.declared.touch.Touch.{Touch}
 use Rattle.poly_book.specs.declared.untouched.Untouched.{Untouched}
-use Rattle.poly_book.specs.Meaning.{brief_of, own_of}
+use Rattle.poly_book.specs.Judged.{IsSpoiler}
+use Rattle.poly_book.specs.Meaning.{own_of}
+use Rattle.poly_book.specs.Spots.{IsSpots}
 
 -- the change `y` leads from the view `v` to the view `w`, with the differences `x`
 abbrev pub IsMadeBy : View → View → Delta → Change → Type 0
@@ -35,16 +38,22 @@ matters t (Lacks p) = touches t (Lacks p)
 matters t (AtLeast i n) = touches t (AtLeast i n)
 matters t (AtMost i n) = touches t (AtMost i n)
 
--- if the change pins nothing, the task's own atoms are hopeless after it only if they are so without each `Lacks`; and without each
--- `Lacks` they are hopeless after it only if those that matter are
-pub record IsBrief (t : Touch) (log : List (List Atom)) (o : Own) : Type 0 where
-  pub brief : t.delta.now.pinned.items ≡ [] → hopeless t.view.now (own_of log o) ≡ true → hopeless t.view.now (brief_of log o) ≡ true
-  pub few : hopeless t.view.now (brief_of log o) ≡ true → hopeless t.view.now (filter (matters t) (brief_of log o)) ≡ true
+-- the own atoms are hopeless after the change only if those that matter are
+abbrev pub IsTold : Touch → List (List Atom) → Own → Type 0
+IsTold t log o = hopeless t.view.now (own_of log o) ≡ true → hopeless t.view.now (filter (matters t) (own_of log o)) ≡ true
 
-abbrev pub AreBrief : Touch → List (List Atom) → List Pending → Type 0
-AreBrief t log [] = Unit {0}
-AreBrief t log (p ∷ ps) = IsBrief t log p.own × AreBrief t log ps
+abbrev pub AreTold : Touch → List (List Atom) → List Pending → Type 0
+AreTold t log [] = Unit {0}
+AreTold t log (p ∷ ps) = IsTold t log p.own × AreTold t log ps
 
 -- the change touches none of these first guards of the edition
 abbrev pub AreUntouched : Touch → List (List Atom) → Untouched → Type 0
 AreUntouched t log u = list_any (λ a. touches t a) (take u.count (slice_index_or log u.edition [])) ≡ false
+
+-- what is known before a task is judged: the first guards of an edition that the change doesn't touch, a guard that is hopeless
+-- alone, and where the log lacks the placements that the change pins
+pub record IsSurvey (t : Touch) (log : List (List Atom)) (s : Survey) : Type 0 where
+  pub untouched : AreUntouched t log s.untouched
+  pub spoiler : MatchOption s.spoiler ⊤ (λ g. IsSpoiler t.view.now log g)
+  pub spots : IsSpots log s.spots
+  pub pinned : s.spots.placements.items ≡ t.delta.now.pinned.items

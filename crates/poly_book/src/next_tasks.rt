@@ -1,5 +1,5 @@
 //! The tasks after a change: which of the pending ones go on, and which are new.
-ghost use Rattle.std.specs.Prelude.{◌≡◌, ◌≤◌, ◌<◌, ◌+◌, ◌⊎◌, IfErr, IfOk, List, MatchOption, OnOk, length, map, not, option_copied, true, ⊤};
+ghost use Rattle.std.specs.Prelude.{◌≡◌, ◌≤◌, ◌<◌, ◌+◌, ◌⊎◌, IfErr, IfOk, List, OnOk, length, map, not, option_copied, true};
 ghost use Rattle.poly_tiling.specs.Puzzle.{View as ViewOf};
 ghost use Rattle.poly_atom.specs.declared.atom.Atom.{Atom as AtomOf};
 ghost use Rattle.poly_atom.specs.Atoms.{AllSmall};
@@ -7,7 +7,7 @@ ghost use Rattle.poly_atom.specs.Hopeless.{hopeless};
 ghost use Rattle.poly_atom.specs.Stairs.{stairs};
 ghost use Rattle.poly_book.specs.Changing.{AreNext};
 ghost use Rattle.poly_book.specs.Events.{hopeless_endings};
-ghost use Rattle.poly_book.specs.Judged.{IsSpoiler, LackOnce};
+ghost use Rattle.poly_book.specs.Judged.{LackOnce};
 ghost use Rattle.poly_book.specs.Keeps.{Keeps};
 ghost use Rattle.poly_book.specs.Mapped.{AreNoted};
 ghost use Rattle.poly_book.specs.Meaning.{AreTasks, IsHeld, IsOwn, own_of, stored_of, tasks_of};
@@ -15,15 +15,16 @@ ghost use Rattle.poly_book.specs.Shelves.{openings};
 ghost use Rattle.poly_book.specs.Tasks.{hopeful};
 ghost use Rattle.poly_book.specs.Reaching.{AreEndsReached};
 ghost use Rattle.std.specs.List.{list_any};
-ghost use Rattle.poly_book.specs.Touching.{AreBrief, AreTouched, AreUntouched, IsBrief, IsMadeBy, touches};
+ghost use Rattle.poly_book.specs.Touching.{AreTold, AreTouched, IsMadeBy, IsSurvey, IsTold, touches};
 
 use crate::fresh::fresh_tasks;
 use crate::parts::Parts;
 use crate::reach::reached;
 use crate::shelf::Shelf;
 use crate::spoilt::{is_spoilt, spoiler_of};
+use crate::spots::Spots;
 use crate::step::Ending;
-use crate::task::{Own, Pending, ends_by_stair, read_brief, read_own};
+use crate::task::{Own, Pending, append_harmful_own, ends_by_stair, read_brief};
 use crate::touch::Touch;
 use crate::untouched::{Untouched, is_untouched};
 use poly_atom::{Atom, GuardLog, Stair, hopeless};
@@ -42,6 +43,38 @@ pub(crate) struct NextTasks {
     pub flags: Vec<bool>,
     /// The endings of the pending tasks that don't go on.
     pub ended: Vec<Ending>,
+}
+
+// What is known of the change and the log, and what is used again for each task.
+#[derive(Drop)]
+struct Survey {
+    // The first guards of an edition, none of which the change touches.
+    untouched: Untouched,
+    // A guard that is hopeless alone after the change, if one is known. It is named by the stair that negates it.
+    spoiler: Option<Stair>,
+    // Where the log lacks the placements that the change pins.
+    spots: Spots,
+    // The atoms of a task that are judged.
+    atoms: Vec<Atom>,
+    // A list that the task's own atoms begin with.
+    list: Vec<Atom>,
+}
+
+impl Survey {
+    fn new(alloc: Global, touch: &Touch<'_>, log: &GuardLog) -> Result<Survey, Refusal>
+        ensures ready { IfOk result (λ s. IsSurvey touch.now log.now s) }
+        ensures why { IfErr result (λ e. e ≡ Refusal.Memory) }
+    {
+        let mut spots = Spots::none(alloc);
+        spots.find(log, &touch.delta.pinned)?;
+        Ok(Survey {
+            untouched: Untouched::none(),
+            spoiler: None,
+            spots,
+            atoms: Vec::new(alloc),
+            list: Vec::new(alloc),
+        })
+    }
 }
 
 /// What the change that leads to the view does to the tasks. `laid` are the guards of the change, and `stood` is the shelf
@@ -107,90 +140,73 @@ fn surviving(
     requires len { length reach.now ≡ length tasks.now }
     requires reached { AreEndsReached touch.now.view.now log.now tasks.now reach.now }
     requires touched { AreTouched touch.now log.now tasks.now }
-    requires brief { AreBrief touch.now log.now tasks.now }
+    requires told { AreTold touch.now log.now tasks.now }
     ensures ok { IfOk result (λ v. v.items ≡ map (λ p. not (hopeless touch.now.view.now (own_of log.now p.own))) tasks.now) }
     ensures why { IfErr result (λ e. e ≡ Refusal.Memory) }
 {
     let mut flags = Vec::new(alloc);
-    let mut buffer = Vec::new(alloc);
-    let mut untouched = Untouched::none();
-    let mut spoiler = None;
+    let mut survey = Survey::new(alloc, touch, log)?;
     let mut far = 0;
     for (i, task) in tasks.iter().enumerate() {
         far = reach[i].max(far);
-        let ends = ends_by(
-            touch,
-            log,
-            task,
-            far,
-            &mut untouched,
-            &mut spoiler,
-            &mut buffer,
-        )?;
+        let ends = ends_by(touch, log, task, far, &mut survey)?;
         flags.push(!ends)?;
     }
     Ok(flags)
 }
 
 // Whether the task's own atoms are hopeless after the change. They aren't if the task's number is over `far`, or if the change
-// touches none of them. `untouched` and `spoiler` have what is known of the first guards of one change, and may be overwritten.
+// touches none of them.
 fn ends_by(
     touch: &Touch<'_>,
     log: &GuardLog,
     task: &Pending,
     far: u32,
-    untouched: &mut Untouched,
-    spoiler: &mut Option<Stair>,
-    buffer: &mut Vec<Atom>,
+    survey: &mut Survey,
 ) -> Result<bool, Refusal>
     requires own { IsOwn log.now task.now.own }
     requires reached { hopeless touch.now.view.now (own_of log.now task.now.own) ≡ true → task.now.number ≤ far }
     requires touched { hopeless touch.now.view.now (own_of log.now task.now.own) ≡ true → list_any (λ a. touches touch.now a) (own_of log.now task.now.own) ≡ true }
-    requires brief { IsBrief touch.now log.now task.now.own }
-    requires untouched { AreUntouched touch.now log.now untouched.old }
-    requires spoiler { MatchOption spoiler.old ⊤ (λ s. IsSpoiler touch.now.view.now log.now s) }
+    requires told { IsTold touch.now log.now task.now.own }
+    requires ready { IsSurvey touch.now log.now survey.old }
     ensures ok { IfOk result (λ yes. yes ≡ hopeless touch.now.view.now (own_of log.now task.now.own)) }
-    ensures untouched { OnOk result (AreUntouched touch.now log.now untouched.new) }
-    ensures spoiler { OnOk result (MatchOption spoiler.new ⊤ (λ s. IsSpoiler touch.now.view.now log.now s)) }
+    ensures ready { OnOk result (IsSurvey touch.now log.now survey.new) }
     ensures why { IfErr result (λ e. e ≡ Refusal.Memory) }
 {
-    if task.number > far || is_untouched(touch, log, &task.own, untouched) {
+    if task.number > far || is_untouched(touch, log, &task.own, &mut survey.untouched) {
         return Ok(false);
     }
     let view = touch.view;
-    if is_spoilt(view, log, &task.own, *spoiler) || ends_by_stair(view, log, &task.own) {
+    if is_spoilt(view, log, &task.own, survey.spoiler) || ends_by_stair(view, log, &task.own) {
         return Ok(true);
     }
-    let ends = is_hopeless(touch, log, &task.own, buffer)?;
+    let ends = is_hopeless(touch, log, &task.own, survey)?;
     if ends {
-        *spoiler = spoiler_of(view, log, &task.own);
+        survey.spoiler = spoiler_of(view, log, &task.own);
     }
     Ok(ends)
 }
 
-// Whether the own atoms are hopeless after the change. They are read into the buffer, in place of what it had. Nearly all of them are
-// `Lacks`, and nearly all others but those that ask for a placement aren't touched, so these are left out first.
+// Whether the own atoms are hopeless after the change. Nearly all of them are `Lacks`, which harm nothing unless the change pins
+// their placement, and nearly all others but those that ask for a placement aren't touched. So only the rest is judged.
 fn is_hopeless(
     touch: &Touch<'_>,
     log: &GuardLog,
     own: &Own,
-    buffer: &mut Vec<Atom>,
+    survey: &mut Survey,
 ) -> Result<bool, Refusal>
     requires own { IsOwn log.now own.now }
-    requires brief { IsBrief touch.now log.now own.now }
+    requires told { IsTold touch.now log.now own.now }
+    requires ready { IsSurvey touch.now log.now survey.old }
     ensures ok { IfOk result (λ yes. yes ≡ hopeless touch.now.view.now (own_of log.now own.now)) }
+    ensures ready { OnOk result (IsSurvey touch.now log.now survey.new) }
     ensures why { IfErr result (λ e. e ≡ Refusal.Memory) }
 {
-    read_brief(log, own, buffer)?;
-    buffer.retain(|atom| touch.matters(atom));
-    let ends = hopeless(touch.view, buffer);
-    // A `Lacks` that harmed nothing before the change can be hopeless after it only by a new pin.
-    let brief = touch.delta.pinned.is_empty();
-    if ends || brief {
-        return Ok(ends);
-    }
-    read_own(log, own, buffer)?;
-    Ok(hopeless(touch.view, buffer))
+    let atoms = &mut survey.atoms;
+    read_brief(log, own, atoms)?;
+    atoms.retain(|atom| touch.matters(atom));
+    append_harmful_own(log, own, &survey.spots, &mut survey.list, atoms)?;
+    Ok(hopeless(touch.view, atoms))
 }
 
 // The endings of the tasks that don't go on.

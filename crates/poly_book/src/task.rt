@@ -176,8 +176,8 @@ pub(crate) fn append_harmful(
     Ok(())
 }
 
-// The same for own atoms.
-fn append_harmful_own(
+/// The same for own atoms. If no placements were looked for, nothing is read.
+pub(crate) fn append_harmful_own(
     log: &GuardLog,
     own: &Own,
     spots: &Spots,
@@ -189,6 +189,9 @@ fn append_harmful_own(
     ensures ok { OnOk result (atoms.new.items ≡ atoms.old.items ++ filter (is_harmful spots.now.placements.items) (own_of log.now own.now)) }
     ensures why { IfErr result (λ e. e ≡ Refusal.Memory) }
 {
+    if spots.placements().is_empty() {
+        return Ok(());
+    }
     match own {
         Own::Listed(lists, index) => {
             lists.read(*index, buffer)?;

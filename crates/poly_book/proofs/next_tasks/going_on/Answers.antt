@@ -5,10 +5,10 @@ use Rattle.poly_book.specs.declared.task.Pending.{Pending}
 use Rattle.poly_book.specs.Mapped.{under}
 use Rattle.poly_book.specs.Meaning.{own_of}
 use Rattle.poly_book.specs.Reaching.{AreEndsReached, IsReached}
-use Rattle.poly_book.specs.Touching.{AreBrief, AreTouched}
+use Rattle.poly_book.specs.Touching.{AreTold, AreTouched}
 use Rattle.poly_book.proofs.Halving.{numbers_rise}
 use Rattle.poly_book.proofs.Reached.{ends_reached}
-use Rattle.poly_book.proofs.Touched.{all_brief, all_touched}
+use Rattle.poly_book.proofs.Touched.{all_told, all_touched}
 use Rattle.poly_book.proofs.next_tasks.going_on.Goals as goal
 
 pub new-requires : goal.new-requires
@@ -41,12 +41,12 @@ surviving-requires-clause-touched c =
     let e = c.in_ok-touch.ensures in
     subst (λ ps. AreTouched t a.log ps) (sym c.deref-2.ensures.value) (all_touched t a.scene c.args.view.now c.args.delta.now c.args.change.now a.log a.tasks.items c.requires.made e.view e.delta e.item c.requires.keeps.alive)
 
-pub surviving-requires-clause-brief : goal.surviving-requires-clause-brief
-surviving-requires-clause-brief c =
+pub surviving-requires-clause-told : goal.surviving-requires-clause-told
+surviving-requires-clause-told c =
     let a = c.args.parts.now in
     let t = c.in_ok-touch.touch in
     let e = c.in_ok-touch.ensures in
-    subst (λ ps. AreBrief t a.log ps) (sym c.deref-2.ensures.value) (all_brief t a.scene c.args.view.now c.args.delta.now c.args.change.now a.log a.tasks.items c.requires.made e.view e.delta e.item c.requires.keeps.alive)
+    subst (λ ps. AreTold t a.log ps) (sym c.deref-2.ensures.value) (all_told t a.scene c.args.view.now c.args.delta.now c.args.change.now a.log a.tasks.items c.requires.made e.view e.delta e.item c.requires.keeps.alive)
 
 pub returns-clause-ok : goal.returns-clause-ok
 returns-clause-ok c =

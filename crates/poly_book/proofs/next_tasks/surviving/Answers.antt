@@ -3,9 +3,9 @@ use Rattle.std.proofs.lemmas.List.{map-append, take_all, take_more}
 use Rattle.std.specs.List.{list_any}
 use Rattle.poly_atom.specs.Hopeless.{hopeless}
 use Rattle.poly_book.specs.declared.task.Pending.{Pending}
-use Rattle.poly_book.specs.Touching.{IsBrief, touches}
+use Rattle.poly_book.specs.Touching.{IsTold, touches}
 use Rattle.poly_book.proofs.Reached.{far_more}
-use Rattle.poly_book.proofs.Touched.{brief_at, touched_at}
+use Rattle.poly_book.proofs.Touched.{told_at, touched_at}
 use Rattle.poly_book.specs.Meaning.{IsTask, own_of}
 use Rattle.poly_book.proofs.Held.{task_at}
 use Rattle.poly_book.proofs.next_tasks.surviving.Goals as goal
@@ -18,9 +18,9 @@ ends_by-requires-clause-touched c = λ h.
     subst (λ (p : Pending). list_any (λ a. touches c.args.touch.now a) (own_of c.args.log.now p.own) ≡ true) (sym c.index-tasks-i.is)
     (touched_at c.args.touch.now c.args.log.now c.args.tasks.now c.loop-i.i c.index-tasks-i.result c.requires.touched c.loop-i-test.true (subst (λ (p : Pending). hopeless c.args.touch.now.view.now (own_of c.args.log.now p.own) ≡ true) c.index-tasks-i.is h))
 
-pub ends_by-requires-clause-brief : goal.ends_by-requires-clause-brief
-ends_by-requires-clause-brief c =
-    subst (λ (p : Pending). IsBrief c.args.touch.now c.args.log.now p.own) (sym c.index-tasks-i.is) (brief_at c.args.touch.now c.args.log.now c.args.tasks.now c.loop-i.i c.index-tasks-i.result c.requires.brief c.loop-i-test.true)
+pub ends_by-requires-clause-told : goal.ends_by-requires-clause-told
+ends_by-requires-clause-told c =
+    subst (λ (p : Pending). IsTold c.args.touch.now c.args.log.now p.own) (sym c.index-tasks-i.is) (told_at c.args.touch.now c.args.log.now c.args.tasks.now c.loop-i.i c.index-tasks-i.result c.requires.told c.loop-i-test.true)
 
 pub loop-i-preserved : goal.loop-i-preserved
 loop-i-preserved c =
@@ -31,8 +31,7 @@ loop-i-preserved c =
     let one : not c.in_ok-ends.ends ≡ F (get_or ps i d) = ap not c.in_ok-ends.ensures.ok ∙ ap F c.index-tasks-i.is in
     record {
       flags = c.in_ok-push.ensures.items ∙ (λ k. c.loop-i.invariant.flags k ++ one k ∷ []) ∙ sym (ap (λ xs. map F xs) (take_more ps i d c.loop-i-test.true) ∙ map-append F (take i ps) (get_or ps i d ∷ []));
-      untouched = c.in_ok-ends.ensures.untouched;
-      spoiler = c.in_ok-ends.ensures.spoiler;
+      ready = c.in_ok-ends.ensures.ready;
       far = far_more c.args.reach.now i c.loop-i.far c.max-far.result c.loop-i.invariant.far (search rules) (search rules);
     }
 
