@@ -67,6 +67,7 @@ def sessions():
     yield "25 edits of a wide board, without a question", large_sessions.wide_edits(16)[0], None
     yield "the same, and 20 times `undo` and `redo`", [*large_sessions.wide_edits(16)[0], *["undo", "redo"] * 20], None
     yield "a cell that 7,424 placements cover becomes optional, is undone and made again", large_sessions.cell_of_thousands(58)[0], None
+    yield "pins, and undos and redos of them, with thousands of tasks pending that undos opened", large_sessions.pins_after_wide_changes(16, 2, 5)[0], None
     yield "`count` of a wide board, which is refused", large_sessions.too_many(16)[0], None
     yield "99,000 edits of four pentominoes on 4 by 5, `count`", large_sessions.many_edits(99_000)[0], None
     yield "a new cell beside 6 by 10, undone and redone 400 times", large_sessions.undos_and_redos(400)[0][:-1], None

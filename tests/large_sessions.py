@@ -83,6 +83,19 @@ def undos_after_wide_changes(size, wide, rounds):
     return [puzzle(["+" * size] * size, []), *lines], [*accepted(len(lines) - 1), f"tilings {4 * (size - 2) ** 2 + 1}"]
 
 
+def pins_after_wide_changes(size, wide, rounds):
+    """Pins, and undos that pin again, while thousands of tasks are pending, most of which an undo opened. At the end F is left alone. It
+    lies in (size - 2) squared places in each of 8 orientations, and one tiling is the empty board; if F is pinned, only that is left."""
+    f = words(PENTOMINOES["F"])
+    pins = [words([(x + at, y + at) for x, y in PENTOMINOES["F"]]) for at in (0, size - 3)]
+    lines = [line for number in range(wide) for line in (f"add F{number} optional off {f}", f"mirror F{number} on")]
+    lines += ["cell 0,0 required", "undo", "cell 1,0 required", "undo", "add G optional off 0,0", f"add F optional on {f}"]
+    lines += [line for pin in pins for line in (f"pin F0 {pin}", f"pin F {pin}", "undo", "unpin F0", "undo", "undo", "redo", "undo")] * rounds
+    lines += [*[f"drop F{number}" for number in range(wide)], "drop G", "count", f"pin F {pins[0]}", "count"]
+    replies = accepted(len(lines) - 2)
+    return [puzzle(["+" * size] * size, []), *lines], [*replies[:-1], f"tilings {8 * (size - 2) ** 2 + 1}", replies[-1], "tilings 1"]
+
+
 def new_names(size, pairs):
     """A piece that is added and dropped under one new name after another, each with a number for every placement."""
     lines = [line for pair in range(pairs) for line in (f"add N{pair} optional on 0,0 1,0 2,0", f"drop N{pair}")]
@@ -168,6 +181,7 @@ SESSIONS = {
     "80 undos and redos of a new cell": (undos_and_redos(80), "40M"),
     "a shelf over thousands of tasks": (shelf_over_many_tasks(16, 10), "30M"),
     "undos after wide changes": (undos_after_wide_changes(10, 10, 20), "30M"),
+    "pins after wide changes": (pins_after_wide_changes(16, 2, 5), "40M"),
     "300 new names": (new_names(16, 300), "80M"),
     "a cell that 7,424 places cover": (cell_of_thousands(58), "60M"),
     "2,000 wide changes with a question after each": (wide_edits_and_questions(10, 1000), "18M"),

@@ -27,7 +27,7 @@ use std::sync::Arc;
 // The greatest depth of a trie. Reading a list is a recursion as deep as its trie.
 const DEEPEST: u32 = 64;
 
-/// Lists of atoms to which none is added any more. A clone shares them.
+/// Lists of atoms to which none is added any more. `try_clone` shares them.
 #[derive(Drop)]
 pub struct SharedLists {
     trie: Arc<Trie>,

@@ -1,7 +1,6 @@
 use Rattle.std.proofs.Common.{ap, rules, ◌++◌, ◌∙◌, ◌≡◌}
 use Rattle.std.proofs.lemmas.Fn.{filter_same}
 use Rattle.std.specs.List.{filter}
-use Rattle.poly_atom.specs.Hopeless.{hopeless}
 use Rattle.poly_book.specs.Judged.{is_harmful}
 use Rattle.poly_book.specs.Meaning.{brief_of, own_of}
 use Rattle.poly_book.specs.Touching.{matters}
