@@ -51,9 +51,8 @@ abbrev pub AreUntouched : Touch → List (List Atom) → Untouched → Type 0
 AreUntouched t log u = list_any (λ a. touches t a) (take u.count (slice_index_or log u.edition [])) ≡ false
 
 -- what is known before a task is judged: the first guards of an edition that the change doesn't touch, a guard that is hopeless
--- alone, and where the log lacks the placements that the change pins
+-- alone, and where the log lacks some placements
 pub record IsSurvey (t : Touch) (log : List (List Atom)) (s : Survey) : Type 0 where
   pub untouched : AreUntouched t log s.untouched
   pub spoiler : MatchOption s.spoiler ⊤ (λ g. IsSpoiler t.view.now log g)
   pub spots : IsSpots log s.spots
-  pub pinned : s.spots.placements.items ≡ t.delta.now.pinned.items

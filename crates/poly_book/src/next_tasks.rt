@@ -15,6 +15,7 @@ ghost use Rattle.poly_book.specs.Shelves.{openings};
 ghost use Rattle.poly_book.specs.Tasks.{hopeful};
 ghost use Rattle.poly_book.specs.Reaching.{AreEndsReached};
 ghost use Rattle.std.specs.List.{list_any};
+ghost use Rattle.poly_book.specs.declared.touch.Touch.{Touch as TouchOf};
 ghost use Rattle.poly_book.specs.Touching.{AreTold, AreTouched, IsMadeBy, IsSurvey, IsTold, touches};
 
 use crate::fresh::fresh_tasks;
@@ -52,7 +53,7 @@ struct Survey {
     untouched: Untouched,
     // A guard that is hopeless alone after the change, if one is known. It is named by the stair that negates it.
     spoiler: Option<Stair>,
-    // Where the log lacks the placements that the change pins.
+    // Where the log lacks the placements that the change pins, once a task had to be judged.
     spots: Spots,
     // The atoms of a task that are judged.
     atoms: Vec<Atom>,
@@ -61,19 +62,17 @@ struct Survey {
 }
 
 impl Survey {
-    fn new(alloc: Global, touch: &Touch<'_>, log: &GuardLog) -> Result<Survey, Refusal>
-        ensures ready { IfOk result (λ s. IsSurvey touch.now log.now s) }
-        ensures why { IfErr result (λ e. e ≡ Refusal.Memory) }
+    // Nothing is known yet.
+    fn new(alloc: Global) -> Survey
+        ensures { (t : TouchOf) (log : List (List AtomOf)) → IsSurvey t log result }
     {
-        let mut spots = Spots::none(alloc);
-        spots.find(log, &touch.delta.pinned)?;
-        Ok(Survey {
+        Survey {
             untouched: Untouched::none(),
             spoiler: None,
-            spots,
+            spots: Spots::none(alloc),
             atoms: Vec::new(alloc),
             list: Vec::new(alloc),
-        })
+        }
     }
 }
 
@@ -145,7 +144,7 @@ fn surviving(
     ensures why { IfErr result (λ e. e ≡ Refusal.Memory) }
 {
     let mut flags = Vec::new(alloc);
-    let mut survey = Survey::new(alloc, touch, log)?;
+    let mut survey = Survey::new(alloc);
     let mut far = 0;
     for (i, task) in tasks.iter().enumerate() {
         far = reach[i].max(far);
@@ -202,6 +201,7 @@ fn is_hopeless(
     ensures ready { OnOk result (IsSurvey touch.now log.now survey.new) }
     ensures why { IfErr result (λ e. e ≡ Refusal.Memory) }
 {
+    survey.spots.find(log, &touch.delta.pinned)?;
     let atoms = &mut survey.atoms;
     read_brief(log, own, atoms)?;
     atoms.retain(|atom| touch.matters(atom));

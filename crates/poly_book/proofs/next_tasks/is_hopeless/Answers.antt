@@ -14,6 +14,6 @@ returns-clause-ok c =
     let o = c.args.own.now in
     let few = filter (matters t) (brief_of log o) in
     let kept : c.retain.new.self.items ≡ filter (matters t) c.read_brief.new.buffer.items = filter_same _ (matters t) _ (λ x b f' k. search rules) _ _ c.retain.ensures.filtered in
-    let all = c.in_ok-append_harmful_own.ensures.ok in
-    let is = c.deref.ensures.value ∙ all ∙ (λ i. (kept ∙ ap (filter (matters t)) c.in_ok-read_brief.ensures.ok) i ++ filter (is_harmful (c.requires.ready.pinned i)) (own_of log o)) in
-    c.hopeless.ensures ∙ few_tell t log o c.deref.result.now c.requires.told is
+    let pinned = c.in_ok-find.ensures.placements ∙ c.deref.ensures.value in
+    let is = c.deref-2.ensures.value ∙ c.in_ok-append_harmful_own.ensures.ok ∙ (λ i. (kept ∙ ap (filter (matters t)) c.in_ok-read_brief.ensures.ok) i ++ filter (is_harmful (pinned i)) (own_of log o)) in
+    c.hopeless.ensures ∙ few_tell t log o c.deref-2.result.now c.requires.told is

@@ -1,4 +1,4 @@
-use Rattle.std.proofs.Common.{Bool, [], ap, get_or, map, not, rules, subst, sym, take, true, ◌++◌, ◌∙◌, ◌∷◌, ◌≡◌}
+use Rattle.std.proofs.Common.{Bool, [], ap, arith, get_or, map, not, rules, subst, sym, take, true, ◌++◌, ◌∙◌, ◌∷◌, ◌≡◌}
 use Rattle.std.proofs.lemmas.List.{map-append, take_all, take_more}
 use Rattle.std.specs.List.{list_any}
 use Rattle.poly_atom.specs.Hopeless.{hopeless}
@@ -21,6 +21,13 @@ ends_by-requires-clause-touched c = λ h.
 pub ends_by-requires-clause-told : goal.ends_by-requires-clause-told
 ends_by-requires-clause-told c =
     subst (λ (p : Pending). IsTold c.args.touch.now c.args.log.now p.own) (sym c.index-tasks-i.is) (told_at c.args.touch.now c.args.log.now c.args.tasks.now c.loop-i.i c.index-tasks-i.result c.requires.told c.loop-i-test.true)
+
+pub loop-i-init : goal.loop-i-init
+loop-i-init c = record {
+  flags = c.new-flags.ensures.items;
+  ready = c.new-survey.ensures c.args.touch.now c.args.log.now;
+  far = λ j l. absurd (omega (arith, l));
+}
 
 pub loop-i-preserved : goal.loop-i-preserved
 loop-i-preserved c =
