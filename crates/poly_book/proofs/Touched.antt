@@ -1,6 +1,7 @@
 -- The tasks that a change touches.
-use Rattle.std.proofs.Common.{Bool, List, [], ap, arith, cond, false, get_or, inl, inr, length, refl, subst, suc, sym, true, zero, ℕ, ◌++◌, ◌<◌, ◌∙◌, ◌∷◌, ◌≡◌}
+use Rattle.std.proofs.Common.{Bool, List, [], ap, arith, cond, false, get_or, inl, inr, length, refl, subst, suc, sym, true, zero, ℕ, ◌++◌, ◌<◌, ◌∙◌, ◌∷◌, ◌≡◌, ◌||◌}
 use Rattle.std.proofs.lemmas.Bool.{and_parts, both_ways, cond_both, false_from_ne_true, not-true, or_cases, or_left, or_right, true≢false}
+use Rattle.std.proofs.lemmas.List.{append-nil}
 use Rattle.std.specs.List.{filter, list_all, list_any}
 use Rattle.std.specs.Prelude.{not}
 use Rattle.poly_design.specs.declared.change.Change.{Change}
@@ -24,7 +25,8 @@ use Rattle.poly_book.specs.Meaning.{brief_of, own_of, tasks_of}
 use Rattle.poly_book.specs.Tasks.{AreAlive}
 use Rattle.poly_book.specs.Touching.{AreTold, AreTouched, IsMadeBy, IsTold, matters, touches}
 use Rattle.poly_book.proofs.Judging.{hopeless_within}
-use Rattle.poly_book.proofs.Lacking.{by_beyond, by_lost, one_in, other_or}
+use Rattle.poly_book.proofs.Lacking.{by_beyond, by_lost, empty, one_in, other_or}
+use Rattle.poly_book.proofs.Spotting.{none_harmful}
 
 pub touched_at : (t : Touch) (log : List (List Atom)) (ps : List Pending) (i : ℕ) (d : Pending) → AreTouched t log ps → i < length ps →
     hopeless t.view.now (own_of log (get_or ps i d).own) ≡ true → list_any (touches t) (own_of log (get_or ps i d).own) ≡ true
@@ -128,3 +130,14 @@ few_tell t log o B told is =
       | inl e ↦ in_append_left a D H (in_filter (matters t) (filter is_other A) a (in_filter is_other A a r.0 e) r.1)
       | inr q ↦ in_append_right a D H (in_filter (is_harmful t.delta.now.pinned.items) A a r.0 (subst (λ b. is_harmful t.delta.now.pinned.items b ≡ true) (sym q.1) (subst (λ b. matters t b ≡ true) q.1 r.1)))
     ]) (told h))
+
+-- if the atoms that matter without each Lacks tell that the own atoms are hopeless, or if the change pins nothing, they decide
+pub few_decide : (t : Touch) (log : List (List Atom)) (o : Own) (ends none : Bool) → IsTold t log o → ends ≡ hopeless t.view.now (filter (matters t) (brief_of log o)) → (ends || none) ≡ true → (none ≡ true → length t.delta.now.pinned.items ≡ 0) → ends ≡ hopeless t.view.now (own_of log o)
+few_decide t log o true none told is either pinned =
+    let A = own_of log o in
+    sym (hopeless_within t.view.now (filter (matters t) (filter is_other A)) A (λ a i. (filter_in is_other A a (filter_in (matters t) (filter is_other A) a i).0).0) (sym is))
+few_decide t log o false none told is either pinned =
+    let A = own_of log o in
+    let D = filter (matters t) (filter is_other A) in
+    let all : D ≡ D ++ filter (is_harmful t.delta.now.pinned.items) A = sym (ap (λ H. D ++ H) (ap (λ ps. filter (is_harmful ps) A) (empty t.delta.now.pinned.items (pinned either)) ∙ none_harmful A) ∙ append-nil D) in
+    is ∙ few_tell t log o D told all

@@ -186,8 +186,8 @@ fn ends_by(
     Ok(ends)
 }
 
-// Whether the own atoms are hopeless after the change. Nearly all of them are `Lacks`, which harm nothing unless the change pins
-// their placement, and nearly all others but those that ask for a placement aren't touched. So only the rest is judged.
+// Whether the own atoms are hopeless after the change. Nearly all of them are `Lacks`, and nearly all others but those that ask for
+// a placement aren't touched, so these are left out first. Of the `Lacks`, only those of a placement that the change pins can do harm.
 fn is_hopeless(
     touch: &Touch<'_>,
     log: &GuardLog,
@@ -201,10 +201,15 @@ fn is_hopeless(
     ensures ready { OnOk result (IsSurvey touch.now log.now survey.new) }
     ensures why { IfErr result (λ e. e ≡ Refusal.Memory) }
 {
-    survey.spots.find(log, &touch.delta.pinned)?;
     let atoms = &mut survey.atoms;
     read_brief(log, own, atoms)?;
     atoms.retain(|atom| touch.matters(atom));
+    let ends = hopeless(touch.view, atoms);
+    let brief = touch.delta.pinned.is_empty();
+    if ends || brief {
+        return Ok(ends);
+    }
+    survey.spots.find(log, &touch.delta.pinned)?;
     append_harmful_own(log, own, &survey.spots, &mut survey.list, atoms)?;
     Ok(hopeless(touch.view, atoms))
 }

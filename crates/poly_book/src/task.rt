@@ -176,7 +176,7 @@ pub(crate) fn append_harmful(
     Ok(())
 }
 
-/// The same for own atoms. If no placements were looked for, nothing is read.
+/// The same for own atoms.
 pub(crate) fn append_harmful_own(
     log: &GuardLog,
     own: &Own,
@@ -189,9 +189,6 @@ pub(crate) fn append_harmful_own(
     ensures ok { OnOk result (atoms.new.items ≡ atoms.old.items ++ filter (is_harmful spots.now.placements.items) (own_of log.now own.now)) }
     ensures why { IfErr result (λ e. e ≡ Refusal.Memory) }
 {
-    if spots.placements().is_empty() {
-        return Ok(());
-    }
     match own {
         Own::Listed(lists, index) => {
             lists.read(*index, buffer)?;
