@@ -22,9 +22,11 @@ use Rattle.poly_book.specs.declared.step.Kind.TheVariants as kind
 use Rattle.poly_book.specs.Accounts.{EachIsPendingOrEnded, ended, ended_as, pending_as}
 use Rattle.poly_book.specs.Events.{Edit, Event, Redo, Report, Undo, cut, handed_in, hopeless_endings, moved, redone, step, undone}
 use Rattle.poly_book.specs.Partition.{Becomes}
-use Rattle.poly_book.specs.Shelves.{is_kept, newest, openings, way_back}
-use Rattle.poly_book.specs.States.{State, Stored, Way, opening}
-use Rattle.poly_book.specs.Tasks.{Task, atoms_of, drop_task, find_task, hopeful, lay, tasks_from}
+use Rattle.poly_book.specs.Ways.{newest, way_back}
+use Rattle.poly_tasks.specs.Shelves.{is_kept, openings}
+use Rattle.poly_book.specs.States.{State, opening}
+use Rattle.poly_tasks.specs.Stored.{Stored, Way}
+use Rattle.poly_tasks.specs.Tasks.{Task, atoms_of, drop_task, find_task, hopeful, lay, tasks_from}
 
 same_one : (m k : ℕ) → m ≡ k → one (eqb m k) ≡ 1
 same_one m k e = ap one (eq-eqb m k e)

@@ -15,10 +15,11 @@ use Rattle.poly_report.specs.Sizes.{fits}
 use Rattle.poly_report.specs.Trees.{Plan}
 use Rattle.poly_book.specs.Events.{Edit, Event, Redo, Report, Undo, cut, handed_in, redone, step, undone}
 use Rattle.poly_book.specs.Partition.{Becomes}
-use Rattle.poly_book.specs.Shelves.{openings}
-use Rattle.poly_book.specs.States.{State, Stored, Way}
-use Rattle.poly_book.specs.Tasks.{AreAlive, AreSparing, Task, atoms_of, drop_task, find_task, hopeful, lay, tasks_from}
-use Rattle.poly_book.proofs.Sparing.{all_filter, cut_sparing, moved_sparing}
+use Rattle.poly_tasks.specs.Shelves.{openings}
+use Rattle.poly_book.specs.States.{State}
+use Rattle.poly_tasks.specs.Stored.{Stored, Way}
+use Rattle.poly_tasks.specs.Tasks.{AreAlive, AreSparing, Task, atoms_of, drop_task, find_task, hopeful, lay, tasks_from}
+use Rattle.poly_tasks.proofs.Sparing.{all_filter, cut_sparing, moved_sparing}
 
 from_alive : (v : View) (n : ℕ) (As : List (List Atom)) → list_all (λ A. not (hopeless v A)) As ≡ true → AreAlive v (tasks_from n As)
 from_alive v n [] h = refl

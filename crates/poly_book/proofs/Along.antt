@@ -8,7 +8,7 @@ use Rattle.poly_tiling.proofs.Grown.{grown_self}
 use Rattle.poly_atom.specs.declared.atom.Atom.{Atom}
 use Rattle.poly_atom.specs.Hopeless.{hopeless}
 use Rattle.poly_atom.proofs.Stays.{hopeless_more}
-use Rattle.poly_book.specs.Shelves.{newest}
+use Rattle.poly_book.specs.Ways.{newest}
 use Rattle.poly_book.specs.Trails.{Led}
 use Rattle.poly_book.specs.Quiet.{HopelessAlong, Falling, hopeless_along, frozen_in, stands}
 

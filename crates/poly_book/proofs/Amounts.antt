@@ -29,7 +29,7 @@ use Rattle.poly_book.specs.Partition.{Partition}
 use Rattle.poly_book.specs.Refused.{IsNotApplied, IsNotMade, IsNotRedone, IsNotUndone, IsOver}
 use Rattle.poly_book.specs.Settled.{IsNotSettled}
 use Rattle.poly_book.specs.States.{State}
-use Rattle.poly_book.specs.Tasks.{Task, find_task}
+use Rattle.poly_tasks.specs.Tasks.{Task, find_task}
 use Rattle.poly_book.specs.Whole.{Whole}
 use Rattle.poly_book.proofs.Cataloguing.{becomes_itself, listed_once}
 use Rattle.poly_book.proofs.Nexting.{partition_each}

@@ -15,23 +15,27 @@ use Rattle.poly_place.specs.Right.{IsRight}
 use Rattle.poly_undo.specs.declared.step.Step.{Step as Beside}
 use Rattle.poly_undo.specs.Steps.{Moves, Steps, next_of, newest as newest_undo}
 use Rattle.poly_undo.proofs.Turns.{next_of_ends, step_from_next}
-use Rattle.poly_book.specs.declared.register.Register.{Register}
-use Rattle.poly_book.specs.declared.shelf.Kept.{Kept}
+use Rattle.poly_tasks.specs.declared.register.Register.{Register}
+use Rattle.poly_tasks.specs.declared.shelf.Kept.{Kept}
 use Rattle.poly_book.specs.declared.step.Ending.{Ending}
 use Rattle.poly_book.specs.declared.step.Kind.{Kind}
 use Rattle.poly_book.specs.declared.step.Kind.TheVariants as kind
 use Rattle.poly_book.specs.declared.step.Step.{Step}
-use Rattle.poly_book.specs.declared.task.Pending.{Pending}
+use Rattle.poly_tasks.specs.declared.task.Pending.{Pending}
 use Rattle.poly_book.specs.Events.{Goes, Leads, LeadsBy, moved, redone, step, undone}
 use Rattle.poly_book.specs.Keeps.{KeepsOf}
-use Rattle.poly_book.specs.Meaning.{AreHeld, AreTasks, shown, way_by, way_of, ways_of}
+use Rattle.poly_book.specs.Shown.{shown}
+use Rattle.poly_tasks.specs.Meaning.{AreHeld, AreTasks, way_by, way_of, ways_of}
 use Rattle.poly_book.specs.Partition.{Becomes}
-use Rattle.poly_book.specs.Shelves.{is_kept, newest, way_back}
-use Rattle.poly_book.specs.States.{State, Way}
+use Rattle.poly_book.specs.Ways.{newest, way_back}
+use Rattle.poly_tasks.specs.Shelves.{is_kept}
+use Rattle.poly_book.specs.States.{State}
+use Rattle.poly_tasks.specs.Stored.{Way}
 use Rattle.poly_book.specs.Changing.{CanNote, IsTop, Noted, event_of, shelf_at, stood_by}
 use Rattle.poly_book.proofs.Alive.{becomes_lives}
 use Rattle.poly_book.proofs.Changes.{Did, all_numbered, changed_by_way, kept_way, moved_shown, new_tasks, newest_all, ways_newest, ways_push}
-use Rattle.poly_book.proofs.Holding.{are_held_push, held_after, held_left, is_held_push, ways_stay}
+use Rattle.poly_book.proofs.Holding.{held_after}
+use Rattle.poly_tasks.proofs.Holding.{are_held_push, held_left, is_held_push, ways_stay}
 use Rattle.poly_book.proofs.Noted.{did_noted}
 use Rattle.poly_book.proofs.Proved.{steps_keep_whole_lem}
 

@@ -22,15 +22,15 @@ use Rattle.poly_catalogue.specs.Listed.{AreOfEither, AreOnce}
 use Rattle.poly_catalogue.proofs.Parted.{of_plan}
 use Rattle.poly_undo.specs.Steps.{Steps}
 use Rattle.poly_atom.specs.declared.atom.Atom.{Atom}
-use Rattle.poly_book.specs.declared.shelf.Kept.{Kept}
+use Rattle.poly_tasks.specs.declared.shelf.Kept.{Kept}
 use Rattle.poly_book.specs.declared.step.Kind.{Kind}
 use Rattle.poly_book.specs.declared.step.Kind.TheVariants as kind
 use Rattle.poly_book.specs.Events.{Leads, Report, cut, handed_in, redone, step, undone}
-use Rattle.poly_book.specs.Meaning.{way_of, ways_of}
+use Rattle.poly_tasks.specs.Meaning.{way_of, ways_of}
 use Rattle.poly_book.specs.Partition.{Becomes, Partition}
-use Rattle.poly_book.specs.Shelves.{returned}
+use Rattle.poly_tasks.specs.Shelves.{returned}
 use Rattle.poly_book.specs.States.{State}
-use Rattle.poly_book.specs.Tasks.{Task, atoms_of, find_task}
+use Rattle.poly_tasks.specs.Tasks.{Task, atoms_of, find_task}
 use Rattle.poly_book.specs.Changing.{IsTop, event_of, shelf_at, stood_by}
 use Rattle.poly_book.specs.Whole.{Whole}
 use Rattle.poly_book.proofs.Nexting.{same_flipped}

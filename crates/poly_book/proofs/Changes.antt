@@ -16,22 +16,25 @@ use Rattle.poly_atom.specs.Stairs.{stairs}
 use Rattle.poly_place.specs.Right.{IsRight}
 use Rattle.poly_undo.specs.declared.step.Step.{Step as Beside}
 use Rattle.poly_undo.specs.Steps.{Steps, newest as newest_undo}
-use Rattle.poly_book.specs.declared.shelf.Kept.{Kept}
+use Rattle.poly_tasks.specs.declared.shelf.Kept.{Kept}
 use Rattle.poly_book.specs.declared.step.Ending.{Ending}
 use Rattle.poly_book.specs.declared.step.Ending.TheVariants.{Hopeless}
 use Rattle.poly_book.specs.declared.step.Kind.{Kind}
 use Rattle.poly_book.specs.declared.step.Step.{Step}
-use Rattle.poly_book.specs.declared.task.Pending.{Pending}
+use Rattle.poly_tasks.specs.declared.task.Pending.{Pending}
 use Rattle.poly_book.specs.Events.{hopeless_endings, moved}
-use Rattle.poly_book.specs.Meaning.{AreHeld, AreTasks, IsHeld, own_of, shown, stored_of, task_of, tasks_of, way_by, way_of, ways_of}
-use Rattle.poly_book.specs.Opens.{Opens}
+use Rattle.poly_book.specs.Shown.{shown}
+use Rattle.poly_tasks.specs.Meaning.{AreHeld, AreTasks, IsHeld, own_of, stored_of, task_of, tasks_of, way_by, way_of, ways_of}
+use Rattle.poly_tasks.specs.Opens.{Opens}
 use Rattle.poly_book.specs.Partition.{Becomes}
-use Rattle.poly_book.specs.Shelves.{newest, openings, returned, way_back}
-use Rattle.poly_book.specs.States.{State, Stored, Way}
-use Rattle.poly_book.specs.Tasks.{Task, atoms_of, hopeful, lay, tasks_from}
+use Rattle.poly_book.specs.Ways.{newest, way_back}
+use Rattle.poly_tasks.specs.Shelves.{openings, returned}
+use Rattle.poly_book.specs.States.{State}
+use Rattle.poly_tasks.specs.Stored.{Stored, Way}
+use Rattle.poly_tasks.specs.Tasks.{Task, atoms_of, hopeful, lay, tasks_from}
 use Rattle.poly_book.specs.Changing.{Noted, shelf_by, shelved_by, stood_by}
-use Rattle.poly_book.proofs.Holding.{stored_push}
-use Rattle.poly_book.proofs.Held.{are_append, kept_tasks, length_of, opened_length, picked_filter, tasks_append, tasks_filter, tasks_push}
+use Rattle.poly_tasks.proofs.Holding.{stored_push}
+use Rattle.poly_tasks.proofs.Held.{are_append, kept_tasks, length_of, opened_length, picked_filter, tasks_append, tasks_filter, tasks_push}
 
 pub newest_all : {X : Type 0} (n : ℕ) (xs : List X) → length xs ≤ n → newest n xs ≡ xs
 newest_all zero [] h = refl

@@ -11,9 +11,10 @@ use Rattle.poly_atom.specs.Stairs.{stairs}
 use Rattle.poly_atom.specs.Hopeless.{hopeless}
 use Rattle.poly_atom.proofs.Stays.{stair_was_hopeless}
 use Rattle.poly_book.specs.declared.step.Kind.{Kind}
-use Rattle.poly_book.specs.Tasks.{Task, hopeful, lay, tasks_from}
-use Rattle.poly_book.specs.States.{State, Stored, Way}
-use Rattle.poly_book.specs.Shelves.{openings}
+use Rattle.poly_tasks.specs.Tasks.{Task, hopeful, lay, tasks_from}
+use Rattle.poly_book.specs.States.{State}
+use Rattle.poly_tasks.specs.Stored.{Stored, Way}
+use Rattle.poly_tasks.specs.Shelves.{openings}
 use Rattle.poly_book.specs.Events.{moved}
 use Rattle.poly_book.specs.Quiet.{owns}
 use Rattle.poly_book.proofs.QuietShelves.{crossed_in}

@@ -11,9 +11,9 @@ use Rattle.poly_book.specs.Changing.{IsTop, stood_by}
 use Rattle.poly_book.specs.Entering.{IsEntered}
 use Rattle.poly_book.specs.Events.{Leads}
 use Rattle.poly_book.specs.Keeps.{Keeps, state_of}
-use Rattle.poly_book.specs.Meaning.{shown}
+use Rattle.poly_book.specs.Shown.{shown}
 use Rattle.poly_book.specs.Refused.{IsNotMade}
-use Rattle.poly_book.specs.Shelves.{returned}
+use Rattle.poly_tasks.specs.Shelves.{returned}
 use Rattle.poly_book.specs.States.{State}
 use Rattle.poly_book.proofs.Cataloguing.{Enters, change_enters}
 

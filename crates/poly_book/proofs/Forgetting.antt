@@ -13,26 +13,28 @@ use Rattle.poly_atom.specs.Logs.{flat, forgotten}
 use Rattle.poly_atom.proofs.Forgets.{drop-forgotten, is_stair-forgotten, length-forgotten, stair_of-forgotten}
 use Rattle.poly_undo.specs.declared.step.Step.{Step as Beside}
 use Rattle.poly_undo.specs.Steps.{Steps}
-use Rattle.poly_book.specs.declared.maps.Maps.{Maps}
-use Rattle.poly_book.specs.declared.register.Register.{Register}
-use Rattle.poly_book.specs.declared.shelf.Frozen.{Frozen}
-use Rattle.poly_book.specs.declared.shelf.Kept.{Kept}
-use Rattle.poly_book.specs.declared.shelf.Shelf.{Shelf}
+use Rattle.poly_tasks.specs.declared.maps.Maps.{Maps}
+use Rattle.poly_tasks.specs.declared.register.Register.{Register}
+use Rattle.poly_tasks.specs.declared.shelf.Frozen.{Frozen}
+use Rattle.poly_tasks.specs.declared.shelf.Kept.{Kept}
+use Rattle.poly_tasks.specs.declared.shelf.Shelf.{Shelf}
 use Rattle.poly_book.specs.declared.step.Ending.{Ending}
 use Rattle.poly_book.specs.declared.step.Step.{Step}
-use Rattle.poly_book.specs.declared.task.Own.{Own}
-use Rattle.poly_book.specs.declared.task.Own.TheVariants.{Crossed, Listed, Stair as OfStair}
-use Rattle.poly_book.specs.declared.task.Pending.{Pending}
+use Rattle.poly_tasks.specs.declared.task.Own.{Own}
+use Rattle.poly_tasks.specs.declared.task.Own.TheVariants.{Crossed, Listed, Stair as OfStair}
+use Rattle.poly_tasks.specs.declared.task.Pending.{Pending}
 use Rattle.poly_book.specs.Keeps.{KeepsOf}
-use Rattle.poly_book.specs.Mapped.{under}
-use Rattle.poly_book.specs.Meaning.{AreFrozen, AreHeldBy, AreTasks, IsFrozen, IsHeld, IsHeldBy, IsOwn, IsTask, frozen_of, own_of, shown, stored_of, task_of, tasks_of, way_by, way_of, ways_of}
-use Rattle.poly_book.specs.Needed.{AreKeptFrom, ArePendingFrom, IsFrozenFrom, IsKeptFrom, IsOwnFrom, IsShelfFrom, IsStepFrom, IsTaskFrom}
-use Rattle.poly_book.specs.States.{State, Stored, Way}
-use Rattle.poly_book.specs.Tasks.{AreAlive, AreSparing, Task}
+use Rattle.poly_tasks.specs.Mapped.{under}
+use Rattle.poly_book.specs.Shown.{shown}
+use Rattle.poly_tasks.specs.Meaning.{AreFrozen, AreHeldBy, AreTasks, IsFrozen, IsHeld, IsHeldBy, IsOwn, IsTask, frozen_of, own_of, stored_of, task_of, tasks_of, way_by, way_of, ways_of}
+use Rattle.poly_tasks.specs.Needed.{AreKeptFrom, ArePendingFrom, IsFrozenFrom, IsKeptFrom, IsOwnFrom, IsShelfFrom, IsStepFrom, IsTaskFrom}
+use Rattle.poly_book.specs.States.{State}
+use Rattle.poly_tasks.specs.Stored.{Stored, Way}
+use Rattle.poly_tasks.specs.Tasks.{AreAlive, AreSparing, Task}
 use Rattle.poly_book.specs.Whole.{Whole}
-use Rattle.poly_book.proofs.Basing.{all_head, all_tail, base_same, is_base_still}
-use Rattle.poly_book.proofs.Holding.{map_reverse}
-use Rattle.poly_book.proofs.Sparing.{spares_same}
+use Rattle.poly_tasks.proofs.Basing.{all_head, all_tail, base_same, is_base_still}
+use Rattle.poly_tasks.proofs.Holding.{map_reverse}
+use Rattle.poly_tasks.proofs.Sparing.{spares_same}
 
 -- what is read from no edition before e is read from no edition before an earlier one
 own_earlier : (d e : ℕ) (o : Own) → d ≤ e → IsOwnFrom e o → IsOwnFrom d o

@@ -13,24 +13,20 @@ use Rattle.poly_report.specs.Trees.{Plan}
 use Rattle.poly_report.proofs.OpenPaths.{open_paths_add_nothing_hopeless_lem}
 use Rattle.poly_book.specs.declared.parts.Parts.{Parts}
 use Rattle.poly_book.specs.declared.step.Applied.{Applied}
-use Rattle.poly_book.specs.declared.task.Pending.{Pending}
+use Rattle.poly_tasks.specs.declared.task.Pending.{Pending}
 use Rattle.poly_book.specs.Keeps.{state_of}
-use Rattle.poly_book.specs.Meaning.{task_of, tasks_of}
+use Rattle.poly_tasks.specs.Meaning.{task_of, tasks_of}
 use Rattle.poly_book.specs.Reports.{AreLeaves, IsApplied}
 use Rattle.poly_book.specs.Settled.{AreHopefulFrom}
 use Rattle.poly_book.specs.States.{State}
-use Rattle.poly_book.specs.Tasks.{AreHopeful, Task, atoms_of, drop_task, hopeful, tasks_from}
-use Rattle.poly_book.proofs.Held.{length_of}
-use Rattle.poly_book.proofs.Indices.{at_drop, first_at}
+use Rattle.poly_tasks.specs.Tasks.{AreHopeful, Task, atoms_of, drop_task, hopeful, tasks_from}
+use Rattle.poly_tasks.proofs.Held.{length_of}
+use Rattle.poly_tasks.proofs.Indices.{at_drop, first_at}
 use Rattle.poly_book.proofs.Taking.{step_cut}
 
 -- if a list of atoms isn't hopeless, a tree for it whose branches and splits name only open placements has no hopeless rest
 pub rests_hopeful : (v : View) (A : List Atom) (t : Plan) → opened v A t ≡ true → hopeless v A ≡ false → AreHopeful v (rests v A t)
 rests_hopeful v A t o h = subst (λ b. list_all (λ B. cond b (hopeless v B) (not (hopeless v B))) (rests v A t) ≡ true) h (open_paths_add_nothing_hopeless_lem v A t o)
-
--- if none of the lists is hopeless, the first isn't, and none of the others is
-pub first_hopeful : (v : View) (A : List Atom) (As : List (List Atom)) → AreHopeful v (A ∷ As) → (hopeless v A ≡ false) × AreHopeful v As
-first_hopeful v A As h = let hs = and_parts (not (hopeless v A)) (list_all (λ B. not (hopeless v B)) As) h in (not-true _ hs.0, hs.1)
 
 abbrev hoped : View → Task → Bool
 hoped v t = not (hopeless v (atoms_of t))

@@ -17,12 +17,14 @@ use Rattle.poly_report.specs.Leaves.{rests}
 use Rattle.poly_report.proofs.Later.{trees_keep_holding_lem}
 use Rattle.poly_book.specs.declared.step.Kind.{Kind}
 use Rattle.poly_book.specs.declared.step.Kind.TheVariants as kind
-use Rattle.poly_book.specs.Tasks.{Rising, Task, atoms_of, drop_task, find_task, hopeful, lay, tasks_from}
-use Rattle.poly_book.specs.States.{State, Stored, Way}
-use Rattle.poly_book.specs.Shelves.{is_kept, newest, openings, way_back}
+use Rattle.poly_tasks.specs.Tasks.{Rising, Task, atoms_of, drop_task, find_task, hopeful, lay, tasks_from}
+use Rattle.poly_book.specs.States.{State}
+use Rattle.poly_tasks.specs.Stored.{Stored, Way}
+use Rattle.poly_book.specs.Ways.{newest, way_back}
+use Rattle.poly_tasks.specs.Shelves.{is_kept, openings}
 use Rattle.poly_book.specs.Events.{Edit, Event, Goes, LeadsBy, Redo, Report, Undo, cut, handed_in, moved, redone, step, undone}
 use Rattle.poly_book.specs.Partition.{Becomes}
-use Rattle.poly_book.proofs.Numbered.{drop_in, found_in, high, low, rising_append, rising_drop, rising_filter, rising_fresh, rising_lay, unique}
+use Rattle.poly_tasks.proofs.Numbered.{drop_in, found_in, high, low, rising_append, rising_drop, rising_filter, rising_fresh, rising_lay, unique}
 
 cut_rises : (s : State) (k : ℕ) (tree : Plan) (o : Option Task) → Rising 0 s.pending s.next → Rising 0 (handed_in s k o tree).pending (handed_in s k o tree).next
 cut_rises s k tree None r = r

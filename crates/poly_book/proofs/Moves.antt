@@ -33,9 +33,11 @@ use Rattle.poly_report.proofs.Trees.{trees_share_out_lem}
 use Rattle.poly_report.proofs.Belong.{tree_tilings_belong_lem}
 use Rattle.poly_book.specs.declared.step.Kind.{Kind}
 use Rattle.poly_book.specs.declared.step.Kind.TheVariants as kind
-use Rattle.poly_book.specs.Tasks.{Task, atoms_of, drop_task, find_task, hopeful, lay, tasks_from}
-use Rattle.poly_book.specs.States.{State, Stored, Way, opening}
-use Rattle.poly_book.specs.Shelves.{is_kept, newest, openings, returned, shelf_of, way_back}
+use Rattle.poly_tasks.specs.Tasks.{Task, atoms_of, drop_task, find_task, hopeful, lay, tasks_from}
+use Rattle.poly_book.specs.States.{State, opening}
+use Rattle.poly_tasks.specs.Stored.{Stored, Way}
+use Rattle.poly_book.specs.Ways.{newest, shelf_of, way_back}
+use Rattle.poly_tasks.specs.Shelves.{is_kept, openings, returned}
 use Rattle.poly_book.specs.Events.{Edit, Event, Goes, Leads, LeadsBy, Redo, Report, Undo, cut, handed_in, moved, redone, step, undone}
 use Rattle.poly_book.specs.Partition.{Becomes, IsShelf, Partition}
 use Rattle.poly_book.specs.Trails.{Earlier, Follows, Led, Consistent, Trail, Ways, led_back, trail_redone, trail_undone, trailed}

@@ -11,13 +11,13 @@ use Rattle.poly_tiling.proofs.Lists.{In, all_in, tally_none}
 use Rattle.poly_tiling.proofs.Named.{tally_same_in}
 use Rattle.poly_atom.specs.declared.atom.Atom.{Atom}
 use Rattle.poly_atom.specs.Atoms.{meets_all}
-use Rattle.poly_book.specs.declared.task.Pending.{Pending}
-use Rattle.poly_book.specs.Meaning.{task_of, tasks_of}
-use Rattle.poly_book.specs.Nexts.{IsLeastFrom, NoneFrom, number_from}
+use Rattle.poly_tasks.specs.declared.task.Pending.{Pending}
+use Rattle.poly_tasks.specs.Meaning.{task_of, tasks_of}
+use Rattle.poly_tasks.specs.Nexts.{IsLeastFrom, NoneFrom, number_from}
 use Rattle.poly_book.specs.Partition.{Partition}
 use Rattle.poly_book.specs.States.{State}
-use Rattle.poly_book.specs.Tasks.{Rising, Task, atoms_of, find_task}
-use Rattle.poly_book.proofs.Numbered.{found_in, low}
+use Rattle.poly_tasks.specs.Tasks.{Rising, Task, atoms_of, find_task}
+use Rattle.poly_tasks.proofs.Numbered.{found_in, low}
 
 not_le : (m n : ℕ) → nat_le m n ≡ false → n < m
 not_le m n e = elim (leb_tells m n) [ inl p ↦ absurd (true≢false (sym p.0 ∙ e)) | inr p ↦ p.1 ]

@@ -8,9 +8,11 @@ use Rattle.poly_tiling.specs.Puzzle.{View}
 use Rattle.poly_tiling.proofs.Lists.{In, in_append_cases, in_append_left, in_map, map_in}
 use Rattle.poly_atom.specs.declared.atom.Atom.{Atom}
 use Rattle.poly_atom.specs.Guards.{guards}
-use Rattle.poly_book.specs.Tasks.{Task, atoms_of}
-use Rattle.poly_book.specs.States.{State, Stored}
-use Rattle.poly_book.specs.Shelves.{crossed, is_kept, openings, shelf_of}
+use Rattle.poly_tasks.specs.Tasks.{Task, atoms_of}
+use Rattle.poly_book.specs.States.{State}
+use Rattle.poly_tasks.specs.Stored.{Stored}
+use Rattle.poly_book.specs.Ways.{shelf_of}
+use Rattle.poly_tasks.specs.Shelves.{crossed, is_kept, openings}
 use Rattle.poly_book.specs.Trails.{Led}
 use Rattle.poly_book.specs.Quiet.{HopelessAlong, IsQuiet, hopeless_along, frozen_in, owns, stands}
 use Rattle.poly_book.proofs.Along.{along_at, along_for, along_more}

@@ -13,18 +13,18 @@ use Rattle.poly_atom.specs.Stairs.{stairs}
 use Rattle.poly_atom.specs.Width.{HasWidth}
 use Rattle.poly_place.specs.Spent.{IsSpent as NumbersAreSpent}
 use Rattle.poly_undo.specs.Steps.{Steps}
-use Rattle.poly_book.specs.declared.shelf.Kept.{Kept}
+use Rattle.poly_tasks.specs.declared.shelf.Kept.{Kept}
 use Rattle.poly_book.specs.declared.step.Kind.{Kind}
 use Rattle.poly_book.specs.declared.step.Kind.TheVariants as kind
 use Rattle.poly_atom.specs.declared.atom.Atom.{Atom}
 use Rattle.poly_book.specs.Amounts.{IsWide}
 use Rattle.poly_book.specs.Changing.{IsNotGathered, IsTop, event_of, shelf_at, stood_by}
 use Rattle.poly_book.specs.Events.{Leads, redone, step, undone}
-use Rattle.poly_book.specs.Meaning.{way_of, ways_of}
+use Rattle.poly_tasks.specs.Meaning.{way_of, ways_of}
 use Rattle.poly_book.specs.Refused.{IsNotMade}
-use Rattle.poly_book.specs.Shelves.{openings, returned}
+use Rattle.poly_tasks.specs.Shelves.{openings, returned}
 use Rattle.poly_book.specs.States.{State}
-use Rattle.poly_book.specs.Tasks.{hopeful}
+use Rattle.poly_tasks.specs.Tasks.{hopeful}
 use Rattle.poly_book.proofs.Applying.{top_way}
 use Rattle.poly_book.proofs.Cataloguing.{listed_after}
 

@@ -15,9 +15,11 @@ use Rattle.poly_atom.specs.Hopeless.{hopeless}
 use Rattle.poly_atom.proofs.Stays.{hopeless_more}
 use Rattle.poly_book.specs.declared.step.Kind.{Kind}
 use Rattle.poly_book.specs.declared.step.Kind.TheVariants as kind
-use Rattle.poly_book.specs.Tasks.{atoms_of}
-use Rattle.poly_book.specs.States.{State, Way}
-use Rattle.poly_book.specs.Shelves.{is_kept, newest, way_back}
+use Rattle.poly_tasks.specs.Tasks.{atoms_of}
+use Rattle.poly_book.specs.States.{State}
+use Rattle.poly_tasks.specs.Stored.{Way}
+use Rattle.poly_book.specs.Ways.{newest, way_back}
+use Rattle.poly_tasks.specs.Shelves.{is_kept}
 use Rattle.poly_book.specs.Events.{Goes, LeadsBy, Redo, Undo, moved, redone, step, undone}
 use Rattle.poly_book.specs.Partition.{Complete, Partition}
 use Rattle.poly_book.specs.Trails.{Earlier, Follows, Led, Consistent, Trail, Ways}

@@ -7,7 +7,8 @@ use Rattle.poly_book.specs.Partition.{Becomes}
 use Rattle.poly_book.specs.Quiet.{quiet_since}
 use Rattle.poly_book.specs.QuietReturns.{HasOldTilings, ReturnsQuietly}
 use Rattle.poly_book.specs.Replay.{LeadBack, design_before, origins}
-use Rattle.poly_book.specs.States.{State, Way}
+use Rattle.poly_book.specs.States.{State}
+use Rattle.poly_tasks.specs.Stored.{Way}
 use Rattle.poly_book.specs.Steps.{IsRedone, IsUndone}
 use Rattle.poly_book.specs.Whole.{Whole}
 use Rattle.poly_book.proofs.Nexting.{partition_each}

@@ -10,14 +10,14 @@ use Rattle.poly_report.specs.Leaves.{rests}
 use Rattle.poly_report.specs.Opened.{opened}
 use Rattle.poly_report.specs.Trees.{Plan}
 use Rattle.poly_book.specs.declared.parts.Parts.{Parts}
-use Rattle.poly_book.specs.declared.task.Pending.{Pending}
+use Rattle.poly_tasks.specs.declared.task.Pending.{Pending}
 use Rattle.poly_book.specs.Findings.{HasAtoms, IsFound}
 use Rattle.poly_book.specs.Keeps.{state_of}
-use Rattle.poly_book.specs.Meaning.{task_of}
+use Rattle.poly_tasks.specs.Meaning.{task_of}
 use Rattle.poly_book.specs.Reports.{AreLeaves}
-use Rattle.poly_book.specs.Tasks.{AreHopeful, atoms_of}
+use Rattle.poly_tasks.specs.Tasks.{AreHopeful, atoms_of}
 use Rattle.poly_book.proofs.Hoping.{rests_hopeful}
-use Rattle.poly_book.proofs.Indices.{at_find, first_at}
+use Rattle.poly_tasks.proofs.Indices.{at_find, first_at}
 
 pub found_leaves : (p : Parts) (k index : ℕ) (v : View) (A : List Atom) (tree : Plan) (ts : List (List ℕ)) (rs : List (List Atom)) → v ≡ p.scene → IsFound v A tree ts rs →
     position_from (λ q. q.number == k) 0 p.tasks.items ≡ Some index → HasAtoms (state_of p).pending k A → AreLeaves p k index tree ts rs

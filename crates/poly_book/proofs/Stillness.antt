@@ -9,13 +9,13 @@ use Rattle.poly_report.specs.Trees.{Plan}
 use Rattle.poly_report.specs.Sizes.{fits}
 use Rattle.poly_report.specs.Holds.{holds}
 use Rattle.poly_report.specs.Leaves.{rests}
-use Rattle.poly_book.specs.Tasks.{Task, atoms_of, drop_task, find_task, hopeful, tasks_from}
+use Rattle.poly_tasks.specs.Tasks.{Task, atoms_of, drop_task, find_task, hopeful, tasks_from}
 use Rattle.poly_book.specs.States.{State, opening}
 use Rattle.poly_book.specs.Events.{Edit, Event, Goes, Redo, Report, Undo, cut, handed_in, step}
 use Rattle.poly_book.specs.Partition.{Becomes}
 use Rattle.poly_book.specs.Trails.{Led, Consistent, Trail, trailed}
 use Rattle.poly_book.specs.Quiet.{HopelessAlong, StaysQuiet, hopeless_along, owns, stands}
-use Rattle.poly_book.proofs.Numbered.{drop_in, found_in}
+use Rattle.poly_tasks.proofs.Numbered.{drop_in, found_in}
 use Rattle.poly_report.proofs.OpenPaths.{rest_has}
 use Rattle.poly_book.proofs.Along.{along_at, along_for, along_more}
 use Rattle.poly_book.proofs.Coming.{tasks_in}

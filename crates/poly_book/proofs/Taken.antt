@@ -14,9 +14,11 @@ use Rattle.poly_report.specs.Holds.{holds}
 use Rattle.poly_report.specs.Leaves.{tilings}
 use Rattle.poly_book.specs.declared.step.Kind.{Kind}
 use Rattle.poly_book.specs.declared.step.Kind.TheVariants as kind
-use Rattle.poly_book.specs.Tasks.{Task, atoms_of, find_task}
-use Rattle.poly_book.specs.States.{State, Stored, Way}
-use Rattle.poly_book.specs.Shelves.{is_kept, newest, returned, way_back}
+use Rattle.poly_tasks.specs.Tasks.{Task, atoms_of, find_task}
+use Rattle.poly_book.specs.States.{State}
+use Rattle.poly_tasks.specs.Stored.{Stored, Way}
+use Rattle.poly_book.specs.Ways.{newest, way_back}
+use Rattle.poly_tasks.specs.Shelves.{is_kept, returned}
 use Rattle.poly_book.specs.Events.{Edit, Redo, Report, Undo, cut, handed_in, moved, redone, undone}
 use Rattle.poly_book.specs.Laws.{ListedStay}
 

@@ -15,26 +15,27 @@ use Rattle.poly_report.specs.Holds.{holds}
 use Rattle.poly_report.specs.Leaves.{rests, tilings}
 use Rattle.poly_undo.specs.Steps.{Steps}
 use Rattle.poly_book.specs.declared.parts.Parts.{Parts}
-use Rattle.poly_book.specs.declared.register.Register.{Register}
-use Rattle.poly_book.specs.declared.shelf.Kept.{Kept}
+use Rattle.poly_tasks.specs.declared.register.Register.{Register}
+use Rattle.poly_tasks.specs.declared.shelf.Kept.{Kept}
 use Rattle.poly_book.specs.declared.step.Ending.{Ending}
 use Rattle.poly_book.specs.declared.step.Ending.TheVariants.{Cut}
 use Rattle.poly_book.specs.declared.step.Step.{Step}
-use Rattle.poly_book.specs.declared.task.Pending.{Pending}
+use Rattle.poly_tasks.specs.declared.task.Pending.{Pending}
 use Rattle.poly_book.specs.Events.{Report, cut, handed_in, step}
 use Rattle.poly_book.specs.Keeps.{Keeps, KeepsOf}
-use Rattle.poly_book.specs.Mapped.{AreNotedBelow}
-use Rattle.poly_book.specs.Meaning.{AreTasks, shown, task_of, tasks_of}
-use Rattle.poly_book.specs.Opens.{Opens}
+use Rattle.poly_tasks.specs.Mapped.{AreNotedBelow}
+use Rattle.poly_book.specs.Shown.{shown}
+use Rattle.poly_tasks.specs.Meaning.{AreTasks, task_of, tasks_of}
+use Rattle.poly_tasks.specs.Opens.{Opens}
 use Rattle.poly_book.specs.Partition.{Becomes}
 use Rattle.poly_book.specs.Reports.{AreFoundLeaves, AreLeaves}
 use Rattle.poly_book.specs.States.{State}
-use Rattle.poly_book.specs.Tasks.{Task, atoms_of, drop_task, find_task, hopeful, tasks_from}
+use Rattle.poly_tasks.specs.Tasks.{Task, atoms_of, drop_task, find_task, hopeful, tasks_from}
 use Rattle.poly_book.proofs.Alive.{becomes_lives}
-use Rattle.poly_book.proofs.Held.{are_append, opened_length, tasks_append}
-use Rattle.poly_book.proofs.Noted.{below_append, below_fresh, below_left}
-use Rattle.poly_book.proofs.Numbered.{found_in}
-use Rattle.poly_book.proofs.Indices.{At, at_left, at_drop, at_find, at_tasks, find_where, first_at, found_where}
+use Rattle.poly_tasks.proofs.Held.{are_append, opened_length, tasks_append}
+use Rattle.poly_tasks.proofs.Noted.{below_append, below_fresh, below_left}
+use Rattle.poly_tasks.proofs.Numbered.{found_in}
+use Rattle.poly_tasks.proofs.Indices.{At, at_left, at_drop, at_find, at_tasks, find_where, first_at, found_where}
 use Rattle.poly_book.proofs.Proved.{steps_keep_whole_lem}
 
 -- a report whose task is pending and whose tree fits and holds cuts the task

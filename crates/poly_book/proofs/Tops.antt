@@ -16,21 +16,23 @@ use Rattle.poly_place.specs.Right.{IsRight}
 use Rattle.poly_undo.specs.declared.step.Step.{Step as Beside}
 use Rattle.poly_undo.specs.Steps.{Steps, next_of}
 use Rattle.poly_undo.proofs.Turns.{next_of_ends}
-use Rattle.poly_book.specs.declared.register.Register.{Register}
-use Rattle.poly_book.specs.declared.shelf.Kept.{Kept}
+use Rattle.poly_tasks.specs.declared.register.Register.{Register}
+use Rattle.poly_tasks.specs.declared.shelf.Kept.{Kept}
 use Rattle.poly_book.specs.declared.step.Ending.{Ending}
 use Rattle.poly_book.specs.declared.step.Done.{Done}
 use Rattle.poly_book.specs.declared.step.Kind.TheVariants as kind
 use Rattle.poly_book.specs.declared.step.Step.{Step}
 use Rattle.poly_book.specs.Steps.{IsDone, IsRedone, IsUndone}
-use Rattle.poly_book.specs.declared.task.Own.{Own}
-use Rattle.poly_book.specs.declared.task.Pending.{Pending}
+use Rattle.poly_tasks.specs.declared.task.Own.{Own}
+use Rattle.poly_tasks.specs.declared.task.Pending.{Pending}
 use Rattle.poly_book.specs.Keeps.{KeepsOf}
-use Rattle.poly_book.specs.Mapped.{under}
-use Rattle.poly_book.specs.Meaning.{IsOwn, own_of, shown, way_of, ways_of}
+use Rattle.poly_tasks.specs.Mapped.{under}
+use Rattle.poly_book.specs.Shown.{shown}
+use Rattle.poly_tasks.specs.Meaning.{IsOwn, own_of, way_of, ways_of}
 use Rattle.poly_book.specs.Refused.{IsNotMade, IsNotRedone, IsNotUndone}
-use Rattle.poly_book.specs.States.{State, Way, opening}
-use Rattle.poly_book.specs.Tasks.{Spares, Task}
+use Rattle.poly_book.specs.States.{State, opening}
+use Rattle.poly_tasks.specs.Stored.{Way}
+use Rattle.poly_tasks.specs.Tasks.{Spares, Task}
 use Rattle.poly_book.specs.Trails.{Follows, Led}
 use Rattle.poly_book.specs.Whole.{Whole}
 use Rattle.poly_book.proofs.Changes.{changed_by_way, ways_push}

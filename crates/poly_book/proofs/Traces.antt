@@ -10,9 +10,11 @@ use Rattle.poly_tiling.specs.Puzzle.{View}
 use Rattle.poly_report.specs.Trees.{Plan}
 use Rattle.poly_book.specs.declared.step.Kind.TheVariants as kind
 use Rattle.poly_book.specs.declared.step.Step.{Step}
-use Rattle.poly_book.specs.Tasks.{Task, find_task}
-use Rattle.poly_book.specs.States.{State, Way, opening}
-use Rattle.poly_book.specs.Shelves.{is_kept, newest, way_back}
+use Rattle.poly_tasks.specs.Tasks.{Task, find_task}
+use Rattle.poly_book.specs.States.{State, opening}
+use Rattle.poly_tasks.specs.Stored.{Way}
+use Rattle.poly_book.specs.Ways.{newest, way_back}
+use Rattle.poly_tasks.specs.Shelves.{is_kept}
 use Rattle.poly_book.specs.Events.{Edit, Event, Goes, Leads, LeadsBy, Redo, Report, Undo, cut, handed_in, moved, redone, step, undone}
 use Rattle.poly_book.specs.Partition.{Becomes}
 use Rattle.poly_book.specs.Replay.{LeadBack, Origins, Replay, Trace, design_before, origins, put_by, replayed, traced}

@@ -15,8 +15,10 @@ use Rattle.poly_atom.proofs.Stays.{hopeless_more}
 use Rattle.poly_book.specs.declared.step.Kind.{Kind}
 use Rattle.poly_book.specs.declared.step.Kind.TheVariants as kind
 use Rattle.poly_book.specs.declared.step.Step.{Step}
-use Rattle.poly_book.specs.States.{State, Way}
-use Rattle.poly_book.specs.Shelves.{is_kept, newest, way_back}
+use Rattle.poly_book.specs.States.{State}
+use Rattle.poly_tasks.specs.Stored.{Way}
+use Rattle.poly_book.specs.Ways.{newest, way_back}
+use Rattle.poly_tasks.specs.Shelves.{is_kept}
 use Rattle.poly_book.specs.Events.{LeadsBy, moved, redone, undone}
 use Rattle.poly_book.specs.Trails.{Earlier, Follows, Led, Consistent, Trail, Ways, led_back, trail_redone, trail_undone}
 use Rattle.poly_book.specs.Quiet.{HopelessAlong, Falling, StaysQuiet, hopeless_along, frozen_in, owns, quiet_since, stands}

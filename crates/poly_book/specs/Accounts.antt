@@ -4,7 +4,7 @@ use Rattle.poly_tiling.specs.Lists.{tally}
 use Rattle.poly_book.specs.declared.step.Ending.{Ending}
 use Rattle.poly_book.specs.declared.step.Ending.TheVariants.{Cut, Hopeless}
 use Rattle.poly_book.specs.States.{State}
-use Rattle.poly_book.specs.Tasks.{Task}
+use Rattle.poly_tasks.specs.Tasks.{Task}
 
 -- the number of the task that ended
 abbrev pub ended : Ending → ℕ

@@ -6,7 +6,8 @@ use Rattle.poly_design.specs.Layout.{Layout}
 use Rattle.poly_design.specs.declared.placement.Placement.{Placement}
 use Rattle.poly_tiling.specs.Listings.{HasOverTilings, IsListOfTilings}
 use Rattle.poly_tiling.specs.declared.lister.TheConstants.{MAX_TILINGS}
-use Rattle.poly_book.specs.States.{State, Way}
+use Rattle.poly_book.specs.States.{State}
+use Rattle.poly_tasks.specs.Stored.{Way}
 use Rattle.poly_book.specs.declared.prepare.TheConstants.{MAX_GUARDS}
 
 -- the design has at least n tilings

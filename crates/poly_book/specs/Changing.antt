@@ -22,19 +22,19 @@ use Rattle.poly_book.specs.declared.parts.Parts.{Parts}
 use Rattle.poly_book.specs.declared.prepare.Entry.{Entry}
 use Rattle.poly_book.specs.declared.prepare.Prepared.{Prepared}
 use Rattle.poly_book.specs.declared.prepare.TheConstants.{MAX_CHANGES, MAX_GUARDS, MAX_SHELF}
-use Rattle.poly_book.specs.declared.shelf.Kept.{Kept}
-use Rattle.poly_book.specs.declared.shelf.Shelf.{Shelf}
+use Rattle.poly_tasks.specs.declared.shelf.Kept.{Kept}
+use Rattle.poly_tasks.specs.declared.shelf.Shelf.{Shelf}
 use Rattle.poly_book.specs.declared.step.Kind.{Kind}
 use Rattle.poly_book.specs.declared.step.Kind.TheVariants.{Edit, Redo, Undo}
-use Rattle.poly_book.specs.declared.task.Pending.{Pending}
+use Rattle.poly_tasks.specs.declared.task.Pending.{Pending}
 use Rattle.poly_book.specs.Events.{Event, Leads, hopeless_endings}
 use Rattle.poly_book.specs.Events as event
 use Rattle.poly_book.specs.Keeps.{state_of}
-use Rattle.poly_book.specs.Meaning.{IsHeld, own_of, stored_of, tasks_of, way_of}
-use Rattle.poly_book.specs.Opens.{Opens}
-use Rattle.poly_book.specs.Shelves.{is_kept, openings, returned}
-use Rattle.poly_book.specs.States.{Stored}
-use Rattle.poly_book.specs.Tasks.{atoms_of, hopeful}
+use Rattle.poly_tasks.specs.Meaning.{IsHeld, own_of, stored_of, tasks_of, way_of}
+use Rattle.poly_tasks.specs.Opens.{Opens}
+use Rattle.poly_tasks.specs.Shelves.{is_kept, openings, returned}
+use Rattle.poly_tasks.specs.Stored.{Stored}
+use Rattle.poly_tasks.specs.Tasks.{atoms_of, hopeful}
 
 -- the shelf that a change to the view stores if its inverse has `width` guards; none if the shelf would be too large
 abbrev pub shelf_by : View → List (List ℕ) → List (List Atom) → List Pending → ℕ → Option Stored

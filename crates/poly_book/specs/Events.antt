@@ -18,9 +18,11 @@ use Rattle.poly_book.specs.declared.step.Kind.{Kind}
 use Rattle.poly_book.specs.declared.step.Kind.TheVariants as kind
 use Rattle.poly_book.specs.declared.step.Ending.{Ending}
 use Rattle.poly_book.specs.declared.step.Ending.TheVariants.{Cut, Hopeless}
-use Rattle.poly_book.specs.Tasks.{Task, atoms_of, drop_task, find_task, hopeful, lay, tasks_from}
-use Rattle.poly_book.specs.States.{State, Stored, Way}
-use Rattle.poly_book.specs.Shelves.{is_kept, newest, openings, returned, way_back}
+use Rattle.poly_tasks.specs.Tasks.{Task, atoms_of, drop_task, find_task, hopeful, lay, tasks_from}
+use Rattle.poly_book.specs.States.{State}
+use Rattle.poly_tasks.specs.Stored.{Stored, Way}
+use Rattle.poly_book.specs.Ways.{newest, way_back}
+use Rattle.poly_tasks.specs.Shelves.{is_kept, openings, returned}
 use Rattle.poly_undo.specs.declared.history.TheConstants.{MAX_STEPS}
 
 -- A change comes with the view of the design that it leads to.

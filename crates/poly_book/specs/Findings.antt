@@ -6,7 +6,7 @@ use Rattle.poly_report.specs.Gather.{IsCutUp}
 use Rattle.poly_report.specs.Opened.{opened}
 use Rattle.poly_report.specs.Sizes.{fits}
 use Rattle.poly_report.specs.Trees.{Plan}
-use Rattle.poly_book.specs.Tasks.{Task, atoms_of, find_task}
+use Rattle.poly_tasks.specs.Tasks.{Task, atoms_of, find_task}
 
 -- the tree fits and holds for the atoms, names only open placements, and the tilings and the lists are its leaves
 pub record IsFound (v : View) (A : List Atom) (tree : Plan) (found : List (List ℕ)) (left : List (List Atom)) : Type 0 where

@@ -11,7 +11,7 @@ use Rattle.poly_book.specs.Refused.{IsNotApplied, IsNotEdited, IsNotRedone, IsNo
 use Rattle.poly_book.specs.Reports.{IsApplied}
 use Rattle.poly_book.specs.States.{State}
 use Rattle.poly_book.specs.Steps.{IsEdited, IsRedone, IsUndone}
-use Rattle.poly_book.specs.Tasks.{Task, atoms_of, find_task}
+use Rattle.poly_tasks.specs.Tasks.{Task, atoms_of, find_task}
 
 -- the event leads from the first state to the second with this reply; a refused event changes nothing, and is refused for one
 -- of its possible causes

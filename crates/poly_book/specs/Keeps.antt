@@ -10,15 +10,16 @@ use Rattle.poly_undo.specs.Steps.{Steps}
 use Rattle.poly_undo.specs.declared.history.TheConstants.{MAX_STEPS}
 use Rattle.poly_book.specs.declared.prepare.TheConstants.{MAX_CHANGES}
 use Rattle.poly_book.specs.declared.parts.Parts.{Parts}
-use Rattle.poly_book.specs.declared.register.Register.{Register}
-use Rattle.poly_book.specs.declared.shelf.Kept.{Kept}
+use Rattle.poly_tasks.specs.declared.register.Register.{Register}
+use Rattle.poly_tasks.specs.declared.shelf.Kept.{Kept}
 use Rattle.poly_book.specs.declared.step.Step.{Step}
 use Rattle.poly_book.specs.declared.step.Ending.{Ending}
-use Rattle.poly_book.specs.declared.task.Pending.{Pending}
-use Rattle.poly_book.specs.Mapped.{AreNotedBelow}
-use Rattle.poly_book.specs.Meaning.{AreHeld, AreTasks, shown, tasks_of}
+use Rattle.poly_tasks.specs.declared.task.Pending.{Pending}
+use Rattle.poly_tasks.specs.Mapped.{AreNotedBelow}
+use Rattle.poly_book.specs.Shown.{shown}
+use Rattle.poly_tasks.specs.Meaning.{AreHeld, AreTasks, tasks_of}
 use Rattle.poly_book.specs.States.{State}
-use Rattle.poly_book.specs.Tasks.{AreAlive, AreSparing}
+use Rattle.poly_tasks.specs.Tasks.{AreAlive, AreSparing}
 use Rattle.poly_book.specs.Whole.{Whole}
 
 -- `Whole` holds of what the fields show; the table is right for the design and has at least the view's numbers; each task

@@ -9,9 +9,11 @@ use Rattle.poly_tiling.specs.Names.{WellNamed}
 use Rattle.poly_tiling.specs.Shows.{Shows}
 use Rattle.poly_report.specs.Trees.{Plan}
 use Rattle.poly_report.specs.Holds.{holds}
-use Rattle.poly_book.specs.Tasks.{Task, atoms_of, find_task}
-use Rattle.poly_book.specs.States.{State, Way, opening}
-use Rattle.poly_book.specs.Shelves.{is_kept, shelf_of}
+use Rattle.poly_tasks.specs.Tasks.{Task, atoms_of, find_task}
+use Rattle.poly_book.specs.States.{State, opening}
+use Rattle.poly_tasks.specs.Stored.{Way}
+use Rattle.poly_book.specs.Ways.{shelf_of}
+use Rattle.poly_tasks.specs.Shelves.{is_kept}
 use Rattle.poly_book.specs.Events.{Event, Goes, Redo, Undo, step}
 use Rattle.poly_book.specs.Partition.{Becomes, Complete}
 use Rattle.poly_book.specs.Quiet.{quiet_since}

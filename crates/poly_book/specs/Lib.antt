@@ -1,7 +1,5 @@
-pub mod Tasks
 pub mod States
 pub mod Amounts
-pub mod Shelves
 pub mod Events
 pub mod Accounts
 pub mod Partition
@@ -12,11 +10,6 @@ pub mod QuietReturns
 pub mod Whole
 pub mod Laws
 pub mod Scenes
-pub mod Meaning
-pub mod Mapped
-pub mod Touching
-pub mod Reaching
-pub mod Opens
 pub mod Planned
 pub mod Changing
 pub mod Keeps
@@ -29,8 +22,6 @@ pub mod Jobs
 pub mod Findings
 pub mod Settled
 pub mod AllTilings
-pub mod Nexts
 pub mod Vouched
-pub mod Needed
-pub mod Judged
-pub mod Spots
+pub mod Shown
+pub mod Ways

@@ -4,8 +4,9 @@ use Rattle.std.specs.Prelude.{Bool, List, None, Option, Some, [], false, not, tr
 use Rattle.poly_tiling.specs.Lists.{same_list, tally}
 use Rattle.poly_tiling.specs.Puzzle.{View, is_tiling}
 use Rattle.poly_atom.specs.Atoms.{meets_all}
-use Rattle.poly_book.specs.Tasks.{atoms_of}
-use Rattle.poly_book.specs.States.{State, Stored}
+use Rattle.poly_tasks.specs.Tasks.{atoms_of}
+use Rattle.poly_book.specs.States.{State}
+use Rattle.poly_tasks.specs.Stored.{Stored}
 
 -- Each tiling is listed once and meets the atoms of no pending task, or isn't listed and meets those of exactly one; what is
 -- listed is a tiling.

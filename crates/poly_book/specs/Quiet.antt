@@ -5,8 +5,9 @@ use Rattle.poly_tiling.proofs.Lists.{In}
 use Rattle.poly_atom.specs.declared.atom.Atom.{Atom}
 use Rattle.poly_atom.specs.Hopeless.{hopeless}
 use Rattle.poly_book.specs.declared.step.Step.{Step}
-use Rattle.poly_book.specs.Tasks.{Task}
-use Rattle.poly_book.specs.States.{State, Stored}
+use Rattle.poly_tasks.specs.Tasks.{Task}
+use Rattle.poly_book.specs.States.{State}
+use Rattle.poly_tasks.specs.Stored.{Stored}
 use Rattle.poly_book.specs.Trails.{Led, Trail}
 
 -- Step number m found nothing pending, and each undo and redo since had a kept shelf. The newest step comes first.

@@ -19,8 +19,9 @@ use Rattle.poly_book.specs.declared.step.Kind.TheVariants as kind
 use Rattle.poly_book.specs.Amounts.{IsWide}
 use Rattle.poly_book.specs.Changing.{event_of}
 use Rattle.poly_book.specs.Events.{Leads, Report, step}
-use Rattle.poly_book.specs.States.{State, Way}
-use Rattle.poly_book.specs.Tasks.{Task, atoms_of, find_task}
+use Rattle.poly_book.specs.States.{State}
+use Rattle.poly_tasks.specs.Stored.{Way}
+use Rattle.poly_tasks.specs.Tasks.{Task, atoms_of, find_task}
 
 -- the change leads to a view for which `P` holds
 abbrev pub LeadsTo : State → Change → (View → Type 0) → Type 0

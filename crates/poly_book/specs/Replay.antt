@@ -7,8 +7,9 @@ use Rattle.poly_design.specs.declared.change.Change.{Change}
 use Rattle.poly_book.specs.declared.step.Kind.{Kind}
 use Rattle.poly_book.specs.declared.step.Kind.TheVariants.{Edit, Redo, Undo}
 use Rattle.poly_book.specs.declared.step.Step.{Step}
-use Rattle.poly_book.specs.States.{State, Way}
-use Rattle.poly_book.specs.Shelves.{newest}
+use Rattle.poly_book.specs.States.{State}
+use Rattle.poly_tasks.specs.Stored.{Way}
+use Rattle.poly_book.specs.Ways.{newest}
 use Rattle.poly_undo.specs.declared.history.TheConstants.{MAX_STEPS}
 
 -- a design; the changes that can be undone, the newest first; those that can be redone, the one undone last first

@@ -13,7 +13,7 @@ use Rattle.poly_book.specs.Events.{Report, step}
 use Rattle.poly_book.specs.Keeps.{state_of}
 use Rattle.poly_book.specs.Partition.{Becomes}
 use Rattle.poly_book.specs.States.{State}
-use Rattle.poly_book.specs.Tasks.{Task, atoms_of, find_task}
+use Rattle.poly_tasks.specs.Tasks.{Task, atoms_of, find_task}
 
 -- The task is pending, the tree fits and holds, and `t` is the state after the event of the report. The answer has the number
 -- of endings after the report, how many tilings the report listed and how many tasks it opened, the number of the first of

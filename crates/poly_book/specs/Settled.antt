@@ -14,7 +14,7 @@ use Rattle.poly_book.specs.Happenings.{HoldsNow}
 use Rattle.poly_book.specs.Partition.{Becomes}
 use Rattle.poly_book.specs.Refused.{IsOver}
 use Rattle.poly_book.specs.States.{State}
-use Rattle.poly_book.specs.Tasks.{Task, atoms_of, find_task}
+use Rattle.poly_tasks.specs.Tasks.{Task, atoms_of, find_task}
 
 -- n tasks were cut, and no task ended otherwise; the opening design, the design, its view and the steps are the same
 pub record Cuts (s t : State) (n : ℕ) : Type 0 where

@@ -10,7 +10,8 @@ use Rattle.poly_book.specs.declared.step.Kind.{Kind}
 use Rattle.poly_book.specs.declared.step.Kind.TheVariants as kind
 use Rattle.poly_book.specs.Events.{Leads, step}
 use Rattle.poly_book.specs.Partition.{Becomes}
-use Rattle.poly_book.specs.States.{State, Way}
+use Rattle.poly_book.specs.States.{State}
+use Rattle.poly_tasks.specs.Stored.{Way}
 use Rattle.poly_book.specs.Changing.{event_of}
 
 -- the change leads to a design, and `t` is the state after the event of the change, up to the order of the listed tilings;

@@ -7,8 +7,9 @@ use Rattle.poly_design.specs.declared.change.Change.{Change}
 use Rattle.poly_tiling.specs.Puzzle.{View}
 use Rattle.poly_tiling.specs.Names.{Names, WellNamed}
 use Rattle.poly_tiling.specs.Shows.{Shows}
-use Rattle.poly_book.specs.States.{State, Stored, Way}
-use Rattle.poly_book.specs.Shelves.{newest, shelf_of}
+use Rattle.poly_book.specs.States.{State}
+use Rattle.poly_tasks.specs.Stored.{Stored, Way}
+use Rattle.poly_book.specs.Ways.{newest, shelf_of}
 use Rattle.poly_book.specs.Events.{Edit, Event, Redo, Report, Undo}
 use Rattle.poly_book.specs.Partition.{IsShelf, Partition}
 use Rattle.poly_undo.specs.declared.history.TheConstants.{MAX_STEPS}

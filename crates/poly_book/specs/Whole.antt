@@ -1,7 +1,7 @@
 -- What holds of every book, and the runs of events that keep it.
 use Rattle.std.specs.Prelude.{List, [], ◌∷◌, ◌≡◌}
 use Rattle.poly_book.specs.Accounts.{EachIsPendingOrEnded}
-use Rattle.poly_book.specs.Tasks.{Rising}
+use Rattle.poly_tasks.specs.Tasks.{Rising}
 use Rattle.poly_book.specs.States.{State}
 use Rattle.poly_book.specs.Events.{Event, Goes, step}
 use Rattle.poly_book.specs.Partition.{Becomes}

@@ -10,15 +10,15 @@ ghost use Rattle.poly_book.specs.QuietReturns.{ReturnsQuietly};
 ghost use Rattle.poly_book.specs.Replay.{origins};
 ghost use Rattle.poly_book.specs.Refused.{IsNotEdited, IsNotRedone, IsNotUndone};
 ghost use Rattle.poly_book.specs.Steps.{IsEdited, IsRedone, IsUndone};
-ghost use Rattle.poly_book.specs.declared.shelf.Kept.{Kept as KeptOf};
+ghost use Rattle.poly_tasks.specs.declared.shelf.Kept.{Kept as KeptOf};
 
 use crate::apply::apply_change;
 use crate::book::Book;
 use crate::parts::Parts;
-use crate::shelf::Kept;
 use crate::step::{Done, Kind};
 use poly_design::{Change, Edit};
 use poly_grid::Refusal;
+use poly_tasks::Kept;
 use poly_undo::History;
 
 impl Book {

@@ -7,12 +7,11 @@
 ghost use Rattle.std.specs.Prelude.{◌≡◌, ◌≤◌, option_copied};
 ghost use Rattle.std.specs.List.{All};
 ghost use Rattle.poly_book.specs.Keeps.{Keeps, state_of};
-ghost use Rattle.poly_book.specs.Needed.{AreKeptFrom, ArePendingFrom, IsFrozenFrom, IsStepFrom, IsTaskFrom};
+ghost use Rattle.poly_tasks.specs.Needed.{AreKeptFrom, ArePendingFrom, IsFrozenFrom, IsStepFrom, IsTaskFrom};
 
 use crate::parts::Parts;
-use crate::shelf::{Frozen, Kept};
-use crate::task::{Own, Pending};
 use poly_design::Change;
+use poly_tasks::{Frozen, Kept, Own, Pending};
 use poly_undo::{History, Step as Beside};
 
 // A log with fewer guards is kept whole.

@@ -9,17 +9,16 @@ ghost use Rattle.poly_tiling.specs.Listings.{HasOverTilings};
 ghost use Rattle.poly_book.specs.Keeps.{Keeps, state_of};
 ghost use Rattle.poly_book.specs.Refused.{IsNotApplied, IsOver};
 ghost use Rattle.poly_book.specs.Reports.{AreLeaves, IsApplied};
-ghost use Rattle.poly_book.specs.Tasks.{AreHopeful};
+ghost use Rattle.poly_tasks.specs.Tasks.{AreHopeful};
 ghost use Rattle.poly_tiling.specs.declared.lister.TheConstants.{MAX_TILINGS};
 
 use crate::apply::push_tasks;
 use crate::book::Book;
-use crate::fresh::opened;
 use crate::parts::Parts;
 use crate::step::{Applied, Ending};
-use crate::task::{Pending, all_atoms, list_of};
 use poly_grid::Refusal;
 use poly_report::{Leaves, Report, fits};
+use poly_tasks::{Pending, all_atoms, list_of, opened};
 
 impl Book {
     /// Applies the report: its task ends as `Cut`, the tree's tilings are listed, and the tree's rests that aren't hopeless

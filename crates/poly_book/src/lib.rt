@@ -11,9 +11,8 @@
 //! - [`Which`]: which task to take. [`Job`]: a task to be worked on. [`Found`]: what a search found for it.
 //!   [`Remains`]: what is left of it after it was applied.
 //! - [`Quiet`]: all tilings of a design.
-//! - [`Numbers`]: how many changes, endings, listed tilings and pending tasks there are. [`Pending`], [`Own`]: a pending
-//!   task. [`Kept`], [`Shelf`], [`Frozen`]: what is kept for an undo or a
-//!   redo.
+//! - [`Numbers`]: how many changes, endings, listed tilings and pending tasks there are. [`Pending`], [`Own`], [`Kept`],
+//!   [`Shelf`], [`Frozen`]: of `poly_tasks`.
 //! - Limits: [`MAX_CHANGES`] of a book, [`MAX_GUARDS`] of a change, and [`MAX_SHELF`] on what is kept for an undo or a
 //!   redo.
 //! - [`laws`]: `run` and `still_holds`, which run a list of events; the laws of events and of runs of events; and the values
@@ -21,47 +20,28 @@
 #![tactic(auto)]
 
 mod apply;
-mod base;
 mod begin;
 mod book;
 mod edit;
-mod excerpt;
 mod forget;
 mod found;
-mod fresh;
 mod hand_in;
-mod harm;
-mod judge;
-mod laid;
 pub mod laws;
-mod maps;
 mod narrowed;
 mod next_tasks;
 mod parts;
-mod placed;
 mod prepare;
 mod quiet;
-mod reach;
-mod register;
-mod rows;
 mod scene;
 mod settle;
-mod shelf;
-mod spoilt;
-mod spots;
 mod step;
 mod take;
-mod task;
-mod touch;
-mod touching;
-mod untouched;
 mod vouch;
 
 pub use book::{Book, Numbers};
 pub use found::{Found, Remains};
+pub use poly_tasks::{Frozen, Kept, Own, Pending, Shelf};
 pub use prepare::{MAX_CHANGES, MAX_GUARDS, MAX_SHELF};
 pub use quiet::Quiet;
-pub use shelf::{Frozen, Kept, Shelf};
 pub use step::{Applied, Done, Ending, Kind, Step};
 pub use take::{Job, Which};
-pub use task::{Own, Pending};

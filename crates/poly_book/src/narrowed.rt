@@ -7,10 +7,10 @@ ghost use Rattle.poly_frame.specs.FrameTable.{HasOpen};
 ghost use Rattle.poly_frame.specs.Matrices.{IsMatrix, IsWhole};
 ghost use Rattle.poly_tiling.specs.Puzzle.{View as ViewOf};
 
-use crate::task::is_same_list;
 use poly_atom::Atom;
 use poly_grid::Refusal;
 use poly_report::{Matrix, Room};
+use poly_tasks::is_same_list;
 use std::alloc::Global;
 
 /// The most matrices that are kept. Each has less than three quarters of the columns of the one before it, so a few go far: the

@@ -1,14 +1,12 @@
 //! What a book is made of.
 
-use crate::register::Register;
 use crate::scene::Scene;
-use crate::shelf::Kept;
 use crate::step::{Ending, Step};
-use crate::task::Pending;
 use poly_atom::GuardLog;
 use poly_catalogue::Catalogue;
 use poly_design::{Change, Design};
 use poly_place::Table;
+use poly_tasks::{Kept, Pending, Register};
 use poly_undo::History;
 use std::alloc::Global;
 

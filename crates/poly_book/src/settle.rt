@@ -5,7 +5,7 @@ ghost use Rattle.poly_report.specs.Trees.{Plan};
 ghost use Rattle.poly_book.specs.Keeps.{Keeps, state_of};
 ghost use Rattle.poly_book.specs.Reports.{AreFoundLeaves};
 ghost use Rattle.poly_book.specs.Settled.{AreHopefulFrom, AreReported, AreReportedBefore, IsNotSettled, IsNotTurned, IsSettled, IsTurn};
-ghost use Rattle.poly_book.specs.Tasks.{AreHopeful};
+ghost use Rattle.poly_tasks.specs.Tasks.{AreHopeful};
 ghost use Rattle.poly_tiling.specs.declared.lister.TheConstants.{MAX_TILINGS};
 ghost use Rattle.poly_report.specs.declared.size.TheConstants.{NODES};
 
@@ -13,10 +13,10 @@ use crate::apply::catch_up;
 use crate::book::Book;
 use crate::hand_in::apply_leaves;
 use crate::parts::Parts;
-use crate::task::read_all;
 use poly_atom::Atom;
 use poly_grid::Refusal;
 use poly_report::{Leaves, Room};
+use poly_tasks::read_all;
 
 impl Book {
     /// Takes tasks, searches each over at most `nodes` nodes that aren't Rest, and applies what is found like a report, until

@@ -4,16 +4,16 @@ ghost use Rattle.std.specs.Arc.{arc_value};
 ghost use Rattle.std.specs.List.Sorted.{IsNonDecreasingBy};
 ghost use Rattle.poly_book.specs.Jobs.{IsMissing, IsTaken};
 ghost use Rattle.poly_book.specs.Keeps.{Keeps, state_of};
-ghost use Rattle.poly_book.specs.Meaning.{IsTask, task_of};
-ghost use Rattle.poly_book.specs.Nexts.{IsLeastFrom, NoneFrom, number_from};
-ghost use Rattle.poly_book.specs.Tasks.{atoms_of};
+ghost use Rattle.poly_tasks.specs.Meaning.{IsTask, task_of};
+ghost use Rattle.poly_tasks.specs.Nexts.{IsLeastFrom, NoneFrom, number_from};
+ghost use Rattle.poly_tasks.specs.Tasks.{atoms_of};
 
 use crate::book::Book;
 use crate::hand_in::index_of;
 use crate::parts::Parts;
-use crate::task::{Pending, all_atoms};
 use poly_atom::Atom;
 use poly_grid::Refusal;
+use poly_tasks::{Pending, all_atoms};
 use poly_tiling::View;
 use std::sync::Arc;
 

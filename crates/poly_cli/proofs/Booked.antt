@@ -20,8 +20,9 @@ use Rattle.poly_book.specs.Events.{redone, undone}
 use Rattle.poly_book.specs.Refused.{IsNotEdited, IsNotMade, IsNotRedone, IsNotUndone}
 use Rattle.poly_book.specs.Replay.{AllStand, IsNext, Replay, Trace, replayed, traced}
 use Rattle.poly_book.specs.Settled.{IsNotSettled}
-use Rattle.poly_book.specs.Shelves.{newest, way_back}
-use Rattle.poly_book.specs.States.{State as Book, Way}
+use Rattle.poly_book.specs.Ways.{newest, way_back}
+use Rattle.poly_book.specs.States.{State as Book}
+use Rattle.poly_tasks.specs.Stored.{Way}
 use Rattle.poly_book.specs.Steps.{IsDone, IsEdited, IsRedone, IsUndone}
 use Rattle.poly_book.proofs.Changes.{newest_all}
 use Rattle.poly_tiling.specs.declared.lister.TheConstants.{MAX_TILINGS}

@@ -1,7 +1,8 @@
 -- The state of a session, read from the state of its book.
 use Rattle.std.specs.Prelude.{Bool, List, None, length, map, reverse}
 use Rattle.poly_design.specs.declared.change.Change.{Change}
-use Rattle.poly_book.specs.States.{State as Book, Way}
+use Rattle.poly_book.specs.States.{State as Book}
+use Rattle.poly_tasks.specs.Stored.{Way}
 use Rattle.poly_cli.specs.States.{State}
 
 -- the changes of the steps that can be undone, or of those that can be redone; the last change is the next to be undone or

@@ -15,12 +15,12 @@ use Rattle.poly_book.below.indexmap.proofs.index_table.IndexTable.TheSendSync as
 use Rattle.poly_book.below.indexmap.proofs.index_table.group.Group.TheSendSync as Group
 use Rattle.poly_book.below.indexmap.proofs.map.IndexMap.TheSendSync as IndexMap
 use Rattle.poly_book.below.indexmap.proofs.set.IndexSet.TheSendSync as IndexSet
-use Rattle.poly_book.proofs.excerpt.Excerpt.TheSendSync as Excerpt
-use Rattle.poly_book.proofs.maps.Maps.TheSendSync as Maps
+use Rattle.poly_tasks.proofs.excerpt.Excerpt.TheSendSync as Excerpt
+use Rattle.poly_tasks.proofs.maps.Maps.TheSendSync as Maps
 use Rattle.poly_book.proofs.narrowed.Narrowed.TheSendSync as Narrowed
-use Rattle.poly_book.proofs.register.Register.TheSendSync as Register
-use Rattle.poly_book.proofs.rows.Row.TheSendSync as Row
-use Rattle.poly_book.proofs.rows.Span.TheSendSync as Span
+use Rattle.poly_tasks.proofs.register.Register.TheSendSync as Register
+use Rattle.poly_tasks.proofs.rows.Row.TheSendSync as Row
+use Rattle.poly_tasks.proofs.rows.Span.TheSendSync as Span
 use Rattle.poly_book.proofs.scene.Scene.TheSendSync as Scene
 use Rattle.poly_book.proofs.step.Ending.TheSendSync as Ending
 use Rattle.poly_book.proofs.step.Kind.TheSendSync as Kind
@@ -91,12 +91,12 @@ use Rattle.std.proofs.marker.PhantomData.TheSendSync as PhantomData
 use Rattle.std.proofs.sync.Mutex.TheSendSync as Mutex
 use Rattle.std.proofs.sync.ledger.Book.TheSendSync as Book
 use Rattle.std.proofs.sync.ledger.Share.TheSendSync as Share
-use Rattle.poly_book.specs.contracts.base.Base as base
-use Rattle.poly_book.specs.contracts.task.Own as own
-use Rattle.poly_book.specs.contracts.task.Pending as pending
-use Rattle.poly_book.specs.contracts.shelf.Frozen as frozen
-use Rattle.poly_book.specs.contracts.shelf.Shelf as shelf
-use Rattle.poly_book.specs.contracts.shelf.Kept as kept
+use Rattle.poly_tasks.specs.contracts.base.Base as base
+use Rattle.poly_tasks.specs.contracts.task.Own as own
+use Rattle.poly_tasks.specs.contracts.task.Pending as pending
+use Rattle.poly_tasks.specs.contracts.shelf.Frozen as frozen
+use Rattle.poly_tasks.specs.contracts.shelf.Shelf as shelf
+use Rattle.poly_tasks.specs.contracts.shelf.Kept as kept
 use Rattle.poly_book.specs.contracts.parts.Parts as parts
 use Rattle.poly_book.specs.contracts.book.Book as book
 

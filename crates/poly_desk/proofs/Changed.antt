@@ -16,9 +16,10 @@ use Rattle.poly_book.specs.declared.step.Kind.TheVariants as kind
 use Rattle.poly_book.specs.Events.{cut, hopeless_endings, handed_in, moved, redone, undone}
 use Rattle.poly_book.specs.Partition.{Becomes}
 use Rattle.poly_book.specs.Reports.{IsApplied}
-use Rattle.poly_book.specs.States.{State, Stored, Way}
+use Rattle.poly_book.specs.States.{State}
+use Rattle.poly_tasks.specs.Stored.{Stored, Way}
 use Rattle.poly_book.specs.Steps.{IsEdited, IsRedone, IsUndone}
-use Rattle.poly_book.specs.Tasks.{Task}
+use Rattle.poly_tasks.specs.Tasks.{Task}
 use Rattle.poly_desk.specs.Changes.{OneChange, OneCut, cut_count}
 
 pub cuts_append : (es fs : List Ending) → cut_count (es ++ fs) ≡ cut_count es + cut_count fs

@@ -27,11 +27,12 @@ use Rattle.poly_book.specs.declared.take.Which.TheVariants as which
 use Rattle.poly_book.specs.Events.{moved, redone, undone}
 use Rattle.poly_book.specs.AllTilings.{AllTilings, IsQuietOf}
 use Rattle.poly_book.specs.Jobs.{IsMissing, IsTaken}
-use Rattle.poly_book.specs.Nexts.{IsLeastFrom, NoneFrom}
+use Rattle.poly_tasks.specs.Nexts.{IsLeastFrom, NoneFrom}
 use Rattle.poly_book.specs.Partition.{Becomes}
 use Rattle.poly_book.specs.Refused.{IsNotApplied, IsNotEdited, IsNotRedone, IsNotUndone}
 use Rattle.poly_book.specs.Reports.{IsApplied}
-use Rattle.poly_book.specs.States.{State, Stored, Way}
+use Rattle.poly_book.specs.States.{State}
+use Rattle.poly_tasks.specs.Stored.{Stored, Way}
 use Rattle.poly_book.specs.Steps.{IsEdited, IsRedone, IsUndone}
 use Rattle.poly_browse.specs.Browsing.{Asked, IsAnswer}
 use Rattle.poly_desk.specs.Books.{HasBook, HasBooks, IsBookOf, IsCause, IsOfDesk}

@@ -13,7 +13,7 @@ ghost use Rattle.poly_board.specs.Posts.{IsRising, NoneFalls, StartsWith, last_o
 ghost use Rattle.poly_book.specs.declared.step.Kind.TheVariants as kind;
 ghost use Rattle.poly_book.specs.AllTilings.{IsQuietOf};
 ghost use Rattle.poly_book.specs.Jobs.{IsMissing, IsTaken};
-ghost use Rattle.poly_book.specs.Nexts.{IsLeastFrom, NoneFrom};
+ghost use Rattle.poly_tasks.specs.Nexts.{IsLeastFrom, NoneFrom};
 ghost use Rattle.poly_book.specs.Refused.{IsNotApplied, IsNotEdited, IsNotRedone, IsNotUndone};
 ghost use Rattle.poly_book.specs.Reports.{IsApplied};
 ghost use Rattle.poly_book.specs.Steps.{IsEdited, IsRedone, IsUndone};

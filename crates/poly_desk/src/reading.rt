@@ -5,7 +5,7 @@ ghost use Rattle.poly_grid.specs.declared.refusal.Refusal.TheVariants.{Busy, Mem
 ghost use Rattle.poly_tiling.specs.Shows.{names};
 ghost use Rattle.poly_book.specs.AllTilings.{IsQuietOf};
 ghost use Rattle.poly_book.specs.Jobs.{IsMissing, IsTaken};
-ghost use Rattle.poly_book.specs.Nexts.{IsLeastFrom, NoneFrom};
+ghost use Rattle.poly_tasks.specs.Nexts.{IsLeastFrom, NoneFrom};
 ghost use Rattle.poly_browse.specs.Browsing.{IsAnswer};
 ghost use Rattle.poly_desk.specs.Calls.{HasNoted, IsBehind, IsRefused};
 ghost use Rattle.poly_desk.specs.Floors.{IsViewAt};

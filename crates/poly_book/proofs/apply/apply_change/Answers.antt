@@ -11,16 +11,17 @@ use Rattle.poly_atom.specs.Stairs.{stairs}
 use Rattle.poly_catalogue.specs.Listed.{AreSame}
 use Rattle.poly_place.specs.Right.{IsRight}
 use Rattle.poly_book.specs.declared.parts.Parts.{Parts}
-use Rattle.poly_book.specs.declared.shelf.Kept.{Kept}
-use Rattle.poly_book.specs.declared.task.Pending.{Pending}
+use Rattle.poly_tasks.specs.declared.shelf.Kept.{Kept}
+use Rattle.poly_tasks.specs.declared.task.Pending.{Pending}
 use Rattle.poly_book.specs.Amounts.{IsNarrow}
 use Rattle.poly_book.specs.Changing.{event_of, shelved_by, stood_by}
 use Rattle.poly_book.specs.Events.{step}
 use Rattle.poly_book.specs.Keeps.{KeepsOf, state_of}
-use Rattle.poly_book.specs.Meaning.{own_of, shown}
-use Rattle.poly_book.specs.Opens.{Opens}
+use Rattle.poly_book.specs.Shown.{shown}
+use Rattle.poly_tasks.specs.Meaning.{own_of}
+use Rattle.poly_tasks.specs.Opens.{Opens}
 use Rattle.poly_book.specs.Partition.{Becomes}
-use Rattle.poly_book.specs.Shelves.{openings}
+use Rattle.poly_tasks.specs.Shelves.{openings}
 use Rattle.poly_book.specs.Steps.{IsDone}
 use Rattle.poly_book.proofs.Applying.{can_note, did_becomes, did_keeps}
 use Rattle.poly_book.proofs.Changes.{Did, reverse_push}

@@ -1,7 +1,7 @@
 use Rattle.std.proofs.Common.{subst, sym}
 use Rattle.std.specs.List.Sorted.{IsNonDecreasingBy}
-use Rattle.poly_book.specs.declared.task.Pending.{Pending}
-use Rattle.poly_book.proofs.Halving.{numbers_rise}
+use Rattle.poly_tasks.specs.declared.task.Pending.{Pending}
+use Rattle.poly_tasks.proofs.Halving.{numbers_rise}
 use Rattle.poly_book.proofs.apply.catch_up.Goals as goal
 
 pub catch_up-requires-clause-rise : goal.catch_up-requires-clause-rise

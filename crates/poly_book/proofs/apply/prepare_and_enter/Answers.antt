@@ -10,12 +10,12 @@ use Rattle.poly_catalogue.specs.Listed.{AreOfEither, AreOnce, AreSame}
 use Rattle.poly_book.specs.declared.parts.Parts.{Parts}
 use Rattle.poly_book.specs.Changing.{IsPrepared, stood_by}
 use Rattle.poly_book.specs.Keeps.{Keeps, state_of}
-use Rattle.poly_book.specs.Meaning.{shown}
-use Rattle.poly_book.specs.Opens.{Opens}
-use Rattle.poly_book.specs.Shelves.{openings}
-use Rattle.poly_book.specs.Tasks.{hopeful}
+use Rattle.poly_book.specs.Shown.{shown}
+use Rattle.poly_tasks.specs.Opens.{Opens}
+use Rattle.poly_tasks.specs.Shelves.{openings}
+use Rattle.poly_tasks.specs.Tasks.{hopeful}
 use Rattle.poly_book.proofs.Entering.{as_before, entered_stays, enters_by, same_shown, still_not_made, top_of}
-use Rattle.poly_book.proofs.Held.{opened_length}
+use Rattle.poly_tasks.proofs.Held.{opened_length}
 use Rattle.poly_book.proofs.Refusing.{full_not_made, memory_not_made}
 use Rattle.poly_book.proofs.apply.prepare_and_enter.Goals as goal
 

@@ -3,7 +3,7 @@ use Rattle.std.proofs.lemmas.Result.{IfErr-weaker, IfOk-weaker, err_from_is_err_
 use Rattle.poly_design.specs.Changes.{HasBefore, changed, inverse_of}
 use Rattle.poly_design.specs.Limits.{IsDesign}
 use Rattle.poly_book.specs.Keeps.{state_of}
-use Rattle.poly_book.specs.Meaning.{ways_of}
+use Rattle.poly_tasks.specs.Meaning.{ways_of}
 use Rattle.poly_book.specs.Refused.{IsNotUndone}
 use Rattle.poly_book.proofs.Tops.{can_undo, not_undone_from, undone_from}
 use Rattle.poly_book.proofs.edit.undo_change.Goals as goal

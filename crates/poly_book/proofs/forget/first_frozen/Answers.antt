@@ -1,6 +1,6 @@
 use Rattle.std.proofs.Common.{arith, subst, ◌≤◌}
-use Rattle.poly_book.specs.declared.shelf.Frozen.{Frozen}
-use Rattle.poly_book.specs.Needed.{IsFrozenFrom}
+use Rattle.poly_tasks.specs.declared.shelf.Frozen.{Frozen}
+use Rattle.poly_tasks.specs.Needed.{IsFrozenFrom}
 use Rattle.poly_book.proofs.Forgetting.{first_more, frozen_earlier}
 use Rattle.poly_book.proofs.forget.first_frozen.Goals as goal
 

@@ -1,6 +1,6 @@
 use Rattle.std.proofs.Common.{get_or, ℕ, ◌<◌, ◌≤◌}
-use Rattle.poly_book.specs.declared.shelf.Frozen.{Frozen}
-use Rattle.poly_book.specs.Needed.{IsFrozenFrom}
+use Rattle.poly_tasks.specs.declared.shelf.Frozen.{Frozen}
+use Rattle.poly_tasks.specs.Needed.{IsFrozenFrom}
 use Rattle.poly_book.proofs.forget.first_frozen.Given as goal
 
 abbrev pub invariant-loop-task : goal.invariant-loop-task

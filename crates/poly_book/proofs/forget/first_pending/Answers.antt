@@ -1,6 +1,6 @@
 use Rattle.std.proofs.Common.{arith, subst, ◌≤◌}
-use Rattle.poly_book.specs.declared.task.Pending.{Pending}
-use Rattle.poly_book.specs.Needed.{IsTaskFrom}
+use Rattle.poly_tasks.specs.declared.task.Pending.{Pending}
+use Rattle.poly_tasks.specs.Needed.{IsTaskFrom}
 use Rattle.poly_book.proofs.Forgetting.{first_more, task_earlier}
 use Rattle.poly_book.proofs.forget.first_pending.Goals as goal
 

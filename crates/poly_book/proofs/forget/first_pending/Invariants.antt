@@ -1,6 +1,6 @@
 use Rattle.std.proofs.Common.{get_or, ℕ, ◌<◌, ◌≤◌}
-use Rattle.poly_book.specs.declared.task.Pending.{Pending}
-use Rattle.poly_book.specs.Needed.{IsTaskFrom}
+use Rattle.poly_tasks.specs.declared.task.Pending.{Pending}
+use Rattle.poly_tasks.specs.Needed.{IsTaskFrom}
 use Rattle.poly_book.proofs.forget.first_pending.Given as goal
 
 abbrev pub invariant-loop-task : goal.invariant-loop-task

@@ -1,10 +1,10 @@
 use Rattle.std.proofs.Common.{arith, length, ◌<◌, ◌≤◌}
 use Rattle.poly_design.specs.declared.change.Change.{Change}
 use Rattle.poly_undo.specs.declared.step.Step.{Step as Beside}
-use Rattle.poly_book.specs.declared.shelf.Kept.{Kept}
-use Rattle.poly_book.specs.Needed.{IsKeptFrom}
+use Rattle.poly_tasks.specs.declared.shelf.Kept.{Kept}
+use Rattle.poly_tasks.specs.Needed.{IsKeptFrom}
 use Rattle.poly_book.proofs.Forgetting.{first_more, kept_earlier, step_at}
-use Rattle.poly_book.proofs.Held.{some_of}
+use Rattle.poly_tasks.proofs.Held.{some_of}
 use Rattle.poly_book.proofs.forget.first_to_undo.Goals as goal
 
 pub loop-i-preserved : goal.loop-i-preserved

@@ -1,7 +1,7 @@
 use Rattle.std.proofs.Common.{ap, subst, sym, ◌∙◌}
 use Rattle.poly_book.specs.Keeps.{KeepsOf}
-use Rattle.poly_book.specs.Meaning.{shown}
-use Rattle.poly_book.specs.Needed.{ArePendingFrom}
+use Rattle.poly_book.specs.Shown.{shown}
+use Rattle.poly_tasks.specs.Needed.{ArePendingFrom}
 use Rattle.poly_book.proofs.Forgetting.{forgotten_keeps, shown_same}
 use Rattle.poly_book.proofs.forget.forget.Goals as goal
 

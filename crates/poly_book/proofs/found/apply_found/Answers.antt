@@ -4,14 +4,14 @@ use Rattle.std.specs.List.{position_from}
 use Rattle.std.specs.List.Sorted.{IsNonDecreasingBy}
 use Rattle.std.specs.Prelude.{◌==◌}
 use Rattle.poly_report.specs.Shapes.{plan_of}
-use Rattle.poly_book.specs.declared.task.Pending.{Pending}
+use Rattle.poly_tasks.specs.declared.task.Pending.{Pending}
 use Rattle.poly_book.specs.Findings.{IsFound}
 use Rattle.poly_book.specs.Keeps.{state_of}
 use Rattle.poly_book.specs.Refused.{IsNotApplied}
 use Rattle.poly_book.specs.Reports.{AreLeaves, IsApplied}
-use Rattle.poly_book.specs.Tasks.{AreHopeful}
-use Rattle.poly_book.proofs.Halving.{numbers_rise}
-use Rattle.poly_book.proofs.Indices.{nowhere}
+use Rattle.poly_tasks.specs.Tasks.{AreHopeful}
+use Rattle.poly_tasks.proofs.Halving.{numbers_rise}
+use Rattle.poly_tasks.proofs.Indices.{nowhere}
 use Rattle.poly_book.proofs.Searched.{found_leaves}
 use Rattle.poly_book.proofs.found.apply_found.Goals as goal
 

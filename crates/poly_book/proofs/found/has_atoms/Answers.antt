@@ -1,7 +1,7 @@
 use Rattle.std.proofs.Common.{arith, get_or, rules, subst, sym, ◌≡◌}
-use Rattle.poly_book.specs.Meaning.{IsTask}
-use Rattle.poly_book.proofs.Held.{task_at}
-use Rattle.poly_book.proofs.Indices.{at_below, first_at}
+use Rattle.poly_tasks.specs.Meaning.{IsTask}
+use Rattle.poly_tasks.proofs.Held.{task_at}
+use Rattle.poly_tasks.proofs.Indices.{at_below, first_at}
 use Rattle.poly_book.proofs.Searched.{has_atoms_if}
 use Rattle.poly_book.proofs.found.has_atoms.Goals as goal
 

@@ -7,13 +7,13 @@ use Rattle.poly_tiling.specs.Puzzle.{is_tiling}
 use Rattle.poly_catalogue.specs.Listed.{AreOnce}
 use Rattle.poly_book.specs.declared.step.Ending.TheVariants.{Cut}
 use Rattle.poly_book.specs.Keeps.{state_of}
-use Rattle.poly_book.specs.Opens.{Opens}
-use Rattle.poly_book.specs.Tasks.{hopeful}
+use Rattle.poly_tasks.specs.Opens.{Opens}
+use Rattle.poly_tasks.specs.Tasks.{hopeful}
 use Rattle.poly_book.proofs.Cataloguing.{cut_enters}
-use Rattle.poly_book.specs.Meaning.{IsOwn}
-use Rattle.poly_book.specs.declared.task.Pending.{Pending}
-use Rattle.poly_book.proofs.Held.{opened_length, task_at}
-use Rattle.poly_book.proofs.Indices.{at_below, first_at}
+use Rattle.poly_tasks.specs.Meaning.{IsOwn}
+use Rattle.poly_tasks.specs.declared.task.Pending.{Pending}
+use Rattle.poly_tasks.proofs.Held.{opened_length, task_at}
+use Rattle.poly_tasks.proofs.Indices.{at_below, first_at}
 use Rattle.poly_book.proofs.Taking.{cut_listed, cut_within, took_becomes, took_from, took_keeps}
 use Rattle.poly_book.proofs.hand_in.apply_leaves.Goals as goal
 

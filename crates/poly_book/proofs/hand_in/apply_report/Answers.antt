@@ -5,16 +5,16 @@ use Rattle.std.specs.List.Sorted.{IsNonDecreasingBy}
 use Rattle.std.specs.Prelude.{◌==◌}
 use Rattle.poly_report.specs.Shapes.{plan_of}
 use Rattle.poly_report.specs.Sizes.{fits}
-use Rattle.poly_book.specs.declared.task.Pending.{Pending}
-use Rattle.poly_book.specs.Meaning.{task_of}
+use Rattle.poly_tasks.specs.declared.task.Pending.{Pending}
+use Rattle.poly_tasks.specs.Meaning.{task_of}
 use Rattle.std.specs.Prelude.{IfErr, IfOk, OnErr}
 use Rattle.poly_book.specs.declared.parts.Parts.{Parts}
 use Rattle.poly_book.specs.Keeps.{Keeps, state_of}
 use Rattle.poly_book.specs.Refused.{IsNotApplied}
 use Rattle.poly_book.specs.Reports.{AreLeaves, IsApplied}
-use Rattle.poly_book.proofs.Halving.{numbers_rise}
-use Rattle.poly_book.proofs.Held.{some_of}
-use Rattle.poly_book.proofs.Indices.{at_below, at_find, first_at, nowhere}
+use Rattle.poly_tasks.proofs.Halving.{numbers_rise}
+use Rattle.poly_tasks.proofs.Held.{some_of}
+use Rattle.poly_tasks.proofs.Indices.{at_below, at_find, first_at, nowhere}
 use Rattle.poly_book.proofs.hand_in.apply_report.Goals as goal
 
 pub index_of-requires : goal.index_of-requires

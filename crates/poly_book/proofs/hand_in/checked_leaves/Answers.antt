@@ -2,10 +2,10 @@ use Rattle.std.proofs.Common.{Some, ap, arith, get_or, inl, inr, rules, subst, s
 use Rattle.poly_report.specs.Gather.{IsCutUp}
 use Rattle.poly_report.specs.Holds.{holds}
 use Rattle.poly_report.specs.Shapes.{plan_of}
-use Rattle.poly_book.specs.Meaning.{IsTask, task_of}
-use Rattle.poly_book.specs.Tasks.{atoms_of}
-use Rattle.poly_book.proofs.Held.{task_at}
-use Rattle.poly_book.proofs.Indices.{at_below, at_find, first_at}
+use Rattle.poly_tasks.specs.Meaning.{IsTask, task_of}
+use Rattle.poly_tasks.specs.Tasks.{atoms_of}
+use Rattle.poly_tasks.proofs.Held.{task_at}
+use Rattle.poly_tasks.proofs.Indices.{at_below, at_find, first_at}
 use Rattle.poly_book.proofs.hand_in.checked_leaves.Goals as goal
 
 pub index-requires : goal.index-requires

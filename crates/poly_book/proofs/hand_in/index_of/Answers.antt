@@ -2,8 +2,8 @@ use Rattle.std.proofs.Common.{false, nat_lt, rules, true, ◌∙◌, ◌≡◌}
 use Rattle.std.proofs.lemmas.Fn.{always_returns_same}
 use Rattle.std.proofs.lemmas.List.Sorted.{IsPartitionedBy-ltb}
 use Rattle.std.specs.List.Sorted.{IsPartitionPoint}
-use Rattle.poly_book.specs.declared.task.Pending.{Pending}
-use Rattle.poly_book.proofs.Halving.{index_here, index_none}
+use Rattle.poly_tasks.specs.declared.task.Pending.{Pending}
+use Rattle.poly_tasks.proofs.Halving.{index_here, index_none}
 use Rattle.poly_book.proofs.hand_in.index_of.Goals as goal
 
 pub returns-then-index-tasks : goal.returns-then-index-tasks

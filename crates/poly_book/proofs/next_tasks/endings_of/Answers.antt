@@ -1,4 +1,5 @@
-use Rattle.poly_book.proofs.Held.{endings_same, some_of}
+use Rattle.poly_book.proofs.Ended.{endings_same}
+use Rattle.poly_tasks.proofs.Held.{some_of}
 use Rattle.poly_book.proofs.next_tasks.endings_of.Goals as goal
 
 pub loop-i-preserved-then-flags-i : goal.loop-i-preserved-then-flags-i

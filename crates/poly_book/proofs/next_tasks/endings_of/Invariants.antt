@@ -3,7 +3,7 @@ use Rattle.poly_tiling.specs.Puzzle.{View}
 use Rattle.poly_atom.specs.declared.atom.Atom.{Atom}
 use Rattle.poly_atom.specs.Hopeless.{hopeless}
 use Rattle.poly_book.specs.Events.{hopeless_endings}
-use Rattle.poly_book.specs.Meaning.{own_of, tasks_of}
+use Rattle.poly_tasks.specs.Meaning.{own_of, tasks_of}
 use Rattle.poly_book.proofs.next_tasks.endings_of.Given as goal
 
 abbrev pub invariant-loop-i : goal.invariant-loop-i

@@ -1,14 +1,14 @@
 use Rattle.std.proofs.Common.{ap, length, map, not, subst, sym, ◌∙◌}
 use Rattle.std.specs.List.Sorted.{IsNonDecreasingBy}
 use Rattle.poly_atom.specs.Hopeless.{hopeless}
-use Rattle.poly_book.specs.declared.task.Pending.{Pending}
-use Rattle.poly_book.specs.Mapped.{under}
-use Rattle.poly_book.specs.Meaning.{own_of}
-use Rattle.poly_book.specs.Reaching.{AreEndsReached, IsReached}
-use Rattle.poly_book.specs.Touching.{AreTold, AreTouched}
-use Rattle.poly_book.proofs.Halving.{numbers_rise}
-use Rattle.poly_book.proofs.Reached.{ends_reached}
-use Rattle.poly_book.proofs.Touched.{all_told, all_touched}
+use Rattle.poly_tasks.specs.declared.task.Pending.{Pending}
+use Rattle.poly_tasks.specs.Mapped.{under}
+use Rattle.poly_tasks.specs.Meaning.{own_of}
+use Rattle.poly_tasks.specs.Reaching.{AreEndsReached, IsReached}
+use Rattle.poly_tasks.specs.Touching.{AreTold, AreTouched}
+use Rattle.poly_tasks.proofs.Halving.{numbers_rise}
+use Rattle.poly_tasks.proofs.ReachedTasks.{ends_reached}
+use Rattle.poly_tasks.proofs.Touched.{all_told, all_touched}
 use Rattle.poly_book.proofs.next_tasks.going_on.Goals as goal
 
 pub new-requires : goal.new-requires

@@ -2,7 +2,7 @@ use Rattle.std.proofs.Common.{ap, arith, length, map, not, sym, ◌+◌, ◌∙�
 use Rattle.std.proofs.lemmas.List.{length-map}
 use Rattle.poly_atom.specs.Hopeless.{hopeless}
 use Rattle.poly_book.specs.Events.{hopeless_endings}
-use Rattle.poly_book.specs.Meaning.{own_of, tasks_of}
+use Rattle.poly_tasks.specs.Meaning.{own_of, tasks_of}
 use Rattle.poly_book.proofs.next_tasks.next_tasks.Goals as goal
 
 pub fresh_tasks-requires-clause-next : goal.fresh_tasks-requires-clause-next

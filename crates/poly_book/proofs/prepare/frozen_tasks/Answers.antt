@@ -1,9 +1,9 @@
 use Rattle.std.proofs.Common.{ap, map, subst, sym, ◌∙◌}
-use Rattle.poly_book.specs.Meaning.{AreFrozen, IsTask, frozen_of, own_of, task_of}
-use Rattle.poly_book.specs.Tasks.{Spares, atoms_of}
-use Rattle.poly_book.proofs.Held.{task_at}
-use Rattle.poly_book.proofs.Holding.{frozen_more, frozen_push_one}
-use Rattle.poly_book.proofs.Sparing.{sparing_at}
+use Rattle.poly_tasks.specs.Meaning.{AreFrozen, IsTask, frozen_of, own_of, task_of}
+use Rattle.poly_tasks.specs.Tasks.{Spares, atoms_of}
+use Rattle.poly_tasks.proofs.Held.{task_at}
+use Rattle.poly_tasks.proofs.Holding.{frozen_more, frozen_push_one}
+use Rattle.poly_tasks.proofs.Sparing.{sparing_at}
 use Rattle.poly_book.proofs.prepare.frozen_tasks.Goals as goal
 
 pub freeze-requires-clause-task : goal.freeze-requires-clause-task

@@ -1,6 +1,6 @@
 use Rattle.std.proofs.Common.{map, take, ◌≡◌}
-use Rattle.poly_book.specs.Meaning.{AreFrozen, frozen_of, tasks_of}
-use Rattle.poly_book.specs.Tasks.{atoms_of}
+use Rattle.poly_tasks.specs.Meaning.{AreFrozen, frozen_of, tasks_of}
+use Rattle.poly_tasks.specs.Tasks.{atoms_of}
 use Rattle.poly_book.proofs.prepare.frozen_tasks.Given as goal
 
 abbrev pub invariant-loop-task : goal.invariant-loop-task

@@ -2,10 +2,10 @@ use mathlib.Core.Path.{transport}
 use Rattle.std.proofs.Common.{ap, subst, sym, ◌∙◌, ◌≡◌}
 use Rattle.std.specs.Option.{option_copied}
 use Rattle.poly_book.specs.Changing.{AreNext, shelf_by, stood_by}
-use Rattle.poly_book.specs.Judged.{LackOnce}
-use Rattle.poly_book.specs.Meaning.{stored_of}
-use Rattle.poly_book.specs.Shelves.{returned}
-use Rattle.poly_book.proofs.Lacking.{guards_once}
+use Rattle.poly_tasks.specs.Judged.{LackOnce}
+use Rattle.poly_tasks.specs.Meaning.{stored_of}
+use Rattle.poly_tasks.specs.Shelves.{returned}
+use Rattle.poly_tasks.proofs.Lacking.{guards_once}
 use Rattle.poly_book.proofs.prepare.gather.Goals as goal
 
 pub next_tasks-requires-clause-held : goal.next_tasks-requires-clause-held

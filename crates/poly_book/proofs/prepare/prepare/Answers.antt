@@ -21,9 +21,9 @@ use Rattle.poly_book.specs.declared.parts.Parts.{Parts}
 use Rattle.poly_book.specs.Changing.{IsGathered, stood_by}
 use Rattle.poly_book.specs.Events.{Leads}
 use Rattle.poly_book.specs.Keeps.{Keeps, state_of}
-use Rattle.poly_book.specs.Meaning.{shown}
+use Rattle.poly_book.specs.Shown.{shown}
 use Rattle.poly_book.specs.Planned.{IsPlanOver}
-use Rattle.poly_book.specs.Touching.{IsMadeBy}
+use Rattle.poly_tasks.specs.Touching.{IsMadeBy}
 use Rattle.poly_book.proofs.Applying.{still_keeps}
 use Rattle.poly_book.proofs.Cataloguing.{listed_either}
 use Rattle.poly_book.proofs.Refusing.{gather_not_made, memory_not_made, spent_not_made}

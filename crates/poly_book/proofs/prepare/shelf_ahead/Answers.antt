@@ -1,6 +1,6 @@
 use Rattle.std.proofs.Common.{subst, sym}
-use Rattle.poly_book.specs.Meaning.{IsHeldAt}
-use Rattle.poly_book.proofs.Holding.{held_next}
+use Rattle.poly_tasks.specs.Meaning.{IsHeldAt}
+use Rattle.poly_tasks.proofs.Holding.{held_next}
 use Rattle.poly_book.proofs.prepare.shelf_ahead.Goals as goal
 
 pub returns-in-Undo-clause-held : goal.returns-in-Undo-clause-held

@@ -1,8 +1,8 @@
 use Rattle.std.proofs.Common.{get_or, rules, subst, sym, ◌∙◌, ◌≡◌}
 use Rattle.poly_search.specs.Searches.{IsExplored}
-use Rattle.poly_book.specs.Meaning.{IsTask, task_of}
-use Rattle.poly_book.specs.Tasks.{AreHopeful, atoms_of}
-use Rattle.poly_book.proofs.Held.{task_at}
+use Rattle.poly_tasks.specs.Meaning.{IsTask, task_of}
+use Rattle.poly_tasks.specs.Tasks.{AreHopeful, atoms_of}
+use Rattle.poly_tasks.proofs.Held.{task_at}
 use Rattle.poly_book.proofs.Hoping.{hopeful_at, rests_hopeful}
 use Rattle.poly_book.proofs.Taking.{found_leaves_at}
 use Rattle.poly_book.proofs.settle.explored_leaves.Goals as goal

@@ -5,7 +5,7 @@ use Rattle.poly_book.specs.declared.parts.Parts.{Parts}
 use Rattle.poly_book.specs.Keeps.{Keeps, state_of}
 use Rattle.poly_book.specs.Reports.{AreFoundLeaves, AreLeaves}
 use Rattle.poly_book.specs.Settled.{AreHopefulFrom, Cuts, IsNotTurned, IsReported}
-use Rattle.poly_book.specs.Tasks.{AreHopeful}
+use Rattle.poly_tasks.specs.Tasks.{AreHopeful}
 use Rattle.poly_book.proofs.Hoping.{hopeful_on}
 use Rattle.poly_book.proofs.Settles.{applied_cuts, found_reported}
 use Rattle.poly_book.proofs.settle.settle_one.Goals as goal

@@ -1,9 +1,9 @@
 use Rattle.std.proofs.Common.{Some, ap, arith, get_or, length, refl, rules, subst, sym, ◌-◌, ◌<◌, ◌∙◌, ◌≡◌}
 use Rattle.std.proofs.lemmas.List.{length-reverse}
-use Rattle.poly_book.specs.Meaning.{IsTask, task_of, tasks_of}
-use Rattle.poly_book.specs.Tasks.{find_task}
-use Rattle.poly_book.proofs.Held.{task_at}
-use Rattle.poly_book.proofs.Indices.{find_where}
+use Rattle.poly_tasks.specs.Meaning.{IsTask, task_of, tasks_of}
+use Rattle.poly_tasks.specs.Tasks.{find_task}
+use Rattle.poly_tasks.proofs.Held.{task_at}
+use Rattle.poly_tasks.proofs.Indices.{find_where}
 use Rattle.poly_book.proofs.take.take_any.Goals as goal
 
 pub make_job-requires : goal.make_job-requires

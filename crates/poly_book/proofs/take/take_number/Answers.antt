@@ -3,13 +3,13 @@ use Rattle.std.proofs.lemmas.List.{length-reverse}
 use Rattle.std.specs.List.{position_from}
 use Rattle.std.specs.List.Sorted.{IsNonDecreasingBy}
 use Rattle.std.specs.Prelude.{◌==◌}
-use Rattle.poly_book.specs.declared.task.Pending.{Pending}
-use Rattle.poly_book.specs.Meaning.{IsTask, task_of, tasks_of}
-use Rattle.poly_book.specs.Tasks.{find_task}
-use Rattle.poly_book.proofs.Halving.{numbers_rise}
-use Rattle.poly_book.proofs.Held.{task_at}
-use Rattle.poly_book.proofs.Numbered.{found_in}
-use Rattle.poly_book.proofs.Indices.{at_below, at_find, first_at, nowhere}
+use Rattle.poly_tasks.specs.declared.task.Pending.{Pending}
+use Rattle.poly_tasks.specs.Meaning.{IsTask, task_of, tasks_of}
+use Rattle.poly_tasks.specs.Tasks.{find_task}
+use Rattle.poly_tasks.proofs.Halving.{numbers_rise}
+use Rattle.poly_tasks.proofs.Held.{task_at}
+use Rattle.poly_tasks.proofs.Numbered.{found_in}
+use Rattle.poly_tasks.proofs.Indices.{at_below, at_find, first_at, nowhere}
 use Rattle.poly_book.proofs.take.take_number.Goals as goal
 
 pub index_of-requires : goal.index_of-requires

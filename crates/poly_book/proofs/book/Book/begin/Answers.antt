@@ -5,9 +5,10 @@ use Rattle.poly_place.specs.Right.{IsRight}
 use Rattle.poly_book.specs.declared.parts.Parts.{Parts}
 use Rattle.poly_atom.specs.declared.atom.Atom.{Atom}
 use Rattle.poly_book.specs.Keeps.{state_of}
-use Rattle.poly_book.specs.Meaning.{own_of, shown}
+use Rattle.poly_book.specs.Shown.{shown}
+use Rattle.poly_tasks.specs.Meaning.{own_of}
 use Rattle.poly_book.specs.States.{opening}
-use Rattle.poly_book.specs.Tasks.{Task}
+use Rattle.poly_tasks.specs.Tasks.{Task}
 use Rattle.poly_book.proofs.Tops.{begin_keeps}
 use Rattle.poly_book.proofs.book.Book.begin.Goals as goal
 

@@ -1,8 +1,8 @@
 use Rattle.std.proofs.Common.{rules, subst, sym, ◌≡◌}
 use Rattle.std.specs.List.Sorted.{IsNonDecreasingBy}
-use Rattle.poly_book.specs.declared.task.Pending.{Pending}
-use Rattle.poly_book.specs.Nexts.{number_from}
-use Rattle.poly_book.proofs.Halving.{numbers_rise}
+use Rattle.poly_tasks.specs.declared.task.Pending.{Pending}
+use Rattle.poly_tasks.specs.Nexts.{number_from}
+use Rattle.poly_tasks.proofs.Halving.{numbers_rise}
 use Rattle.poly_book.proofs.Nexting.{least_from}
 use Rattle.poly_book.proofs.book.Book.next.Goals as goal
 

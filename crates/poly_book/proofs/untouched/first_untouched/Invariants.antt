@@ -1,7 +1,0 @@
-use Rattle.std.proofs.Common.{false, take, ◌≡◌}
-use Rattle.std.specs.List.{list_any}
-use Rattle.poly_book.specs.Touching.{touches}
-use Rattle.poly_book.proofs.untouched.first_untouched.Given as goal
-
-abbrev pub invariant-loop-count : goal.invariant-loop-count
-invariant-loop-count l = list_any (λ a. touches l.touch a) (take l.count l.guards) ≡ false

@@ -1,0 +1,10 @@
+use Rattle.std.proofs.Common.{arith}
+use Rattle.poly_tasks.specs.declared.rows.Span.{Span}
+use Rattle.poly_tasks.proofs.Mapping.{within}
+use Rattle.poly_tasks.proofs.maps.Maps.note_new_base.Goals as goal
+
+pub returns-clause-ok : goal.returns-clause-ok
+returns-clause-ok c =
+    let k = c.args.number in
+    let s : Span = record { from = k; to = c.max.result } in
+    c.in_ok-note_list.ensures.ok k (within s k (omega arith) (omega (arith, c.max.ensures)))

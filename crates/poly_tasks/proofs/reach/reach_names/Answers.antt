@@ -1,0 +1,22 @@
+use Rattle.std.proofs.Common.{ap, subst, ◌∙◌, ◌≡◌}
+use Rattle.poly_tiling.specs.Puzzle.{same_item}
+use Rattle.poly_tiling.specs.declared.item.Item.TheVariants.{Piece}
+use Rattle.poly_tiling.proofs.Tilings.{same_item_is}
+use Rattle.poly_tasks.specs.Mapped.{key_of, spanned}
+use Rattle.poly_tasks.specs.Reaching.{IsReached}
+use Rattle.poly_tasks.proofs.ReachedTasks.{farther_on, keys_more}
+use Rattle.poly_tasks.proofs.reach.reach_names.Goals as goal
+
+pub reach_key-requires-clause-len : goal.reach_key-requires-clause-len
+reach_key-requires-clause-len c = c.loop-name.invariant.farther.len ∙ c.requires.len
+
+pub loop-name-preserved : goal.loop-name-preserved
+loop-name-preserved c =
+    let r = c.loop-name.reach.items in
+    let r2 = c.reach_key.new.reach.items in
+    let rows = c.args.rows.now.entries in
+    record {
+      farther = farther_on _ r r2 c.loop-name.invariant.farther c.reach_key.ensures.farther;
+      reached = keys_more (λ x q. same_item (Piece x) q) (λ q. key_of q) rows r r2 c.args.tasks.now c.args.names.now c.loop-name.name-index c.name-item.result c.loop-name-test.true c.reach_key.ensures.farther c.loop-name.invariant.reached
+          (λ q e. let same : Piece c.name-item.result ≡ q = same_item_is _ q (ap (λ x. same_item (Piece x) q) c.name-item.is ∙ e) in subst (λ y. IsReached r2 c.args.tasks.now (λ n. spanned rows y n)) (c.key_of.ensures ∙ ap (λ y. key_of y) same) c.reach_key.ensures.reached);
+    }

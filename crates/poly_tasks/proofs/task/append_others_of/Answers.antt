@@ -1,0 +1,22 @@
+use Rattle.std.proofs.Common.{[], Global, Vec, ap, sym, take, ◌++◌, ◌∙◌, ◌∷◌}
+use Rattle.std.proofs.lemmas.List.{append-nil}
+use Rattle.std.specs.List.{filter}
+use Rattle.poly_atom.specs.declared.atom.Atom.{Atom}
+use Rattle.poly_lists.specs.Words.{is_other}
+use Rattle.poly_tasks.proofs.Lacking.{filter_more}
+use Rattle.poly_tasks.proofs.task.append_others_of.Goals as goal
+use Rattle.poly_tasks.proofs.task.append_others_of.Goals.{else-is_other, then-is_other+in_ok-push}
+
+pub loop-atom-preserved : goal.loop-atom-preserved
+loop-atom-preserved c =
+    let d = c.atom-item.result in
+    let k = c.loop-atom.atom-index in
+    let old = c.args.buffer.now.items in
+    elim c.if-is_other.branch [
+      | then-is_other+in_ok-push w ↦
+          ap (λ (v : Vec Atom Global). v.items) w.buffer-is ∙ w.in_ok-push.ensures.items ∙ ap (λ B. B ++ d ∷ []) c.loop-atom.invariant
+          ∙ filter_more is_other c.args.atoms.now k d old _ c.loop-atom-test.true c.atom-item.is (sym w.if-is_other.true ∙ c.is_other.ensures)
+      | else-is_other w ↦
+          ap (λ (v : Vec Atom Global). v.items) w.buffer-is ∙ c.loop-atom.invariant ∙ sym (append-nil (old ++ filter is_other (take k c.args.atoms.now)))
+          ∙ filter_more is_other c.args.atoms.now k d old _ c.loop-atom-test.true c.atom-item.is (sym w.if-is_other.false ∙ c.is_other.ensures)
+    ]

@@ -1,0 +1,12 @@
+pub mod Judged
+pub mod Mapped
+pub mod Meaning
+pub mod Needed
+pub mod Nexts
+pub mod Opens
+pub mod Reaching
+pub mod Shelves
+pub mod Spots
+pub mod Stored
+pub mod Tasks
+pub mod Touching
