@@ -84,7 +84,7 @@ def undos_after_wide_changes(size, wide, rounds):
 
 
 def pins_after_wide_changes(size, wide, rounds):
-    """Pins, and undos that pin again, while thousands of tasks are pending, most of which an undo opened. At the end F is left alone. It
+    """Pins, and undos that pin again, while thousands of tasks are pending, many of which undos opened. At the end F is left alone. It
     lies in (size - 2) squared places in each of 8 orientations, and one tiling is the empty board; if F is pinned, only that is left."""
     f = words(PENTOMINOES["F"])
     pins = [words([(x + at, y + at) for x, y in PENTOMINOES["F"]]) for at in (0, size - 3)]
