@@ -144,9 +144,17 @@ fn is_lost(view: &View, gathered: &[Atom], atom: Atom) -> bool
 fn is_impossible(view: &View, gathered: &[Atom], p: u32) -> bool
     ensures { result ≡ lost view.now gathered.now (Atom.Has p) }
 {
-    !stands_in(view, view.live(), p)
-        || conflicts_base(view, gathered, p)
-        || is_over(view, gathered, p)
+    !is_live(view, p) || conflicts_base(view, gathered, p) || is_over(view, gathered, p)
+}
+
+// Whether the number is a placement of the design.
+fn is_live(view: &View, p: u32) -> bool
+    ensures { result ≡ mem view.now.live p }
+{
+    match view.live_mark(p) {
+        Some(mark) => mark,
+        None => stands_in(view, view.live(), p),
+    }
 }
 
 fn any_beyond(view: &View, atoms: &[Atom], gathered: &[Atom]) -> bool

@@ -1,6 +1,7 @@
 -- Items by their indices.
-use Rattle.std.proofs.Common.{◌≡◌, ℕ, zero, suc, ◌+◌, ◌<◌, ◌≤◌, Bool, true, false, ◌||◌, eqb, List, [], ◌∷◌, ◌++◌, inl, inr, refl, sym, ap, subst, ◌∙◌, arith, map, length, get_or, take, ltb, ◌-◌, ◌^◌, get_or-set_other, get_or-set_same}
+use Rattle.std.proofs.Common.{◌≡◌, ℕ, zero, suc, ◌+◌, ◌<◌, ◌≤◌, Bool, true, false, ◌||◌, eqb, List, [], ◌∷◌, ◌++◌, inl, inr, refl, sym, ap, subst, ◌∙◌, arith, map, length, get_or, take, ltb, ◌-◌, ◌*◌, ◌^◌, get_or-set_other, get_or-set_same}
 use Rattle.std.proofs.Math.ListN.{set}
+use Rattle.std.proofs.Math.Nat.{mul-le-mul_left}
 use Rattle.std.specs.List.{list_any, list_all}
 use Rattle.std.specs.Ordering.{is_lt}
 use Rattle.std.specs.Cmp.{tied_itself}
@@ -91,6 +92,13 @@ pub low_at : (n : ℕ) (xs : List ℕ) (k : ℕ) → list_all (λ b. ltb b n) xs
 low_at n [] k l h = absurd (omega arith)
 low_at n (x ∷ xs) zero l h = ltb-true x n (and_parts (ltb x n) (list_all (λ b. ltb b n) xs) l).0
 low_at n (x ∷ xs) (suc k) l h = low_at n xs k (and_parts (ltb x n) (list_all (λ b. ltb b n) xs) l).1 (omega arith)
+
+-- the row of an index that is low enough is within the rows
+pub row_low : (xs : List ℕ) (n w k m : ℕ) → list_all (λ b. ltb b n) xs ≡ true → m ≡ w * n → k < length xs → w * (get_or xs k 0 + 1) ≤ m
+row_low xs n w k m low e h =
+    let a = low_at n xs k low h in
+    let b = mul-le-mul_left {m = get_or xs k 0 + 1} {n = n} w (omega (arith, a)) in
+    omega (arith, b, e)
 
 pub times_le : (xs : List ℕ) (k b : ℕ) → times (take k xs) b ≤ k
 times_le xs zero b = omega arith

@@ -23,4 +23,3 @@ pub mod Alive
 pub mod Elsewhere
 pub mod Stepped
 pub mod Ahead
-pub mod Six

@@ -544,18 +544,14 @@ impl<'a> Frame<'a> {
         match queries::judge(&node, &self.steps, self.consistent) {
             Some(true) => Some(&self.members),
             Some(false) => None,
-            None => self.found_plainly(),
+            None => {
+                // the rows don't decide
+                if !plain::is_member(self.stand.view, &self.trail, &self.members) {
+                    return None;
+                }
+                Some(&self.members)
+            }
         }
-    }
-
-    // `found` if the rows do not decide: checks the base against the view and the atoms.
-    fn found_plainly(&self) -> Option<&[u32]>
-        ensures { MatchOption result (in_family self.now.scene self.now.atoms (base self.now.scene self.now.atoms) ≡ false) (λ t. (t.now ≡ base self.now.scene self.now.atoms) × (in_family self.now.scene self.now.atoms (base self.now.scene self.now.atoms) ≡ true)) }
-    {
-        if !plain::is_member(self.stand.view, &self.trail, &self.members) {
-            return None;
-        }
-        Some(&self.members)
     }
 
     // Whether the base is known to be consistent.

@@ -1,5 +1,6 @@
 //! How a plan is made.
-ghost use Rattle.std.specs.Prelude.{◌≡◌, ◌⊎◌, ◌^◌, ◌≤◌, Err, IfOk, IfErr, length};
+ghost use Rattle.std.specs.Prelude.{◌≡◌, ◌⊎◌, ◌^◌, ◌≤◌, Err, IfOk, IfErr, length, nat_lt, true};
+ghost use Rattle.std.specs.List.{list_all};
 ghost use Rattle.std.specs.Arc.{arc_value};
 ghost use Rattle.poly_design.specs.Changes.{changed};
 ghost use Rattle.poly_design.specs.Layout.{Layout};
@@ -11,7 +12,7 @@ ghost use Rattle.poly_place.specs.Interned.{GoesOn};
 ghost use Rattle.poly_place.specs.Numbered.{numbered_view};
 ghost use Rattle.poly_place.specs.Spent.{IsSpent};
 
-use crate::delta::differences;
+use crate::delta::{differences, marks_of};
 use crate::index::Index;
 use crate::interner::Interner;
 use crate::numbered::Numbered;
@@ -19,7 +20,7 @@ use crate::plan::Plan;
 use crate::update::updated;
 use poly_design::{Change, Design};
 use poly_grid::Refusal;
-use poly_tiling::View;
+use poly_tiling::{LiveNumbers, View};
 use std::alloc::Global;
 use std::sync::Arc;
 
@@ -88,8 +89,19 @@ pub(crate) fn view_of(alloc: Global, names: &Interner, numbered: &Numbered) -> R
     ensures why { IfErr result (λ e. e ≡ Refusal.Memory) }
 {
     let placements = names.shared()?;
-    let live = Vec::from_slice(alloc, &numbered.live)?;
+    let live = marked(alloc, names.len(), &numbered.live)?;
     let bounds = Vec::from_slice(alloc, &numbered.bounds)?;
     let pins = Vec::from_slice(alloc, &numbered.pins)?;
     Ok(View::sharing(placements, live, bounds, pins))
+}
+
+// The numbers with a mark for each number below the count. All of them must be below the count.
+fn marked(alloc: Global, count: usize, numbers: &[u32]) -> Result<LiveNumbers, Refusal>
+    requires { list_all (λ n. nat_lt n count) numbers.now ≡ true }
+    ensures ok { IfOk result (λ l. l ≡ numbers.now) }
+    ensures why { IfErr result (λ e. e ≡ Refusal.Memory) }
+{
+    let marks = marks_of(alloc, count, numbers)?;
+    let copy = Vec::from_slice(alloc, numbers)?;
+    Ok(LiveNumbers::marked(copy, marks))
 }

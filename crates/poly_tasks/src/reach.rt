@@ -5,7 +5,6 @@ ghost use Rattle.std.specs.List.{list_any};
 ghost use Rattle.std.specs.List.Sorted.{IsNonDecreasingBy};
 ghost use Rattle.poly_atom.specs.declared.atom.Atom.{Atom as AtomOf};
 ghost use Rattle.poly_atom.specs.declared.atom.Atom.TheVariants.{Has};
-ghost use Rattle.poly_tiling.specs.Lists.{mem};
 ghost use Rattle.poly_tiling.specs.Puzzle.{same_item};
 ghost use Rattle.poly_tiling.specs.declared.item.Item.{Item as ItemOf};
 ghost use Rattle.poly_tiling.specs.declared.item.Item.TheVariants.{Piece as PieceItem};
@@ -39,8 +38,12 @@ pub fn reached(
     ensures why { IfErr result (λ e. e ≡ Refusal.Memory) }
 {
     let mut reach = vec![in alloc; 0u32; tasks.len()]?;
+    if !touch.delta.pinned.is_empty() {
+        // no task is noted under `Lacks` atoms, and any may rule the pin out
+        reach_all(&mut reach, tasks);
+        return Ok(reach);
+    }
     reach_has(&mut reach, tasks, touch, &maps.has.rows);
-    reach_lacks(&mut reach, tasks, &touch.delta.pinned);
     reach_names(&mut reach, tasks, &touch.delta.narrowed, &maps.at_least);
     reach_key(&mut reach, tasks, &maps.at_least, key_of(&touch.item));
     reach_items(&mut reach, tasks, &touch.delta.needed, &maps.at_most);
@@ -61,17 +64,7 @@ fn reach_has(reach: &mut Vec<u32>, tasks: &[Pending], touch: &Touch, rows: &[Pla
     }
 }
 
-// Reaches all tasks if a placement is pinned: no task is noted under `Lacks` atoms, and any may rule the placement out.
-fn reach_lacks(reach: &mut Vec<u32>, tasks: &[Pending], pinned: &[u32])
-    requires len { length reach.old.items ≡ length tasks.now }
-    ensures farther { IsFarther reach.old.items reach.new.items }
-    ensures reached { (p : ℕ) → mem pinned.now p ≡ true → IsReached reach.new.items tasks.now (λ n. true) }
-{
-    if !pinned.is_empty() {
-        reach_all(reach, tasks);
-    }
-}
-
+// Reaches all tasks.
 fn reach_all(reach: &mut Vec<u32>, tasks: &[Pending])
     requires len { length reach.old.items ≡ length tasks.now }
     ensures farther { IsFarther reach.old.items reach.new.items }

@@ -1,4 +1,5 @@
 pub mod Lists
+pub mod Marks
 pub mod Puzzle
 pub mod Names
 pub mod Tilings

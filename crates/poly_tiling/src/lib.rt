@@ -3,6 +3,7 @@
 //! - [`View`]: an immutable snapshot of a design, in which a placement is a number.
 //! - [`PlacementList`]: the placement of each number, in a view. [`PlacementBlocks`]: blocks of [`BLOCK_SIZE`] placements that
 //!   the lists of many views share.
+//! - [`LiveNumbers`]: the numbers of a view's placements, with a mark for each if these are kept.
 //! - [`Item`], [`Bound`]: a cell or a piece, and how often a tiling covers it, at least and at most. [`item_list`]: the items
 //!   of a design with their bounds. [`find_bound`]: one item in such a list.
 //! - [`conflict`]: whether two placements are different and share a cell.
@@ -19,6 +20,7 @@ mod item;
 mod laws;
 mod leading;
 mod lister;
+mod live_numbers;
 mod numbering;
 mod numbers;
 mod order;
@@ -36,6 +38,7 @@ pub use laws::{
     over_shows, ranks_compare, same_design_grows,
 };
 pub use lister::{MAX_TILINGS, list_tilings};
+pub use live_numbers::LiveNumbers;
 pub use numbering::item_list;
 pub use numbers::{ascends, has_all, has_number};
 pub use order::{sort_tilings, tilings_in_order};

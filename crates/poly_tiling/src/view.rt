@@ -1,7 +1,8 @@
 //! Views: a design as its placement numbers show it.
-ghost use Rattle.std.specs.Prelude.{List, true, length, map, nat_le, ◌&&◌, not, slice_get, ℕ, ◌∷◌, ◌≡◌, ◌≤◌, Some};
+ghost use Rattle.std.specs.Prelude.{IfSome, true, length, map, nat_le, ◌&&◌, not, slice_get, ℕ, ◌∷◌, ◌≡◌, ◌≤◌, Some};
 ghost use Rattle.std.specs.List.{list_all, list_any};
 ghost use Rattle.std.specs.Option.{is_some};
+ghost use Rattle.poly_tiling.specs.Lists.{mem};
 ghost use Rattle.poly_tiling.specs.Puzzle.{bound_in, conflicts, count, found_or, has_item, is_piece, is_tiling, items, items_of, least, most, same_item};
 ghost use Rattle.poly_tiling.specs.Names.{WellNamed, items_ascend};
 ghost use Rattle.poly_tiling.specs.declared.item.Item.TheVariants.{Cell as CellItem, Piece as PieceItem};
@@ -9,6 +10,7 @@ ghost use Rattle.poly_tiling.specs.declared.item.Item.TheVariants.{Cell as CellI
 use crate::bound::Bound;
 use crate::conflicts::meets;
 use crate::item::Item;
+use crate::live_numbers::LiveNumbers;
 use crate::numbers::{ascends, has_all};
 use crate::placement_list::PlacementList;
 use poly_design::{Name, Placement};
@@ -22,7 +24,7 @@ pub struct View {
     /// The placement that each number names, by number. The views of one table share its blocks.
     placements: PlacementList,
     /// The numbers that are placements of the design now, in placement order.
-    live: Vec<u32>,
+    live: LiveNumbers,
     /// The items with their bounds, in item order.
     bounds: Vec<Bound>,
     /// The pinned numbers, in placement order.
@@ -35,9 +37,9 @@ impl Model for View {
 
     ghost Value = { View };
 
-    ghost view = { λ v. record { placements = v.placements; live = v.live.items; bounds = v.bounds.items; pins = v.pins.items } };
+    ghost view = { λ v. record { placements = v.placements; live = v.live; bounds = v.bounds.items; pins = v.pins.items } };
 
-    ghost invariant = { λ v. WellNamed (record { placements = v.placements; live = v.live.items; bounds = v.bounds.items; pins = v.pins.items }) };
+    ghost invariant = { λ v. WellNamed (record { placements = v.placements; live = v.live; bounds = v.bounds.items; pins = v.pins.items }) };
 }
 
 impl View {
@@ -52,18 +54,24 @@ impl View {
         requires { WellNamed (record { placements = placements.items; live = live.items; bounds = bounds.items; pins = pins.items }) }
         ensures { result ≡ record { placements = placements.items; live = live.items; bounds = bounds.items; pins = pins.items } }
     {
-        View::sharing(PlacementList::of(placements), live, bounds, pins)
+        View::sharing(
+            PlacementList::of(placements),
+            LiveNumbers::unmarked(live),
+            bounds,
+            pins,
+        )
     }
 
-    /// Does what `with` does, for a list of placements that may share blocks with the lists of other views.
+    /// Does what `with` does, for a list of placements that may share blocks with the lists of other views, and live numbers
+    /// that may have marks.
     pub fn sharing(
         placements: PlacementList,
-        live: Vec<u32>,
+        live: LiveNumbers,
         bounds: Vec<Bound>,
         pins: Vec<u32>,
     ) -> View
-        requires { WellNamed (record { placements = placements; live = live.items; bounds = bounds.items; pins = pins.items }) }
-        ensures { result ≡ record { placements = placements; live = live.items; bounds = bounds.items; pins = pins.items } }
+        requires { WellNamed (record { placements = placements; live = live; bounds = bounds.items; pins = pins.items }) }
+        ensures { result ≡ record { placements = placements; live = live; bounds = bounds.items; pins = pins.items } }
     {
         View {
             placements,
@@ -78,7 +86,14 @@ impl View {
         ensures value { result.now ≡ self.now.live }
         ensures well { WellNamed self.now }
     {
-        &self.live
+        self.live.as_slice()
+    }
+
+    /// Whether the number is a placement of the design now, if the view has a mark for it. This takes one look-up.
+    pub fn live_mark(&self, number: u32) -> Option<bool>
+        ensures { IfSome result (λ yes. yes ≡ mem self.now.live number) }
+    {
+        self.live.mark(number)
     }
 
     /// The items of the design in item order, each with its least and its most.
@@ -184,7 +199,7 @@ impl View {
         ensures { result ≡ is_tiling self.now numbers.now }
     {
         ascends(numbers)
-            && has_all(&self.live, numbers)
+            && has_all(self.live.as_slice(), numbers)
             && self.none_conflict(numbers)
             && self.least_met(numbers)
             && self.most_met(numbers)

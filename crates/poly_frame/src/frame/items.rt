@@ -1,11 +1,11 @@
 //! Items by their index among the items of a view, and counts by these indices. The index of an item is guessed first and
 //! then tested, so a wrong guess only costs time.
-ghost use Rattle.std.specs.Prelude.{IfErr, List, MatchOption, false, length, map, nat_lt, slice_index, slice_index_or, true, vec_capacity, vec_len, ℕ, [], ◌++◌, ◌+◌, ◌<◌, ◌*◌, ◌==◌, ◌^◌, ◌∷◌, ◌≡◌, ◌≤◌};
+ghost use Rattle.std.specs.Prelude.{IfErr, List, MatchOption, false, length, map, nat_lt, slice_index, true, vec_capacity, vec_len, ℕ, [], ◌++◌, ◌+◌, ◌<◌, ◌*◌, ◌^◌, ◌∷◌, ◌≡◌, ◌≤◌};
 ghost use Rattle.std.specs.List.{list_all};
 ghost use Rattle.poly_shape.specs.Order.{IsAscending, spot_cmp};
 ghost use Rattle.poly_tiling.specs.Names.{items_ascend};
 ghost use Rattle.poly_tiling.specs.Puzzle.{items, same_item};
-ghost use Rattle.poly_tiling.specs.declared.item.Item.TheVariants.{Cell as CellItem, Piece as PieceItem};
+ghost use Rattle.poly_tiling.specs.declared.item.Item.TheVariants.{Cell as CellItem};
 ghost use Rattle.poly_frame.specs.FrameItems.{Noted, item_at, times};
 
 use poly_grid::{Cell, Refusal, SIDE};
@@ -83,38 +83,6 @@ pub(crate) fn index_of(bounds: &[Bound], guess: usize, item: Item) -> Option<usi
     None
 }
 
-fn is_cell(item: &Item, cell: Cell) -> bool
-    ensures { result ≡ same_item item.now (CellItem cell) }
-{
-    match item {
-        Item::Cell(other) => *other == cell,
-        Item::Piece(_) => false,
-    }
-}
-
-// The index of a cell; `None` if the cell is not among the bounds. No search is needed if the guess is right.
-fn cell_at(bounds: &[Bound], guess: usize, cell: Cell) -> Option<usize>
-    ensures { MatchOption result ((b : ℕ) → b < length bounds.now → same_item (item_at bounds.now b) (CellItem cell) ≡ false) (λ b. (b < length bounds.now) × (same_item (item_at bounds.now b) (CellItem cell) ≡ true)) }
-{
-    if guess < bounds.len() && is_cell(&bounds[guess].item, cell) {
-        return Some(guess);
-    }
-    index_of(bounds, guess, Item::Cell(cell))
-}
-
-// Appends the index of a cell to `noted`, if the cell has one.
-fn note_cell(bounds: &[Bound], guess: usize, cell: Cell, noted: &mut Vec<usize>)
-    requires room { vec_len noted.old < vec_capacity noted.old }
-    requires order { items_ascend bounds.now ≡ true }
-    ensures capacity { vec_capacity noted.new ≡ vec_capacity noted.old }
-    ensures len { vec_len noted.new ≤ vec_len noted.old + 1 }
-    ensures indices { (indices : List ℕ) × (noted.new.items ≡ noted.old.items ++ indices) × Noted bounds.now (CellItem cell ∷ []) indices }
-{
-    if let Some(b) = cell_at(bounds, guess, cell) {
-        noted.push_reserved(b);
-    }
-}
-
 // Appends the index of an item to `noted`, if the item has one.
 fn note_item(bounds: &[Bound], guess: usize, item: Item, noted: &mut Vec<usize>)
     requires room { vec_len noted.old < vec_capacity noted.old }
@@ -137,7 +105,7 @@ fn note_cells(bounds: &[Bound], guesses: &[usize], cells: &[Cell], noted: &mut V
     ensures indices { (indices : List ℕ) × (noted.new.items ≡ noted.old.items ++ indices) × Noted bounds.now (map (λ c. CellItem c) cells.now) indices }
 {
     for cell in cells {
-        note_cell(bounds, guess_of(guesses, *cell), *cell, noted);
+        note_item(bounds, guess_of(guesses, *cell), Item::Cell(*cell), noted);
     }
 }
 

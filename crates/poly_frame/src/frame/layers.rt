@@ -1,6 +1,6 @@
 //! The layers of a frame. A layer is a cover matrix with what the frame keeps of it: the frame reads the last layer, which has
 //! a column for each placement that was open when the layer was made. Going back past that point drops the layer.
-ghost use Rattle.std.specs.Prelude.{IfErr, IfOk, length, reverse, true, ℕ, ◌<◌, ◌^◌, ◌≡◌, ◌≤◌};
+ghost use Rattle.std.specs.Prelude.{IfErr, IfOk, length, reverse, true, ℕ, ◌<◌, ◌^◌, ◌≡◌};
 ghost use Rattle.poly_tiling.specs.Lists.{mem};
 ghost use Rattle.poly_atom.specs.Hopeless.{base};
 
@@ -9,7 +9,7 @@ use crate::frame::node::{Node, Stand};
 use crate::frame::opened::first_row;
 use crate::frame::queries;
 use crate::frame::steps::{Steps, start};
-use crate::frame::table::{Table, table_again};
+use crate::frame::table::{Table, copied, table_again};
 use poly_atom::Atom;
 use poly_grid::Refusal;
 use poly_tiling::View;
@@ -103,17 +103,6 @@ fn keep<'a>(layer: Layer<'a>, spare: &mut Vec<Layer<'a>>) {
     }
 }
 
-// A copy of the list, in the memory of `spare`.
-fn copied(from: &[u64], spare: Vec<u64>) -> Result<Vec<u64>, Refusal>
-    ensures value { IfOk result (λ c. c.items ≡ from.now) }
-    ensures why { IfErr result (λ e. e ≡ Refusal.Memory) }
-{
-    let mut copy = spare;
-    copy.clear();
-    copy.extend_from_slice(from)?;
-    Ok(copy)
-}
-
 /// The layer that has the open columns of the node's matrix. `members` is the base. Overwrites `spare`, a layer that was
 /// dropped before.
 pub(crate) fn narrow_layer<'a>(
@@ -136,13 +125,9 @@ pub(crate) fn narrow_layer<'a>(
         steps: old_steps,
         base: _,
     } = spare;
-    let matrix = queries::narrowed_now(alloc, node, steps, columns.own(alloc))?;
-    let table = table_again(
-        node.view.items(),
-        node.table,
-        &node.trail[node.base..],
-        old_table,
-    )?;
+    let old_matrix = columns.into_own().unwrap_or(Matrix::none(alloc));
+    let matrix = queries::narrowed_now(alloc, node, steps, old_matrix)?;
+    let table = table_again(node.view, node.table, &node.trail[node.base..], old_table)?;
     let here = Node {
         view: node.view,
         trail: node.trail,

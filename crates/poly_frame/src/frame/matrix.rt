@@ -1,7 +1,7 @@
 //! The exact cover matrix of a view: a row of bits for each item, a column for each placement (Knuth, The Art of Computer
 //! Programming, volume 4B, section 7.2.2.1). A frame reads this matrix, or a smaller one that has only the columns that are
 //! open at the given atoms of the frame.
-ghost use Rattle.std.specs.Prelude.{Bool, IfErr, IfOk, IfSome, List, MatchOption, OnOk, false, length, nat_lt, replicate, slice_index, true, vec_capacity, ℕ, [], ◌&&◌, ◌++◌, ◌*◌, ◌+◌, ◌<◌, ◌==◌, ◌^◌, ◌||◌, ◌≡◌, ◌≤◌};
+ghost use Rattle.std.specs.Prelude.{Bool, IfErr, IfOk, IfSome, List, MatchOption, OnOk, false, length, nat_lt, replicate, slice_index, true, vec_capacity, ℕ, ◌*◌, ◌+◌, ◌<◌, ◌==◌, ◌^◌, ◌||◌, ◌≡◌, ◌≤◌};
 ghost use Rattle.std.specs.Arc.{arc_value};
 ghost use Rattle.std.specs.List.{filter, list_all, list_any};
 ghost use Rattle.poly_tiling.specs.Lists.{distinct, mem};
@@ -83,14 +83,6 @@ impl<'a> Columns<'a> {
         match self {
             Columns::Own(matrix) => Some(matrix),
             Columns::Lent(_) => None,
-        }
-    }
-
-    /// The frame's own matrix, or the matrix without rows and columns if the matrix is the caller's.
-    pub(crate) fn own(self, alloc: Global) -> Matrix {
-        match self {
-            Columns::Own(matrix) => matrix,
-            Columns::Lent(_) => Matrix::none(alloc),
         }
     }
 }

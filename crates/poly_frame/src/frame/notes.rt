@@ -1,9 +1,8 @@
 //! Notes of which items are due, a bit for each. A note is tested when it is read, so a wrong one only costs time.
-ghost use Rattle.std.specs.Prelude.{IfErr, length, nat_lt, slice_index, true, ℕ, ◌*◌, ◌+◌, ◌<◌, ◌^◌, ◌≡◌, ◌≤◌};
+ghost use Rattle.std.specs.Prelude.{IfErr, length, nat_lt, slice_index, true, ℕ, ◌+◌, ◌<◌, ◌^◌, ◌≡◌, ◌≤◌};
 ghost use Rattle.std.specs.List.{list_all};
 ghost use Rattle.poly_frame.specs.FrameItems.{times};
 
-use crate::frame::items::raise;
 use poly_grid::Refusal;
 use std::alloc::Global;
 
@@ -22,14 +21,6 @@ fn note_item(due: &mut Vec<u64>, leasts: &[u8], have: u64, b: usize) {
     }
 }
 
-// Whether there are a count, a note and a number of members that are asked for, for each item.
-fn fit(have: &[u64], due: &[u64], leasts: &[u8]) -> bool
-    ensures leasts { result ≡ true → length leasts.now ≡ length have.now }
-    ensures due { result ≡ true → length have.now ≤ 64 * length due.now }
-{
-    leasts.len() == have.len() && have.len().div_ceil(64) <= due.len()
-}
-
 /// Raises the count at each index by one, and notes whether the item there is still due. One loop does both, to save time:
 /// each step that adds a member to the base needs both.
 pub(crate) fn raise_and_note(
@@ -43,29 +34,9 @@ pub(crate) fn raise_and_note(
     ensures len { length have.new.items ≡ length have.old.items }
     ensures more { (b : ℕ) → b < length have.old.items → slice_index have.new.items b ≡ slice_index have.old.items b + times indices.now b }
 {
-    if fit(have, due, leasts) {
-        raise_noted(have, due, leasts, indices);
-    } else {
-        raise(have, indices);
-    }
-}
-
-// Does what `raise_and_note` does. The lengths are known to fit: nothing is left to test for each index.
-fn raise_noted(have: &mut [u64], due: &mut [u64], leasts: &[u8], indices: &[usize])
-    requires low { list_all (λ b. nat_lt b (length have.old)) indices.now ≡ true }
-    requires small { (b : ℕ) → b < length have.old → slice_index have.old b + length indices.now < 2 ^ 64 }
-    requires leasts { length leasts.now ≡ length have.old }
-    requires due { length have.old ≤ 64 * length due.old }
-    ensures len { length have.new ≡ length have.old }
-    ensures more { (b : ℕ) → b < length have.old → slice_index have.new b ≡ slice_index have.old b + times indices.now b }
-{
     for b in indices {
-        let b = *b;
-        let count = have[b] + 1;
-        have[b] = count;
-        if u64::from(leasts[b]) <= count {
-            due[b / 64] &= !(1u64 << (b % 64));
-        }
+        have[*b] += 1;
+        note_item(due, leasts, have[*b], *b);
     }
 }
 
@@ -98,41 +69,9 @@ pub(crate) fn lower_and_note(
     ensures len { length have.new.items ≡ length have.old.items }
     ensures less { (b : ℕ) → b < length have.old.items → slice_index have.new.items b + times indices.now b ≡ slice_index have.old.items b }
 {
-    if fit(have, due, leasts) {
-        lower_noted(have, due, leasts, indices);
-    } else {
-        lower(have, indices);
-    }
-}
-
-// Does what `lower_and_note` does. The lengths are known to fit: nothing is left to test for each index.
-fn lower_noted(have: &mut [u64], due: &mut [u64], leasts: &[u8], indices: &[usize])
-    requires low { list_all (λ b. nat_lt b (length have.old)) indices.now ≡ true }
-    requires enough { (b : ℕ) → b < length have.old → times indices.now b ≤ slice_index have.old b }
-    requires leasts { length leasts.now ≡ length have.old }
-    requires due { length have.old ≤ 64 * length due.old }
-    ensures len { length have.new ≡ length have.old }
-    ensures less { (b : ℕ) → b < length have.old → slice_index have.new b + times indices.now b ≡ slice_index have.old b }
-{
-    for b in indices {
-        let b = *b;
-        let count = have[b] - 1;
-        have[b] = count;
-        if count < u64::from(leasts[b]) {
-            due[b / 64] |= 1u64 << (b % 64);
-        }
-    }
-}
-
-// Lowers the count at each index by one.
-fn lower(have: &mut [u64], indices: &[usize])
-    requires low { list_all (λ b. nat_lt b (length have.old)) indices.now ≡ true }
-    requires enough { (b : ℕ) → b < length have.old → times indices.now b ≤ slice_index have.old b }
-    ensures len { length have.new ≡ length have.old }
-    ensures less { (b : ℕ) → b < length have.old → slice_index have.new b + times indices.now b ≡ slice_index have.old b }
-{
     for b in indices {
         have[*b] -= 1;
+        note_item(due, leasts, have[*b], *b);
     }
 }
 

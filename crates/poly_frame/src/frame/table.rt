@@ -11,7 +11,7 @@ use crate::frame::items::{note_items, raise};
 use crate::frame::wanted::Wanted;
 use poly_atom::Atom;
 use poly_grid::Refusal;
-use poly_tiling::{Bound, Item, View};
+use poly_tiling::{Bound, Item, View, find_bound};
 use std::alloc::Global;
 
 /// What the design and the given atoms say about the items of the view.
@@ -99,26 +99,18 @@ fn limits_of(alloc: Global, bounds: &[Bound], mosts: &[u8]) -> Result<Vec<u8>, R
     Ok(limits)
 }
 
-fn is_listed(bounds: &[Bound], item: &Item) -> bool
-    ensures { result ≡ list_any (λ b. same_item b.item item.now) bounds.now }
-{
-    bounds.iter().any(|b| b.item.is(item))
-}
-
-fn asks_listed(bounds: &[Bound], atom: &Atom) -> bool
-    ensures { result ≡ of_asked (λ i. list_any (λ b. same_item b.item i) bounds.now) atom.now }
-{
-    match atom {
-        Atom::AtLeast(item, _) => is_listed(bounds, item),
-        _ => true,
-    }
-}
-
 // Whether the atoms ask only for items of the view.
-fn all_listed(bounds: &[Bound], atoms: &[Atom]) -> bool
-    ensures { result ≡ list_all (of_asked (λ i. list_any (λ b. same_item b.item i) bounds.now)) atoms.now }
+fn all_listed(view: &View, atoms: &[Atom]) -> bool
+    ensures { result ≡ list_all (of_asked (λ i. list_any (λ b. same_item b.item i) view.now.bounds)) atoms.now }
 {
-    atoms.iter().all(|a| asks_listed(bounds, a))
+    for atom in atoms {
+        if let Atom::AtLeast(item, _) = atom {
+            if find_bound(view.items(), item).is_none() {
+                return false;
+            }
+        }
+    }
+    true
 }
 
 // The index after the last item that is asked for; 0 if none is.
@@ -172,7 +164,7 @@ pub(crate) fn table_of(
     let bounds = view.items();
     let limits = limits_of(alloc, bounds, &wanted.mosts)?;
     let Wanted { mosts, leasts } = wanted;
-    let listed = all_listed(bounds, atoms);
+    let listed = all_listed(view, atoms);
     let leasts_end = end_of(&leasts);
     let single = are_single(&leasts);
     let alone = are_single(&limits);
@@ -187,8 +179,8 @@ pub(crate) fn table_of(
     })
 }
 
-// A copy of the list, in the memory of `spare`.
-fn copied(from: &[u8], spare: Vec<u8>) -> Result<Vec<u8>, Refusal>
+/// A copy of the list, in the memory of `spare`.
+pub(crate) fn copied<T: Copy>(from: &[T], spare: Vec<T>) -> Result<Vec<T>, Refusal>
     ensures value { IfOk result (λ c. c.items ≡ from.now) }
     ensures why { IfErr result (λ e. e ≡ Refusal.Memory) }
 {
@@ -201,7 +193,7 @@ fn copied(from: &[u8], spare: Vec<u8>) -> Result<Vec<u8>, Refusal>
 /// What `table` says, in the memory of `spare`, for its atoms and the `later` ones, which only take placements or leave them
 /// out. If one of them asks for an item that isn't listed, the result is not known to be listed.
 pub(crate) fn table_again(
-    bounds: &[Bound],
+    view: &View,
     table: &Table,
     later: &[Atom],
     spare: Table,
@@ -209,7 +201,7 @@ pub(crate) fn table_again(
     ensures limits { IfOk result (λ t. t.limits.items ≡ table.now.limits.items) }
     ensures mosts { IfOk result (λ t. t.mosts.items ≡ table.now.mosts.items) }
     ensures leasts { IfOk result (λ t. t.leasts.items ≡ table.now.leasts.items) }
-    ensures listed { IfOk result (λ t. t.listed ≡ (table.now.listed && list_all (of_asked (λ i. list_any (λ b. same_item b.item i) bounds.now)) later.now)) }
+    ensures listed { IfOk result (λ t. t.listed ≡ (table.now.listed && list_all (of_asked (λ i. list_any (λ b. same_item b.item i) view.now.bounds)) later.now)) }
     ensures end { IfOk result (λ t. t.leasts_end ≡ table.now.leasts_end) }
     ensures alone { IfOk result (λ t. t.alone ≡ table.now.alone) }
     ensures why { IfErr result (λ e. e ≡ Refusal.Memory) }
@@ -223,7 +215,7 @@ pub(crate) fn table_again(
     let limits = copied(&table.limits, limits)?;
     let mosts = copied(&table.mosts, mosts)?;
     let leasts = copied(&table.leasts, leasts)?;
-    let listed = table.listed && all_listed(bounds, later);
+    let listed = table.listed && all_listed(view, later);
     Ok(Table {
         limits,
         mosts,

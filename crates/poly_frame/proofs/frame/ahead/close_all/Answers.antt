@@ -4,7 +4,7 @@ use Rattle.std.specs.List.{list_any}
 use Rattle.poly_frame.specs.Bits.{has_bit}
 use Rattle.poly_frame.specs.Matrices.{bit_index}
 use Rattle.std.proofs.lemmas.List.{take_all}
-use Rattle.poly_frame.proofs.Six.{row_within}
+use Rattle.poly_frame.proofs.FrameItems.{row_low}
 use Rattle.poly_frame.proofs.frame.ahead.close_all.Goals as goal
 
 lacks_one : (o a b : Bool) → ((o && not a) && not b) ≡ (o && not (a || b))
@@ -75,16 +75,16 @@ loop-k-init c = record {
 }
 
 pub item_row-requires : goal.item_row-requires
-item_row-requires c = row_within (length c.args.row.now) c.args.items c.args.rows.now c.args.indices.now c.loop-k.k c.requires.rows c.requires.low c.loop-k-test.true
+item_row-requires c = row_low c.args.indices.now c.args.items (length c.args.row.now) c.loop-k.k (length c.args.rows.now) c.requires.low c.requires.rows c.loop-k-test.true
 
 pub item_row-requires-else-indices-k-lt3 : goal.item_row-requires-else-indices-k-lt3
-item_row-requires-else-indices-k-lt3 c = row_within (length c.args.row.now) c.args.items c.args.rows.now c.args.indices.now c.loop-k.k c.requires.rows c.requires.low c.loop-k-test.true
+item_row-requires-else-indices-k-lt3 c = row_low c.args.indices.now c.args.items (length c.args.row.now) c.loop-k.k (length c.args.rows.now) c.requires.low c.requires.rows c.loop-k-test.true
 
 pub item_row-requires-else-indices-k-lt3-2 : goal.item_row-requires-else-indices-k-lt3-2
-item_row-requires-else-indices-k-lt3-2 c = row_within (length c.args.row.now) c.args.items c.args.rows.now c.args.indices.now (c.loop-k.k + 1) c.requires.rows c.requires.low (omega (arith, c.if-indices-k-lt3.false))
+item_row-requires-else-indices-k-lt3-2 c = row_low c.args.indices.now c.args.items (length c.args.row.now) (c.loop-k.k + 1) (length c.args.rows.now) c.requires.low c.requires.rows (omega (arith, c.if-indices-k-lt3.false))
 
 pub item_row-requires-else-indices-k-lt3-3 : goal.item_row-requires-else-indices-k-lt3-3
-item_row-requires-else-indices-k-lt3-3 c = row_within (length c.args.row.now) c.args.items c.args.rows.now c.args.indices.now (c.loop-k.k + 2) c.requires.rows c.requires.low (omega (arith, c.if-indices-k-lt3.false))
+item_row-requires-else-indices-k-lt3-3 c = row_low c.args.indices.now c.args.items (length c.args.row.now) (c.loop-k.k + 2) (length c.args.rows.now) c.requires.low c.requires.rows (omega (arith, c.if-indices-k-lt3.false))
 
 pub take_out_words-requires : goal.take_out_words-requires
 take_out_words-requires c = c.loop-k.invariant.len ∙ sym c.item_row.ensures.len

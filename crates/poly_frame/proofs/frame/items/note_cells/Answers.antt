@@ -5,7 +5,7 @@ use Rattle.poly_frame.proofs.frame.items.note_cells.Goals as goal
 pub loop-cell-preserved : goal.loop-cell-preserved
 loop-cell-preserved c =
     let inv = c.loop-cell.invariant in
-    let more = c.note_cell.ensures in
+    let more = c.note_item.ensures in
     record {
       len = omega arith;
       capacity = more.capacity ∙ inv.capacity;

@@ -14,7 +14,7 @@ steps_here-requires-clause-table c =
     let s = c.args.steps.now in
     let t = c.in_ok-table.ensures in
     let few : length (base n.view.now n.trail.now) < 2 ^ 63 = omega (arith, ap length c.requires.members, c.requires.few) in
-    table_here n.view.now n.trail.now n.base n.matrix.now c.in_ok-matrix.matrix n.table.now c.in_ok-table.table s.live.items s.have.items s.raised.items s.marks.items c.items.result.now _ c.requires.kept c.in_ok-matrix.ensures.part c.in_ok-matrix.ensures.all few c.items.ensures.value refl t.limits t.mosts t.leasts t.listed t.end t.alone
+    table_here n.view.now n.trail.now n.base n.matrix.now c.in_ok-matrix.matrix n.table.now c.in_ok-table.table s.live.items s.have.items s.raised.items s.marks.items n.view.now.bounds _ c.requires.kept c.in_ok-matrix.ensures.part c.in_ok-matrix.ensures.all few refl refl t.limits t.mosts t.leasts t.listed t.end t.alone
 
 pub steps_here-requires-clause-open : goal.steps_here-requires-clause-open
 steps_here-requires-clause-open c = λ q m.

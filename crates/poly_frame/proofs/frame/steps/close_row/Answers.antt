@@ -1,12 +1,11 @@
-use Rattle.std.proofs.Common.{Bool, List, ap, arith, false, get_or, leb, length, ltb, not, refl, sym, take, true, ℕ, ◌&&◌, ◌*◌, ◌+◌, ◌<◌, ◌||◌, ◌∙◌, ◌≡◌, ◌≤◌}
-use Rattle.std.proofs.Math.Nat.{mul-le-mul_left}
+use Rattle.std.proofs.Common.{Bool, List, ap, arith, false, get_or, leb, length, not, refl, sym, take, true, ℕ, ◌&&◌, ◌*◌, ◌+◌, ◌||◌, ◌∙◌, ◌≡◌, ◌≤◌}
 use Rattle.std.proofs.lemmas.Bool.{true≢false}
 use Rattle.std.proofs.lemmas.List.{take_all}
 use Rattle.std.proofs.lemmas.List.Folds.{list_any_more}
-use Rattle.std.specs.List.{list_all, list_any}
+use Rattle.std.specs.List.{list_any}
 use Rattle.poly_frame.specs.Bits.{has_bit}
 use Rattle.poly_frame.specs.Matrices.{bit_index}
-use Rattle.poly_frame.proofs.FrameItems.{low_at}
+use Rattle.poly_frame.proofs.FrameItems.{low_at, row_low}
 use Rattle.poly_frame.proofs.frame.steps.close_row.Goals as goal
 
 lacks_one : (o a b : Bool) → ((o && not a) && not b) ≡ (o && not (a || b))
@@ -36,13 +35,6 @@ at_limits o a b c x y z true true true e f g h i j = ap (λ u. o && not (u || (y
 at_limits o a b c x y z false q r e f g h i j = absurd (true≢false (sym e))
 at_limits o a b c x y z true false r e f g h i j = absurd (true≢false (sym f))
 at_limits o a b c x y z true true false e f g h i j = absurd (true≢false (sym g))
-
--- the row of an index is among the rows
-row_low : (xs : List ℕ) (n w k m : ℕ) → list_all (λ b. ltb b n) xs ≡ true → m ≡ w * n → k < length xs → w * (get_or xs k 0 + 1) ≤ m
-row_low xs n w k m low e h =
-    let a = low_at n xs k low h in
-    let b = mul-le-mul_left {m = get_or xs k 0 + 1} {n = n} w (omega (arith, a)) in
-    omega (arith, b, e)
 
 pub loop-k-preserved : goal.loop-k-preserved
 loop-k-preserved c =

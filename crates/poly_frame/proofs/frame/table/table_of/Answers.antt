@@ -1,9 +1,7 @@
-use Rattle.std.proofs.Common.{List, ap, arith, get_or, leb, subst, sym, true, length, ◌∙◌, ◌≡◌}
-use Rattle.std.specs.List.{list_all, list_any}
+use Rattle.std.proofs.Common.{List, ap, arith, get_or, leb, sym, length, ◌∙◌}
+use Rattle.std.specs.List.{list_all}
 use Rattle.poly_tiling.specs.declared.bound.Bound.{Bound}
-use Rattle.poly_tiling.specs.Puzzle.{same_item}
 use Rattle.poly_atom.specs.Hopeless.{base}
-use Rattle.poly_frame.specs.Plain.{of_asked}
 use Rattle.poly_frame.specs.FrameItems.{item_at, item_of}
 use Rattle.poly_frame.specs.FrameTable.{limit_at}
 use Rattle.poly_frame.proofs.FrameTable.{count_le, each_one}
@@ -25,7 +23,7 @@ returns-clause-value c = λ m M O.
       mosts_len = c.requires.mosts_len;
       leasts = c.requires.leasts;
       leasts_len = c.requires.leasts_len;
-      listed = λ y. subst (λ (bs : List Bound). list_all (of_asked (λ i. list_any (λ b. same_item b.item i) bs)) A ≡ true) c.items-bounds.ensures.value (sym c.all_listed-listed.ensures ∙ y);
+      listed = λ y. sym c.all_listed-listed.ensures ∙ y;
       quiet = λ b l h. ap (λ xs. get_or xs b 0) (sym c.deref-2.ensures.value) ∙ c.end_of-leasts_end.ensures b l (omega (arith, h, ap length c.deref-2.ensures.value, c.requires.leasts_len));
       alone = λ y b h. each_one c.in_ok-limits.limits.items b (ap (λ xs. list_all (λ n. leb n 1) xs) (sym c.deref-4.ensures.value) ∙ sym c.are_single-alone.ensures ∙ y) (omega (arith, h, c.in_ok-limits.ensures.len, ap length c.items-bounds.ensures.value));
       small = λ i. omega (arith, count_le v (base v A) i, c.requires.few);
