@@ -55,6 +55,7 @@ use Rattle.poly_shape.proofs.shape.Shape.TheSendSync as Shape
 use Rattle.poly_tiling.proofs.bound.Bound.TheSendSync as Bound
 use Rattle.poly_tiling.proofs.item.Item.TheSendSync as Item
 use Rattle.poly_tiling.proofs.placement_blocks.PlacementBlocks.TheSendSync as PlacementBlocks
+use Rattle.poly_tiling.proofs.live_numbers.LiveNumbers.TheSendSync as LiveNumbers
 use Rattle.poly_tiling.proofs.placement_list.PlacementList.TheSendSync as PlacementList
 use Rattle.poly_tiling.proofs.tiling.Tiling.TheSendSync as Tiling
 use Rattle.poly_tiling.proofs.view.View.TheSendSync as View
@@ -104,7 +105,7 @@ use Rattle.poly_book.specs.contracts.book.Book as book
 ruleset holding = (MapsCrossing.crosses, Crossing.crosses, TrieKnot.crosses, sendable)
 
 -- what is known of the types of a book's parts
-ruleset parted = (Base.the_field_send, Base.the_send, Base.the_field_sync, Base.the_sync, Cells.the_send, Cells.the_sync, Deed.the_sync, FoldHasher.the_field_send, FoldHasher.the_send, FoldHasher.the_field_sync, FoldHasher.the_sync, Memory.the_field_send, Memory.the_send, Memory.the_field_sync, Memory.the_sync, Bucket.the_field_send, Bucket.the_send, Bucket.the_field_sync, Bucket.the_sync, Group.the_field_send, Group.the_send, Group.the_field_sync, Group.the_sync, Atom.the_field_send, Atom.the_send, Atom.the_field_sync, Atom.the_sync, GuardLog.the_send, GuardLog.the_sync, Stair.the_field_send, Stair.the_send, Stair.the_field_sync, Stair.the_sync, Excerpt.the_field_send, Excerpt.the_send, Excerpt.the_field_sync, Excerpt.the_sync, Maps.the_field_send, Maps.the_send, Maps.the_field_sync, Maps.the_sync, Narrowed.the_field_send, Narrowed.the_send, Narrowed.the_field_sync, Narrowed.the_sync, Register.the_field_send, Register.the_send, Register.the_field_sync, Register.the_sync, Row.the_send, Row.the_sync, Span.the_field_send, Span.the_send, Span.the_field_sync, Span.the_sync, Scene.the_send, Scene.the_sync, Ending.the_field_send, Ending.the_send, Ending.the_field_sync, Ending.the_sync, Kind.the_field_send, Kind.the_send, Kind.the_field_sync, Kind.the_sync, Step.the_field_send, Step.the_send, Step.the_field_sync, Step.the_sync, Catalogue.the_send, Catalogue.the_sync, Listing.the_send, Listing.the_sync, Positions.the_send, Positions.the_sync, Row2.the_send, Row2.the_sync, CellsSet.the_send, CellsSet.the_sync, Change.the_field_send, Change.the_send, Change.the_field_sync, Change.the_sync, Copies.the_send, Copies.the_sync, Design.the_send, Design.the_sync, Mode.the_field_send, Mode.the_send, Mode.the_field_sync, Mode.the_sync, Name.the_send, Name.the_sync, Placement.the_field_send, Placement.the_send, Placement.the_field_sync, Placement.the_sync, Spec.the_field_send, Spec.the_send, Spec.the_field_sync, Spec.the_sync, Lists.the_field_send, Lists.the_send, Lists.the_field_sync, Lists.the_sync, Matrix.the_field_send, Matrix.the_send, Matrix.the_field_sync, Matrix.the_sync, Occupied.the_field_send, Occupied.the_send, Occupied.the_field_sync, Occupied.the_sync, Cell.the_send, Cell.the_sync, Grid.the_field_send, Grid.the_send, Grid.the_field_sync, Grid.the_sync, Index.the_field_send, Index.the_send, Index.the_field_sync, Index.the_sync, Row3.the_send, Row3.the_sync, Interner.the_send, Interner.the_sync, Numbered.the_field_send, Numbered.the_send, Numbered.the_field_sync, Numbered.the_sync, Table.the_send, Table.the_sync, Nodes.the_send, Nodes.the_sync, Word.the_field_send, Word.the_send, Word.the_field_sync, Word.the_sync, Cells2.the_send, Cells2.the_sync, Shape.the_send, Shape.the_sync, Bound.the_field_send, Bound.the_send, Bound.the_field_sync, Bound.the_sync, Item.the_field_send, Item.the_send, Item.the_field_sync, Item.the_sync, PlacementBlocks.the_send, PlacementBlocks.the_sync, PlacementList.the_send, PlacementList.the_sync, Tiling.the_send, Tiling.the_sync, View.the_send, View.the_sync, Vec.the_sync, Node.the_sync, Global.the_field_send, Global.the_send, Global.the_field_sync, Global.the_sync)
+ruleset parted = (Base.the_field_send, Base.the_send, Base.the_field_sync, Base.the_sync, Cells.the_send, Cells.the_sync, Deed.the_sync, FoldHasher.the_field_send, FoldHasher.the_send, FoldHasher.the_field_sync, FoldHasher.the_sync, Memory.the_field_send, Memory.the_send, Memory.the_field_sync, Memory.the_sync, Bucket.the_field_send, Bucket.the_send, Bucket.the_field_sync, Bucket.the_sync, Group.the_field_send, Group.the_send, Group.the_field_sync, Group.the_sync, Atom.the_field_send, Atom.the_send, Atom.the_field_sync, Atom.the_sync, GuardLog.the_send, GuardLog.the_sync, Stair.the_field_send, Stair.the_send, Stair.the_field_sync, Stair.the_sync, Excerpt.the_field_send, Excerpt.the_send, Excerpt.the_field_sync, Excerpt.the_sync, Maps.the_field_send, Maps.the_send, Maps.the_field_sync, Maps.the_sync, Narrowed.the_field_send, Narrowed.the_send, Narrowed.the_field_sync, Narrowed.the_sync, Register.the_field_send, Register.the_send, Register.the_field_sync, Register.the_sync, Row.the_send, Row.the_sync, Span.the_field_send, Span.the_send, Span.the_field_sync, Span.the_sync, Scene.the_send, Scene.the_sync, Ending.the_field_send, Ending.the_send, Ending.the_field_sync, Ending.the_sync, Kind.the_field_send, Kind.the_send, Kind.the_field_sync, Kind.the_sync, Step.the_field_send, Step.the_send, Step.the_field_sync, Step.the_sync, Catalogue.the_send, Catalogue.the_sync, Listing.the_send, Listing.the_sync, Positions.the_send, Positions.the_sync, Row2.the_send, Row2.the_sync, CellsSet.the_send, CellsSet.the_sync, Change.the_field_send, Change.the_send, Change.the_field_sync, Change.the_sync, Copies.the_send, Copies.the_sync, Design.the_send, Design.the_sync, Mode.the_field_send, Mode.the_send, Mode.the_field_sync, Mode.the_sync, Name.the_send, Name.the_sync, Placement.the_field_send, Placement.the_send, Placement.the_field_sync, Placement.the_sync, Spec.the_field_send, Spec.the_send, Spec.the_field_sync, Spec.the_sync, Lists.the_field_send, Lists.the_send, Lists.the_field_sync, Lists.the_sync, Matrix.the_field_send, Matrix.the_send, Matrix.the_field_sync, Matrix.the_sync, Occupied.the_field_send, Occupied.the_send, Occupied.the_field_sync, Occupied.the_sync, Cell.the_send, Cell.the_sync, Grid.the_field_send, Grid.the_send, Grid.the_field_sync, Grid.the_sync, Index.the_field_send, Index.the_send, Index.the_field_sync, Index.the_sync, Row3.the_send, Row3.the_sync, Interner.the_send, Interner.the_sync, Numbered.the_field_send, Numbered.the_send, Numbered.the_field_sync, Numbered.the_sync, Table.the_send, Table.the_sync, Nodes.the_send, Nodes.the_sync, Word.the_field_send, Word.the_send, Word.the_field_sync, Word.the_sync, Cells2.the_send, Cells2.the_sync, Shape.the_send, Shape.the_sync, Bound.the_field_send, Bound.the_send, Bound.the_field_sync, Bound.the_sync, Item.the_field_send, Item.the_send, Item.the_field_sync, Item.the_sync, PlacementBlocks.the_send, PlacementBlocks.the_sync, LiveNumbers.the_send, LiveNumbers.the_sync, PlacementList.the_send, PlacementList.the_sync, Tiling.the_send, Tiling.the_sync, View.the_send, View.the_sync, Vec.the_sync, Node.the_sync, Global.the_field_send, Global.the_send, Global.the_field_sync, Global.the_sync)
 
 -- what is known of vectors and shared values
 ruleset pointed = (Deed.the_send, HeapCircularBuffer.the_send, HeapCircularBuffer.the_sync, Ring.the_field_send, Ring.the_send, Ring.the_field_sync, Ring.the_sync, BuildHasherDefault.the_field_send, BuildHasherDefault.the_send, BuildHasherDefault.the_field_sync, BuildHasherDefault.the_sync, Option.the_field_send, Option.the_send, Option.the_field_sync, Option.the_sync, Columns.the_send, Columns.the_sync, IndexTable.the_send, IndexTable.the_sync, IndexMap.the_send, IndexMap.the_sync, IndexSet.the_send, IndexSet.the_sync, History.the_send, History.the_sync, Step2.the_field_send, Step2.the_send, Step2.the_field_sync, Step2.the_sync, Arc.the_send, Arc.the_sync, Vec.the_send, Node.the_send, Root.the_field_send, Root.the_send, Root.the_field_sync, Root.the_sync, Tree.the_field_send, Tree.the_send, Tree.the_field_sync, Tree.the_sync, BTreeMap.the_send, BTreeMap.the_sync)

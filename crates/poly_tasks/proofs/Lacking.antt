@@ -1,5 +1,5 @@
 -- What Lacks atoms do to a list: they make it hopeless only by what it asks for, and by pins.
-use Rattle.std.proofs.Common.{Bool, List, [], ap, append_assoc, arith, false, get_or, inl, inr, length, map, not, refl, subst, suc, sym, take, true, zero, ℕ, ◌&&◌, ◌++◌, ◌+◌, ◌<◌, ◌==◌, ◌∙◌, ◌∷◌, ◌≡◌, ◌≤◌, ◌||◌, ◌⊎◌}
+use Rattle.std.proofs.Common.{Bool, List, [], ap, append_assoc, arith, drop, false, get_or, inl, inr, length, map, not, refl, subst, suc, sym, take, true, zero, ℕ, ◌&&◌, ◌++◌, ◌+◌, ◌-◌, ◌<◌, ◌==◌, ◌∙◌, ◌∷◌, ◌≡◌, ◌≤◌, ◌||◌, ◌⊎◌}
 use Rattle.std.proofs.lemmas.Bool.{and_from, and_parts, both_ways, cases_lt, eq-eqb, not-false, not-true, or_cases, or_left, or_right, true≢false}
 use Rattle.std.proofs.Math.Seq.{get_or-append_seam}
 use Rattle.std.proofs.lemmas.List.{append-nil, get_or_append_left, length-append, length-take-le, take-take, take_more}
@@ -303,6 +303,25 @@ stair_alone w log s a d h e t = last_alone w [] (get_or log s.edition []) s.inde
 -- those atoms of a stair that pass a test
 pub stair_filter : (f : Atom → Bool) (g : List Atom) (j : ℕ) (d a : Atom) → j < length g → a ≡ negated (get_or g j d) → filter f (take j g) ++ filter f (a ∷ []) ≡ filter f (get_or (stairs g) j [])
 stair_filter f g j d a l e = ap (λ b. filter f (take j g) ++ filter f (b ∷ [])) e ∙ sym (filter-append f (take j g) (negated (get_or g j d) ∷ [])) ∙ ap (filter f) (sym (stairs_at g j d l))
+
+filter_past : (x : Atom) (A : List Atom) → is_other x ≡ false → filter is_other (x ∷ A) ≡ filter is_other A
+filter_past x A e = ap (λ b. cond b (x ∷ filter is_other A) (filter is_other A)) e
+
+take-nil : (k : ℕ) → ◌≡◌ {A = List Atom} (take k []) []
+take-nil zero = refl
+take-nil (suc k) = refl
+
+-- of the first atoms of a list, those that are no Lacks come after the Lacks that the list begins with
+pub lead_filter : (g : List Atom) (n m j : ℕ) → m ≤ n → m ≤ j → AreLacks (take n g) → filter is_other (take (j - m) (drop m g)) ≡ filter is_other (take j g)
+lead_filter g n zero j h l a = ap (λ k. filter is_other (take k g)) (let e : j - 0 ≡ j = omega arith in e)
+lead_filter [] n (suc m) j h l a = ap (filter is_other) (take-nil (j - suc m) ∙ sym (take-nil j))
+lead_filter (x ∷ g) zero (suc m) j h l a = absurd (omega (arith, h))
+lead_filter (x ∷ g) (suc n) (suc m) zero h l a = absurd (omega (arith, l))
+lead_filter (x ∷ g) (suc n) (suc m) (suc j) h l a =
+    let parts = and_parts (not (is_other x)) (list_all (λ b. not (is_other b)) (take n g)) a in
+    ap (λ k. filter is_other (take k (drop m g))) (let e : suc j - suc m ≡ j - m = omega arith in e)
+    ∙ lead_filter g n m j (omega (arith, h)) (omega (arith, l)) parts.1
+    ∙ sym (filter_past x (take j g) (not-true _ parts.0))
 
 -- the atoms so far that pass a test, and the next one if it does
 pub filter_more : (f : Atom → Bool) (A : List Atom) (k : ℕ) (d : Atom) (old : List Atom) (b : Bool) → k < length A → d ≡ get_or A k d → b ≡ f d →

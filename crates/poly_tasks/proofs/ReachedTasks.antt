@@ -114,18 +114,18 @@ all_more r r2 ps k x l is w h one i d low =
     ]
 
 -- if the tasks under the touched atoms of each kind are reached, one kind after the other, those under all touched atoms are
-pub all_kinds : (t : Touch) (m : Maps) (ps : List Pending) (r1 r2 r3 r4 r5 : List ℕ) → IsFarther r1 r2 → IsFarther r2 r3 → IsFarther r3 r4 → IsFarther r4 r5 →
+pub all_kinds : (t : Touch) (m : Maps) (ps : List Pending) (r1 r3 r4 r5 : List ℕ) → IsFarther r1 r3 → IsFarther r3 r4 → IsFarther r4 r5 →
     ((p : ℕ) → touches t (Has p) ≡ true → IsReached r1 ps (λ n. placed m.has.rows.items p n)) →
-    ((p : ℕ) → mem t.delta.now.pinned.items p ≡ true → IsReached r2 ps (λ n. true)) →
+    t.delta.now.pinned.items ≡ [] →
     ((i : Item) → list_any (λ x. same_item (Piece x) i) t.delta.now.narrowed.items ≡ true → IsReached r3 ps (λ n. spanned m.at_least.entries (key_of i) n)) →
     IsReached r4 ps (λ n. spanned m.at_least.entries (key_of t.item) n) →
     ((i : Item) → list_any (λ x. same_item x i) t.delta.now.needed.items ≡ true → IsReached r5 ps (λ n. spanned m.at_most.entries (key_of i) n)) →
     (a : Atom) → touches t a ≡ true → IsReached r5 ps (λ n. under m a n)
-all_kinds t m ps r1 r2 r3 r4 r5 w2 w3 w4 w5 has lacks least own most (Has p) h = reached_on r1 r5 ps (λ n. under m (Has p) n) (farther_on r1 r2 r5 w2 (farther_on r2 r3 r5 w3 (farther_on r3 r4 r5 w4 w5))) (has p h)
-all_kinds t m ps r1 r2 r3 r4 r5 w2 w3 w4 w5 has lacks least own most (Lacks p) h = reached_on r2 r5 ps (λ n. under m (Lacks p) n) (farther_on r2 r3 r5 w3 (farther_on r3 r4 r5 w4 w5)) (lacks p h)
-all_kinds t m ps r1 r2 r3 r4 r5 w2 w3 w4 w5 has lacks least own most (AtLeast i k) h =
+all_kinds t m ps r1 r3 r4 r5 w3 w4 w5 has none least own most (Has p) h = reached_on r1 r5 ps (λ n. under m (Has p) n) (farther_on r1 r3 r5 w3 (farther_on r3 r4 r5 w4 w5)) (has p h)
+all_kinds t m ps r1 r3 r4 r5 w3 w4 w5 has none least own most (Lacks p) h = absurd (true≢false (sym h ∙ ap (λ l. mem l p) none))
+all_kinds t m ps r1 r3 r4 r5 w3 w4 w5 has none least own most (AtLeast i k) h =
     elim (or_cases (list_any (λ x. same_item (Piece x) i) t.delta.now.narrowed.items) (same_item t.item i) h) [
       | inl a ↦ reached_on r3 r5 ps (λ n. spanned m.at_least.entries (key_of i) n) (farther_on r3 r4 r5 w4 w5) (least i a)
       | inr b ↦ reached_on r4 r5 ps (λ n. spanned m.at_least.entries (key_of i) n) w5 (subst (λ j. IsReached r4 ps (λ n. spanned m.at_least.entries (key_of j) n)) (same_item_is t.item i b) own)
     ]
-all_kinds t m ps r1 r2 r3 r4 r5 w2 w3 w4 w5 has lacks least own most (AtMost i k) h = most i h
+all_kinds t m ps r1 r3 r4 r5 w3 w4 w5 has none least own most (AtMost i k) h = most i h

@@ -11,6 +11,7 @@ use Rattle.poly_atom.specs.Logs.{IsStairOf}
 use Rattle.poly_atom.specs.Stairs.{stairs}
 use Rattle.poly_atom.specs.declared.stair.Stair.{Stair}
 use Rattle.poly_lists.specs.Words.{is_other}
+use Rattle.poly_tasks.specs.declared.lead.Lead.{Lead}
 
 -- the flags say which of the lists aren't hopeless after the base
 abbrev pub AreJudged : View → List Atom → List (List Atom) → List Bool → Type 0
@@ -23,6 +24,10 @@ AreRuledOut w base As fs = (i : ℕ) → i < length fs → slice_index_or fs i t
 -- each atom is a Lacks
 abbrev pub AreLacks : List Atom → Type 0
 AreLacks A = list_all (λ a. not (is_other a)) A ≡ true
+
+-- so many of the edition's guards, from the first on, are a Lacks
+abbrev pub IsLead : List (List Atom) → Lead → Type 0
+IsLead log l = AreLacks (take l.count (slice_index_or log l.edition []))
 
 -- no two of the atoms lack the same placement
 abbrev pub LackOnce : List Atom → Type 0

@@ -4,7 +4,7 @@ use Rattle.poly_tiling.specs.Puzzle.{View}
 use Rattle.poly_atom.specs.declared.atom.Atom.{Atom}
 use Rattle.poly_tasks.specs.declared.fresh.Buffers.{Buffers}
 use Rattle.poly_tasks.specs.declared.task.Pending.{Pending}
-use Rattle.poly_tasks.specs.Judged.{named}
+use Rattle.poly_tasks.specs.Judged.{IsLead, named}
 use Rattle.poly_tasks.specs.Tasks.{hopeful, tasks_from}
 use Rattle.poly_tasks.specs.Meaning.{AreTasks, IsLaid, tasks_of}
 use Rattle.poly_tasks.specs.Spots.{IsSpots}
@@ -25,3 +25,4 @@ pub record AreReady (w : View) (log : List (List Atom)) (g : List Atom) (b : Buf
   pub harmed : b.harmed.items ≡ w.pins ++ named g
   pub laid : IsLaid w log b.laid
   pub spots : IsSpots log b.spots
+  pub lead : IsLead log b.lead

@@ -15,7 +15,7 @@ use Rattle.poly_tasks.specs.declared.task.Own.{Own}
 use Rattle.poly_tasks.specs.declared.task.Pending.{Pending}
 use Rattle.poly_tasks.specs.declared.touch.Touch.{Touch}
 use Rattle.poly_tasks.specs.declared.untouched.Untouched.{Untouched}
-use Rattle.poly_tasks.specs.Judged.{IsSpoiler}
+use Rattle.poly_tasks.specs.Judged.{IsLead, IsSpoiler}
 use Rattle.poly_tasks.specs.Meaning.{own_of}
 use Rattle.poly_tasks.specs.Spots.{IsSpots}
 
@@ -51,8 +51,9 @@ abbrev pub AreUntouched : Touch → List (List Atom) → Untouched → Type 0
 AreUntouched t log u = list_any (λ a. touches t a) (take u.count (slice_index_or log u.edition [])) ≡ false
 
 -- what is known before a task is judged: the first guards of an edition that the change doesn't touch, a guard that is hopeless
--- alone, and where the log lacks some placements
+-- alone, where the log lacks some placements, and the `Lacks` that the guards of an edition begin with
 pub record IsSurvey (t : Touch) (log : List (List Atom)) (s : Survey) : Type 0 where
   pub untouched : AreUntouched t log s.untouched
   pub spoiler : MatchOption s.spoiler ⊤ (λ g. IsSpoiler t.view.now log g)
   pub spots : IsSpots log s.spots
+  pub lead : IsLead log s.lead

@@ -8,7 +8,7 @@ ghost use Rattle.std.specs.List.{filter};
 ghost use Rattle.poly_atom.specs.declared.atom.Atom.{Atom as AtomOf};
 ghost use Rattle.poly_atom.specs.Logs.{IsStairOf, stair_of};
 ghost use Rattle.poly_lists.specs.Words.{is_other};
-ghost use Rattle.poly_tasks.specs.Judged.{is_harmful};
+ghost use Rattle.poly_tasks.specs.Judged.{IsLead, is_harmful};
 ghost use Rattle.poly_tasks.specs.Meaning.{IsBase, IsFrozen, IsOwn, base_of, frozen_of, laid_of, own_of};
 ghost use Rattle.poly_tasks.specs.Needed.{AreExcerptsFrom};
 ghost use Rattle.poly_tasks.specs.Spots.{IsSpots};
@@ -16,6 +16,7 @@ ghost use Rattle.poly_tasks.specs.Spots.{IsSpots};
 use crate::excerpt::{Excerpt, append_excerpts};
 use crate::harm::append_lacks;
 use crate::laid::Laid;
+use crate::lead::Lead;
 use crate::shelf::Frozen;
 use crate::spots::Spots;
 use crate::task::{Own, append_others};
@@ -119,22 +120,25 @@ impl Base {
     }
 }
 
-/// The atoms of the frozen task. `laid` are the guards that were laid on it, and the only one of the lists `none` is empty.
+/// The atoms of the frozen task. `laid` are the guards that were laid on it, and the only one of the lists `none` is empty. `lead` is
+/// that of any edition; that of the stair that the task's own atoms end with saves time.
 pub(crate) fn base_over(
     alloc: Global,
     log: &GuardLog,
     frozen: &Frozen,
     laid: &Laid,
     none: &SharedLists,
+    lead: Lead,
 ) -> Result<Base, Refusal>
     requires frozen { IsFrozen log.now frozen.now }
     requires laid { laid.now.others.items ≡ filter is_other (laid_of log.now frozen.now) }
     requires none { none.now ≡ [] ∷ [] }
+    requires lead { IsLead log.now lead }
     ensures base { IfOk result (λ b. base_of log.now b ≡ frozen_of log.now frozen.now) }
     ensures is { IfOk result (λ b. IsBase log.now b) }
     ensures why { IfErr result (λ e. e ≡ Refusal.Memory) }
 {
-    let base = base_over_own(alloc, log, &frozen.own, none)?;
+    let base = base_over_own(alloc, log, &frozen.own, none, lead)?;
     let base = with_guards(base, log, frozen, laid)?;
     Ok(base)
 }
@@ -145,9 +149,11 @@ fn base_over_own(
     log: &GuardLog,
     own: &Own,
     none: &SharedLists,
+    lead: Lead,
 ) -> Result<Base, Refusal>
     requires own { IsOwn log.now own.now }
     requires none { none.now ≡ [] ∷ [] }
+    requires lead { IsLead log.now lead }
     ensures base { IfOk result (λ b. base_of log.now b ≡ own_of log.now own.now) }
     ensures is { IfOk result (λ b. IsBase log.now b) }
     ensures why { IfErr result (λ e. e ≡ Refusal.Memory) }
@@ -156,11 +162,11 @@ fn base_over_own(
         Own::Listed(lists, index) => over_list(alloc, lists, *index),
         Own::Stair(stair) => {
             let base = over_list(alloc, none, 0)?;
-            with_stair(base, log, stair)
+            with_stair(base, log, stair, lead)
         }
         Own::Crossed(below, stair) => {
             let base = over_base(alloc, log, below)?;
-            with_stair(base, log, stair)
+            with_stair(base, log, stair, lead)
         }
     }
 }
@@ -218,7 +224,8 @@ fn as_list(alloc: Global, log: &GuardLog, base: &Base) -> Result<Base, Refusal>
 }
 
 // The base followed by the stair.
-fn with_stair(base: Base, log: &GuardLog, stair: &Stair) -> Result<Base, Refusal>
+fn with_stair(base: Base, log: &GuardLog, stair: &Stair, lead: Lead) -> Result<Base, Refusal>
+    requires lead { IsLead log.now lead }
     requires base { IsBase log.now base }
     requires stair { IsStairOf log.now stair.now }
     ensures base { IfOk result (λ b. base_of log.now b ≡ base_of log.now base ++ stair_of log.now stair.now) }
@@ -226,7 +233,8 @@ fn with_stair(base: Base, log: &GuardLog, stair: &Stair) -> Result<Base, Refusal
     ensures why { IfErr result (λ e. e ≡ Refusal.Memory) }
 {
     let mut base = base;
-    append_others(log, stair, &mut base.others)?;
+    let mut lead = lead;
+    append_others(log, stair, &mut lead, &mut base.others)?;
     base.excerpts.push(Excerpt::Stair(*stair))?;
     Ok(base)
 }

@@ -10,7 +10,7 @@ ghost use Rattle.poly_atom.specs.Logs.{IsStairOf, stair_of};
 ghost use Rattle.poly_atom.specs.Stairs.{stairs};
 ghost use Rattle.poly_tiling.specs.Puzzle.{View as ViewOf};
 ghost use Rattle.poly_lists.specs.Words.{is_other};
-ghost use Rattle.poly_tasks.specs.Judged.{AreJudged, LackOnce, named};
+ghost use Rattle.poly_tasks.specs.Judged.{AreJudged, IsLead, LackOnce, named};
 ghost use Rattle.poly_tasks.specs.Opens.{AreReady, Opening, Opens};
 ghost use Rattle.poly_tasks.specs.Meaning.{AreFrozen, IsBase, IsFrozen, IsHeld, IsLaid, IsOwn, base_of, frozen_asks, frozen_of, laid_of, own_of, stored_of};
 ghost use Rattle.poly_tasks.specs.Shelves.{crossed, openings};
@@ -21,6 +21,7 @@ use crate::base::{Base, base_over};
 use crate::harm::{harmed_by, write_harmed};
 use crate::judge::{judge_first, judge_stairs, lead_of};
 use crate::laid::Laid;
+use crate::lead::Lead;
 use crate::shelf::{Frozen, Shelf};
 use crate::spots::Spots;
 use crate::task::{Own, Pending, append_harmful, read_brief};
@@ -52,6 +53,8 @@ struct Buffers {
     placements: Vec<u32>,
     // Where the guard log has these `Lacks`.
     spots: Spots,
+    // The `Lacks` that the guards of an edition begin with.
+    lead: Lead,
     // Which stairs aren't hopeless after the atoms without each `Lacks`.
     hopes: Vec<bool>,
     // Which stairs aren't hopeless after the task.
@@ -73,6 +76,7 @@ impl Buffers {
             list: Vec::new(alloc),
             placements: Vec::new(alloc),
             spots: Spots::none(alloc),
+            lead: Lead::none(),
             hopes: Vec::new(alloc),
             flags: Vec::new(alloc),
         })
@@ -335,11 +339,19 @@ fn shared_base(
     requires frozen { IsFrozen log.now frozen.now }
     requires laid { buffers.now.laid.others.items ≡ filter is_other (laid_of log.now frozen.now) }
     requires none { buffers.now.none ≡ [] ∷ [] }
+    requires lead { IsLead log.now buffers.now.lead }
     ensures base { IfOk result (λ b. base_of log.now (arc_value b) ≡ frozen_of log.now frozen.now) }
     ensures is { IfOk result (λ b. IsBase log.now (arc_value b)) }
     ensures why { IfErr result (λ e. e ≡ Refusal.Memory) }
 {
-    let base = base_over(alloc, log, frozen, &buffers.laid, &buffers.none)?;
+    let base = base_over(
+        alloc,
+        log,
+        frozen,
+        &buffers.laid,
+        &buffers.none,
+        buffers.lead,
+    )?;
     let shared = Arc::new(alloc, base)?;
     Ok(shared)
 }
@@ -400,7 +412,9 @@ fn read_frozen(
 ) -> Result<(), Refusal>
     requires frozen { IsFrozen log.now frozen.now }
     requires laid { IsLaid view.now log.now buffers.old.laid }
-    ensures stays { buffers.new ≡ record buffers.old { laid = buffers.new.laid; atoms = buffers.new.atoms; placements = buffers.new.placements } }
+    requires lead { IsLead log.now buffers.old.lead }
+    ensures stays { buffers.new ≡ record buffers.old { laid = buffers.new.laid; lead = buffers.new.lead; atoms = buffers.new.atoms; placements = buffers.new.placements } }
+    ensures lead { IsLead log.now buffers.new.lead }
     ensures laid { OnOk result (IsLaid view.now log.now buffers.new.laid) }
     ensures others { OnOk result (buffers.new.laid.others.items ≡ filter is_other (laid_of log.now frozen.now)) }
     ensures atoms { OnOk result (buffers.new.atoms.items ≡ frozen_asks log.now frozen.now) }
@@ -408,7 +422,7 @@ fn read_frozen(
     ensures why { IfErr result (λ e. e ≡ Refusal.Memory) }
 {
     buffers.laid.read(view, log, frozen)?;
-    read_brief(log, &frozen.own, &mut buffers.atoms)?;
+    read_brief(log, &frozen.own, &mut buffers.lead, &mut buffers.atoms)?;
     buffers.atoms.extend_from_slice(buffers.laid.asks())?;
     write_harmed(
         &buffers.harmed,

@@ -15,6 +15,7 @@ mod fresh;
 mod harm;
 mod judge;
 mod laid;
+mod lead;
 mod maps;
 mod placed;
 mod reach;

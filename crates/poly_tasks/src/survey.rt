@@ -8,6 +8,7 @@ ghost use Rattle.poly_tasks.specs.Meaning.{AreTasks, IsOwn, own_of};
 ghost use Rattle.poly_tasks.specs.Reaching.{AreEndsReached};
 ghost use Rattle.poly_tasks.specs.Touching.{AreTold, AreTouched, IsSurvey, IsTold, touches};
 
+use crate::lead::Lead;
 use crate::spoilt::{is_spoilt, spoiler_of};
 use crate::spots::Spots;
 use crate::task::{Own, Pending, append_harmful_own, ends_by_stair, read_brief};
@@ -26,6 +27,8 @@ struct Survey {
     spoiler: Option<Stair>,
     // Where the log lacks the placements that the change pins, once a task had to be judged.
     spots: Spots,
+    // The `Lacks` that the guards of an edition begin with.
+    lead: Lead,
     // The atoms of a task that are judged.
     atoms: Vec<Atom>,
     // A list that the task's own atoms begin with.
@@ -41,6 +44,7 @@ impl Survey {
             untouched: Untouched::none(),
             spoiler: None,
             spots: Spots::none(alloc),
+            lead: Lead::none(),
             atoms: Vec::new(alloc),
             list: Vec::new(alloc),
         }
@@ -123,7 +127,7 @@ fn is_hopeless(
     ensures why { IfErr result (λ e. e ≡ Refusal.Memory) }
 {
     let atoms = &mut survey.atoms;
-    read_brief(log, own, atoms)?;
+    read_brief(log, own, &mut survey.lead, atoms)?;
     atoms.retain(|atom| touch.matters(atom));
     let ends = hopeless(touch.view, atoms);
     let brief = touch.delta.pinned.is_empty();

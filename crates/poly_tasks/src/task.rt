@@ -6,13 +6,14 @@ ghost use Rattle.poly_atom.specs.Hopeless.{hopeless};
 ghost use Rattle.poly_atom.specs.Logs.{IsStairOf, stair_of};
 ghost use Rattle.poly_lists.specs.Words.{is_other};
 ghost use Rattle.poly_tasks.specs.Meaning.{IsFrozen, IsOwn, IsTask, brief_of, frozen_of, own_of, task_of};
-ghost use Rattle.poly_tasks.specs.Judged.{is_harmful};
+ghost use Rattle.poly_tasks.specs.Judged.{IsLead, is_harmful};
 ghost use Rattle.poly_tasks.specs.Spots.{IsSpots};
 ghost use Rattle.poly_tasks.specs.Tasks.{Spares, atoms_of};
 
 use crate::base::Base;
 use crate::excerpt::append_harmful_of;
 use crate::harm::append_lacks;
+use crate::lead::Lead;
 use crate::shelf::Frozen;
 use crate::spoilt::last_stair;
 use crate::spots::Spots;
@@ -66,9 +67,17 @@ fn ends_alone(view: &View, log: &GuardLog, stair: &Stair) -> bool
     hopeless(view, &last)
 }
 
-/// Writes a task's own atoms without each `Lacks` to the buffer, in place of what it had.
-pub(crate) fn read_brief(log: &GuardLog, own: &Own, buffer: &mut Vec<Atom>) -> Result<(), Refusal>
-    requires { IsOwn log.now own.now }
+/// Writes a task's own atoms without each `Lacks` to the buffer, in place of what it had. `lead` is that of any edition, and becomes
+/// that of the stair's.
+pub(crate) fn read_brief(
+    log: &GuardLog,
+    own: &Own,
+    lead: &mut Lead,
+    buffer: &mut Vec<Atom>,
+) -> Result<(), Refusal>
+    requires own { IsOwn log.now own.now }
+    requires lead { IsLead log.now lead.old }
+    ensures lead { IsLead log.now lead.new }
     ensures ok { OnOk result (buffer.new.items ≡ brief_of log.now own.now) }
     ensures why { IfErr result (λ e. e ≡ Refusal.Memory) }
 {
@@ -79,30 +88,35 @@ pub(crate) fn read_brief(log: &GuardLog, own: &Own, buffer: &mut Vec<Atom>) -> R
         }
         Own::Stair(stair) => {
             buffer.clear();
-            append_others(log, stair, buffer)?;
+            append_others(log, stair, lead, buffer)?;
             Ok(())
         }
         Own::Crossed(base, stair) => {
             buffer.clear();
             buffer.extend_from_slice(base.others())?;
-            append_others(log, stair, buffer)?;
+            append_others(log, stair, lead, buffer)?;
             Ok(())
         }
     }
 }
 
-/// Appends the atoms of the stair without each `Lacks`.
+/// Appends the atoms of the stair without each `Lacks`. `lead` is that of any edition, and becomes that of the stair's.
 pub(crate) fn append_others(
     log: &GuardLog,
     stair: &Stair,
+    lead: &mut Lead,
     buffer: &mut Vec<Atom>,
 ) -> Result<(), Refusal>
-    requires { IsStairOf log.now stair.now }
+    requires stair { IsStairOf log.now stair.now }
+    requires lead { IsLead log.now lead.old }
+    ensures lead { IsLead log.now lead.new }
     ensures ok { OnOk result (buffer.new.items ≡ buffer.old.items ++ filter is_other (stair_of log.now stair.now)) }
     ensures why { IfErr result (λ e. e ≡ Refusal.Memory) }
 {
+    *lead = lead.at(log, stair.edition);
     let guards = log.guards_of(stair.edition);
-    append_others_of(&guards[..stair.index], buffer)?;
+    let first = lead.count.min(stair.index);
+    append_others_of(&guards[first..stair.index], buffer)?;
     let last = [guards[stair.index].negated()];
     append_others_of(&last, buffer)?;
     Ok(())

@@ -12,7 +12,7 @@ use Rattle.poly_lists.specs.Words.{is_other}
 use Rattle.poly_tasks.specs.declared.fresh.Buffers.{Buffers}
 use Rattle.poly_tasks.specs.declared.laid.Laid.{Laid}
 use Rattle.poly_tasks.specs.declared.shelf.Frozen.{Frozen}
-use Rattle.poly_tasks.specs.Judged.{AreAlone, AreJudged, AreRuledOut, is_harmful, named}
+use Rattle.poly_tasks.specs.Judged.{AreAlone, AreJudged, AreRuledOut, IsLead, is_harmful, named}
 use Rattle.poly_tasks.specs.Meaning.{IsLaid, brief_of, frozen_asks, frozen_brief, frozen_of, laid_of, own_of}
 use Rattle.poly_tasks.specs.Opens.{AreReady}
 use Rattle.poly_tasks.specs.Spots.{IsSpots}
@@ -23,12 +23,13 @@ use Rattle.poly_tasks.proofs.Laying.{AreAlike, alike_on, alone_alike, asks_alike
 use Rattle.poly_tasks.proofs.fresh.judge_frozen.Goals as goal
 
 -- the buffers are still ready if they have the same lists, and guards and spots of the log
-still_ready : (w : View) (log : List (List Atom)) (g : List Atom) (old new : Buffers) → AreReady w log g old → new.none ≡ old.none → new.harmed.items ≡ old.harmed.items → IsLaid w log new.laid → IsSpots log new.spots → AreReady w log g new
-still_ready w log g old new r none harmed laid spots = record {
+still_ready : (w : View) (log : List (List Atom)) (g : List Atom) (old new : Buffers) → AreReady w log g old → new.none ≡ old.none → new.harmed.items ≡ old.harmed.items → IsLaid w log new.laid → IsSpots log new.spots → IsLead log new.lead → AreReady w log g new
+still_ready w log g old new r none harmed laid spots lead = record {
   none = none ∙ r.none;
   harmed = harmed ∙ r.harmed;
   laid = laid;
   spots = spots;
+  lead = lead;
 }
 
 -- whether a guard that was laid on the task is hopeless alone
@@ -269,31 +270,31 @@ returns-in_err-any-clause-why c =
     rw (p.1, p.2) c.in_err-any.ensures.why
 
 pub returns-then-spoils-clause-ready : goal.returns-then-spoils-clause-ready
-returns-then-spoils-clause-ready c = still_ready c.args.view.now c.args.log.now c.args.guards.now c.args.buffers.now _ c.requires.ready (ap (λ b. b.none) c.read_frozen.ensures.stays) (ap (λ b. b.harmed.items) c.read_frozen.ensures.stays) c.in_ok-read_frozen.ensures.laid (subst (λ s. IsSpots c.args.log.now s) (sym (ap (λ b. b.spots) c.read_frozen.ensures.stays)) c.requires.ready.spots)
+returns-then-spoils-clause-ready c = still_ready c.args.view.now c.args.log.now c.args.guards.now c.args.buffers.now _ c.requires.ready (ap (λ b. b.none) c.read_frozen.ensures.stays) (ap (λ b. b.harmed.items) c.read_frozen.ensures.stays) c.in_ok-read_frozen.ensures.laid (subst (λ s. IsSpots c.args.log.now s) (sym (ap (λ b. b.spots) c.read_frozen.ensures.stays)) c.requires.ready.spots) c.read_frozen.ensures.lead
 
 pub returns-then-spoils-clause-laid : goal.returns-then-spoils-clause-laid
 returns-then-spoils-clause-laid c = c.in_ok-read_frozen.ensures.others
 
 pub returns-then-not-branch-clause-ready : goal.returns-then-not-branch-clause-ready
-returns-then-not-branch-clause-ready c = still_ready c.args.view.now c.args.log.now c.args.guards.now c.args.buffers.now _ c.requires.ready (ap (λ b. b.none) c.read_frozen.ensures.stays) (ap (λ b. b.harmed.items) c.read_frozen.ensures.stays) c.in_ok-read_frozen.ensures.laid (subst (λ s. IsSpots c.args.log.now s) (sym (ap (λ b. b.spots) c.read_frozen.ensures.stays)) c.requires.ready.spots)
+returns-then-not-branch-clause-ready c = still_ready c.args.view.now c.args.log.now c.args.guards.now c.args.buffers.now _ c.requires.ready (ap (λ b. b.none) c.read_frozen.ensures.stays) (ap (λ b. b.harmed.items) c.read_frozen.ensures.stays) c.in_ok-read_frozen.ensures.laid (subst (λ s. IsSpots c.args.log.now s) (sym (ap (λ b. b.spots) c.read_frozen.ensures.stays)) c.requires.ready.spots) c.read_frozen.ensures.lead
 
 pub returns-then-not-branch-clause-laid : goal.returns-then-not-branch-clause-laid
 returns-then-not-branch-clause-laid c = c.in_ok-read_frozen.ensures.others
 
 pub returns-then-is_empty-clause-ready : goal.returns-then-is_empty-clause-ready
-returns-then-is_empty-clause-ready c = still_ready c.args.view.now c.args.log.now c.args.guards.now c.args.buffers.now _ c.requires.ready (ap (λ b. b.none) c.read_frozen.ensures.stays) (ap (λ b. b.harmed.items) c.read_frozen.ensures.stays) c.in_ok-read_frozen.ensures.laid (subst (λ s. IsSpots c.args.log.now s) (sym (ap (λ b. b.spots) c.read_frozen.ensures.stays)) c.requires.ready.spots)
+returns-then-is_empty-clause-ready c = still_ready c.args.view.now c.args.log.now c.args.guards.now c.args.buffers.now _ c.requires.ready (ap (λ b. b.none) c.read_frozen.ensures.stays) (ap (λ b. b.harmed.items) c.read_frozen.ensures.stays) c.in_ok-read_frozen.ensures.laid (subst (λ s. IsSpots c.args.log.now s) (sym (ap (λ b. b.spots) c.read_frozen.ensures.stays)) c.requires.ready.spots) c.read_frozen.ensures.lead
 
 pub returns-then-is_empty-clause-laid : goal.returns-then-is_empty-clause-laid
 returns-then-is_empty-clause-laid c = c.in_ok-read_frozen.ensures.others
 
 pub returns-then-len-count-clause-ready : goal.returns-then-len-count-clause-ready
-returns-then-len-count-clause-ready c = still_ready c.args.view.now c.args.log.now c.args.guards.now c.args.buffers.now _ c.requires.ready (ap (λ b. b.none) c.read_frozen.ensures.stays) (ap (λ b. b.harmed.items) c.read_frozen.ensures.stays) c.in_ok-read_frozen.ensures.laid c.in_ok-find.ensures.spots
+returns-then-len-count-clause-ready c = still_ready c.args.view.now c.args.log.now c.args.guards.now c.args.buffers.now _ c.requires.ready (ap (λ b. b.none) c.read_frozen.ensures.stays) (ap (λ b. b.harmed.items) c.read_frozen.ensures.stays) c.in_ok-read_frozen.ensures.laid c.in_ok-find.ensures.spots c.read_frozen.ensures.lead
 
 pub returns-then-len-count-clause-laid : goal.returns-then-len-count-clause-laid
 returns-then-len-count-clause-laid c = c.in_ok-read_frozen.ensures.others
 
 pub returns-clause-ready : goal.returns-clause-ready
-returns-clause-ready c = still_ready c.args.view.now c.args.log.now c.args.guards.now c.args.buffers.now _ c.requires.ready (ap (λ b. b.none) c.read_frozen.ensures.stays) (ap (λ b. b.harmed.items) c.read_frozen.ensures.stays) c.in_ok-read_frozen.ensures.laid c.in_ok-find.ensures.spots
+returns-clause-ready c = still_ready c.args.view.now c.args.log.now c.args.guards.now c.args.buffers.now _ c.requires.ready (ap (λ b. b.none) c.read_frozen.ensures.stays) (ap (λ b. b.harmed.items) c.read_frozen.ensures.stays) c.in_ok-read_frozen.ensures.laid c.in_ok-find.ensures.spots c.read_frozen.ensures.lead
 
 pub returns-clause-laid : goal.returns-clause-laid
 returns-clause-laid c = c.in_ok-read_frozen.ensures.others

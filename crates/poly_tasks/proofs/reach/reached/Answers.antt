@@ -1,10 +1,11 @@
-use Rattle.std.proofs.Common.{ap, subst, ◌∙◌}
+use Rattle.std.proofs.Common.{ap, arith, subst, sym, ◌∙◌}
+use Rattle.std.proofs.lemmas.Bool.{eqb-true}
 use Rattle.std.specs.List.{list_any}
-use Rattle.poly_tiling.specs.Lists.{mem}
 use Rattle.poly_tiling.specs.Puzzle.{same_item}
 use Rattle.poly_tiling.specs.declared.item.Item.TheVariants.{Piece}
 use Rattle.poly_tasks.specs.Mapped.{placed, spanned}
 use Rattle.poly_tasks.specs.Reaching.{IsReached}
+use Rattle.poly_tasks.proofs.Lacking.{empty}
 use Rattle.poly_tasks.proofs.ReachedTasks.{all_kinds}
 use Rattle.poly_tasks.proofs.reach.reached.Goals as goal
 
@@ -14,13 +15,12 @@ returns-clause-ok c =
     let m = c.args.maps.now in
     let ps = c.args.tasks.now in
     let r1 = c.reach_has.new.reach.items in
-    let r2 = c.reach_lacks.new.reach.items in
     let r3 = c.reach_names.new.reach.items in
     let r4 = c.reach_key.new.reach.items in
     let r5 = c.reach_items.new.reach.items in
-    all_kinds t m ps r1 r2 r3 r4 r5 c.reach_lacks.ensures.farther c.reach_names.ensures.farther c.reach_key.ensures.farther c.reach_items.ensures.farther
+    all_kinds t m ps r1 r3 r4 r5 c.reach_names.ensures.farther c.reach_key.ensures.farther c.reach_items.ensures.farther
     (λ p h. subst (λ rows. IsReached r1 ps (λ n. placed rows p n)) c.deref.ensures.value (c.reach_has.ensures.reached p h))
-    (λ p h. c.reach_lacks.ensures.reached p (ap (λ l. mem l p) c.deref-2.ensures.value ∙ h))
-    (λ i h. c.reach_names.ensures.reached i (ap (λ l. list_any (λ x. same_item (Piece x) i) l) c.deref-3.ensures.value ∙ h))
+    (empty t.delta.now.pinned.items (omega (arith, eqb-true _ _ (sym c.is_empty.ensures ∙ c.if-not-is_empty.false), t.delta.now.pinned.ok.0)))
+    (λ i h. c.reach_names.ensures.reached i (ap (λ l. list_any (λ x. same_item (Piece x) i) l) c.deref-2.ensures.value ∙ h))
     (subst (λ k. IsReached r4 ps (λ n. spanned m.at_least.entries k n)) c.key_of.ensures c.reach_key.ensures.reached)
-    (λ i h. c.reach_items.ensures.reached i (ap (λ l. list_any (λ x. same_item x i) l) c.deref-4.ensures.value ∙ h))
+    (λ i h. c.reach_items.ensures.reached i (ap (λ l. list_any (λ x. same_item x i) l) c.deref-3.ensures.value ∙ h))

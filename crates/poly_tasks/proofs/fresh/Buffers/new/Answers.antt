@@ -6,4 +6,5 @@ returns-clause-ready c = λ log. record {
   harmed = c.in_ok-harmed.ensures.ok;
   laid = c.none.ensures c.args.view.now log;
   spots = c.none-2.ensures log;
+  lead = c.none-3.ensures log;
 }
