@@ -13,21 +13,6 @@ use Rattle.poly_frame.specs.FrameMembers.{SizesShow, without}
 use Rattle.poly_frame.proofs.Steps.{base_leave, base_pick}
 use Rattle.poly_frame.proofs.FramePicks.{base_again}
 
--- the later numbers move down by one, and the last place goes
-pub removed : (xs ys : List ℕ) (k n : ℕ) → n ≡ length xs → k < n → length ys ≡ n → ((i : ℕ) → i < k → get_or ys i 0 ≡ get_or xs i 0) → ((i : ℕ) → k ≤ i → i < k + (n - (k + 1)) → get_or ys i 0 ≡ get_or xs (k + 1 + (i - k)) 0) →
-    take (n - 1) ys ≡ take k xs ++ drop (k + 1) xs
-removed xs ys k n whole inside same below above =
-    let front : length (take k xs) ≡ k = omega (arith, length-take k xs, whole, inside) in
-    let size : length (take (n - 1) ys) ≡ n - 1 = omega (arith, length-take (n - 1) ys, same) in
-    ext_get_or 0 (take (n - 1) ys) (take k xs ++ drop (k + 1) xs) (omega (arith, size, front, length-append (take k xs) (drop (k + 1) xs), length-drop (k + 1) xs, whole, inside)) (λ i h.
-    get_or-take (n - 1) ys i 0 (omega (arith, h, size)) ∙ elim (cases_lt i k) [
-      | inl l ↦ below i l ∙ sym (get_or_append_left (take k xs) (drop (k + 1) xs) 0 i (omega (arith, l, front)) ∙ get_or-take k xs i 0 l)
-      | inr g ↦
-          let on : k + (i - k) ≡ i = omega arith in
-          above i g (omega (arith, h, size, inside))
-          ∙ sym (ap (λ m. get_or (take k xs ++ drop (k + 1) xs) m 0) (sym on) ∙ ap (λ m. get_or (take k xs ++ drop (k + 1) xs) (m + (i - k)) 0) (sym front) ∙ get_or-append-add (take k xs) (drop (k + 1) xs) (i - k) 0 ∙ get_or-drop (k + 1) xs (i - k) 0)
-    ])
-
 set_apart : (ys : List ℕ) (k p i : ℕ) → (i ≡ k → ⊥) → get_or (set ys k p) i 0 ≡ get_or ys i 0
 set_apart ys k p i ne = rw get_or-set_other refl
 

@@ -8,7 +8,7 @@ use Rattle.std.proofs.lemmas.Nat.{and_le_l, shr-shr}
 use Rattle.std.proofs.Math.Nat.{div-le_self}
 use Rattle.std.proofs.lemmas.List.{get_or-append-add, get_or-drop, get_or-take, get_or_append_left, length-drop, length-set, length-take-le}
 use Rattle.std.specs.Int.{bit_at, bit_not, trailing_zeros}
-use Rattle.poly_frame.specs.Bits.{FirstIn, IsLess, NoneIn, TellsShared, has_bit, in_both}
+use Rattle.poly_frame.specs.Bits.{FirstIn, IsLess, NoneIn, has_bit, in_both}
 
 less_at : (x y : ℕ) → x < 2 → y < 2 → eqb (min x (1 - y)) 1 ≡ (eqb x 1 && not (eqb y 1))
 less_at zero zero h k = refl
@@ -343,24 +343,6 @@ module _ (ws : List ℕ) (at : ℕ) (rs : List ℕ) (from low k past w : ℕ)
         is = both_word ws at rs from k w t same f.most ∙ f.is;
         before = none_both t (omega (arith, f.most)) f.before;
       }
-
--- words that have no bit in common have no number in common
-pub unshared : (ws : List ℕ) (at : ℕ) (rs : List ℕ) (from k w t : ℕ) →
-    ((u : ℕ) → eqb (bit_at w u) 1 ≡ (eqb (bit_at (get_or ws (at + k) 0) u) 1 && eqb (bit_at (get_or rs (from + k) 0) u) 1)) → w ≡ 0 → t < 64 →
-    in_both ws at rs from (64 * k + t) ≡ false
-unshared ws at rs from k w t same none l = both_word ws at rs from k w t same l ∙ ap (λ x. eqb (bit_at x t) 1) none ∙ ap (λ x. eqb x 1) (bit_at-zero t)
-
--- if no number below word k is shared, and no word from k on and before word n, then no number below word n is
-pub none_skipped : (ws : List ℕ) (at : ℕ) (rs : List ℕ) (from width shared low k n : ℕ) → TellsShared ws at rs from width shared → n ≤ width →
-    NoneIn (in_both ws at rs from) low (64 * k) → ((j : ℕ) → k ≤ j → j < n → (j < 64) × (eqb (bit_at shared j) 1 ≡ false)) → NoneIn (in_both ws at rs from) low (64 * n)
-none_skipped ws at rs from width shared low k n tells h passed skipped = λ x l m. elim (cases_lt x (64 * k)) [
-  | inl b ↦ passed x l b
-  | inr b ↦
-      let j = x / 64 in
-      let inside : j < n = omega arith in
-      let told = skipped j (omega arith) inside in
-      ap (λ y. in_both ws at rs from y) (omega arith) ∙ tells j (x % 64) (omega (arith, inside)) told.0 (omega arith) told.1
-]
 
 full_at : (n x k : ℕ) → k < n → get_or (replicate n x) k 0 ≡ x
 full_at zero x k h = absurd (omega arith)

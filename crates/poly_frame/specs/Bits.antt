@@ -14,10 +14,6 @@ IsLess new word a b c = (t : ℕ) → t < 64 → (bit_at new t == 1) ≡ ((bit_a
 abbrev pub in_both : List ℕ → ℕ → List ℕ → ℕ → ℕ → Bool
 in_both words at rows from j = has_bit words (64 * at + j) && has_bit rows (64 * from + j)
 
--- where one of the first 64 words of the two rows has no bit set in `shared`, the words there have no number in common
-abbrev pub TellsShared : List ℕ → ℕ → List ℕ → ℕ → ℕ → ℕ → Type 0
-TellsShared words at rows from width shared = (k t : ℕ) → k < width → k < 64 → t < 64 → (bit_at shared k == 1) ≡ false → in_both words at rows from (64 * k + t) ≡ false
-
 -- none of the numbers from `low` on and below `high` passes the test
 abbrev pub NoneIn : (ℕ → Bool) → ℕ → ℕ → Type 0
 NoneIn f low high = (x : ℕ) → low ≤ x → x < high → f x ≡ false

@@ -2,7 +2,7 @@
 //! the number `j` if bit `64 * at + j` of the list is set.
 ghost use Rattle.std.specs.Prelude.{MatchOption, false, length, not, slice_index, vec_capacity, vec_len, ℕ, ◌&&◌, ◌^◌, ◌*◌, ◌+◌, ◌-◌, ◌/◌, ◌<◌, ◌==◌, ◌||◌, ◌≡◌, ◌≤◌};
 ghost use Rattle.std.specs.Int.{bit_at};
-ghost use Rattle.poly_frame.specs.Bits.{FirstIn, IsLess, NoneIn, TellsShared, has_bit, in_both};
+ghost use Rattle.poly_frame.specs.Bits.{FirstIn, IsLess, NoneIn, has_bit, in_both};
 
 /// Whether the row that begins at word `at` has the number.
 #[tactic(auto, using(crate::proofs::Words::has_at))]
@@ -207,76 +207,6 @@ pub(crate) fn next_both(
         if let Some(t) = next_bit(both(words[at + k], rows[from + k]), past) {
             return Some(64 * k + t);
         }
-        past = 0;
-    }
-    None
-}
-
-// The word with bit `t`, if `wanted` isn't 0.
-fn with_bit_if(word: u64, t: usize, wanted: u64) -> u64
-    requires { t < 64 }
-    ensures kept { (u : ℕ) → u < 64 → (bit_at result u == 1) ≡ false → (bit_at word u == 1) ≡ false }
-    ensures put { (bit_at result t == 1) ≡ false → wanted ≡ 0 }
-{
-    if wanted == 0 {
-        return word;
-    }
-    word | (1 << t)
-}
-
-/// Which of the first 64 words of the row of `words` at word `at` and of the row of `rows` at word `from` have numbers in common: a
-/// bit for each word.
-pub(crate) fn shared_words(words: &[u64], at: usize, rows: &[u64], from: usize, width: usize) -> u64
-    requires words { at + width ≤ length words.now }
-    requires rows { from + width ≤ length rows.now }
-    ensures { TellsShared words.now at rows.now from width result }
-{
-    let mut shared = 0;
-    for k in 0..width.min(64) {
-        shared = with_bit_if(shared, k, both(words[at + k], rows[from + k]));
-    }
-    shared
-}
-
-// The first word from `low` on whose bit is set in `shared` or that has no bit there; `width` if there is none before.
-fn next_word(shared: u64, low: usize, width: usize) -> usize
-    requires { low ≤ width }
-    ensures least { low ≤ result }
-    ensures most { result ≤ width }
-    ensures before { (k : ℕ) → low ≤ k → k < result → (k < 64) × ((bit_at shared k == 1) ≡ false) }
-{
-    if low >= 64 {
-        return low;
-    }
-    match next_bit(shared, low) {
-        Some(k) => k.min(width),
-        None => width.min(64),
-    }
-}
-
-/// Does what `next_both` does, in less time. `shared` is what `shared_words` tells of the rows.
-pub(crate) fn next_shared(
-    words: &[u64],
-    at: usize,
-    rows: &[u64],
-    from: usize,
-    width: usize,
-    shared: u64,
-    low: usize,
-) -> Option<usize>
-    requires words { at + width ≤ length words.now }
-    requires rows { from + width ≤ length rows.now }
-    requires narrow { width < 2 ^ 58 }
-    requires shared { TellsShared words.now at rows.now from width shared }
-    ensures { MatchOption result (NoneIn (in_both words.now at rows.now from) low (64 * width)) (λ j. FirstIn (in_both words.now at rows.now from) low (64 * width) j) }
-{
-    let mut k = low / 64;
-    let mut past = low % 64;
-    while k < width {
-        if let Some(t) = next_bit(both(words[at + k], rows[from + k]), past) {
-            return Some(64 * k + t);
-        }
-        k = next_word(shared, k + 1, width);
         past = 0;
     }
     None

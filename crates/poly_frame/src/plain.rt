@@ -1,5 +1,5 @@
-//! What is open, dead, due and found at a list of atoms, read from the view placement by placement. `members` is the
-//! base of the atoms; `make_base` makes it.
+//! What is dead, due and found at a list of atoms, read from the view placement by placement. `members` is the base of the
+//! atoms; `make_base` makes it.
 ghost use Rattle.std.specs.Prelude.{MatchOption, drop, length, nat_lt, not, take, true, vec_len, ◌||◌, ◌++◌, ◌+◌, ◌<◌, ◌≡◌, ◌≤◌, ◌∷◌};
 ghost use Rattle.std.specs.List.{list_all, list_any};
 ghost use Rattle.std.specs.Vec.{vec_capacity};

@@ -181,29 +181,23 @@ fn leave_open(node: &Node<'_>, steps: &Steps, j: usize, row: &mut [u64])
     ensures row { RowWithout node.now.matrix.now steps.now.live.items j row.new }
 {
     let at = steps.live.len() - row.len();
-    close_each(
+    row.copy_from_slice(&steps.live[at..]);
+    close_all(
         &node.matrix.rows,
         steps.have.len(),
         node.matrix.items_of(j),
-        &steps.live[at..],
         row,
     );
 }
 
-// Makes `row` the row `live` without the numbers that have an item at one of the indices.
-fn close_each(rows: &[u64], items: usize, indices: &[usize], live: &[u64], row: &mut [u64])
-    requires rows { length rows.now ≡ length row.old * items }
-    requires low { list_all (λ b. nat_lt b items) indices.now ≡ true }
-    requires live { length live.now ≡ length row.old }
-    ensures len { length row.new ≡ length row.old }
-    ensures bits { (x : ℕ) → x < 64 * length row.old → has_bit row.new x ≡ (has_bit live.now x && not (list_any (λ b. has_bit rows.now (bit_index (length row.old) b x)) indices.now)) }
-{
-    row.copy_from_slice(live);
-    close_all(rows, items, indices, row);
-}
-
-// The scarcest of the items that are noted as due, if these numbers are open.
-fn scarcest_in(node: &Node<'_>, steps: &Steps, row: &[u64], due: &[u64], guess: usize) -> Scarce
+/// The scarcest of the items that are noted as due, if these numbers are open.
+pub(crate) fn scarcest_in(
+    node: &Node<'_>,
+    steps: &Steps,
+    row: &[u64],
+    due: &[u64],
+    guess: usize,
+) -> Scarce
     requires kept { IsAt node.now steps.now }
     requires row { length row.now ≡ node.now.matrix.now.width }
 {

@@ -23,7 +23,8 @@ pub(crate) fn fits(item: &Item, most: u8, have: u64) -> bool
     have <= u64::from(most) && (is_piece(item) || have <= 1)
 }
 
-fn is_piece(item: &Item) -> bool
+/// Whether the item is a piece.
+pub(crate) fn is_piece(item: &Item) -> bool
     ensures { result ≡ is_piece item.now }
 {
     match item {

@@ -126,8 +126,17 @@ pub(crate) fn narrow_layer<'a>(
         base: _,
     } = spare;
     let old_matrix = columns.into_own().unwrap_or(Matrix::none(alloc));
-    let matrix = queries::narrowed_now(alloc, node, steps, old_matrix)?;
-    let table = table_again(node.view, node.table, &node.trail[node.base..], old_table)?;
+    let Ok(matrix) = queries::narrowed_now(alloc, node, steps, old_matrix) else {
+        drop(old_table);
+        drop(old_steps);
+        return Err(Refusal::Memory);
+    };
+    let later = &node.trail[node.base..];
+    let Ok(table) = table_again(node.view, node.table, later, old_table) else {
+        drop(matrix);
+        drop(old_steps);
+        return Err(Refusal::Memory);
+    };
     let here = Node {
         view: node.view,
         trail: node.trail,
@@ -137,7 +146,11 @@ pub(crate) fn narrow_layer<'a>(
         table: &table,
         alive: node.alive,
     };
-    let steps = steps_here(&here, steps, old_steps)?;
+    let Ok(steps) = steps_here(&here, steps, old_steps) else {
+        drop(matrix);
+        drop(table);
+        return Err(Refusal::Memory);
+    };
     Ok(Layer {
         columns: Columns::Own(matrix),
         table,

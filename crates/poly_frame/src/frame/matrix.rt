@@ -87,23 +87,6 @@ impl<'a> Columns<'a> {
     }
 }
 
-impl Lists {
-    /// The list at `j`.
-    pub(crate) fn of(&self, j: usize) -> &[usize]
-        requires high { j + 1 < length self.now.starts.items }
-        requires order { slice_index self.now.starts.items j ≤ slice_index self.now.starts.items (j + 1) }
-        requires end { slice_index self.now.starts.items (j + 1) ≤ length self.now.indices.items }
-        ensures { result.now ≡ list_at self.now.starts.items self.now.indices.items j }
-    {
-        list_of(&self.starts, &self.indices, j)
-    }
-
-    /// The mask of the list at `j`.
-    pub(crate) fn mask(&self, j: usize) -> &[u64] {
-        part_of(&self.masks, self.words.wrapping_mul(j), self.words)
-    }
-}
-
 // The list at `j` of those that begin at `starts`.
 fn list_of<'a>(starts: &[usize], indices: &'a [usize], j: usize) -> &'a [usize]
     requires high { j + 1 < length starts.now }
@@ -172,14 +155,17 @@ impl Matrix {
     {
         match &self.lists {
             None => &[],
-            Some(lists) => lists.of(self.homes[j]),
+            Some(lists) => list_of(&lists.starts, &lists.indices, self.homes[j]),
         }
     }
 
     /// A bit for each item, set if the column has the item.
     pub(crate) fn mask_of(&self, j: usize) -> &[u64] {
         match &self.lists {
-            Some(lists) if j < self.homes.len() => lists.mask(self.homes[j]),
+            Some(lists) if j < self.homes.len() => {
+                let from = lists.words.wrapping_mul(self.homes[j]);
+                part_of(&lists.masks, from, lists.words)
+            }
             _ => &[],
         }
     }
@@ -234,7 +220,9 @@ pub(crate) fn columns_of<'a>(
     if is_dense(part.matrix(), &row) {
         return Ok((part, row));
     }
-    let narrow = narrowed(alloc, view, part.matrix(), &row, spare)?;
+    let made = narrowed(alloc, view, part.matrix(), &row, spare);
+    drop(part);
+    let narrow = made?;
     let first = first_row(narrow.numbers.len(), narrow.width, row)?;
     Ok((Columns::Own(narrow), first))
 }
@@ -255,15 +243,25 @@ pub(crate) fn narrowed(
     ensures why { IfErr result (λ e. e ≡ Refusal.Memory) }
 {
     let mut matrix = spare;
-    list_set(
+    let Ok(_) = list_set(
         &whole.numbers,
         &whole.homes,
         row,
         &mut matrix.numbers,
         &mut matrix.homes,
-    )?;
-    copy_guesses(&whole.cells, &mut matrix.cells)?;
-    matrix.lists = share(&whole.lists)?;
+    ) else {
+        drop(matrix);
+        return Err(Refusal::Memory);
+    };
+    let Ok(_) = copy_guesses(&whole.cells, &mut matrix.cells) else {
+        drop(matrix);
+        return Err(Refusal::Memory);
+    };
+    let Ok(lists) = share(&whole.lists) else {
+        drop(matrix);
+        return Err(Refusal::Memory);
+    };
+    matrix.lists = lists;
     // `stands` has an entry for each number that has a column
     let size = whole.stands.len();
     with_columns(alloc, view, size, matrix)
@@ -283,16 +281,27 @@ fn with_columns(alloc: Global, view: &View, size: usize, begun: Matrix) -> Resul
 {
     let mut matrix = begun;
     matrix.width = width_for(matrix.numbers.len());
-    write_rows(
+    let Ok(_) = write_rows(
         view,
         &matrix.numbers,
         &matrix.lists,
         &matrix.homes,
         matrix.width,
         &mut matrix.rows,
-    )?;
-    write_stands(&matrix.numbers, size, &mut matrix.stands)?;
-    matrix.occupied = occupied_rows(alloc, &matrix.rows, matrix.width, view.items().len())?;
+    ) else {
+        drop(matrix);
+        return Err(Refusal::Memory);
+    };
+    let Ok(_) = write_stands(&matrix.numbers, size, &mut matrix.stands) else {
+        drop(matrix);
+        return Err(Refusal::Memory);
+    };
+    let items = view.items().len();
+    let Ok(occupied) = occupied_rows(alloc, &matrix.rows, matrix.width, items) else {
+        drop(matrix);
+        return Err(Refusal::Memory);
+    };
+    matrix.occupied = occupied;
     Ok(matrix)
 }
 
@@ -474,17 +483,6 @@ fn size_for(numbers: &[u32]) -> usize
     size
 }
 
-// Makes the list as long as `size` if it is shorter.
-fn lengthen(list: &mut Vec<u32>, size: usize) -> Result<(), Refusal>
-    ensures len { OnOk result (size ≤ length list.new.items) }
-    ensures why { IfErr result (λ e. e ≡ Refusal.Memory) }
-{
-    if list.len() < size {
-        list.resize(size, 0)?;
-    }
-    Ok(())
-}
-
 // Writes the column of each number to the entry of `stands` at the number, which is below `size`. The other entries stay, since
 // they mean nothing. More columns than a u32 can count would be more than fit into memory.
 fn write_stands(numbers: &[u32], size: usize, stands: &mut Vec<u32>) -> Result<(), Refusal>
@@ -496,7 +494,9 @@ fn write_stands(numbers: &[u32], size: usize, stands: &mut Vec<u32>) -> Result<(
     let Ok(count) = u32::try_from(numbers.len()) else {
         return Err(Refusal::Memory);
     };
-    lengthen(stands, size)?;
+    if stands.len() < size {
+        stands.resize(size, 0)?;
+    }
     for j in 0..count {
         let p = numbers[j as usize] as usize;
         stands[p] = j;

@@ -7,17 +7,6 @@ use crate::frame::node::Node;
 use crate::plain::put_number;
 use poly_atom::Atom;
 
-// Removes the number at an index from a list.
-fn remove_at(numbers: &mut Vec<u32>, k: usize)
-    requires { k < length numbers.old.items }
-    ensures items { numbers.new.items ≡ take k numbers.old.items ++ drop (k + 1) numbers.old.items }
-    ensures room { vec_capacity numbers.new ≡ vec_capacity numbers.old }
-{
-    let len = numbers.len();
-    numbers.copy_within(k + 1..len, k);
-    numbers.truncate(len - 1);
-}
-
 // Removes the first occurrence of a number from a list.
 fn take_number(numbers: &mut Vec<u32>, number: u32)
     ensures items { numbers.new.items ≡ without number numbers.old.items }
@@ -25,7 +14,7 @@ fn take_number(numbers: &mut Vec<u32>, number: u32)
 {
     for k in 0..numbers.len() {
         if number == numbers[k] {
-            remove_at(numbers, k);
+            let _ = numbers.remove(k);
             return;
         }
     }

@@ -12,6 +12,7 @@ ghost use Rattle.poly_frame.specs.FrameTable.{HaveShows, MostsShow, shut_at};
 ghost use Rattle.poly_frame.specs.Matrices.{IsMatrix, RowOf, any_below, bit_index};
 
 use crate::bits;
+use crate::frame::consistent::is_piece;
 use crate::frame::matrix::Matrix;
 use poly_atom::Atom;
 use poly_grid::Refusal;
@@ -20,16 +21,7 @@ use poly_tiling::{Bound, Item, View};
 fn is_shut_at(item: &Item, most: u8, have: u64) -> bool
     ensures { result ≡ shut_at item.now most have }
 {
-    u64::from(most) <= have || is_had_cell(item, have)
-}
-
-fn is_had_cell(item: &Item, have: u64) -> bool
-    ensures { result ≡ (not (is_piece item.now) && nat_lt 0 have) }
-{
-    match item {
-        Item::Cell(_) => 0 < have,
-        Item::Piece(_) => false,
-    }
+    u64::from(most) <= have || (!is_piece(item) && 0 < have)
 }
 
 fn ones() -> u64

@@ -15,14 +15,11 @@ ghost use Rattle.poly_frame.specs.FrameSteps.{IsAt};
 ghost use Rattle.poly_frame.specs.FrameTable.{HasOpen};
 ghost use Rattle.poly_frame.specs.Matrices.{IsMatrix};
 
-use crate::frame::ahead::Guesses;
+use crate::frame::ahead::{Guesses, scarcest_in};
 use crate::frame::items::{guess_item, index_of};
 use crate::frame::matrix::{Matrix, narrowed};
 use crate::frame::node::Node;
-use crate::frame::occupied::{
-    Occupied, common, count_bits, count_common, is_narrow, occupied_words,
-};
-use crate::frame::scarce::{Needs, Rows, scarcest};
+use crate::frame::occupied::count_bits;
 use crate::frame::steps::Steps;
 use crate::frame::table::Table;
 use crate::{bits, plain};
@@ -41,9 +38,8 @@ fn list_both(matrix: &Matrix, live: &[u64], at: usize, from: usize, into: &mut V
     ensures room { vec_capacity into.new ≡ vec_capacity into.old }
 {
     into.clear();
-    let shared = bits::shared_words(live, at, &matrix.rows, from, matrix.width);
     let mut low = 0;
-    while let Some(j) = bits::next_shared(live, at, &matrix.rows, from, matrix.width, shared, low) {
+    while let Some(j) = bits::next_both(live, at, &matrix.rows, from, matrix.width, low) {
         if j >= matrix.numbers.len() {
             return;
         }
@@ -153,20 +149,6 @@ fn is_below(table: &Table, steps: &Steps, b: usize) -> bool
     steps.have[b] < u64::from(table.leasts[b])
 }
 
-/// Whether some item of the view is due: too few members of the base have it.
-pub(crate) fn is_short(node: &Node<'_>, steps: &Steps) -> bool
-    requires kept { IsAt node.now steps.now }
-    ensures short { result ≡ true → in_family node.now.view.now node.now.trail.now (base node.now.view.now node.now.trail.now) ≡ false }
-    ensures enough { result ≡ false → (b : ℕ) → b < length node.now.view.now.bounds → nat_lt (count node.now.view.now (base node.now.view.now node.now.trail.now) (item_of node.now.view.now b)) (least_at node.now.view.now node.now.trail.now (item_of node.now.view.now b)) ≡ false }
-{
-    for b in 0..node.table.leasts_end.min(steps.have.len()) {
-        if is_below(node.table, steps, b) {
-            return true;
-        }
-    }
-    false
-}
-
 /// Whether the base is a tiling that meets the atoms; `None` if the rows do not decide it.
 pub(crate) fn judge(node: &Node<'_>, steps: &Steps, consistent: usize) -> Option<bool>
     requires kept { IsAt node.now steps.now }
@@ -174,55 +156,13 @@ pub(crate) fn judge(node: &Node<'_>, steps: &Steps, consistent: usize) -> Option
     requires low { node.now.given ≤ length node.now.trail.now }
     ensures { IfSome result (λ b. in_family node.now.view.now node.now.trail.now (base node.now.view.now node.now.trail.now) ≡ b) }
 {
-    if is_short(node, steps) {
+    if let Some(_) = next_unnoted(node, steps) {
         return Some(false);
     }
     if node.table.listed && consistent > node.trail.len() - node.given {
         return Some(true);
     }
     None
-}
-
-// How many options the item at an index has to spare: those beyond what it still needs, plus one; 0 if there are too few.
-// If this number is at least `fewest`, the result may be any number that is at least `fewest`. `None` if the item is not due.
-fn spare(
-    node: &Node<'_>,
-    steps: &Steps,
-    at: usize,
-    occupied: &Occupied,
-    b: usize,
-    fewest: usize,
-) -> Option<usize>
-    requires have { b < length steps.now.have.items }
-    requires leasts { b < length node.now.table.now.leasts.items }
-    requires live { at + node.now.matrix.now.width ≤ length steps.now.live.items }
-    requires rows { node.now.matrix.now.width * b + node.now.matrix.now.width ≤ length node.now.matrix.now.rows.items }
-    ensures { MatchOption result (nat_lt (slice_index steps.now.have.items b) (slice_index node.now.table.now.leasts.items b) ≡ false) (λ _. nat_lt (slice_index steps.now.have.items b) (slice_index node.now.table.now.leasts.items b) ≡ true) }
-{
-    let have = steps.have[b];
-    let least = u64::from(node.table.leasts[b]);
-    if least <= have {
-        return None;
-    }
-    let remaining = (least - have) as usize - 1;
-    let from = node.matrix.width * b;
-    let live = &steps.live[at..at + node.matrix.width];
-    let row = &node.matrix.rows[from..from + node.matrix.width];
-    let most = fewest.saturating_add(remaining);
-    let n = if is_narrow(live) {
-        count_common(live, row, most)
-    } else {
-        common(live, occupied, row, &filled_words(node.matrix, b), most)
-    };
-    Some(n.saturating_sub(remaining))
-}
-
-fn filled_words(matrix: &Matrix, b: usize) -> Occupied {
-    if b < matrix.occupied.len() {
-        matrix.occupied[b]
-    } else {
-        Occupied::all()
-    }
 }
 
 // Whether the item at the index is due.
@@ -240,18 +180,7 @@ fn next_noted(node: &Node<'_>, steps: &Steps, guess: usize) -> Option<usize>
     ensures { IfSome result (λ b. (b < length steps.now.have.items) × (nat_lt (slice_index steps.now.have.items b) (slice_index node.now.table.now.leasts.items b) ≡ true)) }
 {
     let at = steps.live.len() - node.matrix.width;
-    let live = &steps.live[at..];
-    let rows = Rows {
-        words: &node.matrix.rows,
-        items: steps.have.len(),
-        occupied: &node.matrix.occupied,
-    };
-    let needs = Needs {
-        have: &steps.have,
-        leasts: &node.table.leasts,
-        single: node.table.single,
-    };
-    let best = scarcest(live, &rows, &needs, &steps.due, guess);
+    let best = scarcest_in(node, steps, &steps.live[at..], &steps.due, guess);
     if best.spare < usize::MAX && is_due_at(node, steps, best.index) {
         Some(best.index)
     } else {
@@ -281,28 +210,17 @@ fn next_listed(node: &Node<'_>, steps: &Steps, guesses: Guesses) -> Option<usize
     }
 }
 
-// The index of an item of the view that is due, found without the notes; `None` if there is none. An item that has too few
-// options comes first, then one with the fewest options beyond what it still needs.
+// The index of an item of the view that is due, found without the notes; `None` if there is none.
 fn next_unnoted(node: &Node<'_>, steps: &Steps) -> Option<usize>
     requires kept { IsAt node.now steps.now }
     ensures { MatchOption result ((b : ℕ) → b < length node.now.view.now.bounds → nat_lt (count node.now.view.now (base node.now.view.now node.now.trail.now) (item_of node.now.view.now b)) (least_at node.now.view.now node.now.trail.now (item_of node.now.view.now b)) ≡ false) (λ b. (b < length node.now.view.now.bounds) × (nat_lt (count node.now.view.now (base node.now.view.now node.now.trail.now) (item_of node.now.view.now b)) (least_at node.now.view.now node.now.trail.now (item_of node.now.view.now b)) ≡ true)) }
 {
-    let at = steps.live.len() - node.matrix.width;
-    let occupied = occupied_words(&steps.live[at..]);
-    let mut best = None;
-    let mut fewest = usize::MAX;
     for b in 0..node.table.leasts_end.min(steps.have.len()) {
-        if let Some(n) = spare(node, steps, at, &occupied, b, fewest) {
-            if n == 0 {
-                return Some(b);
-            }
-            if best.is_none() || n < fewest {
-                fewest = n;
-                best = Some(b);
-            }
+        if is_below(node.table, steps, b) {
+            return Some(b);
         }
     }
-    best
+    None
 }
 
 // An item of the view that is due, as `next_listed` finds it; `None` if there is none.

@@ -83,18 +83,18 @@ fn note_number(
     ensures indices { (indices : List ℕ) × (noted.new.items ≡ noted.old.items ++ indices) × Noted view.now.bounds (items view.now number) indices }
 {
     match column {
-        Some(j) => note_list(matrix.items_of(j), noted),
+        Some(j) => append(matrix.items_of(j), noted),
         None => note_items(view, &matrix.cells, 0, number, noted),
     }
 }
 
 // Appends a list, for which there is room.
-fn note_list(list: &[usize], noted: &mut Vec<usize>)
-    requires { vec_len noted.old + length list.now ≤ vec_capacity noted.old }
-    ensures capacity { vec_capacity noted.old ≤ vec_capacity noted.new }
-    ensures items { noted.new.items ≡ noted.old.items ++ list.now }
+fn append<T: Copy>(list: &[T], onto: &mut Vec<T>)
+    requires { vec_len onto.old + length list.now ≤ vec_capacity onto.old }
+    ensures capacity { vec_capacity onto.old ≤ vec_capacity onto.new }
+    ensures items { onto.new.items ≡ onto.old.items ++ list.now }
 {
-    let _ = noted.extend_from_slice(list);
+    let _ = onto.extend_from_slice(list);
 }
 
 // Closes the placements that have an item at one of the indices, if the count of that item has reached its limit.
@@ -259,15 +259,6 @@ fn close_column(live: &mut Vec<u64>, at: usize, column: Option<usize>)
     }
 }
 
-// Appends a row, for which there is room.
-fn push_row(live: &mut Vec<u64>, row: &[u64])
-    requires room { vec_len live.old + length row.now ≤ vec_capacity live.old }
-    ensures capacity { vec_capacity live.old ≤ vec_capacity live.new }
-    ensures items { live.new.items ≡ live.old.items ++ row.now }
-{
-    let _ = live.extend_from_slice(row);
-}
-
 /// Does what `pick` does for the placement of column `j`, which is open, if no item may have several members. `row` is the last
 /// row without the columns that share an item with this one.
 pub(crate) fn pick_open(node: &Node<'_>, steps: &mut Steps, j: usize, row: &[u64])
@@ -283,14 +274,14 @@ pub(crate) fn pick_open(node: &Node<'_>, steps: &mut Steps, j: usize, row: &[u64
     ensures room { HasRoom node.now.matrix.now steps.new }
 {
     let at = steps.live.len();
-    push_row(&mut steps.live, row);
+    append(row, &mut steps.live);
     steps.marks.push_reserved(Mark {
         raised: steps.raised.len(),
         row: at - node.matrix.width,
         cleared: None,
     });
     let indices = node.matrix.items_of(j);
-    note_list(indices, &mut steps.raised);
+    append(indices, &mut steps.raised);
     raise(&mut steps.have, indices);
     leave_out(node.matrix.mask_of(j), &mut steps.due);
     bits::take_out(&mut steps.live, at, j);

@@ -128,22 +128,16 @@ fn end_of(leasts: &[u8]) -> usize
     0
 }
 
-// The greatest of the entries; 0 if there are none. It looks at all, so that the compiler takes several at once.
-fn greatest(entries: &[u8]) -> u8
-    ensures { (n : ℕ) → nat_le result n ≡ list_all (λ e. nat_le e n) entries.now }
-{
-    let mut most = 0u8;
-    for entry in entries {
-        most = most.max(*entry);
-    }
-    most
-}
-
 // Whether no entry is over 1.
 fn are_single(entries: &[u8]) -> bool
     ensures { result ≡ list_all (λ n. nat_le n 1) entries.now }
 {
-    greatest(entries) <= 1
+    for n in entries {
+        if *n > 1 {
+            return false;
+        }
+    }
+    true
 }
 
 /// The table of the atoms, for any matrix with a column for each placement that is open at them.

@@ -12,16 +12,16 @@ pub steps_here-requires-clause-table : goal.steps_here-requires-clause-table
 steps_here-requires-clause-table c =
     let n = c.args.node.now in
     let s = c.args.steps.now in
-    let t = c.in_ok-table.ensures in
+    let t = c.in-Ok-table_again.ensures in
     let few : length (base n.view.now n.trail.now) < 2 ^ 63 = omega (arith, ap length c.requires.members, c.requires.few) in
-    table_here n.view.now n.trail.now n.base n.matrix.now c.in_ok-matrix.matrix n.table.now c.in_ok-table.table s.live.items s.have.items s.raised.items s.marks.items n.view.now.bounds _ c.requires.kept c.in_ok-matrix.ensures.part c.in_ok-matrix.ensures.all few refl refl t.limits t.mosts t.leasts t.listed t.end t.alone
+    table_here n.view.now n.trail.now n.base n.matrix.now c.in-Ok.matrix n.table.now c.in-Ok-table_again.table s.live.items s.have.items s.raised.items s.marks.items n.view.now.bounds _ c.requires.kept c.in-Ok.ensures.part c.in-Ok.ensures.all few refl refl t.limits t.mosts t.leasts t.listed t.end t.alone
 
 pub steps_here-requires-clause-open : goal.steps_here-requires-clause-open
 steps_here-requires-clause-open c = λ q m.
     let n = c.args.node.now in
     let ns = n.matrix.now.numbers.items in
     let f : ℕ → Bool = λ p. open_in n.view.now n.trail.now p in
-    (and_parts (mem ns q) (f q) (sym (mem_filter f ns q) ∙ ap (λ xs. mem xs q) (sym c.in_ok-matrix.ensures.numbers) ∙ m)).1
+    (and_parts (mem ns q) (f q) (sym (mem_filter f ns q) ∙ ap (λ xs. mem xs q) (sym c.in-Ok.ensures.numbers) ∙ m)).1
 
 pub steps_here-requires-clause-have : goal.steps_here-requires-clause-have
 steps_here-requires-clause-have c = λ b h.
@@ -34,21 +34,21 @@ steps_here-requires-clause-len c = c.requires.kept.have_len
 
 pub returns-clause-layer : goal.returns-clause-layer
 returns-clause-layer c = record {
-  levels = c.in_ok-steps.ensures.kept;
-  room = c.in_ok-steps.ensures.room;
+  levels = c.in-Ok-steps_here.ensures.kept;
+  room = c.in-Ok-steps_here.ensures.room;
 }
 
 pub returns-clause-here : goal.returns-clause-here
 returns-clause-here c = refl
 
-pub slice_bounds-table_again-count : goal.slice_bounds-table_again-count
-slice_bounds-table_again-count c = c.requires.kept.low
+pub slice_bounds-later-count : goal.slice_bounds-later-count
+slice_bounds-later-count c = c.requires.kept.low
 
-pub slice_bounds-table_again-start : goal.slice_bounds-table_again-start
-slice_bounds-table_again-start c = c.requires.kept.low
+pub slice_bounds-later-start : goal.slice_bounds-later-start
+slice_bounds-later-start c = c.requires.kept.low
 
 to_itself : (n : ℕ) → n ≤ n
 to_itself n = omega arith
 
-pub slice_bounds-table_again-end : goal.slice_bounds-table_again-end
-slice_bounds-table_again-end c = to_itself (length c.args.node.now.trail.now)
+pub slice_bounds-later-end : goal.slice_bounds-later-end
+slice_bounds-later-end c = to_itself (length c.args.node.now.trail.now)

@@ -4,11 +4,11 @@ use Rattle.poly_frame.specs.declared.frame.matrix.Matrix.{Matrix}
 use Rattle.poly_frame.proofs.Matrices.{narrow_all, narrow_numbers, narrow_row}
 use Rattle.poly_frame.proofs.frame.matrix.columns_of.Goals as goal
 
-pub narrowed-requires-clause-whole : goal.narrowed-requires-clause-whole
-narrowed-requires-clause-whole c = subst (λ (m : Matrix). IsMatrix c.args.view.now m) (sym c.matrix-2.ensures) c.requires.part
+pub narrowed-made-requires-clause-whole : goal.narrowed-made-requires-clause-whole
+narrowed-made-requires-clause-whole c = subst (λ (m : Matrix). IsMatrix c.args.view.now m) (sym c.matrix-2.ensures) c.requires.part
 
-pub narrowed-requires-clause-row : goal.narrowed-requires-clause-row
-narrowed-requires-clause-row c = ap length c.deref-2.ensures.value ∙ c.requires.len ∙ ap (λ (m : Matrix). m.width) (sym c.matrix-2.ensures)
+pub narrowed-made-requires-clause-row : goal.narrowed-made-requires-clause-row
+narrowed-made-requires-clause-row c = ap length c.deref-2.ensures.value ∙ c.requires.len ∙ ap (λ (m : Matrix). m.width) (sym c.matrix-2.ensures)
 
 pub returns-clause-row : goal.returns-clause-row
 returns-clause-row c = λ f R.

@@ -15,27 +15,27 @@ list_set-requires-clause-homes c =
 pub with_columns-requires-clause-once : goal.with_columns-requires-clause-once
 with_columns-requires-clause-once c =
     let w = c.args.whole.now in
-    chosen_once w.numbers.items w.homes.items c.args.row.now c.list_set.new.numbers.items c.list_set.new.homes.items c.deref.result.now c.deref-2.result.now (64 * length c.args.row.now) c.deref.ensures.value c.deref-2.ensures.value c.in_ok-list_set.ensures.listed (omega (arith, c.requires.row, c.requires.whole.wide)) w.stands.items c.requires.whole.stands c.requires.whole.once
+    chosen_once w.numbers.items w.homes.items c.args.row.now c.list_set.new.numbers.items c.list_set.new.homes.items c.deref.result.now c.deref-2.result.now (64 * length c.args.row.now) c.deref.ensures.value c.deref-2.ensures.value c.in-Ok.ensures.listed (omega (arith, c.requires.row, c.requires.whole.wide)) w.stands.items c.requires.whole.stands c.requires.whole.once
 
 pub with_columns-requires-clause-above : goal.with_columns-requires-clause-above
 with_columns-requires-clause-above c = λ j h.
     let w = c.args.whole.now in
-    omega (arith, chosen_below w.numbers.items w.homes.items c.args.row.now c.list_set.new.numbers.items c.list_set.new.homes.items c.deref.result.now c.deref-2.result.now (64 * length c.args.row.now) c.deref.ensures.value c.deref-2.ensures.value c.in_ok-list_set.ensures.listed (omega (arith, c.requires.row, c.requires.whole.wide)) w.stands.items c.requires.whole.stands j h, c.len-size.ensures, w.stands.ok.0)
+    omega (arith, chosen_below w.numbers.items w.homes.items c.args.row.now c.list_set.new.numbers.items c.list_set.new.homes.items c.deref.result.now c.deref-2.result.now (64 * length c.args.row.now) c.deref.ensures.value c.deref-2.ensures.value c.in-Ok.ensures.listed (omega (arith, c.requires.row, c.requires.whole.wide)) w.stands.items c.requires.whole.stands j h, c.len-size.ensures, w.stands.ok.0)
 
 pub with_columns-requires-clause-fewer : goal.with_columns-requires-clause-fewer
 with_columns-requires-clause-fewer c =
     let w = c.args.whole.now in
-    omega (arith, chosen_fewer w.numbers.items w.homes.items c.args.row.now c.list_set.new.numbers.items c.list_set.new.homes.items c.deref.result.now c.deref-2.result.now (64 * length c.args.row.now) c.deref.ensures.value c.deref-2.ensures.value c.in_ok-list_set.ensures.listed (omega (arith, c.requires.row, c.requires.whole.wide)) w.stands.items c.requires.whole.stands, c.requires.whole.fewer)
+    omega (arith, chosen_fewer w.numbers.items w.homes.items c.args.row.now c.list_set.new.numbers.items c.list_set.new.homes.items c.deref.result.now c.deref-2.result.now (64 * length c.args.row.now) c.deref.ensures.value c.deref-2.ensures.value c.in-Ok.ensures.listed (omega (arith, c.requires.row, c.requires.whole.wide)) w.stands.items c.requires.whole.stands, c.requires.whole.fewer)
 
 pub with_columns-requires-clause-live : goal.with_columns-requires-clause-live
 with_columns-requires-clause-live c =
     let w = c.args.whole.now in
-    λ q m. c.requires.whole.live q (chosen_among w.numbers.items w.homes.items c.args.row.now c.list_set.new.numbers.items c.list_set.new.homes.items c.deref.result.now c.deref-2.result.now (64 * length c.args.row.now) c.deref.ensures.value c.deref-2.ensures.value c.in_ok-list_set.ensures.listed (omega (arith, c.requires.row, c.requires.whole.wide)) w.stands.items c.requires.whole.stands q m)
+    λ q m. c.requires.whole.live q (chosen_among w.numbers.items w.homes.items c.args.row.now c.list_set.new.numbers.items c.list_set.new.homes.items c.deref.result.now c.deref-2.result.now (64 * length c.args.row.now) c.deref.ensures.value c.deref-2.ensures.value c.in-Ok.ensures.listed (omega (arith, c.requires.row, c.requires.whole.wide)) w.stands.items c.requires.whole.stands q m)
 
 pub with_columns-requires-clause-lists : goal.with_columns-requires-clause-lists
 with_columns-requires-clause-lists c =
     let w = c.args.whole.now in
-    c.in_ok-matrix.ensures.same c.args.view.now c.list_set.new.numbers.items c.list_set.new.homes.items (chosen_homes w.numbers.items w.homes.items c.args.row.now c.list_set.new.numbers.items c.list_set.new.homes.items c.deref.result.now c.deref-2.result.now (64 * length c.args.row.now) c.deref.ensures.value c.deref-2.ensures.value c.in_ok-list_set.ensures.listed (omega (arith, c.requires.row, c.requires.whole.wide)) w.stands.items c.requires.whole.stands c.args.view.now w.lists c.requires.whole.lists)
+    c.in-Ok-share.ensures.same c.args.view.now c.list_set.new.numbers.items c.list_set.new.homes.items (chosen_homes w.numbers.items w.homes.items c.args.row.now c.list_set.new.numbers.items c.list_set.new.homes.items c.deref.result.now c.deref-2.result.now (64 * length c.args.row.now) c.deref.ensures.value c.deref-2.ensures.value c.in-Ok.ensures.listed (omega (arith, c.requires.row, c.requires.whole.wide)) w.stands.items c.requires.whole.stands c.args.view.now w.lists c.requires.whole.lists)
 
 pub returns-clause-made : goal.returns-clause-made
 returns-clause-made c =
@@ -50,4 +50,4 @@ returns-clause-numbers c =
     let row = c.args.row.now in
     let ns = w.numbers.items in
     IfOk-weaker c.with_columns.result (λ m. IsMatrix v m × (m.numbers.items ≡ c.list_set.new.numbers.items)) (λ m. (f : ℕ → Bool) → ((j : ℕ) → j < length ns → f (get_or ns j 0) ≡ has_bit row j) → m.numbers.items ≡ filter f ns)
-    (λ m h. λ f g. h.1 ∙ chosen_is w.numbers.items w.homes.items c.args.row.now c.list_set.new.numbers.items c.list_set.new.homes.items c.deref.result.now c.deref-2.result.now (64 * length c.args.row.now) c.deref.ensures.value c.deref-2.ensures.value c.in_ok-list_set.ensures.listed (omega (arith, c.requires.row, c.requires.whole.wide)) f g) c.with_columns.ensures.made
+    (λ m h. λ f g. h.1 ∙ chosen_is w.numbers.items w.homes.items c.args.row.now c.list_set.new.numbers.items c.list_set.new.homes.items c.deref.result.now c.deref-2.result.now (64 * length c.args.row.now) c.deref.ensures.value c.deref-2.ensures.value c.in-Ok.ensures.listed (omega (arith, c.requires.row, c.requires.whole.wide)) f g) c.with_columns.ensures.made

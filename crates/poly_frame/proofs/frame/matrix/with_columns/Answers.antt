@@ -21,12 +21,12 @@ returns-clause-made c =
         once = c.requires.once;
         fewer = c.requires.fewer;
         live = c.requires.live;
-        stands = subst (λ (ns : List ℕ). StandsShow ns c.write_stands.new.stands.items) c.deref-3.ensures.value c.in_ok-write_stands.ensures.value;
+        stands = subst (λ (ns : List ℕ). StandsShow ns c.write_stands.new.stands.items) c.deref-3.ensures.value c.in-Ok-write_stands.ensures.value;
         lists = c.requires.lists;
         wide = omega (arith, width.ensures.wide, c.len.ensures, numbers.ok.0);
         narrow = omega (arith, width.ensures.small, c.len.ensures, numbers.ok.0, numbers.ok.1, numbers.small);
-        rows = subst (λ (ns : List ℕ). RowsShow c.args.view.now ns width.result c.write_rows.new.rows.items) c.deref.ensures.value c.in_ok-write_rows.ensures.value;
-        rows_len = c.in_ok-write_rows.ensures.len;
+        rows = subst (λ (ns : List ℕ). RowsShow c.args.view.now ns width.result c.write_rows.new.rows.items) c.deref.ensures.value c.in-Ok.ensures.value;
+        rows_len = c.in-Ok.ensures.len;
       },
       refl,
     )

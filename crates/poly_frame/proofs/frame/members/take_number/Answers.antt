@@ -11,7 +11,7 @@ returns-then-number-index-clause-items c =
     let same = ap (λ (z : Vec ℕ Global). z.items) c.loop-k.invariant.same in
     let low : k < length xs = omega (arith, c.loop-k-test.true, c.len-k-end.ensures, c.args.numbers.now.ok.0) in
     let read : c.index.result.now ≡ get_or xs k 0 = get_or_read c.loop-k.numbers.items k c.index.result.now (omega (arith, low, ap length same)) c.index.ensures 0 ∙ ap (λ ys. get_or ys k 0) same in
-    c.remove_at.ensures.items ∙ ap (λ ys. take k ys ++ drop (k + 1) ys) same ∙ sym (without_at c.args.number xs k low c.loop-k.invariant.before (eq-eqb _ _ (c.if-number-index.true ∙ read)))
+    c.remove.ensures.by_index.2 ∙ ap (λ ys. take k ys ++ drop (k + 1) ys) same ∙ sym (without_at c.args.number xs k low c.loop-k.invariant.before (eq-eqb _ _ (c.if-number-index.true ∙ read)))
 
 pub returns-clause-items : goal.returns-clause-items
 returns-clause-items c =

@@ -14,13 +14,13 @@ pub returns-then-j-len-clause-items : goal.returns-then-j-len-clause-items
 returns-then-j-len-clause-items c = λ f h.
     let ns = c.args.matrix.now.numbers.items in
     let past : length ns ≤ c.in-Some.j = omega (arith, c.if-j-len.true, c.len.ensures, c.args.matrix.now.numbers.ok.0) in
-    let none = fails ns c.args.matrix.now.rows.items c.deref-in-loop-j.result.now c.args.live.now c.args.at c.args.from c.loop-j.low c.in-Some.j f c.deref-in-loop-j.ensures.value h c.in-Some.ensures.before in
+    let none = fails ns c.args.matrix.now.rows.items c.deref.result.now c.args.live.now c.args.at c.args.from c.loop-j.low c.in-Some.j f c.deref.ensures.value h c.in-Some.ensures.before in
     c.loop-j.invariant.items f h ∙ filter_rest f ns c.loop-j.low c.loop-j.invariant.low (λ x l m. none x l (omega (arith, past)) m)
 
 pub returns-clause-items : goal.returns-clause-items
 returns-clause-items c = λ f h.
     let ns = c.args.matrix.now.numbers.items in
-    let none = fails ns c.args.matrix.now.rows.items c.deref-in-loop-j.result.now c.args.live.now c.args.at c.args.from c.loop-j.low _ f c.deref-in-loop-j.ensures.value h c.in_default.ensures in
+    let none = fails ns c.args.matrix.now.rows.items c.deref.result.now c.args.live.now c.args.at c.args.from c.loop-j.low _ f c.deref.ensures.value h c.in_default.ensures in
     c.loop-j.invariant.items f h ∙ filter_rest f ns c.loop-j.low c.loop-j.invariant.low (λ x l m. none x l (omega (arith, c.requires.wide)) m)
 
 pub loop-j-preserved : goal.loop-j-preserved
@@ -33,8 +33,8 @@ loop-j-preserved c =
       capacity = search rules;
       items = λ f h.
           let read = get_or_read ns c.in-Some.j c.index.result.now low c.index.ensures 0 in
-          let none = fails ns c.args.matrix.now.rows.items c.deref-in-loop-j.result.now c.args.live.now c.args.at c.args.from c.loop-j.low c.in-Some.j f c.deref-in-loop-j.ensures.value h c.in-Some.ensures.before in
-          let yes = h c.in-Some.j low ∙ ap (λ xs. in_both c.args.live.now c.args.at xs c.args.from c.in-Some.j) (sym c.deref-in-loop-j.ensures.value) ∙ c.in-Some.ensures.is in
+          let none = fails ns c.args.matrix.now.rows.items c.deref.result.now c.args.live.now c.args.at c.args.from c.loop-j.low c.in-Some.j f c.deref.ensures.value h c.in-Some.ensures.before in
+          let yes = h c.in-Some.j low ∙ ap (λ xs. in_both c.args.live.now c.args.at xs c.args.from c.in-Some.j) (sym c.deref.ensures.value) ∙ c.in-Some.ensures.is in
           c.push_reserved.ensures.items ∙ ap (λ xs. xs ++ c.index.result.now ∷ []) (c.loop-j.invariant.items f h) ∙ ap (λ n. filter f (take c.loop-j.low ns) ++ n ∷ []) read
           ∙ ap (λ xs. xs ++ get_or ns c.in-Some.j 0 ∷ []) (sym (filter_gap f ns c.loop-j.low c.in-Some.j c.in-Some.ensures.least (omega (arith, low)) (λ x l m. none x l m (omega (arith, low))))) ∙ sym (filter_yes f ns c.in-Some.j low yes);
     }
