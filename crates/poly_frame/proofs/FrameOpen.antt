@@ -1,5 +1,5 @@
 -- How the rows and the `stands` of a matrix are made, and how a row is cut off.
-use Rattle.std.proofs.Common.{◌≡◌, ℕ, zero, suc, ◌+◌, ◌++◌, ◌-◌, ◌*◌, ◌/◌, ◌%◌, ◌<◌, ◌≤◌, Bool, true, false, max, not, ◌&&◌, ◌||◌, eqb, ltb, List, [], ◌∷◌, inl, inr, refl, sym, ap, subst, ◌∙◌, arith, length, get_or, take, replicate}
+use Rattle.std.proofs.Common.{◌≡◌, ℕ, zero, suc, ◌+◌, ◌++◌, ◌-◌, ◌*◌, ◌/◌, ◌%◌, ◌<◌, ◌≤◌, Bool, true, false, max, ◌&&◌, ◌||◌, eqb, ltb, List, [], ◌∷◌, inl, inr, refl, sym, ap, subst, ◌∙◌, arith, length, get_or, take, replicate}
 use Rattle.std.specs.List.{list_any, list_all}
 use Rattle.std.proofs.Math.ListN.{set}
 use Rattle.std.proofs.Math.Nat.{mul-le-mul_left}
@@ -15,7 +15,7 @@ use Rattle.poly_frame.specs.FrameItems.{Noted, item_of, times}
 use Rattle.poly_frame.specs.Matrices.{RowsShow, bit_index}
 use Rattle.poly_frame.proofs.Words.{no_bits, same_row, same_word}
 use Rattle.poly_frame.proofs.FramePicks.{one_true, some_times, times_some}
-use Rattle.poly_frame.proofs.FrameSteps.{distinct_at, none_and, own_gone, own_spared}
+use Rattle.poly_frame.proofs.FrameSteps.{distinct_at}
 
 -- a bit's index says which row and which number
 pub bit_index_once : (w a b i j : ℕ) → i < 64 * w → j < 64 * w → bit_index w a i ≡ bit_index w b j → (a ≡ b) × (i ≡ j)
@@ -85,16 +85,6 @@ size_step ns k s u h e a = ap (λ xs. list_all (λ p. ltb p u) xs) (take_more ns
 
 pub rows_start : (rows : List ℕ) (n x i : ℕ) (h : Bool) → rows ≡ replicate n 0 → has_bit rows x ≡ (ltb i 0 && h)
 rows_start rows n x i h e = ap (λ ws. has_bit ws x) e ∙ no_bits n x ∙ sym (ap (λ b. b && h) (false_from_ne_true (ltb i 0) (λ y. let l = ltb-true i 0 y in absurd (omega arith))))
-
--- cutting off number j keeps the numbers before it
-pub cut_kept : (old new : List ℕ) (j i : ℕ) → ((x : ℕ) → has_bit new x ≡ (has_bit old x && not (eqb (64 * 0 + j) x))) → i < j → has_bit new i ≡ has_bit old i
-cut_kept old new j i taken h = taken i ∙ own_spared (has_bit old i) (eqb (64 * 0 + j) i) (ne_eqb (64 * 0 + j) i (λ e. absurd (omega (arith, e, h))))
-
-pub cut_past : (old new : List ℕ) (j i : ℕ) → ((x : ℕ) → has_bit new x ≡ (has_bit old x && not (eqb (64 * 0 + j) x))) → (i < j → has_bit old i ≡ false) → i < j + 1 → has_bit new i ≡ false
-cut_past old new j i taken before h = elim (cases_eq j i) [
-  | inl e ↦ taken i ∙ own_gone (has_bit old i) (eqb (64 * 0 + j) i) (eq-eqb (64 * 0 + j) i (omega (arith, e)))
-  | inr d ↦ taken i ∙ none_and (has_bit old i) (not (eqb (64 * 0 + j) i)) (before (omega (arith, d, h)))
-]
 
 -- a row that begins with `a` words that have all bits, followed by words that have none
 pub begun_row : (a w x k : ℕ) (row1 row2 : List ℕ) → row1 ≡ replicate a x → k ≡ a → a ≤ w → row2 ≡ take w row1 ++ replicate (w - k) 0 → row2 ≡ replicate a x ++ replicate (w - a) 0

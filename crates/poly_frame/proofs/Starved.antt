@@ -1,14 +1,13 @@
 -- What the rows say about an item that is starved once a placement is taken.
-use Rattle.std.proofs.Common.{◌≡◌, ℕ, ◌+◌, ◌-◌, ◌*◌, ◌/◌, ◌%◌, ◌<◌, ◌≤◌, Bool, true, false, not, ◌&&◌, ◌||◌, eqb, leb, List, [], ◌∷◌, ◌++◌, inl, inr, refl, sym, ap, subst, ◌∙◌, arith, length, get_or, take}
+use Rattle.std.proofs.Common.{◌≡◌, ℕ, ◌+◌, ◌-◌, ◌*◌, ◌/◌, ◌%◌, ◌<◌, ◌≤◌, Bool, true, false, not, ◌&&◌, eqb, leb, List, [], ◌∷◌, ◌++◌, inl, inr, refl, sym, ap, subst, ◌∙◌, arith, length, get_or}
 use Rattle.std.specs.Int.{bit_at}
 use Rattle.std.specs.List.{list_all, list_any}
 use Rattle.std.proofs.lemmas.Bool.{and_from, and_parts, both_ways, false_from_ne_true, le-leb, leb-true, lt-ltb, ne_eqb, not_from_false, not-true, true≢false}
-use Rattle.std.proofs.lemmas.List.{take_more}
 use Rattle.poly_tiling.specs.Lists.{mem, one, put, tally}
 use Rattle.poly_tiling.specs.declared.item.Item.{Item}
 use Rattle.poly_tiling.specs.Puzzle.{View, count, has_item, items}
 use Rattle.poly_tiling.proofs.Ascending.{in_put_self, put_in}
-use Rattle.poly_tiling.proofs.Lists.{In, all_in, any_append, any_from, any_in, in_mem, mem_in}
+use Rattle.poly_tiling.proofs.Lists.{In, all_in, any_from, any_in, in_mem, mem_in}
 use Rattle.poly_atom.specs.declared.atom.Atom.{Atom}
 use Rattle.poly_atom.specs.declared.atom.Atom.TheVariants.{Has}
 use Rattle.poly_atom.specs.Hopeless.{base}
@@ -27,18 +26,6 @@ use Rattle.poly_frame.proofs.FramePicks.{has_in, limit_cases, low_in, one_true, 
 use Rattle.poly_frame.proofs.FrameSteps.{least_pick, index_in, top_have, top_level}
 use Rattle.poly_frame.proofs.Steps.{base_pick}
 use Rattle.poly_frame.proofs.Words.{in_word}
-
-left_at : (a p q : Bool) → ((a && not p) && not q) ≡ (a && not (p || (q || false)))
-left_at false p q = refl
-left_at true true q = refl
-left_at true false true = refl
-left_at true false false = refl
-
--- after one more item, what is left has none of the items so far
-pub left_more : (f : ℕ → Bool) (a l r : Bool) (xs : List ℕ) (k : ℕ) → k < length xs → l ≡ (a && not (list_any f (take k xs))) → r ≡ (l && not (f (get_or xs k 0))) → r ≡ (a && not (list_any f (take (k + 1) xs)))
-left_more f a l r xs k h e s =
-    s ∙ ap (λ b. b && not (f (get_or xs k 0))) e ∙ left_at a (list_any f (take k xs)) (f (get_or xs k 0))
-    ∙ ap (λ b. a && not b) (sym (ap (λ ys. list_any f ys) (take_more xs k 0 h) ∙ any_append f (take k xs) (get_or xs k 0 ∷ [])))
 
 right_of : (p q : Bool) → p ≡ true → (p && not q) ≡ false → q ≡ true
 right_of true true h e = refl

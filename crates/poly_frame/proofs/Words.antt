@@ -349,11 +349,6 @@ full_at zero x k h = absurd (omega arith)
 full_at (suc n) x zero h = refl
 full_at (suc n) x (suc k) h = full_at n x k (omega arith)
 
--- n words with all bits set have each number below `64 * n`
-pub full_bits : (n x j : ℕ) → ((t : ℕ) → t < 64 → bit_at x t ≡ 1) → j < 64 * n → has_bit (replicate n x) j ≡ true
-unfolding has_bit
-full_bits n x j ones h = ap (λ w. eqb (bit_at w (j % 64)) 1) (full_at n x (j / 64) (omega arith)) ∙ ap (λ b. eqb b 1) (ones (j % 64) (omega arith))
-
 -- a list that was emptied and then made longer with copies of one value
 pub filled : (n k x : ℕ) (xs ys : List ℕ) → xs ≡ [] → k ≡ 0 → ys ≡ take n xs ++ replicate (n - k) x → ys ≡ replicate n x
 filled n k x xs ys e z f =

@@ -188,15 +188,25 @@ impl<'a> Frame<'a> {
             steps,
             ..
         } = self;
-        let lists = Lists {
-            trail,
-            members,
-            sizes,
-            options,
-        };
+        let Steps {
+            live,
+            raised,
+            marks,
+            ..
+        } = steps;
         let room = Room {
-            lists,
-            spare: Spare::of(alloc, steps),
+            lists: Lists {
+                trail,
+                members,
+                sizes,
+                options,
+            },
+            spare: Spare {
+                live,
+                raised,
+                marks,
+                matrix: Matrix::none(alloc),
+            },
         };
         let Stand { columns, .. } = stand;
         (columns.into_own(), room)
@@ -303,7 +313,10 @@ impl<'a> Frame<'a> {
             consistent,
             options,
             steps,
-            guesses: Guesses::none(),
+            guesses: Guesses {
+                scarcest: None,
+                starved: usize::MAX,
+            },
             under: Vec::new(alloc),
             spare: Vec::new(alloc),
         }

@@ -17,15 +17,15 @@ use crate::bits;
 use crate::frame::STEPS;
 use crate::frame::node::Node;
 use crate::frame::notes::notes_without;
-use crate::frame::occupied::is_empty;
+use crate::frame::occupied::count_bits;
 use crate::frame::queries::stands_open;
 use crate::frame::scarce::{Needs, Rows, Scarce, scarcest};
 use crate::frame::starved::is_starved_after;
 use crate::frame::steps::{Steps, item_row, pick_open};
 use poly_tiling::Item;
 
-// The most words of a row that is copied: a bit for each of 2,560 columns. Few frames have more.
-const WORDS: usize = 40;
+/// The most words of a row that is copied: a bit for each of 2,560 columns. Few frames have more.
+pub(crate) const WORDS: usize = 40;
 
 // The most words of a short row. Most rows are short, and it takes less time to make room for them.
 const FEW: usize = 16;
@@ -41,16 +41,6 @@ pub(crate) struct Guesses {
     /// The index of the item that starved last while some placement was open, or `usize::MAX`. The next placement often starves it
     /// as well, so it is looked at first. If no placement is open, each item starves.
     pub(crate) starved: usize,
-}
-
-impl Guesses {
-    /// Nothing is known.
-    pub(crate) fn none() -> Guesses {
-        Guesses {
-            scarcest: None,
-            starved: usize::MAX,
-        }
-    }
 }
 
 /// What became of a placement that was to be taken.
@@ -98,8 +88,8 @@ pub(crate) fn try_pick(
     }
 }
 
-// The column of the number, if its placement is open.
-fn open_at(node: &Node<'_>, steps: &Steps, number: u32) -> Option<usize>
+/// The column of the number, if its placement is open.
+pub(crate) fn open_at(node: &Node<'_>, steps: &Steps, number: u32) -> Option<usize>
     requires kept { IsAt node.now steps.now }
     ensures column { IfSome result (λ j. (j < length node.now.matrix.now.numbers.items) × (slice_index node.now.matrix.now.numbers.items j ≡ number)) }
     ensures open { IfSome result (λ j. (mem node.now.view.now.live number ≡ true) × (open_in node.now.view.now node.now.trail.now number ≡ true)) }
@@ -166,14 +156,14 @@ fn look(
         };
         return None;
     }
-    if best.index != guesses.starved && !is_empty(row) {
+    if best.index != guesses.starved && count_bits(row) > 0 {
         guesses.starved = best.index;
     }
     starved_item(node, steps, best.index, j, row)
 }
 
-// Makes `row` the last row without the columns that share an item with column `j`.
-fn leave_open(node: &Node<'_>, steps: &Steps, j: usize, row: &mut [u64])
+/// Makes `row` the last row without the columns that share an item with column `j`.
+pub(crate) fn leave_open(node: &Node<'_>, steps: &Steps, j: usize, row: &mut [u64])
     requires kept { IsAt node.now steps.now }
     requires number { j < length node.now.matrix.now.numbers.items }
     requires len { length row.old ≡ node.now.matrix.now.width }

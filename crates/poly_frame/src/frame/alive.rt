@@ -89,13 +89,6 @@ fn has_number(words: &[u64], number: u32) -> bool
     bits::has(words, 0, j)
 }
 
-// Whether the number's bit is not set, or one of the atoms lacks the number.
-fn is_dead_by(words: &[u64], later: &[Atom], number: u32) -> bool
-    ensures { result ≡ (not (has_bit words.now number) || list_any (λ a. lacks a number) later.now) }
-{
-    !has_number(words, number) || plain::any_lacks(later, number)
-}
-
 /// Whether the number's placement is dead at the node. Reads the given atoms and the placements of the design only if the node
 /// has no bits.
 pub(crate) fn is_dead(node: &Node<'_>, number: u32) -> bool
@@ -105,5 +98,5 @@ pub(crate) fn is_dead(node: &Node<'_>, number: u32) -> bool
     if node.alive.is_empty() {
         return plain::is_dead(node.view, node.trail, number);
     }
-    is_dead_by(node.alive, &node.trail[node.given..], number)
+    !has_number(node.alive, number) || plain::any_lacks(&node.trail[node.given..], number)
 }

@@ -47,23 +47,13 @@ fn all_fit(bounds: &[Bound], mosts: &[u8], have: &[u64]) -> bool
     true
 }
 
-// Whether the number has a column and no atom lacks it.
-fn is_kept(whole: &Matrix, atoms: &[Atom], number: u32) -> bool
-    requires { StandsShow whole.now.numbers.items whole.now.stands.items }
-    ensures { result ≡ (mem whole.now.numbers.items number && not (list_any (λ a. lacks a number) atoms.now)) }
-{
-    match whole.column_of(number) {
-        None => false,
-        Some(_) => !plain::any_lacks(atoms, number),
-    }
-}
-
+// Whether each of the members has a column and no atom lacks it.
 fn are_kept(whole: &Matrix, atoms: &[Atom], members: &[u32]) -> bool
     requires { StandsShow whole.now.numbers.items whole.now.stands.items }
     ensures { result ≡ list_all (λ p. mem whole.now.numbers.items p && not (list_any (λ a. lacks a p) atoms.now)) members.now }
 {
     for p in members {
-        if !is_kept(whole, atoms, *p) {
+        if whole.column_of(*p).is_none() || plain::any_lacks(atoms, *p) {
             return false;
         }
     }

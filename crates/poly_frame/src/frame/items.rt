@@ -24,43 +24,27 @@ pub(crate) fn cell_index(cell: Cell) -> usize
     usize::from(cell.y()) * SIDE + usize::from(cell.x())
 }
 
-// How many entries a list that is indexed by `cell_index` needs for the cells among these items.
-fn cells_room(bounds: &[Bound]) -> usize {
-    let mut size = 0usize;
-    for bound in bounds {
-        if let Item::Cell(cell) = bound.item {
-            size = size.max(cell_index(cell) + 1);
-        }
-    }
-    size
-}
-
 /// A list, indexed by `cell_index`, that guesses the index of each cell among the items.
 pub(crate) fn guess_cells(alloc: Global, bounds: &[Bound]) -> Result<Vec<usize>, Refusal>
     ensures { IfErr result (λ e. e ≡ Refusal.Memory) }
 {
-    let mut guesses = vec![in alloc; 0usize; cells_room(bounds)]?;
+    let mut guesses = Vec::new(alloc);
     for b in 0..bounds.len() {
         if let Item::Cell(cell) = bounds[b].item {
             let k = cell_index(cell);
-            if k < guesses.len() {
-                guesses[k] = b;
+            if k >= guesses.len() {
+                guesses.resize(k + 1, 0)?;
             }
+            guesses[k] = b;
         }
     }
     Ok(guesses)
 }
 
-/// The guess for the index of a cell; 0 if the list has none.
-pub(crate) fn guess_of(guesses: &[usize], cell: Cell) -> usize {
-    let k = cell_index(cell);
-    if k < guesses.len() { guesses[k] } else { 0 }
-}
-
-/// The guess for the index of an item; 0 for a piece.
+/// The guess for the index of an item; 0 for a piece, and for a cell that the list has no guess for.
 pub(crate) fn guess_item(cells: &[usize], item: &Item) -> usize {
     match item {
-        Item::Cell(cell) => guess_of(cells, *cell),
+        Item::Cell(cell) => *cells.get(cell_index(*cell)).unwrap_or(&0),
         Item::Piece(_) => 0,
     }
 }
@@ -105,7 +89,8 @@ fn note_cells(bounds: &[Bound], guesses: &[usize], cells: &[Cell], noted: &mut V
     ensures indices { (indices : List ℕ) × (noted.new.items ≡ noted.old.items ++ indices) × Noted bounds.now (map (λ c. CellItem c) cells.now) indices }
 {
     for cell in cells {
-        note_item(bounds, guess_of(guesses, *cell), Item::Cell(*cell), noted);
+        let item = Item::Cell(*cell);
+        note_item(bounds, guess_item(guesses, &item), item, noted);
     }
 }
 

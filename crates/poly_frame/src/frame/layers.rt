@@ -1,6 +1,6 @@
 //! The layers of a frame. A layer is a cover matrix with what the frame keeps of it: the frame reads the last layer, which has
 //! a column for each placement that was open when the layer was made. Going back past that point drops the layer.
-ghost use Rattle.std.specs.Prelude.{IfErr, IfOk, length, reverse, true, ℕ, ◌<◌, ◌^◌, ◌≡◌};
+ghost use Rattle.std.specs.Prelude.{IfErr, IfOk, OnOk, length, reverse, true, ℕ, ◌<◌, ◌^◌, ◌≡◌};
 ghost use Rattle.poly_tiling.specs.Lists.{mem};
 ghost use Rattle.poly_atom.specs.Hopeless.{base};
 
@@ -9,7 +9,7 @@ use crate::frame::node::{Node, Stand};
 use crate::frame::opened::first_row;
 use crate::frame::queries;
 use crate::frame::steps::{Steps, start};
-use crate::frame::table::{Table, copied, table_again};
+use crate::frame::table::{Table, table_again};
 use poly_atom::Atom;
 use poly_grid::Refusal;
 use poly_tiling::View;
@@ -100,6 +100,8 @@ pub(crate) fn exchange<'a>(stand: &mut Stand<'a>, steps: &mut Steps, layer: Laye
 fn keep<'a>(layer: Layer<'a>, spare: &mut Vec<Layer<'a>>) {
     if spare.len() < spare.capacity() {
         spare.push_reserved(layer);
+    } else {
+        drop(layer);
     }
 }
 
@@ -121,20 +123,21 @@ pub(crate) fn narrow_layer<'a>(
 {
     let Layer {
         columns,
-        table: old_table,
-        steps: old_steps,
+        mut table,
+        steps: mut new_steps,
         base: _,
     } = spare;
     let old_matrix = columns.into_own().unwrap_or(Matrix::none(alloc));
     let Ok(matrix) = queries::narrowed_now(alloc, node, steps, old_matrix) else {
-        drop(old_table);
-        drop(old_steps);
+        drop(table);
+        drop(new_steps);
         return Err(Refusal::Memory);
     };
     let later = &node.trail[node.base..];
-    let Ok(table) = table_again(node.view, node.table, later, old_table) else {
+    let Ok(_) = table_again(node.view, node.table, later, &mut table) else {
         drop(matrix);
-        drop(old_steps);
+        drop(table);
+        drop(new_steps);
         return Err(Refusal::Memory);
     };
     let here = Node {
@@ -146,38 +149,38 @@ pub(crate) fn narrow_layer<'a>(
         table: &table,
         alive: node.alive,
     };
-    let Ok(steps) = steps_here(&here, steps, old_steps) else {
+    let Ok(_) = start_again(&here, steps, &mut new_steps) else {
         drop(matrix);
         drop(table);
+        drop(new_steps);
         return Err(Refusal::Memory);
     };
     Ok(Layer {
         columns: Columns::Own(matrix),
         table,
-        steps,
+        steps: new_steps,
         base: node.trail.len(),
     })
 }
 
-// The steps of a layer that is made at the node: none yet. `from` are those of the layer below.
-fn steps_here(node: &Node<'_>, from: &Steps, spare: Steps) -> Result<Steps, Refusal>
+// Makes `steps` those of a layer that is made at the node: none yet. `from` are those of the layer below.
+fn start_again(node: &Node<'_>, from: &Steps, steps: &mut Steps) -> Result<(), Refusal>
     requires table { TableShows node.now.view.now node.now.trail.now node.now.matrix.now node.now.table.now }
     requires open { (q : ℕ) → mem node.now.matrix.now.numbers.items q ≡ true → open_in node.now.view.now node.now.trail.now q ≡ true }
     requires have { HaveShows node.now.view.now (base node.now.view.now node.now.trail.now) from.now.have.items }
     requires len { length from.now.have.items ≡ length node.now.view.now.bounds }
-    ensures kept { IfOk result (λ s. StepsKeep node.now.view.now node.now.trail.now (length node.now.trail.now) node.now.matrix.now node.now.table.now s) }
-    ensures room { IfOk result (λ s. HasRoom node.now.matrix.now s) }
+    ensures kept { OnOk result (StepsKeep node.now.view.now node.now.trail.now (length node.now.trail.now) node.now.matrix.now node.now.table.now steps.new) }
+    ensures room { OnOk result (HasRoom node.now.matrix.now steps.new) }
     ensures why { IfErr result (λ e. e ≡ Refusal.Memory) }
 {
-    let Steps {
-        live,
-        have,
-        raised,
-        marks,
-        due,
-    } = spare;
-    let row = first_row(node.matrix.numbers.len(), node.matrix.width, live)?;
-    let have = copied(&from.have, have)?;
-    let due = copied(&from.due, due)?;
-    start(node, row, have, due, raised, marks)
+    first_row(
+        node.matrix.numbers.len(),
+        node.matrix.width,
+        &mut steps.live,
+    )?;
+    steps.have.clear();
+    steps.have.extend_from_slice(&from.have)?;
+    steps.due.clear();
+    steps.due.extend_from_slice(&from.due)?;
+    start(node, steps)
 }

@@ -9,7 +9,7 @@ ghost use Rattle.poly_frame.specs.FrameTable.{HasOpen, HaveShows, LeastsShow, Mo
 ghost use Rattle.poly_frame.specs.Matrices.{IsMatrix, RowOf, matrix_of};
 ghost use Rattle.poly_frame.specs.Open.{open_in};
 
-use crate::frame::items::PLACEMENT_ITEMS;
+use crate::frame::consistent;
 use crate::frame::matrix::{Columns, Matrix, columns_of};
 use crate::frame::node::Node;
 use crate::frame::notes::notes_of;
@@ -17,7 +17,6 @@ use crate::frame::opened::open_row;
 use crate::frame::steps::{Mark, Steps, start};
 use crate::frame::table::{Table, counts_of, table_of};
 use crate::frame::wanted::{Wanted, wanted_of};
-use crate::frame::{STEPS, consistent};
 use poly_atom::Atom;
 use poly_grid::Refusal;
 use poly_tiling::View;
@@ -62,34 +61,6 @@ pub(crate) struct Spare {
     pub(crate) matrix: Matrix,
 }
 
-impl Spare {
-    /// No memory.
-    pub(crate) fn none(alloc: Global) -> Spare {
-        Spare {
-            live: Vec::new(alloc),
-            raised: Vec::new(alloc),
-            marks: Vec::new(alloc),
-            matrix: Matrix::none(alloc),
-        }
-    }
-
-    /// The memory of the steps.
-    pub(crate) fn of(alloc: Global, steps: Steps) -> Spare {
-        let Steps {
-            live,
-            raised,
-            marks,
-            ..
-        } = steps;
-        Spare {
-            live,
-            raised,
-            marks,
-            matrix: Matrix::none(alloc),
-        }
-    }
-}
-
 /// What is counted at the atoms; `members` is their base. `part` has a column for each placement that is open there. `whole` is
 /// a matrix that has columns for the members, too, or `None` if that is `part`; if a member has no column there, the base is
 /// not known to be consistent. Makes `live` the row of the columns of `part` that are open at the atoms. Overwrites `raised`.
@@ -115,7 +86,7 @@ pub(crate) fn counted_of(
     ensures table { IfOk result (λ r. (m : MatrixOf) → IsMatrix view.now m → HasOpen view.now atoms.now m → TableShows view.now atoms.now m r.table) }
     ensures why { IfErr result (λ e. e ≡ Refusal.Memory) }
 {
-    let have = counts_in(alloc, view, members, &part.cells, raised)?;
+    let have = counts_of(alloc, view, members, &part.cells, raised)?;
     let wanted = wanted_of(alloc, view, atoms, &part.cells)?;
     let consistent = opened(view, part, whole, atoms, members, &wanted, &have, live)?;
     let counted = with_table(alloc, view, atoms, consistent, have, wanted)?;
@@ -182,24 +153,6 @@ fn with_table(
     })
 }
 
-// How many of the members have each item. Overwrites `raised`.
-fn counts_in(
-    alloc: Global,
-    view: &View,
-    members: &[u32],
-    cells: &[usize],
-    raised: &mut Vec<usize>,
-) -> Result<Vec<u64>, Refusal>
-    requires few { length members.now < 2 ^ 63 }
-    ensures len { IfOk result (λ h. length h.items ≡ length view.now.bounds) }
-    ensures value { IfOk result (λ h. HaveShows view.now members.now h.items) }
-    ensures why { IfErr result (λ e. e ≡ Refusal.Memory) }
-{
-    raised.clear();
-    raised.reserve(STEPS * PLACEMENT_ITEMS)?;
-    counts_of(alloc, view, members, cells, raised)
-}
-
 /// The levels of a frame at the atoms, from what `counted_of` says of `part`, a matrix that has a column for each placement that
 /// is open there, and the row that it made of `spare.live`. Overwrites the rest of `spare`.
 pub(crate) fn levels_of<'a>(
@@ -236,73 +189,26 @@ pub(crate) fn levels_of<'a>(
         table,
         due,
     } = counted;
-    let steps = first_steps(
-        view,
-        atoms,
-        columns.matrix(),
-        &table,
-        row,
+    let mut steps = Steps {
+        live: row,
         have,
-        due,
         raised,
         marks,
-    );
-    with_steps(view, atoms, consistent, columns, table, steps)
-}
-
-// The steps at the atoms, which are none yet.
-fn first_steps(
-    view: &View,
-    atoms: &[Atom],
-    matrix: &Matrix,
-    table: &Table,
-    row: Vec<u64>,
-    have: Vec<u64>,
-    due: Vec<u64>,
-    raised: Vec<usize>,
-    marks: Vec<Mark>,
-) -> Result<Steps, Refusal>
-    requires table { TableShows view.now atoms.now matrix.now table.now }
-    requires row_len { length row.items ≡ matrix.now.width }
-    requires row { RowOf (λ p. open_in view.now atoms.now p) matrix.now row.items }
-    requires have { HaveShows view.now (base view.now atoms.now) have.items }
-    requires len { length have.items ≡ length view.now.bounds }
-    ensures kept { IfOk result (λ s. StepsKeep view.now atoms.now (length atoms.now) matrix.now table.now s) }
-    ensures room { IfOk result (λ s. HasRoom matrix.now s) }
-    ensures why { IfErr result (λ e. e ≡ Refusal.Memory) }
-{
+        due,
+    };
     let node = Node {
         view,
         trail: atoms,
         given: atoms.len(),
         base: atoms.len(),
-        matrix,
-        table,
+        matrix: columns.matrix(),
+        table: &table,
         alive: &[],
     };
-    start(&node, row, have, due, raised, marks)
-}
-
-// The levels with these steps, if there are steps.
-fn with_steps<'a>(
-    view: &View,
-    atoms: &[Atom],
-    consistent: usize,
-    columns: Columns<'a>,
-    table: Table,
-    steps: Result<Steps, Refusal>,
-) -> Result<Levels<'a>, Refusal>
-    requires consistent { ConsistentShows view.now atoms.now (length atoms.now) consistent }
-    requires kept { IfOk steps (λ s. StepsKeep view.now atoms.now (length atoms.now) (matrix_of columns) table s) }
-    requires room { IfOk steps (λ s. HasRoom (matrix_of columns) s) }
-    ensures consistent { IfOk result (λ l. ConsistentShows view.now atoms.now (length atoms.now) l.consistent) }
-    ensures steps { IfOk result (λ l. StepsKeep view.now atoms.now (length atoms.now) (matrix_of l.columns) l.table l.steps) }
-    ensures room { IfOk result (λ l. HasRoom (matrix_of l.columns) l.steps) }
-    ensures why { IfErr result (λ e. e ≡ Refusal.Memory) }
-{
-    let Ok(steps) = steps else {
+    let Ok(_) = start(&node, &mut steps) else {
         drop(columns);
         drop(table);
+        drop(steps);
         return Err(Refusal::Memory);
     };
     Ok(Levels {

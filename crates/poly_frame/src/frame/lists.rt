@@ -8,7 +8,6 @@ use crate::plain;
 use poly_atom::Atom;
 use poly_grid::Refusal;
 use poly_tiling::View;
-use std::alloc::Global;
 
 /// The lists of a frame.
 #[derive(Drop)]
@@ -21,16 +20,6 @@ pub(crate) struct Lists {
     pub(crate) sizes: Vec<usize>,
     /// The list that `options` of the frame answers with.
     pub(crate) options: Vec<u32>,
-}
-
-/// Empty lists, which take no memory.
-pub(crate) fn no_lists(alloc: Global) -> Lists {
-    Lists {
-        trail: Vec::new(alloc),
-        members: Vec::new(alloc),
-        sizes: Vec::new(alloc),
-        options: Vec::new(alloc),
-    }
 }
 
 /// Makes the lists those of a frame at the atoms, without steps.

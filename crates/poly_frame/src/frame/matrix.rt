@@ -220,11 +220,15 @@ pub(crate) fn columns_of<'a>(
     if is_dense(part.matrix(), &row) {
         return Ok((part, row));
     }
+    let mut row = row;
     let made = narrowed(alloc, view, part.matrix(), &row, spare);
     drop(part);
     let narrow = made?;
-    let first = first_row(narrow.numbers.len(), narrow.width, row)?;
-    Ok((Columns::Own(narrow), first))
+    let Ok(_) = first_row(narrow.numbers.len(), narrow.width, &mut row) else {
+        drop(narrow);
+        return Err(Refusal::Memory);
+    };
+    Ok((Columns::Own(narrow), row))
 }
 
 /// A smaller matrix: the columns of `whole` whose bit is set in the row. `spare` is a matrix of the same view, or none; it is
@@ -253,7 +257,8 @@ pub(crate) fn narrowed(
         drop(matrix);
         return Err(Refusal::Memory);
     };
-    let Ok(_) = copy_guesses(&whole.cells, &mut matrix.cells) else {
+    matrix.cells.clear();
+    let Ok(_) = matrix.cells.extend_from_slice(&whole.cells) else {
         drop(matrix);
         return Err(Refusal::Memory);
     };
@@ -303,16 +308,6 @@ fn with_columns(alloc: Global, view: &View, size: usize, begun: Matrix) -> Resul
     };
     matrix.occupied = occupied;
     Ok(matrix)
-}
-
-// Makes the list of guesses for the cells' indices a copy of the given one. If it isn't empty, it stays: it is of the same view.
-fn copy_guesses(from: &[usize], guesses: &mut Vec<usize>) -> Result<(), Refusal>
-    ensures { IfErr result (λ e. e ≡ Refusal.Memory) }
-{
-    if guesses.is_empty() {
-        guesses.extend_from_slice(from)?;
-    }
-    Ok(())
 }
 
 // Lists the numbers and the homes of the columns that have a bit in word `k` of a row, if those of the words before are
@@ -400,14 +395,14 @@ fn list_items(
     let mut starts = Vec::with_capacity(alloc, numbers.len().saturating_add(1))?;
     let mut indices = Vec::new(alloc);
     let mut piece = 0;
-    starts.push(0usize)?;
+    starts.push_reserved(0usize);
     for p in numbers {
         indices.reserve(PLACEMENT_ITEMS)?;
         note_items(view, cells, piece, *p, &mut indices);
         if indices.len() > starts[starts.len() - 1] {
             piece = indices[starts[starts.len() - 1]];
         }
-        starts.push(indices.len())?;
+        starts.push_reserved(indices.len());
     }
     let words = view.items().len() / 64 + 1;
     let masks = masks_of(alloc, &starts, &indices, words)?;

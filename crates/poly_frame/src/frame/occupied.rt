@@ -4,30 +4,15 @@ ghost use Rattle.std.specs.Prelude.{IfErr, length, vec_capacity, vec_len, â—Œ+â—
 use poly_grid::Refusal;
 use std::alloc::Global;
 
-// The most words of a narrow row.
-const NARROW: usize = 24;
+/// The most words of a narrow row. Counting in all words of such a row is fastest.
+pub(crate) const NARROW: usize = 24;
 
 /// A bit for each word of a row. A design has at most 20,000 placements, so a row has at most 313 words.
 #[derive(Clone, Copy)]
 pub(crate) struct Occupied([u64; 5]);
 
-impl Occupied {
-    /// All words.
-    pub(crate) fn all() -> Occupied {
-        Occupied([u64::MAX; 5])
-    }
-}
-
-/// Whether a row is so short that counting in all of its words is fastest.
-pub(crate) fn is_narrow(row: &[u64]) -> bool {
-    row.len() <= NARROW
-}
-
-/// The words of the row that have bits set; for a narrow row, all words.
+/// The words of the row that have bits set.
 pub(crate) fn occupied_words(row: &[u64]) -> Occupied {
-    if is_narrow(row) {
-        return Occupied::all();
-    }
     let mut occupied = [0u64; 5];
     for k in 0..row.len().min(320) {
         if row[k] != 0 {
@@ -68,28 +53,13 @@ fn list_occupied(rows: &[u64], width: usize, count: usize, into: &mut Vec<Occupi
     }
 }
 
-/// Whether no bit of the words is set.
-pub(crate) fn is_empty(row: &[u64]) -> bool {
-    let mut all = 0u64;
-    for word in row {
-        all |= *word;
-    }
-    all == 0
-}
-
 /// How many bits of the words are set.
 pub(crate) fn count_bits(row: &[u64]) -> usize {
     let mut all = 0usize;
     for word in row {
-        all = all.saturating_add(word.count_ones() as usize);
+        all = all.wrapping_add(word.count_ones() as usize);
     }
     all
-}
-
-// How many bits both words have.
-#[inline(always)]
-fn count_word(word: u64, other: u64) -> usize {
-    (word & other).count_ones() as usize
 }
 
 /// How many numbers both rows have; if that is at least `most`, the result may be any count from `most` on. Counts four words
@@ -101,17 +71,13 @@ pub(crate) fn count_common(some: &[u64], others: &[u64], most: usize) -> usize
     let fours = some.len() / 4;
     for c in 0..fours {
         let k = 4 * c;
-        all = all
-            .wrapping_add(count_word(some[k], others[k]))
-            .wrapping_add(count_word(some[k + 1], others[k + 1]))
-            .wrapping_add(count_word(some[k + 2], others[k + 2]))
-            .wrapping_add(count_word(some[k + 3], others[k + 3]));
+        all = all.wrapping_add(count_all::<4>(&some[k..k + 4], &others[k..k + 4]));
         if most <= all {
             return all;
         }
     }
     for k in 4 * fours..some.len() {
-        all = all.wrapping_add(count_word(some[k], others[k]));
+        all = all.wrapping_add((some[k] & others[k]).count_ones() as usize);
     }
     all
 }
@@ -125,7 +91,7 @@ pub(crate) fn count_all<const WIDTH: usize>(some: &[u64], others: &[u64]) -> usi
 {
     let mut all = 0usize;
     for k in 0..WIDTH {
-        all = all.wrapping_add(count_word(some[k], others[k]));
+        all = all.wrapping_add((some[k] & others[k]).count_ones() as usize);
     }
     all
 }

@@ -1,9 +1,9 @@
 //! Which columns of a matrix are open at the atoms.
-ghost use Rattle.std.specs.Prelude.{IfErr, IfOk, length, nat_lt, not, slice_index, false, true, ℕ, ◌&&◌, ◌*◌, ◌<◌, ◌==◌, ◌^◌, ◌≡◌, ◌≤◌};
+ghost use Rattle.std.specs.Prelude.{IfErr, IfOk, OnOk, length, not, slice_index, false, true, ℕ, ◌&&◌, ◌*◌, ◌<◌, ◌==◌, ◌^◌, ◌≡◌, ◌≤◌};
 ghost use Rattle.std.specs.List.{list_any};
 ghost use Rattle.std.specs.Int.{bit_at};
 ghost use Rattle.poly_tiling.specs.Lists.{mem};
-ghost use Rattle.poly_tiling.specs.Puzzle.{View as ViewOf, is_piece};
+ghost use Rattle.poly_tiling.specs.Puzzle.{View as ViewOf};
 ghost use Rattle.poly_atom.specs.Hopeless.{base, lacks};
 ghost use Rattle.poly_frame.specs.Bits.{has_bit};
 ghost use Rattle.poly_frame.specs.Open.{open_in};
@@ -30,48 +30,22 @@ fn ones() -> u64
     !0
 }
 
-// Makes the row `width` words in which each bit is set.
-fn fill_row(width: usize, row: &mut Vec<u64>) -> Result<(), Refusal>
-    ensures len { IfOk result (λ _. length row.new.items ≡ width) }
-    ensures bits { IfOk result (λ _. (j : ℕ) → j < 64 * width → has_bit row.new.items j ≡ true) }
-    ensures why { IfErr result (λ e. e ≡ Refusal.Memory) }
-{
-    row.clear();
-    row.resize(width, ones())?;
-    Ok(())
-}
-
-// Takes out all numbers from `n` on.
-fn cut_off(n: usize, width: usize, row: &mut Vec<u64>)
+/// Makes the row `width` words in which the bit of each number below `n` is set, and no other bit.
+pub(crate) fn first_row(n: usize, width: usize, row: &mut Vec<u64>) -> Result<(), Refusal>
     requires narrow { width < 2 ^ 58 }
     requires wide { n ≤ 64 * width }
-    requires len { length row.old.items ≡ width }
-    ensures len { length row.new.items ≡ width }
-    ensures kept { (j : ℕ) → j < n → has_bit row.new.items j ≡ has_bit row.old.items j }
-    ensures past { (j : ℕ) → n ≤ j → j < 64 * width → has_bit row.new.items j ≡ false }
-{
-    for j in n..64 * width {
-        bits::take_out(row, 0, j);
-    }
-}
-
-/// A row with a bit for each number below `n`. Overwrites `spare`.
-pub(crate) fn first_row(n: usize, width: usize, spare: Vec<u64>) -> Result<Vec<u64>, Refusal>
-    requires narrow { width < 2 ^ 58 }
-    requires wide { n ≤ 64 * width }
-    ensures len { IfOk result (λ r. length r.items ≡ width) }
-    ensures inside { IfOk result (λ r. (j : ℕ) → j < n → has_bit r.items j ≡ true) }
-    ensures past { IfOk result (λ r. (j : ℕ) → n ≤ j → j < 64 * width → has_bit r.items j ≡ false) }
+    ensures len { OnOk result (length row.new.items ≡ width) }
+    ensures inside { OnOk result ((j : ℕ) → j < n → has_bit row.new.items j ≡ true) }
+    ensures past { OnOk result ((j : ℕ) → n ≤ j → j < 64 * width → has_bit row.new.items j ≡ false) }
     ensures why { IfErr result (λ e. e ≡ Refusal.Memory) }
 {
-    let mut row = spare;
     row.clear();
     row.resize(n / 64, ones())?;
     row.resize(width, 0)?;
     for j in n / 64 * 64..n {
-        bits::put_in(&mut row, 0, j);
+        bits::put_in(row, 0, j);
     }
-    Ok(row)
+    Ok(())
 }
 
 // Takes out the numbers that have a shut item: one that no further member may have.
@@ -96,6 +70,7 @@ fn take_out_number(whole: &Matrix, number: u32, row: &mut Vec<u64>)
     requires len { length row.old.items ≡ whole.now.width }
     ensures len { length row.new.items ≡ length row.old.items }
     ensures bits { (j : ℕ) → j < length whole.now.numbers.items → has_bit row.new.items j ≡ (has_bit row.old.items j && not (number == slice_index whole.now.numbers.items j)) }
+    ensures past { (j : ℕ) → has_bit row.old.items j ≡ false → has_bit row.new.items j ≡ false }
 {
     if let Some(j) = whole.column_of(number) {
         bits::take_out(row, 0, j);
@@ -107,6 +82,7 @@ fn take_out_lacked_by(whole: &Matrix, atom: &Atom, row: &mut Vec<u64>)
     requires len { length row.old.items ≡ whole.now.width }
     ensures len { length row.new.items ≡ length row.old.items }
     ensures bits { (j : ℕ) → j < length whole.now.numbers.items → has_bit row.new.items j ≡ (has_bit row.old.items j && not (lacks atom.now (slice_index whole.now.numbers.items j))) }
+    ensures past { (j : ℕ) → has_bit row.old.items j ≡ false → has_bit row.new.items j ≡ false }
 {
     if let Atom::Lacks(number) = atom {
         take_out_number(whole, *number, row);
@@ -118,6 +94,7 @@ fn take_out_lacked(whole: &Matrix, atoms: &[Atom], row: &mut Vec<u64>)
     requires len { length row.old.items ≡ whole.now.width }
     ensures len { length row.new.items ≡ length row.old.items }
     ensures bits { (j : ℕ) → j < length whole.now.numbers.items → has_bit row.new.items j ≡ (has_bit row.old.items j && not (list_any (λ a. lacks a (slice_index whole.now.numbers.items j)) atoms.now)) }
+    ensures past { (j : ℕ) → has_bit row.old.items j ≡ false → has_bit row.new.items j ≡ false }
 {
     for atom in atoms {
         take_out_lacked_by(whole, atom, row);
@@ -129,6 +106,7 @@ fn take_out_members(whole: &Matrix, members: &[u32], row: &mut Vec<u64>)
     requires len { length row.old.items ≡ whole.now.width }
     ensures len { length row.new.items ≡ length row.old.items }
     ensures bits { (j : ℕ) → j < length whole.now.numbers.items → has_bit row.new.items j ≡ (has_bit row.old.items j && not (mem members.now (slice_index whole.now.numbers.items j))) }
+    ensures past { (j : ℕ) → has_bit row.old.items j ≡ false → has_bit row.new.items j ≡ false }
 {
     for p in members {
         take_out_number(whole, *p, row);
@@ -156,10 +134,9 @@ pub(crate) fn open_row(
     ensures value { IfOk result (λ _. RowOf (λ p. open_in view.now atoms.now p) whole.now row.new.items) }
     ensures why { IfErr result (λ e. e ≡ Refusal.Memory) }
 {
-    fill_row(whole.width, row)?;
+    first_row(whole.numbers.len(), whole.width, row)?;
     take_out_shut(view.items(), whole, mosts, have, row);
     take_out_lacked(whole, atoms, row);
     take_out_members(whole, members, row);
-    cut_off(whole.numbers.len(), whole.width, row);
     Ok(())
 }

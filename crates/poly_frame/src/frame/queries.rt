@@ -188,28 +188,6 @@ fn next_noted(node: &Node<'_>, steps: &Steps, guess: usize) -> Option<usize>
     }
 }
 
-// What `next_noted` finds, or what was guessed before, if that is due.
-fn next_guessed(node: &Node<'_>, steps: &Steps, guesses: Guesses) -> Option<usize>
-    requires kept { IsAt node.now steps.now }
-    ensures { IfSome result (λ b. (b < length steps.now.have.items) × (nat_lt (slice_index steps.now.have.items b) (slice_index node.now.table.now.leasts.items b) ≡ true)) }
-{
-    match guesses.scarcest {
-        Some(b) if is_due_at(node, steps, b) => Some(b),
-        _ => next_noted(node, steps, guesses.starved),
-    }
-}
-
-// The index of an item of the view that is due; `None` if there is none. An item that was guessed or is noted as due comes first.
-fn next_listed(node: &Node<'_>, steps: &Steps, guesses: Guesses) -> Option<usize>
-    requires kept { IsAt node.now steps.now }
-    ensures { MatchOption result ((b : ℕ) → b < length node.now.view.now.bounds → nat_lt (count node.now.view.now (base node.now.view.now node.now.trail.now) (item_of node.now.view.now b)) (least_at node.now.view.now node.now.trail.now (item_of node.now.view.now b)) ≡ false) (λ b. (b < length node.now.view.now.bounds) × (nat_lt (count node.now.view.now (base node.now.view.now node.now.trail.now) (item_of node.now.view.now b)) (least_at node.now.view.now node.now.trail.now (item_of node.now.view.now b)) ≡ true)) }
-{
-    match next_guessed(node, steps, guesses) {
-        Some(b) => Some(b),
-        None => next_unnoted(node, steps),
-    }
-}
-
 // The index of an item of the view that is due, found without the notes; `None` if there is none.
 fn next_unnoted(node: &Node<'_>, steps: &Steps) -> Option<usize>
     requires kept { IsAt node.now steps.now }
@@ -223,12 +201,20 @@ fn next_unnoted(node: &Node<'_>, steps: &Steps) -> Option<usize>
     None
 }
 
-// An item of the view that is due, as `next_listed` finds it; `None` if there is none.
+// An item of the view that is due; `None` if there is none. An item that was guessed or is noted as due comes first.
 fn listed_due(node: &Node<'_>, steps: &Steps, guesses: Guesses) -> Option<Item>
     requires kept { IsAt node.now steps.now }
     ensures { MatchOption result ((b : ℕ) → b < length node.now.view.now.bounds → nat_lt (count node.now.view.now (base node.now.view.now node.now.trail.now) (item_of node.now.view.now b)) (least_at node.now.view.now node.now.trail.now (item_of node.now.view.now b)) ≡ false) (λ i. nat_lt (count node.now.view.now (base node.now.view.now node.now.trail.now) i) (least_at node.now.view.now node.now.trail.now i) ≡ true) }
 {
-    match next_listed(node, steps, guesses) {
+    if let Some(b) = guesses.scarcest {
+        if is_due_at(node, steps, b) {
+            return Some(node.view.items()[b].item);
+        }
+    }
+    if let Some(b) = next_noted(node, steps, guesses.starved) {
+        return Some(node.view.items()[b].item);
+    }
+    match next_unnoted(node, steps) {
         Some(b) => Some(node.view.items()[b].item),
         None => None,
     }

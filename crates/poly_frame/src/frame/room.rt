@@ -11,7 +11,7 @@ ghost use Rattle.poly_frame.specs.Matrices.{IsMatrix, RowOf};
 ghost use Rattle.poly_frame.specs.Open.{open_in};
 
 use crate::frame::levels::{Counted, Spare, counted_of};
-use crate::frame::lists::{Lists, begin_lists, no_lists};
+use crate::frame::lists::{Lists, begin_lists};
 use crate::frame::matrix::Matrix;
 use poly_atom::Atom;
 use poly_grid::Refusal;
@@ -33,8 +33,18 @@ impl Room {
     /// Room without memory.
     pub fn new(alloc: Global) -> Room {
         Room {
-            lists: no_lists(alloc),
-            spare: Spare::none(alloc),
+            lists: Lists {
+                trail: Vec::new(alloc),
+                members: Vec::new(alloc),
+                sizes: Vec::new(alloc),
+                options: Vec::new(alloc),
+            },
+            spare: Spare {
+                live: Vec::new(alloc),
+                raised: Vec::new(alloc),
+                marks: Vec::new(alloc),
+                matrix: Matrix::none(alloc),
+            },
         }
     }
 

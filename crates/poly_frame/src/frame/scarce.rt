@@ -4,9 +4,7 @@
 //! Nothing is proved here but that no index is out of range: the caller tests whether the item that is found is due.
 ghost use Rattle.std.specs.Prelude.{length, ◌*◌, ◌+◌, ◌<◌, ◌≡◌, ◌≤◌, ◌^◌};
 
-use crate::frame::occupied::{
-    Occupied, common, count_all, count_common, is_narrow, occupied_words,
-};
+use crate::frame::occupied::{NARROW, Occupied, common, count_all, count_common, occupied_words};
 
 // The most words of notes that are read: a note for each of 8,192 items. A design has at most 320.
 const NOTED: usize = 128;
@@ -65,44 +63,6 @@ fn row_at<'a>(words: &'a [u64], width: usize, items: usize, b: usize) -> &'a [u6
     &words[width * b..width * b + width]
 }
 
-// Which words of the row at `b` may have bits set.
-fn occupied_at(rows: &Rows<'_>, b: usize) -> Occupied {
-    if b < rows.occupied.len() {
-        rows.occupied[b]
-    } else {
-        Occupied::all()
-    }
-}
-
-// Nothing was found yet.
-fn none_found() -> Scarce {
-    Scarce {
-        index: 0,
-        spare: usize::MAX,
-    }
-}
-
-// What the item at `guess` alone tells, if its bit is set in `due`: that it has no options to spare, or that the scarcest item
-// has at most as many as it has. One more is given as its spare options, so that an item before it that has as many comes first.
-fn bound_by(live: &[u64], rows: &Rows<'_>, needs: &Needs<'_>, due: &[u64], guess: usize) -> Scarce
-    requires { length rows.now.words.now ≡ length live.now * rows.now.items }
-{
-    let k = guess / 64;
-    if guess >= rows.items || k >= due.len() || (due[k] >> (guess % 64)) & 1 == 0 {
-        return none_found();
-    }
-    let row = row_at(rows.words, live.len(), rows.items, guess);
-    let spare = count_common(live, row, usize::MAX).saturating_sub(further(needs, guess));
-    Scarce {
-        index: guess,
-        spare: if spare == 0 {
-            0
-        } else {
-            spare.saturating_add(1)
-        },
-    }
-}
-
 /// The item with the fewest options to spare among those whose bit is set in `due`. `live` is the row of the open columns.
 /// Looks at the item at `guess` before the others, and stops at an item that has too few options.
 pub(crate) fn scarcest(
@@ -119,12 +79,29 @@ pub(crate) fn scarcest(
             return scarce_of(rank);
         }
     }
-    let best = bound_by(live, rows, needs, due, guess);
-    if is_narrow(live) {
-        return scarcest_of_all(live, &None, rows, needs, due, best);
+    let occupied = if live.len() <= NARROW {
+        None
+    } else {
+        Some(occupied_words(live))
+    };
+    let mut best = Scarce {
+        index: 0,
+        spare: usize::MAX,
+    };
+    let noted = due.len().min(NOTED);
+    let k = guess / 64;
+    if k < noted {
+        let alone = due[k] & (1u64 << (guess % 64));
+        best = scarcest_of_word(live, &occupied, rows, needs, 64 * k, alone, best);
+        // so that an item before it that has as many options comes first
+        if best.spare > 0 {
+            best.spare = best.spare.saturating_add(1);
+        }
     }
-    let occupied = occupied_words(live);
-    scarcest_of_all(live, &Some(occupied), rows, needs, due, best)
+    for k in 0..noted {
+        best = scarcest_of_word(live, &occupied, rows, needs, 64 * k, due[k], best);
+    }
+    best
 }
 
 // The rank of the scarcest item whose bit is set in `due`, if each item is asked for at most once. `None` if the rows aren't
@@ -173,7 +150,7 @@ fn least_rank_in<const WIDTH: usize>(
 {
     let mut rank = guessed_rank::<WIDTH>(live, rows, due, guess);
     for k in 0..due.len().min(NOTED) {
-        if spare_of(rank) == 0 {
+        if rank >> SPARE == 0 {
             return rank;
         }
         rank = least_rank_of_word::<WIDTH>(live, rows, 64 * k, due[k], rank);
@@ -234,14 +211,9 @@ fn rank_of(spare: usize, index: usize) -> u64 {
     ((spare as u64).min(MOST_SPARE) << SPARE) | ((index as u64) & 0xffff)
 }
 
-// The options to spare that a rank tells of.
-fn spare_of(rank: u64) -> u64 {
-    rank >> SPARE
-}
-
 // The item of a rank.
 fn scarce_of(rank: u64) -> Scarce {
-    let spare = spare_of(rank);
+    let spare = rank >> SPARE;
     Scarce {
         index: (rank & 0xffff) as usize,
         spare: if spare < MOST_SPARE {
@@ -252,26 +224,8 @@ fn scarce_of(rank: u64) -> Scarce {
     }
 }
 
-// The scarcest of `best` and the items whose bits are set in `due`. `occupied` are the occupied words of `live`; if there are
-// none, all words are read.
-fn scarcest_of_all(
-    live: &[u64],
-    occupied: &Option<Occupied>,
-    rows: &Rows<'_>,
-    needs: &Needs<'_>,
-    due: &[u64],
-    best: Scarce,
-) -> Scarce
-    requires { length rows.now.words.now ≡ length live.now * rows.now.items }
-{
-    let mut best = best;
-    for k in 0..due.len().min(NOTED) {
-        best = scarcest_of_word(live, occupied, rows, needs, 64 * k, due[k], best);
-    }
-    best
-}
-
-// Does what `scarcest_of_all` does for the items whose bits are set in the word. Bit 0 is that of the item at `first`.
+// The scarcest of `best` and the items whose bits are set in the word. Bit 0 is that of the item at `first`. `occupied` are the
+// occupied words of `live`; if there are none, all words are read.
 fn scarcest_of_word(
     live: &[u64],
     occupied: &Option<Occupied>,
@@ -316,8 +270,8 @@ fn options_at(
     requires inside { b < rows.now.items }
 {
     let row = row_at(rows.words, live.len(), rows.items, b);
-    match occupied {
-        None => count_common(live, row, most),
-        Some(some) => common(live, some, row, &occupied_at(rows, b), most),
+    match (occupied, rows.occupied.get(b)) {
+        (Some(some), Some(filled)) => common(live, some, row, filled, most),
+        _ => count_common(live, row, most),
     }
 }

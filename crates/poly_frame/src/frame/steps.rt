@@ -350,52 +350,25 @@ pub(crate) fn back(node: &Node<'_>, steps: &mut Steps)
     }
 }
 
-// Empties the lists of the steps, and makes room for all steps that a frame can have. A row has `width` words.
-fn make_room(steps: &mut Steps, width: usize) -> Result<(), Refusal>
-    ensures live { steps.new.live.items ≡ steps.old.live.items }
-    ensures have { steps.new.have ≡ steps.old.have }
-    ensures raised { steps.new.raised.items ≡ [] }
-    ensures marks { steps.new.marks.items ≡ [] }
-    ensures room_live { OnOk result (width * (STEPS + 1) ≤ vec_capacity steps.new.live) }
-    ensures room_raised { OnOk result (STEPS * PLACEMENT_ITEMS ≤ vec_capacity steps.new.raised) }
-    ensures room_marks { OnOk result (STEPS ≤ vec_capacity steps.new.marks) }
+/// Makes the bits and counts those of a layer that has no step yet, with room for all steps that a frame can have. `live` is the
+/// row of what is open at the node's atoms, `have` counts the members of their base with each item, and `due` notes which items
+/// are due. The other lists are emptied: only their room is used.
+pub(crate) fn start(node: &Node<'_>, steps: &mut Steps) -> Result<(), Refusal>
+    requires table { TableShows node.now.view.now node.now.trail.now node.now.matrix.now node.now.table.now }
+    requires row_len { length steps.old.live.items ≡ node.now.matrix.now.width }
+    requires row { RowOf (λ p. open_in node.now.view.now node.now.trail.now p) node.now.matrix.now steps.old.live.items }
+    requires have { HaveShows node.now.view.now (base node.now.view.now node.now.trail.now) steps.old.have.items }
+    requires len { length steps.old.have.items ≡ length node.now.view.now.bounds }
+    ensures kept { OnOk result (StepsKeep node.now.view.now node.now.trail.now (length node.now.trail.now) node.now.matrix.now node.now.table.now steps.new) }
+    ensures room { OnOk result (HasRoom node.now.matrix.now steps.new) }
     ensures why { IfErr result (λ e. e ≡ Refusal.Memory) }
 {
     steps.raised.clear();
     steps.marks.clear();
-    steps.live.reserve(width.saturating_mul(STEPS + 1))?;
+    steps
+        .live
+        .reserve(node.matrix.width.saturating_mul(STEPS + 1))?;
     steps.raised.reserve(STEPS * PLACEMENT_ITEMS)?;
     steps.marks.reserve(STEPS)?;
     Ok(())
-}
-
-/// The bits and counts of a layer that has no step yet. `row` is the row of what is open at the node's atoms, and `have`
-/// counts the members of their base with each item. `due` notes which items are due. `raised` and `marks` are emptied: only
-/// their room is used.
-pub(crate) fn start(
-    node: &Node<'_>,
-    row: Vec<u64>,
-    have: Vec<u64>,
-    due: Vec<u64>,
-    raised: Vec<usize>,
-    marks: Vec<Mark>,
-) -> Result<Steps, Refusal>
-    requires table { TableShows node.now.view.now node.now.trail.now node.now.matrix.now node.now.table.now }
-    requires row_len { length row.items ≡ node.now.matrix.now.width }
-    requires row { RowOf (λ p. open_in node.now.view.now node.now.trail.now p) node.now.matrix.now row.items }
-    requires have { HaveShows node.now.view.now (base node.now.view.now node.now.trail.now) have.items }
-    requires len { length have.items ≡ length node.now.view.now.bounds }
-    ensures kept { IfOk result (λ s. StepsKeep node.now.view.now node.now.trail.now (length node.now.trail.now) node.now.matrix.now node.now.table.now s) }
-    ensures room { IfOk result (λ s. HasRoom node.now.matrix.now s) }
-    ensures why { IfErr result (λ e. e ≡ Refusal.Memory) }
-{
-    let mut steps = Steps {
-        live: row,
-        have,
-        raised,
-        marks,
-        due,
-    };
-    make_room(&mut steps, node.matrix.width)?;
-    Ok(steps)
 }

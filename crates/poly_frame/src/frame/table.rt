@@ -1,5 +1,5 @@
 //! What stays the same while a frame moves, and the first count of the members that have each item.
-ghost use Rattle.std.specs.Prelude.{IfErr, IfOk, length, nat_le, slice_index, vec_capacity, ℕ, ◌&&◌, ◌<◌, ◌^◌, ◌≡◌, ◌≤◌};
+ghost use Rattle.std.specs.Prelude.{IfErr, IfOk, OnOk, length, nat_le, slice_index, vec_capacity, ℕ, ◌&&◌, ◌<◌, ◌^◌, ◌≡◌, ◌≤◌};
 ghost use Rattle.std.specs.List.{list_all, list_any};
 ghost use Rattle.poly_tiling.specs.Puzzle.{same_item};
 ghost use Rattle.poly_atom.specs.Hopeless.{base};
@@ -7,7 +7,7 @@ ghost use Rattle.poly_frame.specs.Plain.{of_asked};
 ghost use Rattle.poly_frame.specs.FrameItems.{item_at};
 ghost use Rattle.poly_frame.specs.declared.frame.matrix.Matrix.{Matrix as MatrixOf};
 
-use crate::frame::items::{note_items, raise};
+use crate::frame::items::{PLACEMENT_ITEMS, note_items, raise};
 use crate::frame::wanted::Wanted;
 use poly_atom::Atom;
 use poly_grid::Refusal;
@@ -53,7 +53,7 @@ ghost use Rattle.poly_frame.specs.Matrices.{IsMatrix};
 ghost use Rattle.poly_frame.specs.FrameTable.{LeastsShow, HasOpen, HaveShows, TableShows, MostsShow, limit_at};
 ghost use Rattle.poly_frame.specs.declared.frame.items.TheConstants.{PLACEMENT_ITEMS};
 
-/// How many of the members have each item. `noted` is overwritten: only its room is used.
+/// How many of the members have each item. `noted` is overwritten.
 pub(crate) fn counts_of(
     alloc: Global,
     view: &View,
@@ -61,13 +61,12 @@ pub(crate) fn counts_of(
     cells: &[usize],
     noted: &mut Vec<usize>,
 ) -> Result<Vec<u64>, Refusal>
-    requires room { PLACEMENT_ITEMS ≤ vec_capacity noted.old }
     requires few { length members.now < 2 ^ 63 }
     ensures len { IfOk result (λ h. length h.items ≡ length view.now.bounds) }
     ensures value { IfOk result (λ h. HaveShows view.now members.now h.items) }
     ensures why { IfErr result (λ e. e ≡ Refusal.Memory) }
-    ensures capacity { vec_capacity noted.new ≡ vec_capacity noted.old }
 {
+    noted.reserve(PLACEMENT_ITEMS)?;
     let mut have = vec![in alloc; 0u64; view.items().len()]?;
     for p in members {
         noted.clear();
@@ -173,50 +172,31 @@ pub(crate) fn table_of(
     })
 }
 
-/// A copy of the list, in the memory of `spare`.
-pub(crate) fn copied<T: Copy>(from: &[T], spare: Vec<T>) -> Result<Vec<T>, Refusal>
-    ensures value { IfOk result (λ c. c.items ≡ from.now) }
-    ensures why { IfErr result (λ e. e ≡ Refusal.Memory) }
-{
-    let mut copy = spare;
-    copy.clear();
-    copy.extend_from_slice(from)?;
-    Ok(copy)
-}
-
-/// What `table` says, in the memory of `spare`, for its atoms and the `later` ones, which only take placements or leave them
-/// out. If one of them asks for an item that isn't listed, the result is not known to be listed.
+/// Makes `copy` what `table` says, for its atoms and the `later` ones, which only take placements or leave them out. If one of
+/// them asks for an item that isn't listed, the copy is not known to be listed.
 pub(crate) fn table_again(
     view: &View,
     table: &Table,
     later: &[Atom],
-    spare: Table,
-) -> Result<Table, Refusal>
-    ensures limits { IfOk result (λ t. t.limits.items ≡ table.now.limits.items) }
-    ensures mosts { IfOk result (λ t. t.mosts.items ≡ table.now.mosts.items) }
-    ensures leasts { IfOk result (λ t. t.leasts.items ≡ table.now.leasts.items) }
-    ensures listed { IfOk result (λ t. t.listed ≡ (table.now.listed && list_all (of_asked (λ i. list_any (λ b. same_item b.item i) view.now.bounds)) later.now)) }
-    ensures end { IfOk result (λ t. t.leasts_end ≡ table.now.leasts_end) }
-    ensures alone { IfOk result (λ t. t.alone ≡ table.now.alone) }
+    copy: &mut Table,
+) -> Result<(), Refusal>
+    ensures limits { OnOk result (copy.new.limits.items ≡ table.now.limits.items) }
+    ensures mosts { OnOk result (copy.new.mosts.items ≡ table.now.mosts.items) }
+    ensures leasts { OnOk result (copy.new.leasts.items ≡ table.now.leasts.items) }
+    ensures listed { OnOk result (copy.new.listed ≡ (table.now.listed && list_all (of_asked (λ i. list_any (λ b. same_item b.item i) view.now.bounds)) later.now)) }
+    ensures end { OnOk result (copy.new.leasts_end ≡ table.now.leasts_end) }
+    ensures alone { OnOk result (copy.new.alone ≡ table.now.alone) }
     ensures why { IfErr result (λ e. e ≡ Refusal.Memory) }
 {
-    let Table {
-        limits,
-        mosts,
-        leasts,
-        ..
-    } = spare;
-    let limits = copied(&table.limits, limits)?;
-    let mosts = copied(&table.mosts, mosts)?;
-    let leasts = copied(&table.leasts, leasts)?;
-    let listed = table.listed && all_listed(view, later);
-    Ok(Table {
-        limits,
-        mosts,
-        leasts,
-        listed,
-        leasts_end: table.leasts_end,
-        single: table.single,
-        alone: table.alone,
-    })
+    copy.limits.clear();
+    copy.limits.extend_from_slice(&table.limits)?;
+    copy.mosts.clear();
+    copy.mosts.extend_from_slice(&table.mosts)?;
+    copy.leasts.clear();
+    copy.leasts.extend_from_slice(&table.leasts)?;
+    copy.listed = table.listed && all_listed(view, later);
+    copy.leasts_end = table.leasts_end;
+    copy.single = table.single;
+    copy.alone = table.alone;
+    Ok(())
 }

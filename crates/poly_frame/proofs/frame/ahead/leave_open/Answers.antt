@@ -1,4 +1,4 @@
-use Rattle.std.proofs.Common.{List, ap, arith, drop, length, not, take, ◌&&◌, ◌*◌, ◌+◌, ◌-◌, ◌∙◌, ◌≡◌}
+use Rattle.std.proofs.Common.{List, ap, arith, length, not, ◌&&◌, ◌*◌, ◌+◌, ◌-◌, ◌∙◌, ◌≡◌}
 use Rattle.std.specs.List.{list_any}
 use Rattle.poly_frame.specs.Bits.{has_bit}
 use Rattle.poly_frame.specs.Matrices.{bit_index}

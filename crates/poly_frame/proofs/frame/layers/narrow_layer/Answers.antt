@@ -8,34 +8,34 @@ use Rattle.poly_frame.proofs.Layers.{table_here}
 use Rattle.poly_frame.proofs.Walks.{mem_filter}
 use Rattle.poly_frame.proofs.frame.layers.narrow_layer.Goals as goal
 
-pub steps_here-requires-clause-table : goal.steps_here-requires-clause-table
-steps_here-requires-clause-table c =
+pub start_again-requires-clause-table : goal.start_again-requires-clause-table
+start_again-requires-clause-table c =
     let n = c.args.node.now in
     let s = c.args.steps.now in
     let t = c.in-Ok-table_again.ensures in
     let few : length (base n.view.now n.trail.now) < 2 ^ 63 = omega (arith, ap length c.requires.members, c.requires.few) in
-    table_here n.view.now n.trail.now n.base n.matrix.now c.in-Ok.matrix n.table.now c.in-Ok-table_again.table s.live.items s.have.items s.raised.items s.marks.items n.view.now.bounds _ c.requires.kept c.in-Ok.ensures.part c.in-Ok.ensures.all few refl refl t.limits t.mosts t.leasts t.listed t.end t.alone
+    table_here n.view.now n.trail.now n.base n.matrix.now c.in-Ok.matrix n.table.now c.table_again.new.copy s.live.items s.have.items s.raised.items s.marks.items n.view.now.bounds _ c.requires.kept c.in-Ok.ensures.part c.in-Ok.ensures.all few refl refl t.limits t.mosts t.leasts t.listed t.end t.alone
 
-pub steps_here-requires-clause-open : goal.steps_here-requires-clause-open
-steps_here-requires-clause-open c = λ q m.
+pub start_again-requires-clause-open : goal.start_again-requires-clause-open
+start_again-requires-clause-open c = λ q m.
     let n = c.args.node.now in
     let ns = n.matrix.now.numbers.items in
     let f : ℕ → Bool = λ p. open_in n.view.now n.trail.now p in
     (and_parts (mem ns q) (f q) (sym (mem_filter f ns q) ∙ ap (λ xs. mem xs q) (sym c.in-Ok.ensures.numbers) ∙ m)).1
 
-pub steps_here-requires-clause-have : goal.steps_here-requires-clause-have
-steps_here-requires-clause-have c = λ b h.
+pub start_again-requires-clause-have : goal.start_again-requires-clause-have
+start_again-requires-clause-have c = λ b h.
     let n = c.args.node.now in
     let s = c.args.steps.now in
     top_have n.view.now n.trail.now n.base n.matrix.now n.table.now s.live.items s.have.items s.raised.items s.marks.items c.requires.kept b h
 
-pub steps_here-requires-clause-len : goal.steps_here-requires-clause-len
-steps_here-requires-clause-len c = c.requires.kept.have_len
+pub start_again-requires-clause-len : goal.start_again-requires-clause-len
+start_again-requires-clause-len c = c.requires.kept.have_len
 
 pub returns-clause-layer : goal.returns-clause-layer
 returns-clause-layer c = record {
-  levels = c.in-Ok-steps_here.ensures.kept;
-  room = c.in-Ok-steps_here.ensures.room;
+  levels = c.in-Ok-start_again.ensures.kept;
+  room = c.in-Ok-start_again.ensures.room;
 }
 
 pub returns-clause-here : goal.returns-clause-here

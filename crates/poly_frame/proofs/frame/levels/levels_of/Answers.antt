@@ -1,4 +1,4 @@
-use Rattle.std.proofs.Common.{IfOk, ap, length, subst, sym, ℕ, ◌∙◌}
+use Rattle.std.proofs.Common.{ap, length, subst, sym, ℕ, ◌∙◌}
 use Rattle.poly_frame.specs.FrameSteps.{HasRoom, StepsKeep}
 use Rattle.poly_frame.specs.FrameTable.{TableShows}
 use Rattle.poly_frame.specs.Matrices.{RowOf, matrix_of}
@@ -9,8 +9,8 @@ use Rattle.poly_frame.proofs.frame.levels.levels_of.Goals as goal
 pub columns_of-requires : goal.columns_of-requires
 columns_of-requires c = record { part = c.requires.part; len = c.requires.len }
 
-pub first_steps-steps-requires : goal.first_steps-steps-requires
-first_steps-steps-requires c =
+pub start-requires : goal.start-requires
+start-requires c =
     let v = c.args.view.now in
     let A = c.args.atoms.now in
     let f = λ (p : ℕ). open_in v A p in
@@ -24,14 +24,14 @@ first_steps-steps-requires c =
       len = c.requires.have_len;
     }
 
-pub with_steps-requires-clause-consistent : goal.with_steps-requires-clause-consistent
-with_steps-requires-clause-consistent c = c.requires.consistent
-
-pub with_steps-requires-clause-room : goal.with_steps-requires-clause-room
-with_steps-requires-clause-room c = subst (λ (m : Matrix). IfOk c.first_steps-steps.result (λ s. HasRoom m s)) c.matrix.ensures c.first_steps-steps.ensures.room
-
-pub with_steps-requires-clause-kept : goal.with_steps-requires-clause-kept
-with_steps-requires-clause-kept c = subst (λ (m : Matrix). IfOk c.first_steps-steps.result (λ s. StepsKeep c.args.view.now c.args.atoms.now (length c.args.atoms.now) m c.args.counted.table s)) c.matrix.ensures c.first_steps-steps.ensures.kept
-
 pub returns : goal.returns
-returns c = c.with_steps.ensures
+returns c =
+    let v = c.args.view.now in
+    let A = c.args.atoms.now in
+    let steps = c.start.new.steps in
+    record {
+      consistent = c.requires.consistent;
+      steps = subst (λ (m : Matrix). StepsKeep v A (length A) m c.args.counted.table steps) c.matrix.ensures c.in-Ok.ensures.kept;
+      room = subst (λ (m : Matrix). HasRoom m steps) c.matrix.ensures c.in-Ok.ensures.room;
+      why = tt;
+    }

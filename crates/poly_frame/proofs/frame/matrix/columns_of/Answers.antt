@@ -15,7 +15,7 @@ returns-clause-row c = λ f R.
     let narrow = c.in_ok-narrow.narrow in
     let whole = matrix_of c.args.part in
     let e = narrow_numbers f whole c.matrix-2.result.now c.args.row.items c.deref-2.result.now narrow.numbers.items c.matrix-2.ensures c.deref-2.ensures.value R c.in_ok-narrow.ensures.numbers in
-    narrow_row f whole.numbers.items narrow c.in_ok-first.first.items c.len.result e (c.len.ensures ∙ narrow.numbers.ok.0) c.in_ok-first.ensures.inside c.in_ok-first.ensures.past
+    narrow_row f whole.numbers.items narrow c.first_row.new.row.items c.len.result e (c.len.ensures ∙ narrow.numbers.ok.0) c.in-Ok.ensures.inside c.in-Ok.ensures.past
 
 pub returns-clause-all : goal.returns-clause-all
 returns-clause-all c = λ f R.

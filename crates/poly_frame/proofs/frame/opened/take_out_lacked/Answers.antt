@@ -13,13 +13,14 @@ returns-clause-bits c = λ j h.
     c.loop-atom.invariant.bits j h ∙ ap (λ xs. has_bit c.args.row.now.items j && not (list_any (λ a. lacks a (get_or c.args.whole.now.numbers.items j 0)) xs)) (take_all c.loop-atom.atom-index c.args.atoms.now (omega (arith, c.loop-atom-test.false)))
 
 pub loop-atom-init : goal.loop-atom-init
-loop-atom-init c = record { len = refl; bits = λ j h. sym (and_true_right (has_bit c.args.row.now.items j)) }
+loop-atom-init c = record { len = refl; past = λ j e. e; bits = λ j h. sym (and_true_right (has_bit c.args.row.now.items j)) }
 
 pub loop-atom-preserved : goal.loop-atom-preserved
 loop-atom-preserved c =
     let inv = c.loop-atom.invariant in
     record {
       len = c.take_out_lacked_by.ensures.len ∙ inv.len;
+      past = λ j e. c.take_out_lacked_by.ensures.past j (inv.past j e);
       bits = λ j h.
           let q = get_or c.args.whole.now.numbers.items j 0 in
           out_more (λ a. lacks a q) c.args.atoms.now c.loop-atom.atom-index c.atom-item.result (has_bit c.args.row.now.items j) (has_bit c.loop-atom.row.items j) (has_bit c.take_out_lacked_by.new.row.items j) c.loop-atom-test.true (inv.bits j h) (c.take_out_lacked_by.ensures.bits j h ∙ ap (λ (a : Atom). has_bit c.loop-atom.row.items j && not (lacks a q)) c.atom-item.is);
@@ -27,3 +28,6 @@ loop-atom-preserved c =
 
 pub take_out_lacked_by-requires : goal.take_out_lacked_by-requires
 take_out_lacked_by-requires c = record { part = c.requires.part; len = c.loop-atom.invariant.len ∙ c.requires.len }
+
+pub returns-clause-past : goal.returns-clause-past
+returns-clause-past c = c.loop-atom.invariant.past

@@ -15,12 +15,14 @@ loop-p-preserved c =
     let inv = c.loop-p.invariant in
     record {
       len = c.take_out_number.ensures.len ∙ inv.len;
+      past = λ j e. c.take_out_number.ensures.past j (inv.past j e);
       bits = λ j h. out_more (λ p. eqb p (get_or c.args.whole.now.numbers.items j 0)) c.args.members.now c.loop-p.p-index 0 (has_bit row j) (has_bit c.loop-p.row.items j) (has_bit c.take_out_number.new.row.items j) (omega (arith, c.loop-p-test.true)) (inv.bits j h) (c.take_out_number.ensures.bits j h);
     }
 
 pub loop-p-init : goal.loop-p-init
 loop-p-init c = record {
   len = refl;
+  past = λ j e. e;
   bits = λ j h. and_all (has_bit c.args.row.now.items j);
 }
 
@@ -39,3 +41,6 @@ returns-clause-len c = c.loop-p.invariant.len
 pub returns-clause-bits : goal.returns-clause-bits
 returns-clause-bits c = λ j h.
     c.loop-p.invariant.bits j h ∙ ap (λ (xs : List ℕ). has_bit c.args.row.now.items j && not (mem xs (get_or c.args.whole.now.numbers.items j 0))) (take_all c.loop-p.p-index c.args.members.now c.loop-p-test.false)
+
+pub returns-clause-past : goal.returns-clause-past
+returns-clause-past c = c.loop-p.invariant.past

@@ -1,4 +1,4 @@
-use Rattle.std.proofs.Common.{List, ap, arith, get_or, length, refl, subst, take, ℕ, ◌+◌, ◌<◌, ◌∙◌, ◌++◌, ◌≡◌}
+use Rattle.std.proofs.Common.{List, ap, arith, get_or, length, subst, take, ℕ, ◌+◌, ◌<◌, ◌∙◌, ◌++◌, ◌≡◌}
 use Rattle.std.proofs.lemmas.List.{get_or-replicate, length-replicate, take_all}
 use Rattle.poly_frame.specs.FrameItems.{item_of, times}
 use Rattle.poly_frame.specs.FrameTable.{HaveShows}
@@ -16,7 +16,7 @@ loop-p-preserved c =
     let noted : c.deref.result.now ≡ indices.0 = c.deref.ensures.value ∙ indices.1 ∙ ap (λ xs. xs ++ indices.0) c.clear.ensures.items in
     record {
       len = c.raise.ensures.len ∙ c.loop-p.invariant.len;
-      capacity = c.note_items.ensures.capacity ∙ c.clear.ensures.capacity ∙ c.loop-p.invariant.capacity;
+      capacity = omega (arith, c.note_items.ensures.capacity, c.clear.ensures.capacity, c.loop-p.invariant.capacity);
       shown = counted_more c.args.view.now c.args.members.now c.loop-p.p-index c.loop-p.have.items c.raise.new.have.items indices.0 c.loop-p-test.true c.loop-p.invariant.shown indices.2
           (λ b h. c.raise.ensures.more b (omega (arith, c.loop-p.invariant.len)) ∙ ap (λ xs. get_or c.loop-p.have.items b 0 + times xs b) noted);
     }
@@ -28,17 +28,16 @@ loop-p-init c =
     let zeros = c.in_ok-have.ensures.items_if_clones_equal (λ a e. e) in
     record {
       len = ap length zeros ∙ length-replicate n 0 ∙ same;
-      capacity = refl;
+      capacity = omega (arith, c.in_ok-reserve.ensures.ok);
       shown = λ b h. ap (λ xs. get_or xs b 0) zeros ∙ get_or-replicate n b 0 0 (omega (arith, h, same));
     }
 
 pub note_items-requires : goal.note_items-requires
-note_items-requires c = omega (arith, c.clear.ensures.len, c.clear.ensures.capacity, c.loop-p.invariant.capacity, c.requires.room)
+note_items-requires c = omega (arith, c.clear.ensures.len, c.clear.ensures.capacity, c.loop-p.invariant.capacity)
 
 pub returns : goal.returns
 returns c = record {
   len = c.loop-p.invariant.len;
   value = subst (λ (T : List ℕ). HaveShows c.args.view.now T c.loop-p.have.items) (take_all c.loop-p.p-index c.args.members.now (omega (arith, c.loop-p-test.false))) c.loop-p.invariant.shown;
   why = tt;
-  capacity = c.loop-p.invariant.capacity;
 }
