@@ -1,9 +1,9 @@
 -- What a history keeps is still read from the guard log after a change is noted.
-use Rattle.std.proofs.Common.{List, Some, [], ap, subst, sym, ◌++◌, ◌+◌, ◌∷◌}
+use Rattle.std.proofs.Common.{List, Some, [], subst, sym, ◌++◌, ◌∷◌}
 use Rattle.poly_design.specs.declared.change.Change.{Change}
 use Rattle.poly_atom.specs.declared.atom.Atom.{Atom}
 use Rattle.poly_undo.specs.declared.step.Step.{Step as Beside}
-use Rattle.poly_undo.specs.Steps.{Steps, newest}
+use Rattle.poly_undo.specs.Steps.{Steps}
 use Rattle.poly_tasks.specs.declared.shelf.Kept.{Kept}
 use Rattle.poly_book.specs.declared.step.Kind.{Kind}
 use Rattle.poly_book.specs.declared.step.Kind.TheVariants as kind

@@ -1,5 +1,5 @@
 -- Which tasks the maps have noted after a change.
-use Rattle.std.proofs.Common.{Bool, List, [], ap, subst, sym, true, ℕ, ◌+◌, ◌++◌, ◌∷◌, ◌≤◌}
+use Rattle.std.proofs.Common.{Bool, List, [], subst, sym, ℕ, ◌++◌, ◌∷◌, ◌≤◌}
 use Rattle.std.specs.List.{items_where_true}
 use Rattle.poly_design.specs.Layout.{Layout}
 use Rattle.poly_design.specs.declared.change.Change.{Change}
@@ -14,11 +14,11 @@ use Rattle.poly_book.specs.declared.step.Ending.{Ending}
 use Rattle.poly_book.specs.declared.step.Kind.{Kind}
 use Rattle.poly_book.specs.declared.step.Step.{Step}
 use Rattle.poly_tasks.specs.declared.task.Pending.{Pending}
-use Rattle.poly_tasks.specs.Mapped.{AreNoted, AreNotedBelow}
+use Rattle.poly_tasks.specs.Mapped.{AreNotedBelow}
 use Rattle.poly_tasks.specs.Meaning.{AreTasks}
 use Rattle.poly_book.specs.Changing.{stood_by}
 use Rattle.poly_tasks.specs.Shelves.{openings}
-use Rattle.poly_tasks.specs.Tasks.{Task, hopeful}
+use Rattle.poly_tasks.specs.Tasks.{hopeful}
 use Rattle.poly_book.proofs.Changes.{Did}
 use Rattle.poly_tasks.proofs.Noted.{all_picked, below_append, below_fresh, below_push, has_below}
 
