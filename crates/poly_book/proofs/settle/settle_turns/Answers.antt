@@ -1,4 +1,5 @@
-use Rattle.std.proofs.Common.{ap, arith, false, inr, length, refl, rules, subst, sym, true, ◌∙◌, ◌≡◌, ◌≤◌}
+use Rattle.std.proofs.lemmas.Grind.{common_steps}
+use Rattle.std.proofs.Common.{ap, arith, false, inl, inr, length, refl, rules, subst, sym, true, ◌∙◌, ◌≡◌, ◌≤◌}
 use Rattle.poly_book.specs.Keeps.{state_of}
 use Rattle.poly_book.specs.Settled.{AreReported, AreReportedBefore, Cuts, IsNotTurned, IsTurn}
 use Rattle.poly_book.proofs.Hoping.{hopeful_end}
@@ -76,3 +77,8 @@ pub returns-clause-applied : goal.returns-clause-applied
 returns-clause-applied c =
     let end : c.loop-applied.applied ≡ c.args.turns = omega (arith, c.loop-applied-test.false, c.loop-applied.auto.applied-end) in
     (c.loop-applied.applied, omega (arith, end), (λ _. end), c.loop-applied.invariant.reports)
+
+pub returns-clause-why : goal.returns-clause-why
+returns-clause-why c =
+    let end : c.loop-applied.applied ≡ c.args.turns = omega (arith, c.loop-applied-test.false, c.loop-applied.auto.applied-end) in
+    inl (refl, subst (λ n. Cuts (state_of c.args.parts.now) (state_of c.loop-applied.parts) n) end c.loop-applied.invariant.cuts, grind (arith, common_steps))

@@ -1,18 +1,21 @@
-use Rattle.std.proofs.Common.{List, [], ap, append_assoc, arith, cond, false, length, length-append, map, rules, sym, take, true, ℕ, ◌&&◌, ◌++◌, ◌||◌, ◌∙◌, ◌∷◌, ◌≡◌}
+use Rattle.std.proofs.Common.{Bool, List, [], ap, append_assoc, arith, cond, false, length, length-append, map, not, rules, sym, take, true, ℕ, ◌&&◌, ◌++◌, ◌||◌, ◌∙◌, ◌∷◌, ◌≡◌}
 use Rattle.std.proofs.lemmas.Bool.{eqb-true, true≢false}
+use Rattle.std.specs.List.{list_all}
 use Rattle.std.proofs.lemmas.Result.{IfOk-weaker}
 use Rattle.poly_report.specs.declared.tree.Arm.{Arm}
-use Rattle.poly_report.specs.declared.tree.Tree.{the_lemmas}
+use Rattle.poly_report.specs.declared.tree.Tree.{Found, Tree, the_lemmas}
 use Rattle.poly_report.specs.Trees.{Branches, heads}
 use Rattle.poly_report.specs.Shapes.{arms_list, plan_of}
 use Rattle.poly_report.specs.Sizes.{arms_total, total}
-use Rattle.poly_frame.specs.Open.{arms_fit}
+use Rattle.poly_frame.specs.Open.{arms_fit, open_in}
+use Rattle.poly_tiling.specs.Puzzle.{View}
 use Rattle.poly_report.specs.Gather.{taken_holds, taken_paths, taken_tilings}
 use Rattle.poly_report.specs.Holds.{arms_hold, holds}
 use Rattle.poly_report.specs.Leaves.{tilings}
 use Rattle.poly_report.specs.Paths.{paths}
 use Rattle.poly_frame.specs.Walk.{Walk, step_back, with_step}
 use Rattle.poly_frame.proofs.Back.{step_undone}
+use Rattle.poly_atom.specs.declared.atom.Atom.{Atom}
 use Rattle.poly_atom.specs.declared.atom.Atom.TheVariants.{Has, Lacks}
 use Rattle.poly_report.proofs.Rows.{plan_of-Branch}
 use Rattle.poly_report.proofs.Measures.{total_some}
@@ -249,3 +252,12 @@ walk_arms-walk_taken-requires t c =
     let least = length-append A (map (λ q. Lacks q) (map (λ (a : Arm). a.placement) (take k arms))) in
     let left = ap arms_total (unwalked_at arms k c.arm-item.result c.loop-arm-test.true c.arm-item.is) in
     (search (rules, the_lemmas), (omega (arith, most, given, least, c.requires.begun), omega (arith, most, given, few, left, inv.steps, c.requires.steps)))
+
+found_says : (v : View) (A : List Atom) {tree : Tree} {b : Bool} → tree ≡ Found → b ≡ list_all (λ p. not (open_in v A p)) v.live → b ≡ true → true ≡ holds v A (plan_of tree)
+found_says v A is none sure = sym sure ∙ none ∙ sym (ap (λ x. holds v A (plan_of x)) is)
+
+pub walk-returns-in_ok-push_found-in-Found-clause-says : goal.walk-returns-in_ok-push_found-in-Found-clause-says
+walk-returns-in_ok-push_found-in-Found-clause-says t c = found_says c.args.frame.now.scene c.args.frame.now.atoms c.in-Found.is c.none_open.ensures (search rules)
+
+pub walk-returns-else-keep-2-clause-says : goal.walk-returns-else-keep-2-clause-says
+walk-returns-else-keep-2-clause-says t c = found_says c.args.frame.now.scene c.args.frame.now.atoms c.in-Found.is c.none_open.ensures (search rules)

@@ -1,7 +1,10 @@
-use Rattle.std.proofs.Common.{◌≡◌, ◌<◌, [], arith, length, subst}
+use Rattle.std.proofs.Common.{List, [], ap, arith, length, refl, subst, sym, ℕ, ◌++◌, ◌<◌, ◌∙◌, ◌∷◌, ◌≡◌, ◌≤◌}
+use Rattle.poly_tiling.specs.Puzzle.{View}
+use Rattle.poly_atom.specs.declared.atom.Atom.{Atom}
 use Rattle.poly_report.specs.Gather.{lists}
+use Rattle.poly_search.specs.Sweeps.{all_tilings}
 use Rattle.poly_search.specs.Whole.{SharedOut}
-use Rattle.poly_search.proofs.Families.{at_most, last_rest, none_left, shared_next, weighs_less, whole_family}
+use Rattle.poly_search.proofs.Families.{at_most, last_rest, none_left, shared_first, shared_next, weighs_less, whole_family}
 use Rattle.poly_search.proofs.whole.sweep_each.Goals as goal
 
 pub returns-then-len-gt-MAX_TILINGS-clause-too_many : goal.returns-then-len-gt-MAX_TILINGS-clause-too_many
@@ -58,3 +61,18 @@ sweep_rest-requires c = c.requires.whole
 
 pub returns-clause-few : goal.returns-clause-few
 returns-clause-few c = c.loop-next.invariant.few
+
+-- what holds before the first sweep: nothing is found, and the whole family is left
+started : (v : View) (A : List Atom) (found : List (List ℕ)) (rests : List (List Atom)) → found ≡ [] → rests ≡ A ∷ [] → SharedOut v A found rests × all_tilings v found × (length found ≤ 1000000)
+started v A found rests none one = (
+  subst (λ (xs : List (List ℕ)). SharedOut v A xs rests) (sym none) (subst (λ (Bs : List (List Atom)). SharedOut v A [] Bs) (sym one) (shared_first v A)),
+  subst (all_tilings v) (sym none) refl,
+  omega (arith, ap length none),
+)
+
+pub loop-next-init : goal.loop-next-init
+loop-next-init c =
+    let pushed = c.in_ok-push.ensures.items ∙ ap (λ xs. xs ++ c.in_ok-from_slice.field-0 ∷ []) c.requires.rests in
+    let left : lists c.push.new.self.items ≡ c.args.atoms.now ∷ [] = ap lists pushed ∙ ap (λ (B : List Atom). B ∷ []) c.in_ok-from_slice.ensures.items in
+    let begun = started c.args.view.now c.args.atoms.now c.args.list.now.found.items (lists c.push.new.self.items) c.requires.found left in
+    record { shared = begun.0; only = begun.1; few = begun.2 }

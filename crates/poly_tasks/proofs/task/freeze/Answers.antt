@@ -1,3 +1,4 @@
+use Rattle.std.proofs.lemmas.Grind.{common_steps}
 use Rattle.std.proofs.Common.{ap, arith, drop, length, sym, take, ◌++◌, ◌≡◌}
 use Rattle.std.proofs.lemmas.List.{take_all}
 use Rattle.poly_atom.specs.Logs.{flat}
@@ -19,3 +20,6 @@ returns-clause-frozen c =
       count = omega (arith, ap length c.since-count.ensures);
       spares = spares_same (own_of log p.own) (atoms_of (task_of log p)) _ _ (sym own) (sym (λ i. own i ++ all i)) c.requires.spares;
     }
+
+pub returns-clause-atoms : goal.returns-clause-atoms
+returns-clause-atoms c = grind (arith, common_steps)

@@ -1,4 +1,4 @@
-use Rattle.std.proofs.Common.{inl, inr, refl}
+use Rattle.std.proofs.Common.{inl, inr, refl, rules}
 use Rattle.std.proofs.lemmas.Result.{IfErr-weaker, on_ok_weaker}
 use Rattle.poly_book.proofs.book.Book.edit.Goals as goal
 
@@ -7,3 +7,6 @@ returns-clause-why c = rw (← c.self.view_is) (IfErr-weaker c.apply_change.resu
 
 pub returns-clause-narrow : goal.returns-clause-narrow
 returns-clause-narrow c = rw (← c.self.view_is) (on_ok_weaker c.apply_change.result (λ h. h refl) c.apply_change.ensures.narrow)
+
+pub returns-clause-ok : goal.returns-clause-ok
+returns-clause-ok c = search rules
