@@ -1,3 +1,4 @@
+use Rattle.std.proofs.lemmas.Grind.{common_steps}
 use Rattle.std.proofs.Common.{◌≡◌, Err, ap, arith}
 use Rattle.poly_grid.specs.declared.refusal.Refusal.TheVariants.{Spent}
 use Rattle.poly_place.proofs.Numbers.{all_given, goes_on, too_many}
@@ -21,3 +22,6 @@ loop-placement-preserved c = record {
 
 pub returns-clause-gives : goal.returns-clause-gives
 returns-clause-gives c = (all_given c.args.self.now c.args.placements.now c.loop-placement.self c.loop-placement.placement-index c.loop-placement.numbers.items c.loop-placement.invariant.way c.loop-placement-test.false).1
+
+pub returns-in-Err-clause-err : goal.returns-in-Err-clause-err
+returns-in-Err-clause-err c = grind (arith, common_steps)
