@@ -1,6 +1,5 @@
-use Rattle.std.proofs.Common.{ap, arith, length, map, rules, subst, sym, ◌∙◌, ◌≤◌}
-use Rattle.std.proofs.lemmas.List.{take_all}
-use Rattle.poly_tasks.specs.Meaning.{AreFrozen, IsTask, frozen_of, own_of, task_of, tasks_of}
+use Rattle.std.proofs.Common.{ap, map, rules, subst, sym, ◌∙◌}
+use Rattle.poly_tasks.specs.Meaning.{AreFrozen, IsTask, frozen_of, own_of, task_of}
 use Rattle.poly_tasks.specs.Tasks.{Spares, atoms_of}
 use Rattle.poly_tasks.proofs.Held.{task_at}
 use Rattle.poly_tasks.proofs.Holding.{frozen_more, frozen_push_one}
@@ -24,13 +23,6 @@ loop-task-preserved c =
       atoms = ap (λ fs. map (λ f. frozen_of log f) fs) c.in_ok-push.ensures.items ∙ frozen_more log ps c.loop-task.task-index c.task-item.result c.loop-task.all.items x c.loop-task-test.true c.task-item.is c.loop-task.invariant.atoms c.in_ok-frozen.ensures.atoms;
       frozen = subst (λ fs. AreFrozen log fs) (sym c.in_ok-push.ensures.items) (frozen_push_one log c.loop-task.all.items x c.loop-task.invariant.frozen c.in_ok-frozen.ensures.frozen);
     }
-
-pub returns-clause-ok : goal.returns-clause-ok
-returns-clause-ok c =
-    let log = c.args.log.now in
-    let ps = c.args.tasks.now in
-    let end : length ps ≤ c.loop-task.task-index = omega (arith, c.loop-task-test.false) in
-    c.loop-task.invariant.atoms ∙ ap (λ ts. map (λ t. atoms_of t) (tasks_of log ts)) (take_all c.loop-task.task-index ps end)
 
 pub returns-clause-frozen : goal.returns-clause-frozen
 returns-clause-frozen c = search rules

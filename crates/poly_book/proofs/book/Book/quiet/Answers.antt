@@ -1,5 +1,4 @@
-use Rattle.std.proofs.lemmas.Grind.{common_steps}
-use Rattle.std.proofs.Common.{arith, length, rules, ◌≡◌, ◌≤◌}
+use Rattle.std.proofs.Common.{length, rules, ◌≡◌, ◌≤◌}
 use Rattle.poly_book.specs.Keeps.{state_of}
 use Rattle.poly_book.proofs.Nexting.{partition_each, none_pending}
 use Rattle.poly_book.proofs.book.Book.quiet.Goals as goal
@@ -9,9 +8,3 @@ all_tilings-requires-clause-each c =
     let few : length c.self.inside.parts.tasks.items ≤ 0 = search rules in
     let e : c.all-listed.result.now ≡ c.self.inside.parts.listed = search rules in
     rw (c.shared.ensures, e) (partition_each (state_of c.self.inside.parts) c.self.invariant.whole.consistent.partition (none_pending c.self.inside.parts.log c.self.inside.parts.tasks.items few))
-
-pub returns-in-Err-clause-why : goal.returns-in-Err-clause-why
-returns-in-Err-clause-why c = grind (arith, common_steps)
-
-pub returns-in-Ok-clause-ok : goal.returns-in-Ok-clause-ok
-returns-in-Ok-clause-ok c = grind (arith, common_steps)
