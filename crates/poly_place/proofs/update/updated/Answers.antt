@@ -8,6 +8,7 @@ use Rattle.poly_design.specs.declared.placement.Placement.{Placement}
 use Rattle.poly_place.specs.Interned.{AreNumbersOf, GoesOnWith}
 use Rattle.poly_place.specs.Numbered.{numbered_view}
 use Rattle.poly_place.proofs.Found.{found_numbers}
+use Rattle.poly_place.proofs.Numbers.{goes_by, goes_none, goes_twice}
 use Rattle.poly_place.proofs.Ordered.{has_number, order_none, order_pins, order_places}
 use Rattle.poly_place.proofs.Righted.{right_from}
 use Rattle.poly_place.proofs.RunOut.{spent_pins, spent_places}
@@ -139,3 +140,27 @@ returns-clause-order c = λ d s m is.
     c.in_ok-pinned.ensures.ok
     (subst (λ (l : List Placement). GoesOnWith c.args.names.now l between) c.deref-2.ensures.value c.in_ok-fresh.ensures.gives)
     (subst (λ (l : List Placement). GoesOnWith between l c.give_all-2.new.self) c.deref-5.ensures.value c.in_ok-pins.ensures.gives)
+
+pub returns-in_err-found-clause-grows : goal.returns-in_err-found-clause-grows
+returns-in_err-found-clause-grows c = goes_none c.args.names.now c.args.names.now refl
+
+pub returns-in_err-pinned-clause-grows : goal.returns-in_err-pinned-clause-grows
+returns-in_err-pinned-clause-grows c = goes_none c.args.names.now c.args.names.now refl
+
+pub returns-in_err-bounds-clause-grows : goal.returns-in_err-bounds-clause-grows
+returns-in_err-bounds-clause-grows c = goes_none c.args.names.now c.args.names.now refl
+
+pub returns-in_err-kept-clause-grows : goal.returns-in_err-kept-clause-grows
+returns-in_err-kept-clause-grows c = goes_none c.args.names.now c.args.names.now refl
+
+pub returns-in_err-fresh-clause-grows : goal.returns-in_err-fresh-clause-grows
+returns-in_err-fresh-clause-grows c = goes_none c.args.names.now c.give_all.new.self c.in_err-fresh.ensures.err
+
+pub returns-in_err-live-clause-grows : goal.returns-in_err-live-clause-grows
+returns-in_err-live-clause-grows c = goes_by c.args.names.now c.deref-2.result.now c.give_all.new.self c.in_ok-fresh.ensures.gives c.in_ok-fresh.ensures.numbered
+
+pub returns-in_err-pins-clause-grows : goal.returns-in_err-pins-clause-grows
+returns-in_err-pins-clause-grows c = goes_twice c.args.names.now c.give_all.new.self c.give_all-2.new.self (goes_by c.args.names.now c.deref-2.result.now c.give_all.new.self c.in_ok-fresh.ensures.gives c.in_ok-fresh.ensures.numbered) (goes_none c.give_all.new.self c.give_all-2.new.self c.in_err-pins.ensures.err)
+
+pub returns-clause-grows : goal.returns-clause-grows
+returns-clause-grows c = goes_twice c.args.names.now c.give_all.new.self c.give_all-2.new.self (goes_by c.args.names.now c.deref-2.result.now c.give_all.new.self c.in_ok-fresh.ensures.gives c.in_ok-fresh.ensures.numbered) (goes_by c.give_all.new.self c.deref-5.result.now c.give_all-2.new.self c.in_ok-pins.ensures.gives c.in_ok-pins.ensures.numbered)
