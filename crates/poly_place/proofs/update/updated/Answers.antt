@@ -141,6 +141,7 @@ returns-clause-order c = λ d s m is.
     (subst (λ (l : List Placement). GoesOnWith c.args.names.now l between) c.deref-2.ensures.value c.in_ok-fresh.ensures.gives)
     (subst (λ (l : List Placement). GoesOnWith between l c.give_all-2.new.self) c.deref-5.ensures.value c.in_ok-pins.ensures.gives)
 
+-- until the placements get numbers the names stay as they are
 pub returns-in_err-found-clause-grows : goal.returns-in_err-found-clause-grows
 returns-in_err-found-clause-grows c = goes_none c.args.names.now c.args.names.now refl
 
@@ -160,7 +161,17 @@ pub returns-in_err-live-clause-grows : goal.returns-in_err-live-clause-grows
 returns-in_err-live-clause-grows c = goes_by c.args.names.now c.deref-2.result.now c.give_all.new.self c.in_ok-fresh.ensures.gives c.in_ok-fresh.ensures.numbered
 
 pub returns-in_err-pins-clause-grows : goal.returns-in_err-pins-clause-grows
-returns-in_err-pins-clause-grows c = goes_twice c.args.names.now c.give_all.new.self c.give_all-2.new.self (goes_by c.args.names.now c.deref-2.result.now c.give_all.new.self c.in_ok-fresh.ensures.gives c.in_ok-fresh.ensures.numbered) (goes_none c.give_all.new.self c.give_all-2.new.self c.in_err-pins.ensures.err)
+returns-in_err-pins-clause-grows c =
+    let old = c.args.names.now in
+    let between = c.give_all.new.self in
+    let new = c.give_all-2.new.self in
+    goes_twice old between new (goes_by old c.deref-2.result.now between c.in_ok-fresh.ensures.gives c.in_ok-fresh.ensures.numbered)
+    (goes_none between new c.in_err-pins.ensures.err)
 
 pub returns-clause-grows : goal.returns-clause-grows
-returns-clause-grows c = goes_twice c.args.names.now c.give_all.new.self c.give_all-2.new.self (goes_by c.args.names.now c.deref-2.result.now c.give_all.new.self c.in_ok-fresh.ensures.gives c.in_ok-fresh.ensures.numbered) (goes_by c.give_all.new.self c.deref-5.result.now c.give_all-2.new.self c.in_ok-pins.ensures.gives c.in_ok-pins.ensures.numbered)
+returns-clause-grows c =
+    let old = c.args.names.now in
+    let between = c.give_all.new.self in
+    let new = c.give_all-2.new.self in
+    goes_twice old between new (goes_by old c.deref-2.result.now between c.in_ok-fresh.ensures.gives c.in_ok-fresh.ensures.numbered)
+    (goes_by between c.deref-5.result.now new c.in_ok-pins.ensures.gives c.in_ok-pins.ensures.numbered)
