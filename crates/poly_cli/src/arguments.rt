@@ -39,7 +39,7 @@ Exit status: 0 the input ended, or help or the version was asked for; 1 the puzz
 
 The guide is docs/GUIDE.md of the repository; docs/FORMATS.md has each line in full.";
 
-const VERSION: &str = "1.13.9";
+const VERSION: &str = "1.13.10";
 
 const NAME: &str = "polybench";
 

@@ -23,3 +23,4 @@ pub mod Alive
 pub mod Elsewhere
 pub mod Stepped
 pub mod Ahead
+pub mod Six

@@ -8,7 +8,7 @@ use Rattle.std.proofs.lemmas.Nat.{and_le_l, shr-shr}
 use Rattle.std.proofs.Math.Nat.{div-le_self}
 use Rattle.std.proofs.lemmas.List.{get_or-append-add, get_or-drop, get_or-take, get_or_append_left, length-drop, length-set, length-take-le}
 use Rattle.std.specs.Int.{bit_at, bit_not, trailing_zeros}
-use Rattle.poly_frame.specs.Bits.{FirstIn, IsLess, NoneIn, has_bit, in_both}
+use Rattle.poly_frame.specs.Bits.{FirstIn, IsLess, IsLessSix, NoneIn, has_bit, in_both}
 
 less_at : (x y : ℕ) → x < 2 → y < 2 → eqb (min x (1 - y)) 1 ≡ (eqb x 1 && not (eqb y 1))
 less_at zero zero h k = refl
@@ -161,6 +161,18 @@ pub words_less_three : (ws xs ys zs new : List ℕ) (n : ℕ) → ((k : ℕ) →
     (j : ℕ) → j < 64 * n → has_bit new j ≡ (has_bit ws j && not (has_bit xs j || (has_bit ys j || has_bit zs j)))
 unfolding has_bit
 words_less_three ws xs ys zs new n f j h = f (j / 64) (omega arith) (j % 64) (omega arith)
+
+pub words_less_six : (ws xa xb xc xd xe xf new : List ℕ) (n : ℕ) → ((k : ℕ) → k < n → IsLessSix (get_or new k 0) (get_or ws k 0) (get_or xa k 0) (get_or xb k 0) (get_or xc k 0) (get_or xd k 0) (get_or xe k 0) (get_or xf k 0)) →
+    (j : ℕ) → j < 64 * n → has_bit new j ≡ (has_bit ws j && not (has_bit xa j || (has_bit xb j || (has_bit xc j || (has_bit xd j || (has_bit xe j || has_bit xf j))))))
+unfolding has_bit
+words_less_six ws xa xb xc xd xe xf new n f j h = f (j / 64) (omega arith) (j % 64) (omega arith)
+
+pub not_six : (w a b c y : Bool) → ((w && not (a || (b || c))) && not y) ≡ (w && not (a || (b || (c || y))))
+not_six false a b c y = refl
+not_six true true b c y = refl
+not_six true false true c y = refl
+not_six true false false true y = refl
+not_six true false false false y = refl
 
 pub not_three : (w a b c : Bool) → (((w && not a) && not b) && not c) ≡ (w && not (a || (b || c)))
 not_three false a b c = refl

@@ -2,7 +2,7 @@
 //! the number `j` if bit `64 * at + j` of the list is set.
 ghost use Rattle.std.specs.Prelude.{MatchOption, false, length, not, slice_index, vec_capacity, vec_len, ℕ, ◌&&◌, ◌^◌, ◌*◌, ◌+◌, ◌-◌, ◌/◌, ◌<◌, ◌==◌, ◌||◌, ◌≡◌, ◌≤◌};
 ghost use Rattle.std.specs.Int.{bit_at};
-ghost use Rattle.poly_frame.specs.Bits.{FirstIn, IsLess, NoneIn, has_bit, in_both};
+ghost use Rattle.poly_frame.specs.Bits.{FirstIn, IsLess, IsLessSix, NoneIn, has_bit, in_both};
 
 /// Whether the row that begins at word `at` has the number.
 #[tactic(auto, using(crate::proofs::Words::has_at))]
@@ -140,6 +140,160 @@ fn take_out_rest(words: &mut [u64], from: usize, first: &[u64], second: &[u64], 
 {
     for k in from..words.len() {
         words[k] = less_three(words[k], first, second, third, k);
+    }
+}
+
+// The bits that the word has and none of the words at `k` has.
+fn less_six(
+    word: u64,
+    first: &[u64],
+    second: &[u64],
+    third: &[u64],
+    fourth: &[u64],
+    fifth: &[u64],
+    sixth: &[u64],
+    k: usize,
+) -> u64
+    requires first { k < length first.now }
+    requires second { k < length second.now }
+    requires third { k < length third.now }
+    requires fourth { k < length fourth.now }
+    requires fifth { k < length fifth.now }
+    requires sixth { k < length sixth.now }
+    ensures { IsLessSix result word (slice_index first.now k) (slice_index second.now k) (slice_index third.now k) (slice_index fourth.now k) (slice_index fifth.now k) (slice_index sixth.now k) }
+{
+    let word = less_three(word, first, second, third, k);
+    less_three(word, fourth, fifth, sixth, k)
+}
+
+/// Makes `words` the row without all numbers that one of six other rows has, in one pass.
+pub(crate) fn without_six(
+    row: &[u64],
+    first: &[u64],
+    second: &[u64],
+    third: &[u64],
+    fourth: &[u64],
+    fifth: &[u64],
+    sixth: &[u64],
+    words: &mut [u64],
+)
+    requires row { length row.now ≡ length words.old }
+    requires first { length first.now ≡ length words.old }
+    requires second { length second.now ≡ length words.old }
+    requires third { length third.now ≡ length words.old }
+    requires fourth { length fourth.now ≡ length words.old }
+    requires fifth { length fifth.now ≡ length words.old }
+    requires sixth { length sixth.now ≡ length words.old }
+    ensures len { length words.new ≡ length words.old }
+    ensures bits { (j : ℕ) → j < 64 * length words.old → has_bit words.new j ≡ (has_bit row.now j && not (has_bit first.now j || (has_bit second.now j || (has_bit third.now j || (has_bit fourth.now j || (has_bit fifth.now j || has_bit sixth.now j)))))) }
+{
+    let fours = words.len() / 4;
+    without_six_fours(
+        row, first, second, third, fourth, fifth, sixth, words, fours,
+    );
+    without_six_rest(
+        row,
+        first,
+        second,
+        third,
+        fourth,
+        fifth,
+        sixth,
+        words,
+        4 * fours,
+    );
+}
+
+// Does what `without_six` does, in the first `4 * fours` words. It reads four words of each row before it writes one, as
+// `take_out_fours` does.
+fn without_six_fours(
+    row: &[u64],
+    first: &[u64],
+    second: &[u64],
+    third: &[u64],
+    fourth: &[u64],
+    fifth: &[u64],
+    sixth: &[u64],
+    words: &mut [u64],
+    fours: usize,
+)
+    requires words { 4 * fours ≤ length words.old }
+    requires row { length row.now ≡ length words.old }
+    requires first { length first.now ≡ length words.old }
+    requires second { length second.now ≡ length words.old }
+    requires third { length third.now ≡ length words.old }
+    requires fourth { length fourth.now ≡ length words.old }
+    requires fifth { length fifth.now ≡ length words.old }
+    requires sixth { length sixth.now ≡ length words.old }
+    ensures len { length words.new ≡ length words.old }
+    ensures done { (k : ℕ) → k < 4 * fours → IsLessSix (slice_index words.new k) (slice_index row.now k) (slice_index first.now k) (slice_index second.now k) (slice_index third.now k) (slice_index fourth.now k) (slice_index fifth.now k) (slice_index sixth.now k) }
+{
+    for c in 0..fours {
+        let k = 4 * c;
+        let one = less_six(row[k], first, second, third, fourth, fifth, sixth, k);
+        let two = less_six(
+            row[k + 1],
+            first,
+            second,
+            third,
+            fourth,
+            fifth,
+            sixth,
+            k + 1,
+        );
+        let three = less_six(
+            row[k + 2],
+            first,
+            second,
+            third,
+            fourth,
+            fifth,
+            sixth,
+            k + 2,
+        );
+        let four = less_six(
+            row[k + 3],
+            first,
+            second,
+            third,
+            fourth,
+            fifth,
+            sixth,
+            k + 3,
+        );
+        words[k] = one;
+        words[k + 1] = two;
+        words[k + 2] = three;
+        words[k + 3] = four;
+    }
+}
+
+// Does what `without_six` does, in the words from `from` on.
+fn without_six_rest(
+    row: &[u64],
+    first: &[u64],
+    second: &[u64],
+    third: &[u64],
+    fourth: &[u64],
+    fifth: &[u64],
+    sixth: &[u64],
+    words: &mut [u64],
+    from: usize,
+)
+    requires words { from ≤ length words.old }
+    requires row { length row.now ≡ length words.old }
+    requires first { length first.now ≡ length words.old }
+    requires second { length second.now ≡ length words.old }
+    requires third { length third.now ≡ length words.old }
+    requires fourth { length fourth.now ≡ length words.old }
+    requires fifth { length fifth.now ≡ length words.old }
+    requires sixth { length sixth.now ≡ length words.old }
+    ensures len { length words.new ≡ length words.old }
+    ensures done { (k : ℕ) → from ≤ k → k < length words.old → IsLessSix (slice_index words.new k) (slice_index row.now k) (slice_index first.now k) (slice_index second.now k) (slice_index third.now k) (slice_index fourth.now k) (slice_index fifth.now k) (slice_index sixth.now k) }
+    ensures before { (k : ℕ) → k < from → slice_index words.new k ≡ slice_index words.old k }
+{
+    for k in from..words.len() {
+        words[k] = less_six(row[k], first, second, third, fourth, fifth, sixth, k);
     }
 }
 

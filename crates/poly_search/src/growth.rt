@@ -223,12 +223,37 @@ fn arm(
     if growth.inner == 0 || depth < 2 {
         frame.pick(placement);
     } else if let Some(item) = frame.pick_unless_starved(placement) {
-        let tree = dead_end(alloc, growth, item);
-        return push_arm(arms, growth.keep, placement, tree);
+        return dead_arm(alloc, growth, placement, item, arms);
     }
     let tree = child(alloc, frame, growth, kept, depth)?;
     frame.back();
     push_arm(arms, growth.keep, placement, tree)
+}
+
+// Adds a dead end as the arm of the placement, if the tree is kept. Most arms are dead ends, so nothing is made if it isn't.
+fn dead_arm(
+    alloc: Global,
+    growth: &mut Growth,
+    placement: u32,
+    item: Item,
+    arms: &mut Vec<Arm>,
+) -> Result<(), Refusal>
+    requires nodes { 1 ≤ growth.old.nodes }
+    requires inner { 1 ≤ growth.old.inner }
+    ensures arms { OnOk result (growth.old.keep ≡ true → arms_list arms.new.items ≡ snoc (arms_list arms.old.items) placement (Branches item NoArms)) }
+    ensures nodes { growth.new.nodes + 1 ≡ growth.old.nodes }
+    ensures inner { growth.new.inner + 1 ≡ growth.old.inner }
+    ensures gathered { growth.new.gathered ≡ growth.old.gathered }
+    ensures keep { growth.new.keep ≡ growth.old.keep }
+    ensures why { IfErr result (λ e. e ≡ Refusal.Memory) }
+{
+    if growth.keep {
+        let tree = dead_end(alloc, growth, item);
+        return push_arm(arms, true, placement, tree);
+    }
+    growth.nodes -= 1;
+    growth.inner -= 1;
+    Ok(())
 }
 
 // How many options were walked, and how many nodes are held back for a chain over their arms.

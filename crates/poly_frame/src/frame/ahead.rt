@@ -3,7 +3,7 @@
 //! found, the step takes over the row that was made for the look.
 //!
 //! What the look finds is a guess. That an item has too few placements left is tested before the caller is told.
-ghost use Rattle.std.specs.Prelude.{IfSome, MatchOption, [], slice_index, nat_lt, not, length, true, ℕ, ◌&&◌, ◌*◌, ◌+◌, ◌++◌, ◌<◌, ◌∷◌, ◌≡◌};
+ghost use Rattle.std.specs.Prelude.{IfSome, MatchOption, [], slice_index, nat_lt, not, length, take, true, ℕ, ◌&&◌, ◌*◌, ◌+◌, ◌-◌, ◌++◌, ◌<◌, ◌∷◌, ◌≡◌, ◌≤◌};
 ghost use Rattle.std.specs.List.{list_all, list_any};
 ghost use Rattle.poly_tiling.specs.Lists.{mem};
 ghost use Rattle.poly_atom.specs.declared.atom.Atom.TheVariants.{Has};
@@ -12,6 +12,7 @@ ghost use Rattle.poly_frame.specs.Open.{arms_fit, open_in};
 ghost use Rattle.poly_frame.specs.Bits.{has_bit};
 ghost use Rattle.poly_frame.specs.FrameSteps.{HasRoom, IsAt, StepsKeep};
 ghost use Rattle.poly_frame.specs.Matrices.{bit_index};
+ghost use Rattle.poly_frame.specs.declared.frame.ahead.TheConstants.{SIX};
 
 use crate::bits;
 use crate::frame::STEPS;
@@ -32,6 +33,9 @@ const FEW: usize = 16;
 
 // The most words of notes that are copied: a note for each of 512 items. A design has at most 320.
 const NOTED: usize = 8;
+
+// How many items' rows are read in one pass. A placement of a pentomino has as many items.
+const SIX: usize = 6;
 
 /// What a frame knows of the due items before it is asked for them. A wrong guess only costs time, or is a worse choice.
 #[derive(Clone, Copy)]
@@ -171,11 +175,50 @@ pub(crate) fn leave_open(node: &Node<'_>, steps: &Steps, j: usize, row: &mut [u6
     ensures row { RowWithout node.now.matrix.now steps.now.live.items j row.new }
 {
     let at = steps.live.len() - row.len();
-    row.copy_from_slice(&steps.live[at..]);
-    close_all(
+    close_each(
         &node.matrix.rows,
         steps.have.len(),
         node.matrix.items_of(j),
+        &steps.live[at..],
+        row,
+    );
+}
+
+// Makes `row` the row `live` without the numbers that have an item at one of the indices.
+fn close_each(rows: &[u64], items: usize, indices: &[usize], live: &[u64], row: &mut [u64])
+    requires rows { length rows.now ≡ length row.old * items }
+    requires low { list_all (λ b. nat_lt b items) indices.now ≡ true }
+    requires live { length live.now ≡ length row.old }
+    ensures len { length row.new ≡ length row.old }
+    ensures bits { (x : ℕ) → x < 64 * length row.old → has_bit row.new x ≡ (has_bit live.now x && not (list_any (λ b. has_bit rows.now (bit_index (length row.old) b x)) indices.now)) }
+{
+    if indices.len() < SIX {
+        row.copy_from_slice(live);
+        close_all(rows, items, indices, row);
+        return;
+    }
+    close_six(rows, items, indices, live, row);
+    close_all(rows, items, &indices[SIX..], row);
+}
+
+// Does what `close_each` does for the first six indices, in one pass.
+fn close_six(rows: &[u64], items: usize, indices: &[usize], live: &[u64], row: &mut [u64])
+    requires rows { length rows.now ≡ length row.old * items }
+    requires low { list_all (λ b. nat_lt b items) indices.now ≡ true }
+    requires six { SIX ≤ length indices.now }
+    requires live { length live.now ≡ length row.old }
+    ensures len { length row.new ≡ length row.old }
+    ensures bits { (x : ℕ) → x < 64 * length row.old → has_bit row.new x ≡ (has_bit live.now x && not (list_any (λ b. has_bit rows.now (bit_index (length row.old) b x)) (take SIX indices.now))) }
+{
+    let width = row.len();
+    bits::without_six(
+        live,
+        item_row(rows, width, indices[0]),
+        item_row(rows, width, indices[1]),
+        item_row(rows, width, indices[2]),
+        item_row(rows, width, indices[3]),
+        item_row(rows, width, indices[4]),
+        item_row(rows, width, indices[5]),
         row,
     );
 }

@@ -91,8 +91,8 @@ pub(crate) fn scarcest(
     let noted = due.len().min(NOTED);
     let k = guess / 64;
     if k < noted {
-        let alone = due[k] & (1u64 << (guess % 64));
-        best = scarcest_of_word(live, &occupied, rows, needs, 64 * k, alone, best);
+        let guessed = due[k] & (1u64 << (guess % 64));
+        best = scarcest_of_word(live, &occupied, rows, needs, 64 * k, guessed, best);
         // so that an item before it that has as many options comes first
         if best.spare > 0 {
             best.spare = best.spare.saturating_add(1);

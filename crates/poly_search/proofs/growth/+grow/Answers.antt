@@ -292,15 +292,12 @@ child-returns-then-inner-growth-clause-why t c = c.rest.ensures.why
 
 pub arm-returns-in-Some-clause-grows : goal.arm-returns-in-Some-clause-grows
 arm-returns-in-Some-clause-grows t c =
-    let e = c.dead_end-tree.ensures in
+    let e = c.dead_arm.ensures in
     let i = c.in-Some.item in
-    let p = c.args.placement in
+    let w = with_step c.args.frame.now (Has c.args.placement) in
     let low = c.if-depth-lt2.false.1 in
-    IfOk-weaker c.push_arm.result _ _ (λ x a. (
-      Branches i NoArms,
-      λ k. a (e.keep ∙ k) ∙ ap (λ y. snoc (arms_list c.args.arms.now.items) p y) e.tree,
-      dead_end_grows (with_step c.args.frame.now (Has p)) c.args.depth i (stand_of c.args.growth.now) (stand_of c.dead_end-tree.new.growth) low c.in-Some.ensures.1 e.nodes e.inner (ap (λ (g : Gathered). g.tilings.items) e.gathered) (ap (λ (g : Gathered). g.paths) e.gathered),
-    )) c.push_arm.ensures.arms
+    let grown = dead_end_grows w c.args.depth i (stand_of c.args.growth.now) (stand_of c.dead_arm.new.growth) low c.in-Some.ensures.1 e.nodes e.inner (ap (λ (g : Gathered). g.tilings.items) e.gathered) (ap (λ (g : Gathered). g.paths) e.gathered) in
+    IfOk-weaker c.dead_arm.result _ _ (λ x a. (Branches i NoArms, a, grown)) e.arms
 
 pub branch-returns-then-walked-options-clause-grows : goal.branch-returns-then-walked-options-clause-grows
 branch-returns-then-walked-options-clause-grows t c =
@@ -342,7 +339,7 @@ split-returns-clause-grows t c =
     )) c.over_both.ensures.tree
 
 -- the frame once the placement is taken
-picked : (t : ℕ) (c : goal.arm-After-push_arm-2 t) → c.if-depth-lt2.frame ≡ with_step c.args.frame.now (Has c.args.placement)
+picked : (t : ℕ) (c : goal.arm-After-push_arm t) → c.if-depth-lt2.frame ≡ with_step c.args.frame.now (Has c.args.placement)
 picked t c = elim c.if-depth-lt2.branch [
   | arm-then-depth-lt2 k ↦ k.frame-is ∙ k.pick.ensures
   | arm-else-depth-lt2+in_default k ↦ k.frame-is ∙ k.in_default.ensures
@@ -374,14 +371,14 @@ pub arm-returns-clause-grows : goal.arm-returns-clause-grows
 arm-returns-clause-grows t c =
     let e = c.in_ok-tree.ensures in
     let g = e.grows in
-    IfOk-weaker c.push_arm-2.result _ _ (λ x a. (
+    IfOk-weaker c.push_arm.result _ _ (λ x a. (
       g.0,
       λ k. a (e.keep ∙ k) ∙ ap (λ y. snoc (arms_list c.args.arms.now.items) c.args.placement y) (g.1 k),
       subst (λ (x : Walk). Grows x c.args.depth (stand_of c.args.growth.now) (stand_of c.child.new.growth) g.0) (picked t c) g.2,
-    )) c.push_arm-2.ensures.arms
+    )) c.push_arm.ensures.arms
 
 pub arm-returns-clause-same : goal.arm-returns-clause-same
-arm-returns-clause-same t c = IfOk-weaker c.push_arm-2.result _ _ (λ x a. c.back.ensures ∙ ap step_back (c.in_ok-tree.ensures.same ∙ picked t c) ∙ step_undone c.args.frame.now (Has c.args.placement)) c.push_arm-2.ensures.arms
+arm-returns-clause-same t c = IfOk-weaker c.push_arm.result _ _ (λ x a. c.back.ensures ∙ ap step_back (c.in_ok-tree.ensures.same ∙ picked t c) ∙ step_undone c.args.frame.now (Has c.args.placement)) c.push_arm.ensures.arms
 
 pub branch-walk_arms-requires : goal.branch-walk_arms-requires
 branch-walk_arms-requires t c =
@@ -590,22 +587,22 @@ pub grow-returns-clause-why : goal.grow-returns-clause-why
 grow-returns-clause-why t c = c.branch-tree.ensures.why
 
 pub arm-returns-in-Some-clause-same : goal.arm-returns-in-Some-clause-same
-arm-returns-in-Some-clause-same t c = IfOk-weaker c.push_arm.result _ _ (λ x a. c.in-Some.ensures.0) c.push_arm.ensures.arms
+arm-returns-in-Some-clause-same t c = IfOk-weaker c.dead_arm.result _ _ (λ x a. c.in-Some.ensures.0) c.dead_arm.ensures.arms
 
 pub arm-returns-in-Some-clause-kept : goal.arm-returns-in-Some-clause-kept
-arm-returns-in-Some-clause-kept t c = IfOk-weaker c.push_arm.result _ _ (λ x a. omega (arith, c.dead_end-tree.ensures.nodes, c.requires.room)) c.push_arm.ensures.arms
+arm-returns-in-Some-clause-kept t c = IfOk-weaker c.dead_arm.result _ _ (λ x a. omega (arith, c.dead_arm.ensures.nodes, c.requires.room)) c.dead_arm.ensures.arms
 
 pub arm-returns-in-Some-clause-keep : goal.arm-returns-in-Some-clause-keep
-arm-returns-in-Some-clause-keep t c = IfOk-weaker c.push_arm.result _ _ (λ x a. c.dead_end-tree.ensures.keep) c.push_arm.ensures.arms
+arm-returns-in-Some-clause-keep t c = IfOk-weaker c.dead_arm.result _ _ (λ x a. c.dead_arm.ensures.keep) c.dead_arm.ensures.arms
 
 pub arm-returns-in-Some-clause-why : goal.arm-returns-in-Some-clause-why
-arm-returns-in-Some-clause-why t c = c.push_arm.ensures.why
+arm-returns-in-Some-clause-why t c = c.dead_arm.ensures.why
 
 pub arm-returns-clause-kept : goal.arm-returns-clause-kept
-arm-returns-clause-kept t c = IfOk-weaker c.push_arm-2.result _ _ (λ x a. c.in_ok-tree.ensures.kept) c.push_arm-2.ensures.arms
+arm-returns-clause-kept t c = IfOk-weaker c.push_arm.result _ _ (λ x a. c.in_ok-tree.ensures.kept) c.push_arm.ensures.arms
 
 pub arm-returns-clause-keep : goal.arm-returns-clause-keep
-arm-returns-clause-keep t c = IfOk-weaker c.push_arm-2.result _ _ (λ x a. c.in_ok-tree.ensures.keep) c.push_arm-2.ensures.arms
+arm-returns-clause-keep t c = IfOk-weaker c.push_arm.result _ _ (λ x a. c.in_ok-tree.ensures.keep) c.push_arm.ensures.arms
 
 pub arm-returns-clause-why : goal.arm-returns-clause-why
-arm-returns-clause-why t c = c.push_arm-2.ensures.why
+arm-returns-clause-why t c = c.push_arm.ensures.why
