@@ -1,8 +1,10 @@
 -- If numbers run out for a design's placements, or for its pins after these, then the design and the placements that have
 -- numbers need more numbers than there are.
-use Rattle.std.proofs.Common.{List, inl, inr, subst}
+use Rattle.std.proofs.Common.{Err, IsErrAnd, List, Ok, Result, inl, inr, subst, ◌≡◌}
 use Rattle.std.specs.List.{Contains}
 use Rattle.std.proofs.lemmas.List.Elements.{Contains-append_cases}
+use Rattle.poly_grid.specs.declared.refusal.Refusal.{Refusal}
+use Rattle.poly_grid.specs.declared.refusal.Refusal.TheVariants.{Spent}
 use Rattle.poly_design.specs.Layout.{Layout}
 use Rattle.poly_design.specs.declared.placement.Placement.{Placement}
 use Rattle.poly_design.specs.Placements.{IsPlacement}
@@ -32,3 +34,8 @@ spent_pins d old between first list are pinned g many = record {
   ];
   many = many.many;
 }
+
+-- a refusal that `?` passes on stays as it is
+pub passed_on : {X : Type 0} (r : Result X Refusal) (e : Refusal) → IsErrAnd r (λ y. y ≡ e) → r ≡ Err Spent → e ≡ Spent
+passed_on (Ok x) e h s = absurd h
+passed_on (Err y) e h s = cc

@@ -1,5 +1,5 @@
 use Rattle.std.proofs.Common.{[], ap, sym, take, ◌∙◌, ◌++◌, ◌∷◌}
-use Rattle.std.proofs.lemmas.List.{append-nil}
+use Rattle.std.proofs.lemmas.List.{append-nil, take_all}
 use Rattle.std.specs.List.{filter_map}
 use Rattle.std.specs.Option.{option_to_list}
 use Rattle.poly_tiling.proofs.Positions.{positions_more}
@@ -19,3 +19,6 @@ loop-bound-preserved c =
           ap (λ l. l.items) w.list-is ∙ c.loop-bound.invariant ∙ sym (append-nil before)
           ∙ ap (λ o. before ++ option_to_list o) (sym w.in_default.is ∙ c.falls.ensures ∙ ap (falls c.args.to.now) c.bound-item.is) ∙ sym more
     ]
+
+pub returns : goal.returns
+returns c = c.loop-bound.invariant ∙ ap (λ l. filter_map (falls c.args.to.now) l) (take_all c.loop-bound.bound-index c.args.from.now c.loop-bound-test.false)

@@ -1,4 +1,4 @@
-use Rattle.std.proofs.Common.{Bool, List, ap, refl, subst, sym}
+use Rattle.std.proofs.Common.{Bool, Err, List, ap, refl, subst, sym}
 use Rattle.poly_design.specs.Layout.{Layout}
 use Rattle.poly_tiling.specs.Puzzle.{View}
 use Rattle.poly_tiling.specs.Shows.{Shows}
@@ -12,6 +12,7 @@ use Rattle.poly_place.proofs.Grow.{grown_index, grown_marked, grown_shows, grown
 use Rattle.poly_place.proofs.Indexed.{low_row}
 use Rattle.poly_place.proofs.Ordered.{order_none}
 use Rattle.poly_place.proofs.Rows.{rows_up}
+use Rattle.poly_place.proofs.RunOut.{passed_on}
 use Rattle.poly_place.proofs.plan_change.plan_change.Goals as goal
 
 pub marks-requires-clause-rows : goal.marks-requires-clause-rows
@@ -106,3 +107,7 @@ returns-clause-order c =
     let are : AreMarked t c.args.change.now c.in_ok-marks.marks.items = c.in_ok-marks.ensures.ok t refl c.requires.indexed in
     let marked : AreMarked t c.args.change.now c.deref.result.now = subst (λ (l : List Bool). AreMarked t c.args.change.now l) (sym c.deref.ensures.value) are in
     c.in_ok-update.ensures.order c.args.design.now c.requires.shows marked c.requires.after
+
+pub returns-in_err-update-clause-spent : goal.returns-in_err-update-clause-spent
+returns-in_err-update-clause-spent c = λ s.
+    c.in_err-update.ensures.spent (ap (λ e. Err e) (passed_on c.from_residual-in_err-update.result c.in_err-update.field-0.0 c.from_residual-in_err-update.ensures.1 s))

@@ -2,8 +2,6 @@ use Rattle.std.proofs.Common.{Err, List, ap, false, refl, subst, sym, ℕ, ◌++
 use Rattle.std.specs.List.{Contains}
 use Rattle.std.specs.List.Sorted.{IsPermutation}
 use Rattle.std.specs.Prelude.{filter, not, slice_index_or}
-use Rattle.std.proofs.lemmas.Result.{err_from_is_err_and}
-use Rattle.poly_grid.specs.declared.refusal.Refusal.TheVariants.{Spent}
 use Rattle.poly_design.specs.declared.placement.Placement.{Placement}
 use Rattle.poly_place.specs.Interned.{AreNumbersOf, GoesOnWith}
 use Rattle.poly_place.specs.Numbered.{numbered_view}
@@ -11,29 +9,25 @@ use Rattle.poly_place.proofs.Found.{found_numbers}
 use Rattle.poly_place.proofs.Numbers.{goes_by, goes_none, goes_twice}
 use Rattle.poly_place.proofs.Ordered.{has_number, order_none, order_pins, order_places}
 use Rattle.poly_place.proofs.Righted.{right_from}
-use Rattle.poly_place.proofs.RunOut.{spent_pins, spent_places}
+use Rattle.poly_place.proofs.RunOut.{passed_on, spent_pins, spent_places}
 use Rattle.poly_place.specs.Touched.{AreInOrder}
 use Rattle.poly_place.proofs.Updated.{kept_up, numbers_up, updated_places, unmarked_in}
 use Rattle.poly_place.proofs.update.updated.Goals as goal
 
 pub returns-in_err-fresh-clause-spent : goal.returns-in_err-fresh-clause-spent
-returns-in_err-fresh-clause-spent c =
-    let p = err_from_is_err_and c.from_residual-in_err-fresh.result c.from_residual-in_err-fresh.ensures.1 in
-    rw (p.1, p.2) (λ e.
-    let same : c.in_err-fresh.field-0.0 ≡ Spent = cc in
+returns-in_err-fresh-clause-spent c = λ s.
+    let same = passed_on c.from_residual-in_err-fresh.result c.in_err-fresh.field-0.0 c.from_residual-in_err-fresh.ensures.1 s in
     spent_places c.args.after.now c.args.names.now c.deref-2.result.now
     (λ q h. ((c.in_ok-found.ensures.ok.exact q).0 (subst (λ (l : List Placement). Contains l q) c.deref-2.ensures.value h)).0)
-    (c.in_err-fresh.ensures.spent (ap (λ x. Err x) same)))
+    (c.in_err-fresh.ensures.spent (ap (λ x. Err x) same))
 
 pub returns-in_err-pins-clause-spent : goal.returns-in_err-pins-clause-spent
-returns-in_err-pins-clause-spent c =
-    let p = err_from_is_err_and c.from_residual-in_err-pins.result c.from_residual-in_err-pins.ensures.1 in
-    rw (p.1, p.2) (λ e.
-    let same : c.in_err-pins.field-0.0 ≡ Spent = cc in
+returns-in_err-pins-clause-spent c = λ s.
+    let same = passed_on c.from_residual-in_err-pins.result c.in_err-pins.field-0.0 c.from_residual-in_err-pins.ensures.1 s in
     spent_pins c.args.after.now c.args.names.now c.give_all.new.self c.deref-2.result.now c.deref-5.result.now
     (λ q h. ((c.in_ok-found.ensures.ok.exact q).0 (subst (λ (l : List Placement). Contains l q) c.deref-2.ensures.value h)).0)
     (λ q h. (c.in_ok-pinned.ensures.ok.exact q).0 (subst (λ (l : List Placement). Contains l q) c.deref-5.ensures.value h))
-    c.in_ok-fresh.ensures.gives (c.in_err-pins.ensures.spent (ap (λ x. Err x) same)))
+    c.in_ok-fresh.ensures.gives (c.in_err-pins.ensures.spent (ap (λ x. Err x) same))
 
 pub merged-requires-clause-kept_up : goal.merged-requires-clause-kept_up
 merged-requires-clause-kept_up c =

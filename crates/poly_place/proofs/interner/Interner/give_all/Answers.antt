@@ -1,7 +1,8 @@
 use Rattle.std.proofs.lemmas.Grind.{common_steps}
-use Rattle.std.proofs.Common.{◌≡◌, Err, ap, arith}
+use Rattle.std.proofs.Common.{◌≡◌, Err, List, ap, arith, subst, sym}
+use Rattle.poly_design.specs.declared.placement.Placement.{Placement}
 use Rattle.poly_grid.specs.declared.refusal.Refusal.TheVariants.{Spent}
-use Rattle.poly_place.proofs.Numbers.{all_given, goes_on, too_many}
+use Rattle.poly_place.proofs.Numbers.{IsPartWay, all_given, begins, goes_on, too_many}
 use Rattle.poly_place.proofs.interner.Interner.give_all.Goals as goal
 
 pub returns-in-Err-clause-spent : goal.returns-in-Err-clause-spent
@@ -25,3 +26,17 @@ returns-clause-gives c = (all_given c.args.self.now c.args.placements.now c.loop
 
 pub returns-in-Err-clause-err : goal.returns-in-Err-clause-err
 returns-in-Err-clause-err c = grind (arith, common_steps)
+
+pub loop-placement-init : goal.loop-placement-init
+loop-placement-init c = record {
+  way = subst (λ (l : List Placement). IsPartWay c.args.self.now c.args.placements.now l 0 c.in_ok-numbers.numbers.items) (sym c.reserve.ensures.same) (begins c.args.self.now c.args.placements.now c.in_ok-numbers.numbers.items c.in_ok-numbers.ensures.items);
+  numbered = c.len-before.ensures.numbered;
+  count = omega (arith, c.in_ok-numbers.ensures.len);
+  room = omega (arith, c.in_ok-numbers.ensures.capacity);
+}
+
+pub returns-clause-ok : goal.returns-clause-ok
+returns-clause-ok c = (all_given c.args.self.now c.args.placements.now c.loop-placement.self c.loop-placement.placement-index c.loop-placement.numbers.items c.loop-placement.invariant.way c.loop-placement-test.false).0
+
+pub returns-clause-numbered : goal.returns-clause-numbered
+returns-clause-numbered c = c.loop-placement.invariant.numbered

@@ -1,13 +1,11 @@
-use Rattle.std.proofs.Common.{Err, List, ap, subst, ◌≡◌}
-use Rattle.std.proofs.lemmas.Result.{err_from_is_err_and}
-use Rattle.poly_grid.specs.declared.refusal.Refusal.TheVariants.{Spent}
+use Rattle.std.proofs.Common.{Err, List, ap, arith, length, length-append, subst}
 use Rattle.std.specs.List.{Contains}
 use Rattle.poly_design.specs.declared.placement.Placement.{Placement}
 use Rattle.poly_place.specs.Interned.{AreNumbersOf, GoesOnWith}
 use Rattle.poly_place.proofs.Numbers.{goes_by, goes_none, goes_twice}
 use Rattle.poly_place.proofs.Ordered.{has_number, order_none, order_pins, order_places}
 use Rattle.poly_place.proofs.Righted.{right_from}
-use Rattle.poly_place.proofs.RunOut.{spent_pins, spent_places}
+use Rattle.poly_place.proofs.RunOut.{passed_on, spent_pins, spent_places}
 use Rattle.poly_place.proofs.numbered.Numbered.of.Goals as goal
 
 pub returns-clause-right : goal.returns-clause-right
@@ -32,21 +30,17 @@ returns-clause-grows c =
     (goes_by c.give_all.new.self c.deref-2.result.now c.give_all-2.new.self c.in_ok-pins.ensures.gives c.in_ok-pins.ensures.numbered)
 
 pub returns-in_err-live-clause-spent : goal.returns-in_err-live-clause-spent
-returns-in_err-live-clause-spent c = λ d parts.
-    let p = err_from_is_err_and c.from_residual.result c.from_residual.ensures.1 in
-    rw (p.1, p.2) (λ e.
-    let same : c.in_err-live.field-0.0 ≡ Spent = cc in
-    spent_places d c.args.names.now c.deref.result.now (λ q h. (parts.places.exact q).0 (subst (λ (l : List Placement). Contains l q) c.deref.ensures.value h)) (c.in_err-live.ensures.spent (ap (λ x. Err x) same)))
+returns-in_err-live-clause-spent c = λ d parts s.
+    let same = passed_on c.from_residual.result c.in_err-live.field-0.0 c.from_residual.ensures.1 s in
+    spent_places d c.args.names.now c.deref.result.now (λ q h. (parts.places.exact q).0 (subst (λ (l : List Placement). Contains l q) c.deref.ensures.value h)) (c.in_err-live.ensures.spent (ap (λ x. Err x) same))
 
 pub returns-in_err-pins-clause-spent : goal.returns-in_err-pins-clause-spent
-returns-in_err-pins-clause-spent c = λ d parts.
-    let p = err_from_is_err_and c.from_residual-in_err-pins.result c.from_residual-in_err-pins.ensures.1 in
-    rw (p.1, p.2) (λ e.
-    let same : c.in_err-pins.field-0.0 ≡ Spent = cc in
+returns-in_err-pins-clause-spent c = λ d parts s.
+    let same = passed_on c.from_residual-in_err-pins.result c.in_err-pins.field-0.0 c.from_residual-in_err-pins.ensures.1 s in
     spent_pins d c.args.names.now c.give_all.new.self c.deref.result.now c.deref-2.result.now
     (λ q h. (parts.places.exact q).0 (subst (λ (l : List Placement). Contains l q) c.deref.ensures.value h))
     (λ q h. (parts.pins.exact q).0 (subst (λ (l : List Placement). Contains l q) c.deref-2.ensures.value h))
-    c.in_ok-live.ensures.gives (c.in_err-pins.ensures.spent (ap (λ x. Err x) same)))
+    c.in_ok-live.ensures.gives (c.in_err-pins.ensures.spent (ap (λ x. Err x) same))
 
 pub returns-in_err-live-clause-order : goal.returns-in_err-live-clause-order
 returns-in_err-live-clause-order c = λ d parts. order_none d c.args.names.now c.give_all.new.self c.in_err-live.ensures.err
@@ -66,3 +60,14 @@ returns-clause-order c = λ d parts.
     parts.pins
     (subst (λ (l : List Placement). GoesOnWith c.args.names.now l between) c.deref.ensures.value c.in_ok-live.ensures.gives)
     (subst (λ (l : List Placement). GoesOnWith between l c.give_all-2.new.self) c.deref-2.ensures.value c.in_ok-pins.ensures.gives)
+
+pub returns-in_err-live-clause-many : goal.returns-in_err-live-clause-many
+returns-in_err-live-clause-many c = λ s.
+    let same = passed_on c.from_residual.result c.in_err-live.field-0.0 c.from_residual.ensures.1 s in
+    omega (arith, (c.in_err-live.ensures.spent (ap (λ x. Err x) same)).sum, ap length c.deref.ensures.value)
+
+pub returns-in_err-pins-clause-many : goal.returns-in_err-pins-clause-many
+returns-in_err-pins-clause-many c = λ s.
+    let same = passed_on c.from_residual-in_err-pins.result c.in_err-pins.field-0.0 c.from_residual-in_err-pins.ensures.1 s in
+    let live = c.in_ok-live.ensures.gives in
+    omega (arith, (c.in_err-pins.ensures.spent (ap (λ x. Err x) same)).sum, ap length c.deref-2.ensures.value, ap length live.appended, length-append c.args.names.now live.more, live.few, ap length c.deref.ensures.value)

@@ -1,4 +1,6 @@
-use Rattle.std.proofs.Common.{Err, ap, arith, inl, inr, length, rules}
+use Rattle.std.proofs.Common.{Err, List, ap, arith, inl, inr, length, subst}
+use Rattle.poly_design.specs.declared.placement.Placement.{Placement}
+use Rattle.poly_place.specs.Delta.{GivesInOrder}
 use Rattle.poly_place.proofs.table.Table.of.Goals as goal
 
 pub returns-in-Err-clause-why : goal.returns-in-Err-clause-why
@@ -7,5 +9,15 @@ returns-in-Err-clause-why c = elim c.in-Err.ensures.why [
   | inr m ↦ m
 ]
 
+pub invariant_of-result : goal.invariant_of-result
+invariant_of-result c = record {
+  well = (c.in-Ok.ensures.right c.args.design.now c.in_ok-parts.ensures.ok).well;
+  index = c.in_ok-index-in-Ok.ensures.ok;
+}
+
+pub returns-in_ok-index-in-Ok-clause-right : goal.returns-in_ok-index-in-Ok-clause-right
+returns-in_ok-index-in-Ok-clause-right c = c.in-Ok.ensures.right c.args.design.now c.in_ok-parts.ensures.ok
+
 pub returns-in_ok-index-in-Ok-clause-order : goal.returns-in_ok-index-in-Ok-clause-order
-returns-in_ok-index-in-Ok-clause-order c = search rules
+returns-in_ok-index-in-Ok-clause-order c =
+    subst (λ (l : List Placement). GivesInOrder c.args.design.now l c.of-2.new.names) c.new-names.ensures (c.in-Ok.ensures.order c.args.design.now c.in_ok-parts.ensures.ok)
