@@ -19,3 +19,4 @@ pub mod Few
 pub mod Asked
 pub mod Crowds
 pub mod Forgets
+pub mod Joined
