@@ -135,6 +135,13 @@ lists_grow old new ends more node B lists f h is e b = ap (λ s. ended new s) e 
 pub linked_more : (old new : List Link) (ends more : List ℕ) (node : ℕ) → Extends old new → AreLinked old ends → more ≡ ends ++ node ∷ [] → node ≤ length new → AreLinked new more
 linked_more old new ends more node f h e m = subst (λ s. AreLinked new s) (sym e) (linked_end old new ends node f h m)
 
+-- one list, which ends at a node
+pub linked_one : (ls : List Link) (ends : List ℕ) (e : ℕ) → AreEarlier 0 ls → ends ≡ e ∷ [] → e ≡ length ls → AreLinked ls ends
+linked_one ls ends e h is at = linked_more ls ls [] ends e (extends_self ls h) (record { earlier = h; inside = λ k d m. absurd (omega (arith, m)) }) is (omega (arith, at))
+
+pub ended_one : (ls : List Link) (ends : List ℕ) (e : ℕ) (B : List Atom) → ends ≡ e ∷ [] → at_node ls e ≡ B → ended ls ends ≡ B ∷ []
+ended_one ls ends e B is b = ap (λ s. ended ls s) is ∙ ap (λ l. l ∷ []) b
+
 -- a node more, with one atom more than the last one
 pub chained : (old new : List Link) (a : Atom) (B C : List Atom) → new ≡ old ++ (record { before = length old; atom = Some a }) ∷ [] → AreEarlier 0 old → at_node old (length old) ≡ B → C ≡ B ++ a ∷ [] → AreEarlier 0 new × (at_node new (length new) ≡ C)
 chained old new a B C is h last more =

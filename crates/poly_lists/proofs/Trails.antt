@@ -1,7 +1,8 @@
 -- What more nodes and more atoms change of a trail.
-use Rattle.std.proofs.Common.{Some, [], List, ap, arith, get_or, inl, inr, length, sym, take, zero, suc, ℕ, ◌++◌, ◌+◌, ◌<◌, ◌∙◌, ◌∷◌, ◌≡◌, ◌≤◌}
+use Rattle.std.proofs.Common.{Err, IfOk, Ok, OnOk, Result, Some, [], List, ap, arith, get_or, inl, inr, length, sym, take, zero, suc, ℕ, ◌++◌, ◌+◌, ◌<◌, ◌∙◌, ◌∷◌, ◌≡◌, ◌≤◌}
 use Rattle.std.proofs.lemmas.List.{get_or-take, get_or_append_left, get_or_push, length-take-le, length_push, take-append-le, take-take, take_all}
 use Rattle.poly_atom.specs.declared.atom.Atom.{Atom}
+use Rattle.poly_grid.specs.declared.refusal.Refusal.{Refusal}
 use Rattle.poly_lists.specs.Linked.{AreEarlier, Extends, at_node}
 use Rattle.poly_lists.specs.Trails.{IsAt, IsTrail}
 use Rattle.poly_lists.specs.declared.nodes.Link.{Link}
@@ -13,6 +14,15 @@ trail_over old new trail last f t = record {
   few = t.few;
   inside = λ i h. omega (arith, t.inside i h, f.longer);
   begin = λ i h. f.same (get_or trail i 0) (t.inside i h) ∙ t.begin i h;
+}
+
+-- more nodes, the last of which has the same list
+pub at_over : (old new : List Link) (trail : List ℕ) (last : List Atom) (before : ℕ) → Extends old new → at_node new (length new) ≡ at_node old before → IsAt old trail last before → IsAt new trail last (length new)
+at_over old new trail last before f same at = record {
+  begun = trail_over old new trail last f at.begun;
+  even = at.even;
+  inside = omega arith;
+  whole = same ∙ at.whole;
 }
 
 -- one atom more
@@ -84,3 +94,8 @@ pushed_at old new trail trail' last last' a n h is atoms nodes e at =
       inside = omega arith;
       whole = whole;
     }
+
+-- the node has the list that was asked for
+pub at_end : (r : Result ℕ Refusal) (ls : List Link) (trail : List ℕ) (last whole : List Atom) → IfOk r (λ n. IsAt ls trail last n) → OnOk r (last ≡ whole) → IfOk r (λ n. at_node ls n ≡ whole)
+at_end (Ok n) ls trail last whole at is = at.whole ∙ is
+at_end (Err e) ls trail last whole at is = tt
