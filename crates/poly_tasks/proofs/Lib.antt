@@ -14,6 +14,7 @@ pub mod Noted
 pub mod Numbered
 pub mod Placing
 pub mod ReachedTasks
+pub mod Refused
 pub mod Spanning
 pub mod Sparing
 pub mod Spotting

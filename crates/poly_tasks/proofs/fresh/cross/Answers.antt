@@ -56,3 +56,24 @@ returns-in_err-number-clause-why c =
       )
       | inr m ↦ inr m
     ])
+
+pub judge_frozen-requires-clause-small : goal.judge_frozen-requires-clause-small
+judge_frozen-requires-clause-small c = c.requires.small
+
+pub judge_frozen-requires-clause-once : goal.judge_frozen-requires-clause-once
+judge_frozen-requires-clause-once c = c.requires.once
+
+pub judge_frozen-requires-clause-frozen : goal.judge_frozen-requires-clause-frozen
+judge_frozen-requires-clause-frozen c = c.requires.frozen
+
+pub judge_frozen-requires-clause-ready : goal.judge_frozen-requires-clause-ready
+judge_frozen-requires-clause-ready c = c.requires.ready
+
+pub shared_base-requires-clause-frozen : goal.shared_base-requires-clause-frozen
+shared_base-requires-clause-frozen c = c.requires.frozen
+
+pub shared_base-requires-clause-lead : goal.shared_base-requires-clause-lead
+shared_base-requires-clause-lead c = c.in_ok-judge_frozen.ensures.ready.lead
+
+pub returns-clause-ready : goal.returns-clause-ready
+returns-clause-ready c = c.in_ok-judge_frozen.ensures.ready

@@ -20,6 +20,7 @@ use Rattle.poly_tasks.proofs.Harming.{brief_judges, harm_first, harm_has, harm_j
 use Rattle.poly_tasks.proofs.Judging.{frozen_brief_is, frozen_in, judged_length, judged_over, none_judged, ruled_out}
 use Rattle.poly_tasks.proofs.Lacking.{again_alone}
 use Rattle.poly_tasks.proofs.Laying.{AreAlike, alike_on, alone_alike, asks_alike, judged_alike, out_alike, spoilt_none}
+use Rattle.poly_tasks.proofs.Refused.{refused}
 use Rattle.poly_tasks.proofs.fresh.judge_frozen.Goals as goal
 
 -- the buffers are still ready if they have the same lists, and guards and spots of the log
@@ -173,16 +174,16 @@ returns-clause-none c = λ none.
     none_judged w A A (stairs g) c.judge_stairs.new.flags.items (λ a i. i) judged (sym c.in_ok-any.ensures.any ∙ none)
 
 pub returns-in_err-read_frozen-clause-ready : goal.returns-in_err-read_frozen-clause-ready
-returns-in_err-read_frozen-clause-ready c = rw (err_from_is_err_and c.from_residual.result c.from_residual.ensures.1).1 tt
+returns-in_err-read_frozen-clause-ready c = refused c.from_residual.result _ _ c.from_residual.ensures.1
 
 pub returns-in_err-read_frozen-clause-laid : goal.returns-in_err-read_frozen-clause-laid
-returns-in_err-read_frozen-clause-laid c = rw (err_from_is_err_and c.from_residual.result c.from_residual.ensures.1).1 tt
+returns-in_err-read_frozen-clause-laid c = refused c.from_residual.result _ _ c.from_residual.ensures.1
 
 pub returns-in_err-read_frozen-clause-none : goal.returns-in_err-read_frozen-clause-none
-returns-in_err-read_frozen-clause-none c = rw (err_from_is_err_and c.from_residual.result c.from_residual.ensures.1).1 tt
+returns-in_err-read_frozen-clause-none c = refused c.from_residual.result _ _ c.from_residual.ensures.1
 
 pub returns-in_err-read_frozen-clause-flags : goal.returns-in_err-read_frozen-clause-flags
-returns-in_err-read_frozen-clause-flags c = rw (err_from_is_err_and c.from_residual.result c.from_residual.ensures.1).1 tt
+returns-in_err-read_frozen-clause-flags c = refused c.from_residual.result _ _ c.from_residual.ensures.1
 
 pub returns-in_err-read_frozen-clause-why : goal.returns-in_err-read_frozen-clause-why
 returns-in_err-read_frozen-clause-why c =
@@ -190,16 +191,16 @@ returns-in_err-read_frozen-clause-why c =
     rw (p.1, p.2) c.in_err-read_frozen.ensures.why
 
 pub returns-in_err-judge_first-clause-ready : goal.returns-in_err-judge_first-clause-ready
-returns-in_err-judge_first-clause-ready c = rw (err_from_is_err_and c.from_residual-in_err-judge_first.result c.from_residual-in_err-judge_first.ensures.1).1 tt
+returns-in_err-judge_first-clause-ready c = refused c.from_residual-in_err-judge_first.result _ _ c.from_residual-in_err-judge_first.ensures.1
 
 pub returns-in_err-judge_first-clause-laid : goal.returns-in_err-judge_first-clause-laid
-returns-in_err-judge_first-clause-laid c = rw (err_from_is_err_and c.from_residual-in_err-judge_first.result c.from_residual-in_err-judge_first.ensures.1).1 tt
+returns-in_err-judge_first-clause-laid c = refused c.from_residual-in_err-judge_first.result _ _ c.from_residual-in_err-judge_first.ensures.1
 
 pub returns-in_err-judge_first-clause-none : goal.returns-in_err-judge_first-clause-none
-returns-in_err-judge_first-clause-none c = rw (err_from_is_err_and c.from_residual-in_err-judge_first.result c.from_residual-in_err-judge_first.ensures.1).1 tt
+returns-in_err-judge_first-clause-none c = refused c.from_residual-in_err-judge_first.result _ _ c.from_residual-in_err-judge_first.ensures.1
 
 pub returns-in_err-judge_first-clause-flags : goal.returns-in_err-judge_first-clause-flags
-returns-in_err-judge_first-clause-flags c = rw (err_from_is_err_and c.from_residual-in_err-judge_first.result c.from_residual-in_err-judge_first.ensures.1).1 tt
+returns-in_err-judge_first-clause-flags c = refused c.from_residual-in_err-judge_first.result _ _ c.from_residual-in_err-judge_first.ensures.1
 
 pub returns-in_err-judge_first-clause-why : goal.returns-in_err-judge_first-clause-why
 returns-in_err-judge_first-clause-why c =
@@ -207,16 +208,16 @@ returns-in_err-judge_first-clause-why c =
     rw (p.1, p.2) c.in_err-judge_first.ensures.why
 
 pub returns-in_err-find-clause-ready : goal.returns-in_err-find-clause-ready
-returns-in_err-find-clause-ready c = rw (err_from_is_err_and c.from_residual-in_err-find.result c.from_residual-in_err-find.ensures.1).1 tt
+returns-in_err-find-clause-ready c = refused c.from_residual-in_err-find.result _ _ c.from_residual-in_err-find.ensures.1
 
 pub returns-in_err-find-clause-laid : goal.returns-in_err-find-clause-laid
-returns-in_err-find-clause-laid c = rw (err_from_is_err_and c.from_residual-in_err-find.result c.from_residual-in_err-find.ensures.1).1 tt
+returns-in_err-find-clause-laid c = refused c.from_residual-in_err-find.result _ _ c.from_residual-in_err-find.ensures.1
 
 pub returns-in_err-find-clause-none : goal.returns-in_err-find-clause-none
-returns-in_err-find-clause-none c = rw (err_from_is_err_and c.from_residual-in_err-find.result c.from_residual-in_err-find.ensures.1).1 tt
+returns-in_err-find-clause-none c = refused c.from_residual-in_err-find.result _ _ c.from_residual-in_err-find.ensures.1
 
 pub returns-in_err-find-clause-flags : goal.returns-in_err-find-clause-flags
-returns-in_err-find-clause-flags c = rw (err_from_is_err_and c.from_residual-in_err-find.result c.from_residual-in_err-find.ensures.1).1 tt
+returns-in_err-find-clause-flags c = refused c.from_residual-in_err-find.result _ _ c.from_residual-in_err-find.ensures.1
 
 pub returns-in_err-find-clause-why : goal.returns-in_err-find-clause-why
 returns-in_err-find-clause-why c =
@@ -224,16 +225,16 @@ returns-in_err-find-clause-why c =
     rw (p.1, p.2) c.in_err-find.ensures.why
 
 pub returns-in_err-append_harmful-clause-ready : goal.returns-in_err-append_harmful-clause-ready
-returns-in_err-append_harmful-clause-ready c = rw (err_from_is_err_and c.from_residual-in_err-append_harmful.result c.from_residual-in_err-append_harmful.ensures.1).1 tt
+returns-in_err-append_harmful-clause-ready c = refused c.from_residual-in_err-append_harmful.result _ _ c.from_residual-in_err-append_harmful.ensures.1
 
 pub returns-in_err-append_harmful-clause-laid : goal.returns-in_err-append_harmful-clause-laid
-returns-in_err-append_harmful-clause-laid c = rw (err_from_is_err_and c.from_residual-in_err-append_harmful.result c.from_residual-in_err-append_harmful.ensures.1).1 tt
+returns-in_err-append_harmful-clause-laid c = refused c.from_residual-in_err-append_harmful.result _ _ c.from_residual-in_err-append_harmful.ensures.1
 
 pub returns-in_err-append_harmful-clause-none : goal.returns-in_err-append_harmful-clause-none
-returns-in_err-append_harmful-clause-none c = rw (err_from_is_err_and c.from_residual-in_err-append_harmful.result c.from_residual-in_err-append_harmful.ensures.1).1 tt
+returns-in_err-append_harmful-clause-none c = refused c.from_residual-in_err-append_harmful.result _ _ c.from_residual-in_err-append_harmful.ensures.1
 
 pub returns-in_err-append_harmful-clause-flags : goal.returns-in_err-append_harmful-clause-flags
-returns-in_err-append_harmful-clause-flags c = rw (err_from_is_err_and c.from_residual-in_err-append_harmful.result c.from_residual-in_err-append_harmful.ensures.1).1 tt
+returns-in_err-append_harmful-clause-flags c = refused c.from_residual-in_err-append_harmful.result _ _ c.from_residual-in_err-append_harmful.ensures.1
 
 pub returns-in_err-append_harmful-clause-why : goal.returns-in_err-append_harmful-clause-why
 returns-in_err-append_harmful-clause-why c =
@@ -241,28 +242,28 @@ returns-in_err-append_harmful-clause-why c =
     rw (p.1, p.2) c.in_err-append_harmful.ensures.why
 
 pub returns-in_err-extend_from_slice-clause-ready : goal.returns-in_err-extend_from_slice-clause-ready
-returns-in_err-extend_from_slice-clause-ready c = rw (err_from_is_err_and c.from_residual-in_err-extend_from_slice.result c.from_residual-in_err-extend_from_slice.ensures.1).1 tt
+returns-in_err-extend_from_slice-clause-ready c = refused c.from_residual-in_err-extend_from_slice.result _ _ c.from_residual-in_err-extend_from_slice.ensures.1
 
 pub returns-in_err-extend_from_slice-clause-laid : goal.returns-in_err-extend_from_slice-clause-laid
-returns-in_err-extend_from_slice-clause-laid c = rw (err_from_is_err_and c.from_residual-in_err-extend_from_slice.result c.from_residual-in_err-extend_from_slice.ensures.1).1 tt
+returns-in_err-extend_from_slice-clause-laid c = refused c.from_residual-in_err-extend_from_slice.result _ _ c.from_residual-in_err-extend_from_slice.ensures.1
 
 pub returns-in_err-extend_from_slice-clause-none : goal.returns-in_err-extend_from_slice-clause-none
-returns-in_err-extend_from_slice-clause-none c = rw (err_from_is_err_and c.from_residual-in_err-extend_from_slice.result c.from_residual-in_err-extend_from_slice.ensures.1).1 tt
+returns-in_err-extend_from_slice-clause-none c = refused c.from_residual-in_err-extend_from_slice.result _ _ c.from_residual-in_err-extend_from_slice.ensures.1
 
 pub returns-in_err-extend_from_slice-clause-flags : goal.returns-in_err-extend_from_slice-clause-flags
-returns-in_err-extend_from_slice-clause-flags c = rw (err_from_is_err_and c.from_residual-in_err-extend_from_slice.result c.from_residual-in_err-extend_from_slice.ensures.1).1 tt
+returns-in_err-extend_from_slice-clause-flags c = refused c.from_residual-in_err-extend_from_slice.result _ _ c.from_residual-in_err-extend_from_slice.ensures.1
 
 pub returns-in_err-any-clause-ready : goal.returns-in_err-any-clause-ready
-returns-in_err-any-clause-ready c = rw (err_from_is_err_and c.from_residual-in_err-any.result c.from_residual-in_err-any.ensures.1).1 tt
+returns-in_err-any-clause-ready c = refused c.from_residual-in_err-any.result _ _ c.from_residual-in_err-any.ensures.1
 
 pub returns-in_err-any-clause-laid : goal.returns-in_err-any-clause-laid
-returns-in_err-any-clause-laid c = rw (err_from_is_err_and c.from_residual-in_err-any.result c.from_residual-in_err-any.ensures.1).1 tt
+returns-in_err-any-clause-laid c = refused c.from_residual-in_err-any.result _ _ c.from_residual-in_err-any.ensures.1
 
 pub returns-in_err-any-clause-none : goal.returns-in_err-any-clause-none
-returns-in_err-any-clause-none c = rw (err_from_is_err_and c.from_residual-in_err-any.result c.from_residual-in_err-any.ensures.1).1 tt
+returns-in_err-any-clause-none c = refused c.from_residual-in_err-any.result _ _ c.from_residual-in_err-any.ensures.1
 
 pub returns-in_err-any-clause-flags : goal.returns-in_err-any-clause-flags
-returns-in_err-any-clause-flags c = rw (err_from_is_err_and c.from_residual-in_err-any.result c.from_residual-in_err-any.ensures.1).1 tt
+returns-in_err-any-clause-flags c = refused c.from_residual-in_err-any.result _ _ c.from_residual-in_err-any.ensures.1
 
 pub returns-in_err-any-clause-why : goal.returns-in_err-any-clause-why
 returns-in_err-any-clause-why c =

@@ -1,11 +1,13 @@
 use Rattle.std.proofs.lemmas.Result.{err_from_is_err_and}
-use Rattle.std.proofs.Common.{[], ap, append_assoc, get_or, length, subst, sym, take, true, ◌++◌, ◌<◌, ◌∙◌, ◌∷◌, ◌≡◌}
+use Rattle.std.proofs.Common.{[], ap, append_assoc, arith, get_or, length, subst, sym, take, true, ◌++◌, ◌<◌, ◌∙◌, ◌∷◌, ◌≡◌}
 use Rattle.std.proofs.lemmas.List.{take_more}
+use Rattle.std.proofs.Math.Seq.{take-append_seam}
 use Rattle.std.specs.List.{list_any}
 use Rattle.poly_atom.specs.Atoms.{IsSmall, negated}
 use Rattle.poly_atom.specs.Hopeless.{hopeless}
 use Rattle.poly_atom.proofs.Walks.{small_at}
 use Rattle.poly_tasks.proofs.Judging.{any_true, judged_all, judged_more, known_or, stair_next}
+use Rattle.poly_tasks.proofs.Refused.{refused}
 use Rattle.poly_tasks.proofs.judge.judge_stairs.Goals as goal
 
 pub ends_at-requires : goal.ends_at-requires
@@ -49,19 +51,13 @@ pub judge_lead-requires-clause-alone : goal.judge_lead-requires-clause-alone
 judge_lead-requires-clause-alone c = c.requires.alone
 
 pub returns-in_err-judge_lead-clause-atoms : goal.returns-in_err-judge_lead-clause-atoms
-returns-in_err-judge_lead-clause-atoms c =
-    let p = err_from_is_err_and c.from_residual.result c.from_residual.ensures.1 in
-    rw p.1 tt
+returns-in_err-judge_lead-clause-atoms c = refused c.from_residual.result _ _ c.from_residual.ensures.1
 
 pub returns-in_err-judge_lead-clause-flags : goal.returns-in_err-judge_lead-clause-flags
-returns-in_err-judge_lead-clause-flags c =
-    let p = err_from_is_err_and c.from_residual.result c.from_residual.ensures.1 in
-    rw p.1 tt
+returns-in_err-judge_lead-clause-flags c = refused c.from_residual.result _ _ c.from_residual.ensures.1
 
 pub returns-in_err-judge_lead-clause-any : goal.returns-in_err-judge_lead-clause-any
-returns-in_err-judge_lead-clause-any c =
-    let p = err_from_is_err_and c.from_residual.result c.from_residual.ensures.1 in
-    rw p.1 tt
+returns-in_err-judge_lead-clause-any c = refused c.from_residual.result _ _ c.from_residual.ensures.1
 
 pub returns-in_err-judge_lead-clause-why : goal.returns-in_err-judge_lead-clause-why
 returns-in_err-judge_lead-clause-why c =
@@ -69,34 +65,22 @@ returns-in_err-judge_lead-clause-why c =
     rw (p.1, p.2) c.in_err-judge_lead.ensures.why
 
 pub returns-in_err-extend_from_slice-clause-atoms : goal.returns-in_err-extend_from_slice-clause-atoms
-returns-in_err-extend_from_slice-clause-atoms c =
-    let p = err_from_is_err_and c.from_residual-in_err-extend_from_slice.result c.from_residual-in_err-extend_from_slice.ensures.1 in
-    rw p.1 tt
+returns-in_err-extend_from_slice-clause-atoms c = refused c.from_residual-in_err-extend_from_slice.result _ _ c.from_residual-in_err-extend_from_slice.ensures.1
 
 pub returns-in_err-extend_from_slice-clause-flags : goal.returns-in_err-extend_from_slice-clause-flags
-returns-in_err-extend_from_slice-clause-flags c =
-    let p = err_from_is_err_and c.from_residual-in_err-extend_from_slice.result c.from_residual-in_err-extend_from_slice.ensures.1 in
-    rw p.1 tt
+returns-in_err-extend_from_slice-clause-flags c = refused c.from_residual-in_err-extend_from_slice.result _ _ c.from_residual-in_err-extend_from_slice.ensures.1
 
 pub returns-in_err-extend_from_slice-clause-any : goal.returns-in_err-extend_from_slice-clause-any
-returns-in_err-extend_from_slice-clause-any c =
-    let p = err_from_is_err_and c.from_residual-in_err-extend_from_slice.result c.from_residual-in_err-extend_from_slice.ensures.1 in
-    rw p.1 tt
+returns-in_err-extend_from_slice-clause-any c = refused c.from_residual-in_err-extend_from_slice.result _ _ c.from_residual-in_err-extend_from_slice.ensures.1
 
 pub returns-in_err-ends-clause-atoms : goal.returns-in_err-ends-clause-atoms
-returns-in_err-ends-clause-atoms c =
-    let p = err_from_is_err_and c.from_residual-in_err-ends.result c.from_residual-in_err-ends.ensures.1 in
-    rw p.1 tt
+returns-in_err-ends-clause-atoms c = refused c.from_residual-in_err-ends.result _ _ c.from_residual-in_err-ends.ensures.1
 
 pub returns-in_err-ends-clause-flags : goal.returns-in_err-ends-clause-flags
-returns-in_err-ends-clause-flags c =
-    let p = err_from_is_err_and c.from_residual-in_err-ends.result c.from_residual-in_err-ends.ensures.1 in
-    rw p.1 tt
+returns-in_err-ends-clause-flags c = refused c.from_residual-in_err-ends.result _ _ c.from_residual-in_err-ends.ensures.1
 
 pub returns-in_err-ends-clause-any : goal.returns-in_err-ends-clause-any
-returns-in_err-ends-clause-any c =
-    let p = err_from_is_err_and c.from_residual-in_err-ends.result c.from_residual-in_err-ends.ensures.1 in
-    rw p.1 tt
+returns-in_err-ends-clause-any c = refused c.from_residual-in_err-ends.result _ _ c.from_residual-in_err-ends.ensures.1
 
 pub returns-in_err-ends-clause-why : goal.returns-in_err-ends-clause-why
 returns-in_err-ends-clause-why c =
@@ -104,34 +88,35 @@ returns-in_err-ends-clause-why c =
     rw (p.1, p.2) c.in_err-ends.ensures.why
 
 pub returns-in_err-push-clause-atoms : goal.returns-in_err-push-clause-atoms
-returns-in_err-push-clause-atoms c =
-    let p = err_from_is_err_and c.from_residual-in_err-push.result c.from_residual-in_err-push.ensures.1 in
-    rw p.1 tt
+returns-in_err-push-clause-atoms c = refused c.from_residual-in_err-push.result _ _ c.from_residual-in_err-push.ensures.1
 
 pub returns-in_err-push-clause-flags : goal.returns-in_err-push-clause-flags
-returns-in_err-push-clause-flags c =
-    let p = err_from_is_err_and c.from_residual-in_err-push.result c.from_residual-in_err-push.ensures.1 in
-    rw p.1 tt
+returns-in_err-push-clause-flags c = refused c.from_residual-in_err-push.result _ _ c.from_residual-in_err-push.ensures.1
 
 pub returns-in_err-push-clause-any : goal.returns-in_err-push-clause-any
-returns-in_err-push-clause-any c =
-    let p = err_from_is_err_and c.from_residual-in_err-push.result c.from_residual-in_err-push.ensures.1 in
-    rw p.1 tt
+returns-in_err-push-clause-any c = refused c.from_residual-in_err-push.result _ _ c.from_residual-in_err-push.ensures.1
 
 pub returns-in_err-push-2-clause-atoms : goal.returns-in_err-push-2-clause-atoms
-returns-in_err-push-2-clause-atoms c =
-    let p = err_from_is_err_and c.from_residual-in_err-push-2.result c.from_residual-in_err-push-2.ensures.1 in
-    rw p.1 tt
+returns-in_err-push-2-clause-atoms c = refused c.from_residual-in_err-push-2.result _ _ c.from_residual-in_err-push-2.ensures.1
 
 pub returns-in_err-push-2-clause-flags : goal.returns-in_err-push-2-clause-flags
-returns-in_err-push-2-clause-flags c =
-    let p = err_from_is_err_and c.from_residual-in_err-push-2.result c.from_residual-in_err-push-2.ensures.1 in
-    rw p.1 tt
+returns-in_err-push-2-clause-flags c = refused c.from_residual-in_err-push-2.result _ _ c.from_residual-in_err-push-2.ensures.1
 
 pub returns-in_err-push-2-clause-any : goal.returns-in_err-push-2-clause-any
-returns-in_err-push-2-clause-any c =
-    let p = err_from_is_err_and c.from_residual-in_err-push-2.result c.from_residual-in_err-push-2.ensures.1 in
-    rw p.1 tt
+returns-in_err-push-2-clause-any c = refused c.from_residual-in_err-push-2.result _ _ c.from_residual-in_err-push-2.ensures.1
 
 pub judge_lead-requires-clause-flags : goal.judge_lead-requires-clause-flags
 judge_lead-requires-clause-flags c = c.clear.ensures.items
+
+pub loop-index-init : goal.loop-index-init
+loop-index-init c = record {
+  atoms = c.in_ok-extend_from_slice.ensures.items ∙ ap (λ l. l ++ take c.args.lead c.args.guards.now) c.in_ok-judge_lead.ensures.atoms;
+  flags = c.in_ok-judge_lead.ensures.flags;
+}
+
+pub returns-clause-atoms : goal.returns-clause-atoms
+returns-clause-atoms c =
+    let base = c.args.atoms.now.items in
+    let done = take c.loop-index.index c.args.guards.now in
+    let count : c.len-count.result ≡ length base = omega (arith, c.len-count.ensures, c.args.atoms.now.ok.0) in
+    c.truncate.ensures.items ∙ (λ i. take (count i) (c.loop-index.invariant.atoms i)) ∙ take-append_seam base done

@@ -1,9 +1,12 @@
-use Rattle.std.proofs.Common.{ap, subst, ◌∙◌, ◌≡◌}
+use Rattle.std.proofs.Common.{ap, subst, sym, ◌∙◌, ◌≡◌}
+use Rattle.std.proofs.lemmas.Bool.{true≢false}
+use Rattle.std.proofs.lemmas.List.{take_all}
+use Rattle.std.specs.List.{list_any}
 use Rattle.poly_tiling.specs.Puzzle.{same_item}
 use Rattle.poly_tiling.proofs.Tilings.{same_item_is}
 use Rattle.poly_tasks.specs.Mapped.{key_of, spanned}
 use Rattle.poly_tasks.specs.Reaching.{IsReached}
-use Rattle.poly_tasks.proofs.ReachedTasks.{farther_on, keys_more}
+use Rattle.poly_tasks.proofs.ReachedTasks.{farther_on, farther_self, keys_more}
 use Rattle.poly_tasks.proofs.reach.reach_items.Goals as goal
 
 pub reach_key-requires-clause-len : goal.reach_key-requires-clause-len
@@ -19,3 +22,17 @@ loop-item-preserved c =
       reached = keys_more (λ x q. same_item x q) (λ q. key_of q) rows r r2 c.args.tasks.now c.args.items.now c.loop-item.item-index c.item-item.result c.loop-item-test.true c.reach_key.ensures.farther c.loop-item.invariant.reached
           (λ q e. let same : c.item-item.result ≡ q = same_item_is _ q (ap (λ x. same_item x q) c.item-item.is ∙ e) in subst (λ y. IsReached r2 c.args.tasks.now (λ n. spanned rows y n)) (c.key_of.ensures ∙ ap (λ y. key_of y) same) c.reach_key.ensures.reached);
     }
+
+pub loop-item-init : goal.loop-item-init
+loop-item-init c = record { farther = farther_self c.args.reach.now.items; reached = λ q none. absurd (true≢false (sym none)) }
+
+pub reach_key-requires-clause-rise : goal.reach_key-requires-clause-rise
+reach_key-requires-clause-rise c = c.requires.rise
+
+pub returns-clause-farther : goal.returns-clause-farther
+returns-clause-farther c = c.loop-item.invariant.farther
+
+pub returns-clause-reached : goal.returns-clause-reached
+returns-clause-reached c = λ q e.
+    let all = take_all c.loop-item.item-index c.args.items.now c.loop-item-test.false in
+    c.loop-item.invariant.reached q (ap (λ l. list_any (λ x. same_item x q) l) all ∙ e)

@@ -24,3 +24,30 @@ returns-clause-ok c =
     (λ i h. c.reach_names.ensures.reached i (ap (λ l. list_any (λ x. same_item (Piece x) i) l) c.deref-2.ensures.value ∙ h))
     (subst (λ k. IsReached r4 ps (λ n. spanned m.at_least.entries k n)) c.key_of.ensures c.reach_key.ensures.reached)
     (λ i h. c.reach_items.ensures.reached i (ap (λ l. list_any (λ x. same_item x i) l) c.deref-3.ensures.value ∙ h))
+
+pub reach_has-requires-clause-rise : goal.reach_has-requires-clause-rise
+reach_has-requires-clause-rise c = c.requires.rise
+
+pub reach_has-requires-clause-len : goal.reach_has-requires-clause-len
+reach_has-requires-clause-len c = omega (arith, c.in_ok-reach.ensures.len, c.in_ok-reach.reach.ok.0)
+
+pub reach_names-requires-clause-rise : goal.reach_names-requires-clause-rise
+reach_names-requires-clause-rise c = c.requires.rise
+
+pub reach_names-requires-clause-len : goal.reach_names-requires-clause-len
+reach_names-requires-clause-len c = omega (arith, c.in_ok-reach.ensures.len, c.in_ok-reach.reach.ok.0, c.reach_has.ensures.farther.len)
+
+pub reach_key-requires-clause-rise : goal.reach_key-requires-clause-rise
+reach_key-requires-clause-rise c = c.requires.rise
+
+pub reach_key-requires-clause-len : goal.reach_key-requires-clause-len
+reach_key-requires-clause-len c = omega (arith, c.in_ok-reach.ensures.len, c.in_ok-reach.reach.ok.0, c.reach_has.ensures.farther.len, c.reach_names.ensures.farther.len)
+
+pub reach_items-requires-clause-rise : goal.reach_items-requires-clause-rise
+reach_items-requires-clause-rise c = c.requires.rise
+
+pub reach_items-requires-clause-len : goal.reach_items-requires-clause-len
+reach_items-requires-clause-len c = omega (arith, c.in_ok-reach.ensures.len, c.in_ok-reach.reach.ok.0, c.reach_has.ensures.farther.len, c.reach_names.ensures.farther.len, c.reach_key.ensures.farther.len)
+
+pub returns-clause-len : goal.returns-clause-len
+returns-clause-len c = omega (arith, c.in_ok-reach.ensures.len, c.in_ok-reach.reach.ok.0, c.reach_has.ensures.farther.len, c.reach_names.ensures.farther.len, c.reach_key.ensures.farther.len, c.reach_items.ensures.farther.len)

@@ -1,5 +1,5 @@
 use Rattle.std.proofs.Common.{[], Global, Vec, ap, cond, map, sym, take, ◌++◌, ◌∙◌, ◌∷◌}
-use Rattle.std.proofs.lemmas.List.{append-nil}
+use Rattle.std.proofs.lemmas.List.{append-nil, take_all}
 use Rattle.std.specs.List.{filter}
 use Rattle.poly_atom.specs.declared.atom.Atom.{Atom}
 use Rattle.poly_tasks.specs.Spots.{is_within}
@@ -27,3 +27,9 @@ loop-spot-preserved c =
             | else-start-spot-via-else-start-spot v ↦ ahead b e d.at v.if-start-spot.false
           ]) ∙ append-nil so)
     ]
+
+pub loop-spot-init : goal.loop-spot-init
+loop-spot-init c = sym (append-nil c.args.atoms.now.items)
+
+pub returns-clause-ok : goal.returns-clause-ok
+returns-clause-ok c = c.loop-spot.invariant ∙ ap (λ l. c.args.atoms.now.items ++ map (λ s. s.atom) (filter (λ s. is_within c.args.start c.args.end s.at) l)) (take_all c.loop-spot.spot-index c.args.found.now c.loop-spot-test.false)

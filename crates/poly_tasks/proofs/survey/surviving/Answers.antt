@@ -44,3 +44,14 @@ loop-i-preserved c =
 
 pub returns-clause-ok : goal.returns-clause-ok
 returns-clause-ok c = c.loop-i.invariant.flags ∙ ap (λ xs. map (λ p. not (hopeless c.args.touch.now.view.now (own_of c.args.log.now p.own))) xs) (take_all c.loop-i.i c.args.tasks.now c.loop-i-test.false)
+
+pub ends_by-requires-clause-reached : goal.ends_by-requires-clause-reached
+ends_by-requires-clause-reached c = λ h.
+    let i = c.loop-i.i in
+    let d = c.index-tasks-i.result in
+    let there = c.requires.reached i d c.loop-i-test.true (subst (λ (p : Pending). hopeless c.args.touch.now.view.now (own_of c.args.log.now p.own) ≡ true) c.index-tasks-i.is h) in
+    let far = far_more c.args.reach.now i c.loop-i.far c.max-far.result c.loop-i.invariant.far (search rules) (search rules) there.0 (omega (arith, there.1)) in
+    omega (arith, there.2, far, ap (λ (p : Pending). p.number) c.index-tasks-i.is)
+
+pub ends_by-requires-clause-ready : goal.ends_by-requires-clause-ready
+ends_by-requires-clause-ready c = c.loop-i.invariant.ready

@@ -52,3 +52,12 @@ returns-clause-ok c =
     (λ h. subst (AreNoted m c.args.log.now) (take_all c.loop-i.i ps (omega (arith, c.loop-i-test.false)))
     (c.loop-i.invariant.noted m (c.note_runs.ensures.wider, subst (AreRunsNoted m runs.last) c.deref.ensures.value h)))
     c.note_runs.ensures.ok
+
+pub returns-in_err-note_base-clause-wider : goal.returns-in_err-note_base-clause-wider
+returns-in_err-note_base-clause-wider c = λ a n h. c.note_base.ensures.wider a n (c.loop-i.invariant.wider a n h)
+
+pub returns-in_err-note_task-clause-wider : goal.returns-in_err-note_task-clause-wider
+returns-in_err-note_task-clause-wider c = λ a n h. c.note_task.ensures.wider a n (c.note_base.ensures.wider a n (c.loop-i.invariant.wider a n h))
+
+pub returns-clause-wider : goal.returns-clause-wider
+returns-clause-wider c = λ a n h. c.note_runs.ensures.wider a n (c.loop-i.invariant.wider a n h)
