@@ -1,4 +1,3 @@
-use Rattle.std.proofs.lemmas.Result.{err_from_is_err_and}
 use Rattle.std.proofs.Common.{Bool, List, [], ap, arith, false, length, rules, subst, sym, ◌++◌, ◌∙◌, ◌∷◌, ◌≡◌}
 use Rattle.std.proofs.lemmas.List.{length-append}
 use Rattle.std.specs.List.{filter, list_any}
@@ -20,7 +19,7 @@ use Rattle.poly_tasks.proofs.Harming.{brief_judges, harm_first, harm_has, harm_j
 use Rattle.poly_tasks.proofs.Judging.{frozen_brief_is, frozen_in, judged_length, judged_over, none_judged, ruled_out}
 use Rattle.poly_tasks.proofs.Lacking.{again_alone}
 use Rattle.poly_tasks.proofs.Laying.{AreAlike, alike_on, alone_alike, asks_alike, judged_alike, out_alike, spoilt_none}
-use Rattle.poly_tasks.proofs.Refused.{refused}
+use Rattle.poly_tasks.proofs.Refused.{refused, refused_by}
 use Rattle.poly_tasks.proofs.fresh.judge_frozen.Goals as goal
 
 -- the buffers are still ready if they have the same lists, and guards and spots of the log
@@ -65,7 +64,7 @@ returns-then-not-branch-clause-none c = λ _.
     let w = c.args.view.now in
     let g = c.args.guards.now in
     let alike = laid_alike w log f c.read_frozen.new.buffers.laid c.spoils.result c.in_ok-read_frozen.ensures.laid c.in_ok-read_frozen.ensures.others c.spoils.ensures c.if-spoils.false in
-    let judged = judged_alike w (frozen_asks log f) (frozen_brief log f) (stairs g) c.judge_first.new.flags.items alike (judged_over w _ (frozen_asks log f) (stairs g) c.judge_first.new.flags.items c.in_ok-judge_first.ensures.flags c.in_ok-read_frozen.ensures.atoms) in
+    let judged = judged_alike w (frozen_asks log f) (frozen_brief log f) (stairs g) c.judge_first.new.flags.items alike (judged_over w c.read_frozen.new.buffers.atoms.items (frozen_asks log f) (stairs g) c.judge_first.new.flags.items c.in_ok-judge_first.ensures.flags c.in_ok-read_frozen.ensures.atoms) in
     none_judged w (frozen_brief log f) (frozen_of log f) (stairs g) c.judge_first.new.flags.items (frozen_in log f) judged (sym c.in_ok-judge_first.ensures.any ∙ c.if-not-branch.true)
 
 pub returns-then-is_empty-clause-flags : goal.returns-then-is_empty-clause-flags
@@ -75,7 +74,7 @@ returns-then-is_empty-clause-flags c = λ _.
     let w = c.args.view.now in
     let g = c.args.guards.now in
     let alike = laid_alike w log f c.read_frozen.new.buffers.laid c.spoils.result c.in_ok-read_frozen.ensures.laid c.in_ok-read_frozen.ensures.others c.spoils.ensures c.if-spoils.false in
-    let judged = judged_alike w (frozen_asks log f) (frozen_brief log f) (stairs g) c.judge_first.new.flags.items alike (judged_over w _ (frozen_asks log f) (stairs g) c.judge_first.new.flags.items c.in_ok-judge_first.ensures.flags c.in_ok-read_frozen.ensures.atoms) in
+    let judged = judged_alike w (frozen_asks log f) (frozen_brief log f) (stairs g) c.judge_first.new.flags.items alike (judged_over w c.read_frozen.new.buffers.atoms.items (frozen_asks log f) (stairs g) c.judge_first.new.flags.items c.in_ok-judge_first.ensures.flags c.in_ok-read_frozen.ensures.atoms) in
     let empty : length c.read_frozen.new.buffers.placements.items ≡ 0 = search rules in
     let none : length (harmed w g (laid_of log f)) ≡ 0 = ap length (sym (c.in_ok-read_frozen.ensures.placements ∙ ap (λ h. h ++ named (filter is_other (laid_of log f))) c.requires.ready.harmed)) ∙ empty in
     brief_judges w g log f c.judge_first.new.flags.items c.requires.frozen.spares none judged
@@ -87,7 +86,7 @@ returns-then-len-count-clause-flags c = λ _.
     let w = c.args.view.now in
     let g = c.args.guards.now in
     let alike = laid_alike w log f c.read_frozen.new.buffers.laid c.spoils.result c.in_ok-read_frozen.ensures.laid c.in_ok-read_frozen.ensures.others c.spoils.ensures c.if-spoils.false in
-    let judged = judged_alike w (frozen_asks log f) (frozen_brief log f) (stairs g) c.judge_first.new.flags.items alike (judged_over w _ (frozen_asks log f) (stairs g) c.judge_first.new.flags.items c.in_ok-judge_first.ensures.flags c.in_ok-read_frozen.ensures.atoms) in
+    let judged = judged_alike w (frozen_asks log f) (frozen_brief log f) (stairs g) c.judge_first.new.flags.items alike (judged_over w c.read_frozen.new.buffers.atoms.items (frozen_asks log f) (stairs g) c.judge_first.new.flags.items c.in_ok-judge_first.ensures.flags c.in_ok-read_frozen.ensures.atoms) in
     let L = laid_of log f in
     let A = frozen_of log f in
     let F = filter (is_harmful (harmed w g L)) A in
@@ -102,7 +101,7 @@ judge_stairs-requires-clause-long c =
     let w = c.args.view.now in
     let g = c.args.guards.now in
     let alike = laid_alike w log f c.read_frozen.new.buffers.laid c.spoils.result c.in_ok-read_frozen.ensures.laid c.in_ok-read_frozen.ensures.others c.spoils.ensures c.if-spoils.false in
-    let judged = judged_alike w (frozen_asks log f) (frozen_brief log f) (stairs g) c.judge_first.new.flags.items alike (judged_over w _ (frozen_asks log f) (stairs g) c.judge_first.new.flags.items c.in_ok-judge_first.ensures.flags c.in_ok-read_frozen.ensures.atoms) in
+    let judged = judged_alike w (frozen_asks log f) (frozen_brief log f) (stairs g) c.judge_first.new.flags.items alike (judged_over w c.read_frozen.new.buffers.atoms.items (frozen_asks log f) (stairs g) c.judge_first.new.flags.items c.in_ok-judge_first.ensures.flags c.in_ok-read_frozen.ensures.atoms) in
     let hopes : c.deref-3.result.now ≡ c.judge_first.new.flags.items = c.deref-3.ensures.value ∙ c.in_ok-extend_from_slice.ensures.items ∙ ap (λ A. A ++ c.deref-2.result.now) c.clear.ensures.items ∙ c.deref-2.ensures.value in
     let same = subst (λ fs. AreJudged w (frozen_brief log f) (stairs g) fs) (sym hopes) judged in
     omega (arith, c.lead_of.ensures.most, judged_length w (frozen_brief log f) g c.deref-3.result.now same)
@@ -114,7 +113,7 @@ judge_stairs-requires-clause-out c =
     let w = c.args.view.now in
     let g = c.args.guards.now in
     let alike = laid_alike w log f c.read_frozen.new.buffers.laid c.spoils.result c.in_ok-read_frozen.ensures.laid c.in_ok-read_frozen.ensures.others c.spoils.ensures c.if-spoils.false in
-    let judged = judged_alike w (frozen_asks log f) (frozen_brief log f) (stairs g) c.judge_first.new.flags.items alike (judged_over w _ (frozen_asks log f) (stairs g) c.judge_first.new.flags.items c.in_ok-judge_first.ensures.flags c.in_ok-read_frozen.ensures.atoms) in
+    let judged = judged_alike w (frozen_asks log f) (frozen_brief log f) (stairs g) c.judge_first.new.flags.items alike (judged_over w c.read_frozen.new.buffers.atoms.items (frozen_asks log f) (stairs g) c.judge_first.new.flags.items c.in_ok-judge_first.ensures.flags c.in_ok-read_frozen.ensures.atoms) in
     let hopes : c.deref-3.result.now ≡ c.judge_first.new.flags.items = c.deref-3.ensures.value ∙ c.in_ok-extend_from_slice.ensures.items ∙ ap (λ A. A ++ c.deref-2.result.now) c.clear.ensures.items ∙ c.deref-2.ensures.value in
     let same = subst (λ fs. AreJudged w (frozen_brief log f) (stairs g) fs) (sym hopes) judged in
     let L = laid_of log f in
@@ -132,7 +131,7 @@ judge_stairs-requires-clause-alone c =
     let w = c.args.view.now in
     let g = c.args.guards.now in
     let alike = laid_alike w log f c.read_frozen.new.buffers.laid c.spoils.result c.in_ok-read_frozen.ensures.laid c.in_ok-read_frozen.ensures.others c.spoils.ensures c.if-spoils.false in
-    let judged = judged_alike w (frozen_asks log f) (frozen_brief log f) (stairs g) c.judge_first.new.flags.items alike (judged_over w _ (frozen_asks log f) (stairs g) c.judge_first.new.flags.items c.in_ok-judge_first.ensures.flags c.in_ok-read_frozen.ensures.atoms) in
+    let judged = judged_alike w (frozen_asks log f) (frozen_brief log f) (stairs g) c.judge_first.new.flags.items alike (judged_over w c.read_frozen.new.buffers.atoms.items (frozen_asks log f) (stairs g) c.judge_first.new.flags.items c.in_ok-judge_first.ensures.flags c.in_ok-read_frozen.ensures.atoms) in
     let hopes : c.deref-3.result.now ≡ c.judge_first.new.flags.items = c.deref-3.ensures.value ∙ c.in_ok-extend_from_slice.ensures.items ∙ ap (λ A. A ++ c.deref-2.result.now) c.clear.ensures.items ∙ c.deref-2.ensures.value in
     let same = subst (λ fs. AreJudged w (frozen_brief log f) (stairs g) fs) (sym hopes) judged in
     let L = laid_of log f in
@@ -186,9 +185,7 @@ pub returns-in_err-read_frozen-clause-flags : goal.returns-in_err-read_frozen-cl
 returns-in_err-read_frozen-clause-flags c = refused c.from_residual.result _ _ c.from_residual.ensures.1
 
 pub returns-in_err-read_frozen-clause-why : goal.returns-in_err-read_frozen-clause-why
-returns-in_err-read_frozen-clause-why c =
-    let p = err_from_is_err_and c.from_residual.result c.from_residual.ensures.1 in
-    rw (p.1, p.2) c.in_err-read_frozen.ensures.why
+returns-in_err-read_frozen-clause-why c = refused_by c.from_residual.result _ _ (λ e is. is ∙ c.in_err-read_frozen.ensures.why) c.from_residual.ensures.1
 
 pub returns-in_err-judge_first-clause-ready : goal.returns-in_err-judge_first-clause-ready
 returns-in_err-judge_first-clause-ready c = refused c.from_residual-in_err-judge_first.result _ _ c.from_residual-in_err-judge_first.ensures.1
@@ -203,9 +200,7 @@ pub returns-in_err-judge_first-clause-flags : goal.returns-in_err-judge_first-cl
 returns-in_err-judge_first-clause-flags c = refused c.from_residual-in_err-judge_first.result _ _ c.from_residual-in_err-judge_first.ensures.1
 
 pub returns-in_err-judge_first-clause-why : goal.returns-in_err-judge_first-clause-why
-returns-in_err-judge_first-clause-why c =
-    let p = err_from_is_err_and c.from_residual-in_err-judge_first.result c.from_residual-in_err-judge_first.ensures.1 in
-    rw (p.1, p.2) c.in_err-judge_first.ensures.why
+returns-in_err-judge_first-clause-why c = refused_by c.from_residual-in_err-judge_first.result _ _ (λ e is. is ∙ c.in_err-judge_first.ensures.why) c.from_residual-in_err-judge_first.ensures.1
 
 pub returns-in_err-find-clause-ready : goal.returns-in_err-find-clause-ready
 returns-in_err-find-clause-ready c = refused c.from_residual-in_err-find.result _ _ c.from_residual-in_err-find.ensures.1
@@ -220,9 +215,7 @@ pub returns-in_err-find-clause-flags : goal.returns-in_err-find-clause-flags
 returns-in_err-find-clause-flags c = refused c.from_residual-in_err-find.result _ _ c.from_residual-in_err-find.ensures.1
 
 pub returns-in_err-find-clause-why : goal.returns-in_err-find-clause-why
-returns-in_err-find-clause-why c =
-    let p = err_from_is_err_and c.from_residual-in_err-find.result c.from_residual-in_err-find.ensures.1 in
-    rw (p.1, p.2) c.in_err-find.ensures.why
+returns-in_err-find-clause-why c = refused_by c.from_residual-in_err-find.result _ _ (λ e is. is ∙ c.in_err-find.ensures.why) c.from_residual-in_err-find.ensures.1
 
 pub returns-in_err-append_harmful-clause-ready : goal.returns-in_err-append_harmful-clause-ready
 returns-in_err-append_harmful-clause-ready c = refused c.from_residual-in_err-append_harmful.result _ _ c.from_residual-in_err-append_harmful.ensures.1
@@ -237,9 +230,7 @@ pub returns-in_err-append_harmful-clause-flags : goal.returns-in_err-append_harm
 returns-in_err-append_harmful-clause-flags c = refused c.from_residual-in_err-append_harmful.result _ _ c.from_residual-in_err-append_harmful.ensures.1
 
 pub returns-in_err-append_harmful-clause-why : goal.returns-in_err-append_harmful-clause-why
-returns-in_err-append_harmful-clause-why c =
-    let p = err_from_is_err_and c.from_residual-in_err-append_harmful.result c.from_residual-in_err-append_harmful.ensures.1 in
-    rw (p.1, p.2) c.in_err-append_harmful.ensures.why
+returns-in_err-append_harmful-clause-why c = refused_by c.from_residual-in_err-append_harmful.result _ _ (λ e is. is ∙ c.in_err-append_harmful.ensures.why) c.from_residual-in_err-append_harmful.ensures.1
 
 pub returns-in_err-extend_from_slice-clause-ready : goal.returns-in_err-extend_from_slice-clause-ready
 returns-in_err-extend_from_slice-clause-ready c = refused c.from_residual-in_err-extend_from_slice.result _ _ c.from_residual-in_err-extend_from_slice.ensures.1
@@ -266,9 +257,7 @@ pub returns-in_err-any-clause-flags : goal.returns-in_err-any-clause-flags
 returns-in_err-any-clause-flags c = refused c.from_residual-in_err-any.result _ _ c.from_residual-in_err-any.ensures.1
 
 pub returns-in_err-any-clause-why : goal.returns-in_err-any-clause-why
-returns-in_err-any-clause-why c =
-    let p = err_from_is_err_and c.from_residual-in_err-any.result c.from_residual-in_err-any.ensures.1 in
-    rw (p.1, p.2) c.in_err-any.ensures.why
+returns-in_err-any-clause-why c = refused_by c.from_residual-in_err-any.result _ _ (λ e is. is ∙ c.in_err-any.ensures.why) c.from_residual-in_err-any.ensures.1
 
 pub returns-then-spoils-clause-ready : goal.returns-then-spoils-clause-ready
 returns-then-spoils-clause-ready c = still_ready c.args.view.now c.args.log.now c.args.guards.now c.args.buffers.now _ c.requires.ready (ap (λ b. b.none) c.read_frozen.ensures.stays) (ap (λ b. b.harmed.items) c.read_frozen.ensures.stays) c.in_ok-read_frozen.ensures.laid (subst (λ s. IsSpots c.args.log.now s) (sym (ap (λ b. b.spots) c.read_frozen.ensures.stays)) c.requires.ready.spots) c.read_frozen.ensures.lead

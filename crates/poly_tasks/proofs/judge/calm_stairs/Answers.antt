@@ -1,4 +1,4 @@
-use Rattle.std.proofs.Common.{[], Bool, Global, Vec, ap, get_or, not, sym, ◌&&◌, ◌++◌, ◌∙◌, ◌∷◌}
+use Rattle.std.proofs.Common.{[], Bool, Global, Vec, ap, arith, get_or, not, sym, ◌&&◌, ◌++◌, ◌∙◌, ◌∷◌}
 use Rattle.poly_atom.specs.declared.atom.Atom.{Atom}
 use Rattle.poly_atom.specs.declared.atom.Atom.TheVariants.{Has}
 use Rattle.poly_atom.specs.Hopeless.{hopeless}
@@ -29,3 +29,10 @@ loop-index-preserved c =
         stays = v.stays-is ∙ v.if-stays.false ∙ ap (λ b. b && not (f (get_or g k (Has 0)))) (sym v.if-stays.false) ∙ calm_next f g k (Has 0) c.loop-index.stays c.loop-index-test.true c.loop-index.invariant.stays;
       }
     ]
+
+pub returns-then-index-guards-clause-calm : goal.returns-then-index-guards-clause-calm
+returns-then-index-guards-clause-calm c =
+    let f : Atom → Bool = λ a. hopeless c.args.view.now (c.args.atoms.now.items ++ a ∷ []) in
+    let was = c.loop-index.invariant in
+    let pushed = calm_push f c.args.guards.now c.loop-index.index c.loop-index.calm.items c.loop-index.stays c.push.new.self.items c.in_ok-push.ensures.items was.long was.stays was.each in
+    record { long = pushed.0 ∙ c.if-index-guards.true; each = λ i l. pushed.1 i (omega (arith, l, c.if-index-guards.true)) }

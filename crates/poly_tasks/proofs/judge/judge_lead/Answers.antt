@@ -1,7 +1,9 @@
-use Rattle.std.proofs.Common.{[], arith, get_or, length, not, refl, subst, sym, true, ◌++◌, ◌<◌, ◌∙◌, ◌∷◌, ◌≡◌, ◌||◌}
+use Rattle.std.proofs.Common.{[], arith, get_or, length, not, refl, subst, sym, take, true, ◌++◌, ◌<◌, ◌∙◌, ◌∷◌, ◌≡◌, ◌||◌}
 use Rattle.poly_atom.specs.Atoms.{IsSmall, negated}
 use Rattle.poly_atom.specs.Hopeless.{hopeless}
+use Rattle.poly_atom.specs.Stairs.{stairs}
 use Rattle.poly_atom.proofs.Walks.{small_at}
+use Rattle.poly_tasks.specs.Judged.{AreJudged}
 use Rattle.poly_tasks.proofs.Judging.{judged_more, lead_ends}
 use Rattle.poly_tasks.proofs.judge.judge_lead.Goals as goal
 
@@ -25,3 +27,14 @@ loop-index-preserved c =
           (told ∙ (λ i. held i || hopeless w (c.loop-index.invariant.atoms i ++ negated (c.index-guards-index.is i) ∷ []))
           ∙ lead_ends w base g c.args.lead j d c.args.hopes.now (get_or c.args.hopes.now j true) c.loop-index-test.true c.requires.lead c.requires.long c.requires.out c.requires.alone refl));
     }
+
+pub loop-index-init : goal.loop-index-init
+loop-index-init c = record { atoms = refl; flags = c.requires.flags }
+
+pub returns-clause-atoms : goal.returns-clause-atoms
+returns-clause-atoms c = c.loop-index.invariant.atoms
+
+pub returns-clause-flags : goal.returns-clause-flags
+returns-clause-flags c =
+    let all : c.loop-index.index ≡ c.args.lead = omega (arith, c.loop-index-test.false, c.loop-index.auto.index-end) in
+    subst (λ k. AreJudged c.args.view.now c.args.atoms.now.items (take k (stairs c.args.guards.now)) c.loop-index.flags.items) all c.loop-index.invariant.flags

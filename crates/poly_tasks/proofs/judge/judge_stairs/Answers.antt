@@ -1,4 +1,3 @@
-use Rattle.std.proofs.lemmas.Result.{err_from_is_err_and}
 use Rattle.std.proofs.Common.{[], ap, append_assoc, arith, get_or, length, subst, sym, take, true, ◌++◌, ◌<◌, ◌∙◌, ◌∷◌, ◌≡◌}
 use Rattle.std.proofs.lemmas.List.{take_more}
 use Rattle.std.proofs.Math.Seq.{take-append_seam}
@@ -7,7 +6,7 @@ use Rattle.poly_atom.specs.Atoms.{IsSmall, negated}
 use Rattle.poly_atom.specs.Hopeless.{hopeless}
 use Rattle.poly_atom.proofs.Walks.{small_at}
 use Rattle.poly_tasks.proofs.Judging.{any_true, judged_all, judged_more, known_or, stair_next}
-use Rattle.poly_tasks.proofs.Refused.{refused}
+use Rattle.poly_tasks.proofs.Refused.{refused, refused_by}
 use Rattle.poly_tasks.proofs.judge.judge_stairs.Goals as goal
 
 pub ends_at-requires : goal.ends_at-requires
@@ -60,9 +59,7 @@ pub returns-in_err-judge_lead-clause-any : goal.returns-in_err-judge_lead-clause
 returns-in_err-judge_lead-clause-any c = refused c.from_residual.result _ _ c.from_residual.ensures.1
 
 pub returns-in_err-judge_lead-clause-why : goal.returns-in_err-judge_lead-clause-why
-returns-in_err-judge_lead-clause-why c =
-    let p = err_from_is_err_and c.from_residual.result c.from_residual.ensures.1 in
-    rw (p.1, p.2) c.in_err-judge_lead.ensures.why
+returns-in_err-judge_lead-clause-why c = refused_by c.from_residual.result _ _ (λ e is. is ∙ c.in_err-judge_lead.ensures.why) c.from_residual.ensures.1
 
 pub returns-in_err-extend_from_slice-clause-atoms : goal.returns-in_err-extend_from_slice-clause-atoms
 returns-in_err-extend_from_slice-clause-atoms c = refused c.from_residual-in_err-extend_from_slice.result _ _ c.from_residual-in_err-extend_from_slice.ensures.1
@@ -83,9 +80,7 @@ pub returns-in_err-ends-clause-any : goal.returns-in_err-ends-clause-any
 returns-in_err-ends-clause-any c = refused c.from_residual-in_err-ends.result _ _ c.from_residual-in_err-ends.ensures.1
 
 pub returns-in_err-ends-clause-why : goal.returns-in_err-ends-clause-why
-returns-in_err-ends-clause-why c =
-    let p = err_from_is_err_and c.from_residual-in_err-ends.result c.from_residual-in_err-ends.ensures.1 in
-    rw (p.1, p.2) c.in_err-ends.ensures.why
+returns-in_err-ends-clause-why c = refused_by c.from_residual-in_err-ends.result _ _ (λ e is. is ∙ c.in_err-ends.ensures.why) c.from_residual-in_err-ends.ensures.1
 
 pub returns-in_err-push-clause-atoms : goal.returns-in_err-push-clause-atoms
 returns-in_err-push-clause-atoms c = refused c.from_residual-in_err-push.result _ _ c.from_residual-in_err-push.ensures.1

@@ -41,3 +41,15 @@ returns-clause-reached c = λ p h i d l e.
     let rows = c.args.rows.now in
     let k = c.loop-row.row-index in
     c.loop-row.invariant.reached p h i d l (subst (λ rs. placed rs p (get_or c.args.tasks.now i d).number ≡ true) (sym (take_all k rows (omega (arith, c.loop-row-test.false)))) e)
+
+pub loop-row-init : goal.loop-row-init
+loop-row-init c = record { farther = farther_self c.args.reach.now.items; reached = λ q h i d l none. absurd (true≢false (sym none)) }
+
+pub returns-clause-farther : goal.returns-clause-farther
+returns-clause-farther c = c.loop-row.invariant.farther
+
+pub reach_spans-requires-clause-rise : goal.reach_spans-requires-clause-rise
+reach_spans-requires-clause-rise c = c.requires.rise
+
+pub reach_spans-requires-clause-len : goal.reach_spans-requires-clause-len
+reach_spans-requires-clause-len c = c.loop-row.invariant.farther.len ∙ c.requires.len

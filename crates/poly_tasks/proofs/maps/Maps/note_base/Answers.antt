@@ -32,3 +32,27 @@ returns-else-is_noted-clause-ok c =
     on_ok_then c.note_new_base.result (list_all f others ≡ true) (list_all f (below log c.args.own.now) ≡ true)
     (λ e. ap (λ o. list_all f (below log o)) c.in-Crossed.is ∙ all_others f (base_of log b) (λ p. refl) (ap (list_all f) is ∙ e))
     c.note_new_base.ensures.ok
+
+pub returns-in-Listed-clause-known : goal.returns-in-Listed-clause-known
+returns-in-Listed-clause-known c = c.requires.known
+
+pub returns-in-Listed-clause-wider : goal.returns-in-Listed-clause-wider
+returns-in-Listed-clause-wider c = λ a n h. h
+
+pub returns-in-Stair-clause-known : goal.returns-in-Stair-clause-known
+returns-in-Stair-clause-known c = c.requires.known
+
+pub returns-in-Stair-clause-wider : goal.returns-in-Stair-clause-wider
+returns-in-Stair-clause-wider c = λ a n h. h
+
+pub returns-then-is_noted-clause-known : goal.returns-then-is_noted-clause-known
+returns-then-is_noted-clause-known c = c.requires.known
+
+pub returns-then-is_noted-clause-wider : goal.returns-then-is_noted-clause-wider
+returns-then-is_noted-clause-wider c = λ a n h. h
+
+pub returns-else-is_noted-clause-known : goal.returns-else-is_noted-clause-known
+returns-else-is_noted-clause-known c = c.note_new_base.ensures.known
+
+pub returns-else-is_noted-clause-wider : goal.returns-else-is_noted-clause-wider
+returns-else-is_noted-clause-wider c = c.note_new_base.ensures.wider

@@ -34,3 +34,12 @@ returns-clause-ok c =
     (guards_noted c.args.self.now c.note_list.new.self log c.args.prefix.now s w c.known_count-known.result c.guards_of-guards.result.now c.guards_of-guards.ensures.value
     c.note_list.ensures.wider c.requires.prefix c.known_count-known.ensures.low c.known_count-known.ensures.known c.in_ok-note_list.ensures.ok k h))
     (c.in_ok-note.ensures.ok k (within one k (omega arith) (omega arith)))
+
+pub returns-in_err-note_list-clause-wider : goal.returns-in_err-note_list-clause-wider
+returns-in_err-note_list-clause-wider c = c.note_list.ensures.wider
+
+pub returns-in_err-note-clause-wider : goal.returns-in_err-note-clause-wider
+returns-in_err-note-clause-wider c = λ a n h. c.note.ensures.wider a n (c.note_list.ensures.wider a n h)
+
+pub returns-clause-wider : goal.returns-clause-wider
+returns-clause-wider c = λ a n h. c.note.ensures.wider a n (c.note_list.ensures.wider a n h)
