@@ -4,6 +4,7 @@ use Rattle.poly_report.specs.Gather.{lists}
 use Rattle.poly_frame.specs.Walk.{Walk, is_due, is_option, step_back, with_step}
 use Rattle.poly_frame.proofs.Back.{step_undone}
 use Rattle.std.proofs.lemmas.List.{drop_at, length-take, take-append-le, take_all}
+use Rattle.std.proofs.lemmas.Bool.{true≢false}
 use Rattle.std.proofs.lemmas.Result.{IfOk-weaker}
 use Rattle.poly_atom.specs.declared.atom.Atom.{Atom}
 use Rattle.poly_atom.specs.declared.atom.Atom.TheVariants.{Has, Lacks}
@@ -27,29 +28,77 @@ kept t c =
     let rests = c.in_ok-push_rest.ensures.rests ∙ ap (λ (x : Walk). lists c.sweep_below.new.list.rests.items ++ x.atoms ∷ []) left in
     arm_swept w.scene w.atoms p _ _ _ _ _ _ r.once r.place r.open below c.in_ok-push_rest.ensures.found rests
 
-pub sweep_arm-returns-in_ok-push_rest-clause-swept : goal.sweep_arm-returns-in_ok-push_rest-clause-swept
-sweep_arm-returns-in_ok-push_rest-clause-swept t c = λ _. (kept t c).0
-
-pub sweep_arm-returns-in_ok-push_rest-clause-lighter : goal.sweep_arm-returns-in_ok-push_rest-clause-lighter
-sweep_arm-returns-in_ok-push_rest-clause-lighter t c = λ _. (kept t c).1
-
-pub sweep_arm-returns-then-not-leads_on-clause-more : goal.sweep_arm-returns-then-not-leads_on-clause-more
-sweep_arm-returns-then-not-leads_on-clause-more t c =
+pub sweep_arm-returns-then-not-leads_on : goal.sweep_arm-returns-then-not-leads_on
+sweep_arm-returns-then-not-leads_on t c =
     let w = c.args.frame.now in
     let r = c.requires in
-    let s = c.leads_on.ensures.starved c.if-not-leads_on.true in
-    λ _. arm_partly w.scene w.atoms c.args.placement _ _ _ _ r.once r.place r.open (starved_swept w.scene (w.atoms ++ Has c.args.placement ∷ []) s.0 _ _ s.1)
+    let not_taken = c.if-not-leads_on.true in
+    let s = c.leads_on.ensures.starved not_taken in
+    record {
+      same = c.leads_on.ensures.same not_taken;
+      room = λ _. c.leads_on.ensures.room not_taken;
+      more = λ _. arm_partly w.scene w.atoms c.args.placement _ _ _ _ r.once r.place r.open (starved_swept w.scene (w.atoms ++ Has c.args.placement ∷ []) s.0 _ _ s.1);
+      swept = λ e. absurd (true≢false e);
+      lighter = λ e. absurd (true≢false e);
+      whole = λ _. refl;
+      left = λ e. absurd (true≢false e);
+      options = refl;
+      why = tt;
+    }
 
-pub sweep_arm-returns-else-not-whole-clause-more : goal.sweep_arm-returns-else-not-whole-clause-more
-sweep_arm-returns-else-not-whole-clause-more t c =
+pub sweep_arm-returns-in_ok-push_rest : goal.sweep_arm-returns-in_ok-push_rest
+sweep_arm-returns-in_ok-push_rest t c =
     let w = c.args.frame.now in
+    let p = c.args.placement in
+    let g = c.in_ok-whole.ensures in
+    let more = c.in_ok-push_rest.ensures in
+    let partial = c.if-not-whole.true in
+    let back = c.back.ensures ∙ ap step_back (g.same ∙ c.leads_on.ensures.taken c.if-not-leads_on.false) ∙ step_undone w (Has p) in
+    record {
+      same = c.back-then-not-whole.ensures ∙ ap (λ (x : Walk). step_back x) (c.leave.ensures ∙ ap (λ (x : Walk). with_step x (Lacks p)) back) ∙ step_undone w (Lacks p);
+      room = λ y. absurd (true≢false (sym y ∙ partial));
+      more = λ y. absurd (true≢false (sym y ∙ partial));
+      swept = λ _. (kept t c).0;
+      lighter = λ _. (kept t c).1;
+      whole = λ y. absurd (true≢false (sym y ∙ partial));
+      left = λ _. omega (arith, g.left partial, ap length more.rests, length-append (lists c.sweep_below.new.list.rests.items) (c.leave.new.self.atoms ∷ []));
+      options = ◌∙◌ {A = List ℕ} more.options g.options;
+      why = tt;
+    }
+
+pub sweep_arm-returns-else-not-whole : goal.sweep_arm-returns-else-not-whole
+sweep_arm-returns-else-not-whole t c =
+    let w = c.args.frame.now in
+    let p = c.args.placement in
     let r = c.requires in
+    let g = c.in_ok-whole.ensures in
     let picked = c.leads_on.ensures.taken c.if-not-leads_on.false in
-    let below = subst (λ (x : Walk). Swept x.scene x.atoms c.args.list.now.found.items c.sweep_below.new.list.found.items (lists c.args.list.now.rests.items) (lists c.sweep_below.new.list.rests.items)) picked c.in_ok-whole.ensures.swept in
-    λ _. arm_partly w.scene w.atoms c.args.placement _ _ _ _ r.once r.place r.open below
+    let below = subst (λ (x : Walk). Swept x.scene x.atoms c.args.list.now.found.items c.sweep_below.new.list.found.items (lists c.args.list.now.rests.items) (lists c.sweep_below.new.list.rests.items)) picked g.swept in
+    record {
+      same = c.back.ensures ∙ ap step_back (g.same ∙ picked) ∙ step_undone w (Has p);
+      room = λ y. omega (arith, g.room y, ap (λ (x : Walk). length x.atoms) (g.same ∙ picked), length-append w.atoms (Has p ∷ []));
+      more = λ _. arm_partly w.scene w.atoms p _ _ _ _ r.once r.place r.open below;
+      swept = λ n. absurd (true≢false (sym c.if-not-whole.false ∙ n));
+      lighter = λ n. absurd (true≢false (sym c.if-not-whole.false ∙ n));
+      whole = g.whole;
+      left = g.left;
+      options = g.options;
+      why = tt;
+    }
 
-pub sweep_below-returns-then-depth-eq0-clause-swept : goal.sweep_below-returns-then-depth-eq0-clause-swept
-sweep_below-returns-then-depth-eq0-clause-swept t c = swept_rest c.args.frame.now.scene c.args.frame.now.atoms _ _ _ _ c.in_ok-push_rest.ensures.found c.in_ok-push_rest.ensures.rests
+pub sweep_below-returns-then-depth-eq0 : goal.sweep_below-returns-then-depth-eq0
+sweep_below-returns-then-depth-eq0 t c =
+    let A = c.args.frame.now.atoms in
+    let g = c.in_ok-push_rest.ensures in
+    record {
+      same = refl;
+      room = λ y. absurd (true≢false (sym y));
+      swept = swept_rest c.args.frame.now.scene A _ _ _ _ g.found g.rests;
+      whole = λ y. absurd (true≢false (sym y));
+      left = λ _. omega (arith, ap length g.rests, length-append (lists c.args.list.now.rests.items) (A ∷ []));
+      options = g.options;
+      why = tt;
+    }
 
 pub sweep_open-returns-clause-swept : goal.sweep_open-returns-clause-swept
 sweep_open-returns-clause-swept t c =
