@@ -1,7 +1,7 @@
 use Rattle.std.proofs.Common.{◌≡◌, ℕ, ◌+◌, ◌<◌, ◌≤◌, ◌-◌, length, ◌++◌, [], ◌∷◌, List, ◌&&◌, true, append-nil, arith, refl, sym, ap, subst, length-append, take, drop, ◌∙◌}
 use Rattle.poly_tiling.specs.Lists.{distinct, mem}
 use Rattle.poly_report.specs.Gather.{lists}
-use Rattle.poly_frame.specs.Walk.{Walk, is_due, is_option, step_back, with_step}
+use Rattle.poly_frame.specs.Walk.{Walk, backtrack_to, is_due, is_option, step_back, with_step}
 use Rattle.poly_frame.proofs.Back.{step_undone}
 use Rattle.std.proofs.lemmas.List.{drop_at, length-take, take-append-le, take_all}
 use Rattle.std.proofs.lemmas.Bool.{true≢false}
@@ -11,7 +11,7 @@ use Rattle.poly_atom.specs.declared.atom.Atom.TheVariants.{Has, Lacks}
 use Rattle.poly_search.proofs.Gathered.{leaves_cut}
 use Rattle.poly_search.proofs.Nodes.{past_back}
 use Rattle.poly_search.specs.Sweeps.{Swept, IsLighter, Partly}
-use Rattle.poly_search.proofs.Swept.{behind, partly_none, swept_rest, arm_partly, arm_swept, starved_swept, partly_more}
+use Rattle.poly_search.proofs.Swept.{behind, partly_none, swept_rest, arm_partly, arm_swept, starved_swept, partly_more, partly_swept, partly_lighter}
 use Rattle.poly_search.proofs.Arms.{left_is, option_opens, option_partly, passed_more, passed_begun, options_end, open_end}
 use Rattle.poly_search.proofs.lister.+sweep.Goals as goal
 use Rattle.poly_search.proofs.lister.+sweep.Goals.{sweep_item-then-len-from+in_ok-focus, sweep_item-else-len-from, sweep_options-then-at-len, sweep_options-else-at-len}
@@ -100,6 +100,45 @@ sweep_below-returns-then-depth-eq0 t c =
       why = tt;
     }
 
+pub sweep_open-returns-then-not-whole : goal.sweep_open-returns-then-not-whole
+sweep_open-returns-then-not-whole t c =
+    let w = c.args.frame.now in
+    let here = c.loop-placement.frame in
+    let i = c.loop-placement.invariant in
+    let g = c.in_ok-whole.ensures in
+    let partial = c.if-not-whole.true in
+    let new = lists c.sweep_arm.new.list.rests.items in
+    let level = c.level-level.ensures ∙ ap (λ (x : Walk). length x.atoms) c.in_ok-focus.ensures.same in
+    record {
+      same = c.backtrack_to.ensures ∙ ap (λ x. backtrack_to x c.level-level.result) (g.same ∙ i.path) ∙ ap (λ n. record w { atoms = take n here.atoms }) level ∙ ap (λ xs. record w { atoms = xs }) i.back;
+      swept = partly_swept w.scene w.atoms here.atoms _ _ _ _ _ _ i.swept (subst (λ v. Swept v here.atoms c.loop-placement.list.found.items c.sweep_arm.new.list.found.items (lists c.loop-placement.list.rests.items) new) (ap (λ (x : Walk). x.scene) i.path) (g.swept partial));
+      lighter = partly_lighter w.scene w.atoms here.atoms _ _ _ _ _ i.swept (subst (λ v. IsLighter v here.atoms (lists c.loop-placement.list.rests.items) new) (ap (λ (x : Walk). x.scene) i.path) (g.lighter partial));
+      whole = λ y. absurd (true≢false (sym y));
+      left = λ _. subst (λ Bs. length Bs < length new) i.left (g.left partial);
+      options = ◌∙◌ {A = List ℕ} g.options i.options;
+      why = tt;
+    }
+
+pub sweep_options-returns-then-not-whole : goal.sweep_options-returns-then-not-whole
+sweep_options-returns-then-not-whole t c =
+    let w = c.args.frame.now in
+    let i = c.loop-at.invariant in
+    let g = c.in_ok-whole.ensures in
+    let partial = c.if-not-whole.true in
+    let lt : c.loop-at.at < length c.args.list.now.options.items = omega (arith, c.loop-at-test.true, c.len-at-end.ensures, c.args.list.now.options.ok) in
+    let here = i.path lt in
+    let ps = take (c.loop-at.at - c.args.from) (drop c.args.from c.args.list.now.options.items) in
+    let new = lists c.sweep_arm.new.list.rests.items in
+    record {
+      same = c.backtrack_to.ensures ∙ ap (λ n. backtrack_to c.sweep_arm.new.frame n) c.level-level.ensures ∙ past_back w c.sweep_arm.new.frame ps (g.same ∙ here);
+      swept = partly_swept w.scene w.atoms (behind w.atoms ps) _ _ _ _ _ _ i.swept (subst (λ (x : Walk). Swept x.scene x.atoms c.loop-at.list.found.items c.sweep_arm.new.list.found.items (lists c.loop-at.list.rests.items) new) here (g.swept partial));
+      lighter = partly_lighter w.scene w.atoms (behind w.atoms ps) _ _ _ _ _ i.swept (subst (λ (x : Walk). IsLighter x.scene x.atoms (lists c.loop-at.list.rests.items) new) here (g.lighter partial));
+      whole = λ y. absurd (true≢false (sym y));
+      left = λ _. subst (λ Bs. length Bs < length new) i.left (g.left partial);
+      options = ◌∙◌ {A = List ℕ} g.options i.options;
+      why = tt;
+    }
+
 pub sweep_open-returns-clause-swept : goal.sweep_open-returns-clause-swept
 sweep_open-returns-clause-swept t c =
     let i = c.loop-placement.invariant in
@@ -111,6 +150,22 @@ sweep_open-returns-clause-lighter t c =
     let i = c.loop-placement.invariant in
     let g = c.in_ok-push_found.ensures in
     (open_end c.args.frame.now c.loop-placement.frame _ _ _ _ _ _ i.path c.in_default.ensures g.found (ap lists g.rests) i.swept).1
+
+pub sweep_options-returns : goal.sweep_options-returns
+sweep_options-returns t c =
+    let i = c.loop-at.invariant in
+    let r = c.requires in
+    let over : length c.args.list.now.options.items ≤ c.loop-at.at = omega (arith, c.loop-at-test.false, c.len-at-end.ensures, c.args.list.now.options.ok) in
+    let all = options_end c.args.frame.now c.args.item.now c.args.list.now.options.items c.args.from c.loop-at.at _ _ _ _ over r.once r.due (r.each_once, r.members) i.swept in
+    record {
+      same = c.backtrack_to-2.ensures ∙ ap (λ n. backtrack_to c.loop-at.frame n) c.level-level.ensures ∙ i.front;
+      swept = all.0;
+      lighter = all.1;
+      whole = λ _. i.left;
+      left = λ n. absurd (true≢false n);
+      options = i.options;
+      why = tt;
+    }
 
 pub sweep_options-sweep_arm-requires : goal.sweep_options-sweep_arm-requires
 sweep_options-sweep_arm-requires t c =
@@ -157,20 +212,6 @@ sweep_options-loop-at-preserved t c =
       options = ◌∙◌ {A = List ℕ} g.options i.options;
       swept = partly_more w.scene w.atoms (behind w.atoms (take (c.loop-at.at - c.args.from) (drop c.args.from xs))) (behind w.atoms (take (c.loop-at.at + 1 - c.args.from) (drop c.args.from xs))) _ _ _ _ _ _ i.swept part;
     }
-
-pub sweep_options-returns-clause-swept : goal.sweep_options-returns-clause-swept
-sweep_options-returns-clause-swept t c =
-    let i = c.loop-at.invariant in
-    let r = c.requires in
-    let over : length c.args.list.now.options.items ≤ c.loop-at.at = omega (arith, c.loop-at-test.false, c.len-at-end.ensures, c.args.list.now.options.ok) in
-    (options_end c.args.frame.now c.args.item.now c.args.list.now.options.items c.args.from c.loop-at.at _ _ _ _ over r.once r.due (r.each_once, r.members) i.swept).0
-
-pub sweep_options-returns-clause-lighter : goal.sweep_options-returns-clause-lighter
-sweep_options-returns-clause-lighter t c =
-    let i = c.loop-at.invariant in
-    let r = c.requires in
-    let over : length c.args.list.now.options.items ≤ c.loop-at.at = omega (arith, c.loop-at-test.false, c.len-at-end.ensures, c.args.list.now.options.ok) in
-    (options_end c.args.frame.now c.args.item.now c.args.list.now.options.items c.args.from c.loop-at.at _ _ _ _ over r.once r.due (r.each_once, r.members) i.swept).1
 
 pub sweep-sweep_item-requires : goal.sweep-sweep_item-requires
 sweep-sweep_item-requires t c =
