@@ -1,5 +1,5 @@
 use Rattle.std.proofs.Common.{Bool, List, [], ap, append_assoc, arith, cond, false, length, length-append, map, not, rules, sym, take, true, ℕ, ◌&&◌, ◌++◌, ◌||◌, ◌∙◌, ◌∷◌, ◌≡◌}
-use Rattle.std.proofs.lemmas.Bool.{eqb-true, true≢false}
+use Rattle.std.proofs.lemmas.Bool.{and_right, eqb-true, true≢false}
 use Rattle.std.specs.List.{list_all}
 use Rattle.std.proofs.lemmas.Result.{IfOk-weaker}
 use Rattle.poly_report.specs.declared.tree.Arm.{Arm}
@@ -22,13 +22,19 @@ use Rattle.poly_report.proofs.Measures.{total_some}
 use Rattle.poly_report.proofs.Cuts.{bare_paths, bare_says, bare_tilings, branch_says, fit_once, leave_at, length_at, no_arms, paths_at, says_at, tilings_at, unwalked_at}
 use Rattle.poly_report.proofs.cut.+walk.Goals as goal
 
-pub walk-returns-then-not-arms_fit-clause-says : goal.walk-returns-then-not-arms_fit-clause-says
-walk-returns-then-not-arms_fit-clause-says t c =
+pub walk-returns-then-not-arms_fit : goal.walk-returns-then-not-arms_fit
+walk-returns-then-not-arms_fit t c =
     let v = c.args.frame.now.scene in
     let A = c.args.frame.now.atoms in
     let arms = c.deref.result.now in
     let plan = ap plan_of c.in-Branch.is ∙ plan_of-Branch c.in-Branch.item c.in-Branch.arms ∙ ap (λ xs. Branches c.in-Branch.item (arms_list xs)) (sym c.deref.ensures.value) in
-    sym (branch_says v A (plan_of c.args.tree.now) c.in-Branch.item arms plan c.arms_fit.result c.arms_fit.ensures ∙ ap (λ b. b && arms_hold v A [] (arms_list arms)) c.if-not-arms_fit.true)
+    record {
+      same = λ y. absurd (true≢false (sym y));
+      says = sym (branch_says v A (plan_of c.args.tree.now) c.in-Branch.item arms plan c.arms_fit.result c.arms_fit.ensures ∙ ap (λ b. b && arms_hold v A [] (arms_list arms)) c.if-not-arms_fit.true);
+      tilings = λ y. absurd (true≢false (sym y));
+      paths = λ y. absurd (true≢false (sym y));
+      why = tt;
+    }
 
 pub walk-walk_arms-requires : goal.walk-walk_arms-requires
 walk-walk_arms-requires t c =
@@ -88,14 +94,20 @@ walk_arms-leave-requires t c =
     let some = total_some (plan_of c.arm-item.result.tree) in
     omega arith
 
-pub walk_arms-returns-then-not-yes-clause-says : goal.walk_arms-returns-then-not-yes-clause-says
-walk_arms-returns-then-not-yes-clause-says t c =
+pub walk_arms-returns-then-not-yes : goal.walk_arms-returns-then-not-yes
+walk_arms-returns-then-not-yes t c =
     let v = c.args.frame.now.scene in
     let A = c.args.frame.now.atoms in
     let arms = c.args.arms.now in
     let k = c.loop-arm.arm-index in
     let says = sym c.if-not-yes.true ∙ c.in_ok-yes.ensures.says in
-    sym (c.loop-arm.invariant.says ∙ says_at v A c.args.frame.now.given arms k c.arm-item.result c.loop-arm-test.true c.arm-item.is c.requires.once c.loop-arm.frame c.loop-arm.invariant.frame false says)
+    record {
+      same = λ y. absurd (true≢false (sym y));
+      says = sym (c.loop-arm.invariant.says ∙ says_at v A c.args.frame.now.given arms k c.arm-item.result c.loop-arm-test.true c.arm-item.is c.requires.once c.loop-arm.frame c.loop-arm.invariant.frame false says);
+      tilings = λ y. absurd (true≢false (sym y));
+      paths = λ y. absurd (true≢false (sym y));
+      why = tt;
+    }
 
 pub walk_arms-loop-arm-preserved : goal.walk_arms-loop-arm-preserved
 walk_arms-loop-arm-preserved t c =
@@ -194,6 +206,35 @@ walk-walk-requires t c =
     let nodes = ap (λ x. total (plan_of x)) c.in-Split.is in
     let left = ap (λ x. total (plan_of x)) c.deref-in-Split-2.ensures in
     (search (rules, the_lemmas), (omega (arith, given, long, more, c.requires.begun), omega (arith, given, long, more, nodes, left, c.requires.steps)))
+
+pub walk-returns-then-not-yes : goal.walk-returns-then-not-yes
+walk-returns-then-not-yes t c =
+    let v = c.args.frame.now.scene in
+    let A = c.args.frame.now.atoms in
+    let p = c.in-Split.placement in
+    let taken = sym c.if-not-yes.true ∙ c.in_ok-yes-in-Split.ensures.says ∙ ap (λ x. taken_holds v A p (plan_of x)) c.deref-in-Split.ensures in
+    record {
+      same = λ y. absurd (true≢false (sym y));
+      says = sym (ap (λ x. holds v A (plan_of x)) c.in-Split.is ∙ and_right (holds v (A ++ Lacks p ∷ []) (plan_of c.in-Split.left.value)) (taken_holds v A p (plan_of c.in-Split.taken.value)) (sym taken));
+      tilings = λ y. absurd (true≢false (sym y));
+      paths = λ y. absurd (true≢false (sym y));
+      why = tt;
+    }
+
+pub walk-returns-then-not-both : goal.walk-returns-then-not-both
+walk-returns-then-not-both t c =
+    let v = c.args.frame.now.scene in
+    let A = c.args.frame.now.atoms in
+    let p = c.in-Split.placement in
+    let there = ap (λ (w : Walk). holds w.scene w.atoms (plan_of c.deref-in-Split-2.result.now)) (split_left c.args.frame.now c.walk_taken.new.frame c.leave.new.self p c.leave.ensures (c.in_ok-yes-in-Split.ensures.same c.if-not-yes.false)) in
+    let left = sym c.if-not-both.true ∙ c.in_ok-both-in-Split.ensures.says ∙ there ∙ ap (λ x. holds v (A ++ Lacks p ∷ []) (plan_of x)) c.deref-in-Split-2.ensures in
+    record {
+      same = λ y. absurd (true≢false (sym y));
+      says = ap (λ b. b && taken_holds v A p (plan_of c.in-Split.taken.value)) left ∙ sym (ap (λ x. holds v A (plan_of x)) c.in-Split.is);
+      tilings = λ y. absurd (true≢false (sym y));
+      paths = λ y. absurd (true≢false (sym y));
+      why = tt;
+    }
 
 pub walk-returns-else-not-both-clause-same : goal.walk-returns-else-not-both-clause-same
 walk-returns-else-not-both-clause-same t c = λ y.
