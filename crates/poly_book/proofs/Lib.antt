@@ -14,6 +14,7 @@ pub mod Accounting
 pub mod Proved
 pub mod Holding
 pub mod Changes
+pub mod Alike
 pub mod Alive
 pub mod Flagging
 pub mod Applying

@@ -20,11 +20,16 @@ index_of-requires c =
     let a = c.args.parts.now in
     subst (λ ps. IsNonDecreasingBy (λ (p : Pending). p.number) ps) (sym c.deref.ensures.value) (numbers_rise 0 a.next a.log a.tasks.items c.requires.keeps.whole.rising)
 
-pub returns-in_default-clause-why : goal.returns-in_default-clause-why
-returns-in_default-clause-why c =
+pub returns-in_default : goal.returns-in_default
+returns-in_default c =
     let none : c.index_of.result ≡ None = search rules in
     let e : position_from (λ (p : Pending). p.number == c.args.report.now.task) 0 c.args.parts.now.tasks.items ≡ None = ap (λ ps. position_from (λ (p : Pending). p.number == c.args.report.now.task) 0 ps) (sym c.deref.ensures.value) ∙ sym c.index_of.ensures ∙ none in
-    inl (refl, nowhere c.args.report.now.task 0 c.args.parts.now.log c.args.parts.now.tasks.items e)
+    record {
+      keeps = c.requires.keeps;
+      ok = tt;
+      err = refl;
+      why = inl (refl, nowhere c.args.report.now.task 0 c.args.parts.now.log c.args.parts.now.tasks.items e);
+    }
 
 pub is_hopeful-sure-requires : goal.is_hopeful-sure-requires
 is_hopeful-sure-requires c =
@@ -35,24 +40,29 @@ is_hopeful-sure-requires c =
 pub apply_leaves-requires-clause-sure : goal.apply_leaves-requires-clause-sure
 apply_leaves-requires-clause-sure c = λ yes. subst (λ v. AreHopeful v c.args.leaves.rests) c.view.ensures (c.is_hopeful-sure.ensures yes)
 
-pub returns-then-has_atoms-clause-ok : goal.returns-then-has_atoms-clause-ok
-returns-then-has_atoms-clause-ok c =
+pub returns-then-has_atoms : goal.returns-then-has_atoms
+returns-then-has_atoms c =
     let a = c.args.parts.now in
     let r = c.args.report.now in
     let k = r.task in
     let tree = plan_of r.tree in
     let ls = c.args.leaves in
+    let g = c.apply_leaves.ensures in
     let first : position_from (λ (p : Pending). p.number == k) 0 a.tasks.items ≡ Some c.in-Some.at = ap (λ ps. position_from (λ (p : Pending). p.number == k) 0 ps) (sym c.deref.ensures.value) ∙ sym c.index_of.ensures ∙ c.in-Some.is in
     let l : AreLeaves a k c.in-Some.at tree ls.tilings.items ls.rests = found_leaves a k c.in-Some.at a.scene c.args.atoms.now tree ls.tilings.items ls.rests refl c.requires.found first (c.has_atoms.ensures.same c.if-has_atoms.true) in
-    IfOk-weaker c.apply_leaves.result _ (λ x. IsApplied k r.edition tree (state_of a) (state_of c.apply_leaves.new.parts) x) (λ x h. h k tree l) c.apply_leaves.ensures.ok
+    record {
+      keeps = g.keeps;
+      ok = IfOk-weaker c.apply_leaves.result _ (λ x. IsApplied k r.edition tree (state_of a) (state_of c.apply_leaves.new.parts) x) (λ x h. h k tree l) g.ok;
+      err = g.err;
+      why = IfErr-weaker c.apply_leaves.result _ (λ e. IsNotApplied k tree (state_of a) e) (λ e h. inr (inr (h k tree l))) g.why;
+    }
 
-pub returns-then-has_atoms-clause-why : goal.returns-then-has_atoms-clause-why
-returns-then-has_atoms-clause-why c =
-    let a = c.args.parts.now in
-    let r = c.args.report.now in
-    let k = r.task in
-    let tree = plan_of r.tree in
-    let ls = c.args.leaves in
-    let first : position_from (λ (p : Pending). p.number == k) 0 a.tasks.items ≡ Some c.in-Some.at = ap (λ ps. position_from (λ (p : Pending). p.number == k) 0 ps) (sym c.deref.ensures.value) ∙ sym c.index_of.ensures ∙ c.in-Some.is in
-    let l : AreLeaves a k c.in-Some.at tree ls.tilings.items ls.rests = found_leaves a k c.in-Some.at a.scene c.args.atoms.now tree ls.tilings.items ls.rests refl c.requires.found first (c.has_atoms.ensures.same c.if-has_atoms.true) in
-    IfErr-weaker c.apply_leaves.result _ (λ e. IsNotApplied k tree (state_of a) e) (λ e h. inr (inr (h k tree l))) c.apply_leaves.ensures.why
+pub returns : goal.returns
+returns c =
+    let g = c.apply_report.ensures in
+    record {
+      keeps = g.keeps;
+      ok = g.ok;
+      err = g.err;
+      why = g.why;
+    }

@@ -1,5 +1,6 @@
-use Rattle.std.proofs.Common.{ap, map, rules, subst, sym, ◌∙◌}
-use Rattle.poly_tasks.specs.Meaning.{AreFrozen, IsTask, frozen_of, own_of, task_of}
+use Rattle.std.proofs.Common.{ap, map, subst, sym, ◌∙◌}
+use Rattle.std.proofs.lemmas.List.{take_all}
+use Rattle.poly_tasks.specs.Meaning.{AreFrozen, IsTask, frozen_of, own_of, task_of, tasks_of}
 use Rattle.poly_tasks.specs.Tasks.{Spares, atoms_of}
 use Rattle.poly_tasks.proofs.Held.{task_at}
 use Rattle.poly_tasks.proofs.Holding.{frozen_more, frozen_push_one}
@@ -24,5 +25,10 @@ loop-task-preserved c =
       frozen = subst (λ fs. AreFrozen log fs) (sym c.in_ok-push.ensures.items) (frozen_push_one log c.loop-task.all.items x c.loop-task.invariant.frozen c.in_ok-frozen.ensures.frozen);
     }
 
-pub returns-clause-frozen : goal.returns-clause-frozen
-returns-clause-frozen c = search rules
+pub returns : goal.returns
+returns c =
+    record {
+      ok = c.loop-task.invariant.atoms ∙ ap (λ ps. map (λ t. atoms_of t) (tasks_of c.args.log.now ps)) (take_all c.loop-task.task-index c.args.tasks.now c.loop-task-test.false);
+      frozen = c.loop-task.invariant.frozen;
+      why = tt;
+    }

@@ -1,5 +1,5 @@
 use mathlib.Core.Path.{transport}
-use Rattle.std.proofs.Common.{ap, inl, inr, length, refl, rules, subst, sym, ◌∙◌, ◌≡◌, ◌≤◌}
+use Rattle.std.proofs.Common.{ap, arith, inl, inr, length, refl, subst, sym, ◌∙◌, ◌≡◌, ◌≤◌}
 use Rattle.std.specs.Arc.{arc_value}
 use Rattle.std.proofs.lemmas.List.{length-reverse}
 use Rattle.std.proofs.lemmas.Result.{err_from_is_err_and}
@@ -18,12 +18,13 @@ use Rattle.poly_place.specs.Between.{IsChangeOf}
 use Rattle.poly_place.specs.Spent.{IsSpent as NumbersAreSpent}
 use Rattle.poly_place.specs.declared.plan.Plan.{Plan}
 use Rattle.poly_book.specs.declared.parts.Parts.{Parts}
-use Rattle.poly_book.specs.Changing.{IsGathered, stood_by}
+use Rattle.poly_book.specs.Changing.{IsGathered, IsNotGathered, stood_by}
 use Rattle.poly_book.specs.Events.{Leads}
 use Rattle.poly_book.specs.Keeps.{Keeps, state_of}
 use Rattle.poly_book.specs.Shown.{shown}
 use Rattle.poly_book.specs.Planned.{IsPlanOver}
 use Rattle.poly_tasks.specs.Touching.{IsMadeBy}
+use Rattle.poly_book.proofs.Alike.{keeps_alike}
 use Rattle.poly_book.proofs.Applying.{still_keeps}
 use Rattle.poly_book.proofs.Cataloguing.{listed_either}
 use Rattle.poly_book.proofs.Refusing.{gather_not_made, memory_not_made, spent_not_made}
@@ -84,95 +85,126 @@ gather-requires-clause-either c =
     let at : c.deref.result.now ≡ arc_value c.in_ok-planned.planned.plan.view = c.deref.ensures ∙ shown in
     subst (λ w. AreOfEither w c.in_ok-planned.planned.plan.delta c.args.parts.now.listed) (sym at) (either_by c.args.parts.now c.args.change.now c.in_ok-planned.planned.plan c.requires.keeps (over c.args.parts.now c.args.change.now c.in_ok-planned.planned.plan c.view.result.now c.view.ensures c.in_ok-planned.ensures.plan))
 
-pub returns-in_err-reserve-clause-keeps : goal.returns-in_err-reserve-clause-keeps
-returns-in_err-reserve-clause-keeps c = rw c.reserve.ensures.items c.requires.keeps
-
-pub returns-in_err-reserve-clause-why : goal.returns-in_err-reserve-clause-why
-returns-in_err-reserve-clause-why c =
-    let p = err_from_is_err_and c.from_residual.result c.from_residual.ensures.1 in
-    rw p.1 (memory_not_made c.args.kind c.args.change.now (state_of c.args.parts.now) p.0 p.2)
-
-pub returns-in_err-planned-clause-keeps : goal.returns-in_err-planned-clause-keeps
-returns-in_err-planned-clause-keeps c = rw c.reserve.ensures.items (still_keeps c.requires.keeps (subst (λ (v : View). Grown v c.plan_ahead.new.table) c.view.ensures c.in_err-planned.ensures.first) c.in_err-planned.ensures.right)
-
-pub returns-in-Err-clause-keeps : goal.returns-in-Err-clause-keeps
-returns-in-Err-clause-keeps c = rw c.reserve.ensures.items (still_keeps c.requires.keeps (subst (λ (v : View). Grown v c.plan_ahead.new.table) c.view.ensures c.in_ok-planned.ensures.first) c.in_ok-planned.ensures.right)
-
 pub gather-requires-clause-keeps : goal.gather-requires-clause-keeps
-gather-requires-clause-keeps c = rw c.reserve.ensures.items (still_keeps c.requires.keeps (subst (λ (v : View). Grown v c.plan_ahead.new.table) c.view.ensures c.in_ok-planned.ensures.first) c.in_ok-planned.ensures.right)
+gather-requires-clause-keeps c = keeps_alike refl refl c.reserve.ensures.items refl (still_keeps c.requires.keeps (subst (λ (v : View). Grown v c.plan_ahead.new.table) c.view.ensures c.in_ok-planned.ensures.first) c.in_ok-planned.ensures.right)
 
-pub returns-clause-stays : goal.returns-clause-stays
-returns-clause-stays c = refl
-
-pub returns-in_err-planned-clause-why : goal.returns-in_err-planned-clause-why
-returns-in_err-planned-clause-why c =
-    let p = err_from_is_err_and c.from_residual-in_err-planned.result c.from_residual-in_err-planned.ensures.1 in
-    let a = c.args.parts.now in
-    rw (p.1, p.2) (elim c.in_err-planned.ensures.why [
-      | inl m ↦ spent_not_made c.args.kind c.args.change.now (state_of a) _ m.0 (subst (λ (v : View). NumbersAreSpent v.placements (changed a.design c.args.change.now)) c.view.ensures m.1)
-      | inr m ↦ memory_not_made c.args.kind c.args.change.now (state_of a) _ m
-    ])
-
-pub returns-in-Err-clause-why : goal.returns-in-Err-clause-why
-returns-in-Err-clause-why c =
-    let s = state_of c.args.parts.now in
-    let shown : arc_value c.in_ok-planned.planned.view ≡ arc_value c.in_ok-planned.planned.plan.view = c.in_ok-planned.ensures.view in
-    let at : c.deref.result.now ≡ arc_value c.in_ok-planned.planned.plan.view = c.deref.ensures ∙ shown in
-    let l = leads_by c.args.parts.now c.args.change.now c.in_ok-planned.planned.plan c.requires.keeps c.requires.before c.requires.design (over c.args.parts.now c.args.change.now c.in_ok-planned.planned.plan c.view.result.now c.view.ensures c.in_ok-planned.ensures.plan) in
-    let g = widths_by c.args.parts.now c.args.change.now c.in_ok-planned.planned.plan c.requires.keeps c.requires.design (over c.args.parts.now c.args.change.now c.in_ok-planned.planned.plan c.view.result.now c.view.ensures c.in_ok-planned.ensures.plan) in
-    let n : length c.reserve.new.self.items ≡ length s.steps = ap length c.reserve.ensures.items ∙ sym (length-reverse c.args.parts.now.steps.items) in
-    (gather_not_made c.args.parts.now.log s c.args.parts.now.history c.args.change.now (arc_value c.in_ok-planned.planned.plan.view) refl refl l g (length c.reserve.new.self.items) n c.args.kind c.requires.top _ (rw (sym at) c.in-Err.ensures.why))
-
-pub returns-in_default-clause-keeps : goal.returns-in_default-clause-keeps
-returns-in_default-clause-keeps c = rw (c.reserve.ensures.items, c.make_room.ensures.endings, c.make_room.ensures.tasks) (still_keeps c.requires.keeps (subst (λ (v : View). Grown v c.plan_ahead.new.table) c.view.ensures c.in_ok-planned.ensures.first) c.in_ok-planned.ensures.right)
-
-pub returns-in_default-clause-why : goal.returns-in_default-clause-why
-returns-in_default-clause-why c = memory_not_made c.args.kind c.args.change.now (state_of c.args.parts.now) _ refl
-
-pub returns-clause-keeps : goal.returns-clause-keeps
-returns-clause-keeps c = rw (c.reserve.ensures.items, c.make_room.ensures.endings, c.make_room.ensures.tasks) (still_keeps c.requires.keeps (subst (λ (v : View). Grown v c.plan_ahead.new.table) c.view.ensures c.in_ok-planned.ensures.first) c.in_ok-planned.ensures.right)
-
-pub returns-clause-narrow : goal.returns-clause-narrow
-returns-clause-narrow c = λ edit.
-    let a = c.args.parts.now in
-    let x = c.args.change.now in
-    let w = arc_value c.in_ok-planned.planned.plan.view in
-    let shown : arc_value c.in_ok-planned.planned.view ≡ w = c.in_ok-planned.ensures.view in
-    let at : c.deref.result.now ≡ w = c.deref.ensures ∙ shown in
-    let widths = widths_by a x c.in_ok-planned.planned.plan c.requires.keeps c.requires.design (over c.args.parts.now c.args.change.now c.in_ok-planned.planned.plan c.view.result.now c.view.ensures c.in_ok-planned.ensures.plan) in
-    let few = subst (λ v. (length (guards a.scene v) ≤ 20000) × (length (guards v a.scene) ≤ 20000)) at (c.in-Ok.ensures.narrow edit) in
-    record {
-      forth = _;
-      back = _;
-      forth_width = widths.0;
-      back_width = widths.1;
-      few_forth = few.0;
-      few_back = few.1;
+pub returns-in_err-reserve : goal.returns-in_err-reserve
+returns-in_err-reserve c =
+    let p = err_from_is_err_and c.from_residual.result c.from_residual.ensures.1 in
+    let steps = c.reserve.ensures.items in
+    rw p.1 record {
+      stays = refl;
+      tasks = refl;
+      steps = steps;
+      endings = refl;
+      keeps = keeps_alike refl refl steps refl c.requires.keeps;
+      ok = tt;
+      narrow = tt;
+      why = memory_not_made c.args.kind c.args.change.now (state_of c.args.parts.now) p.0 p.2;
     }
 
-pub returns-clause-ok : goal.returns-clause-ok
-returns-clause-ok c =
+pub returns-in_err-planned : goal.returns-in_err-planned
+returns-in_err-planned c =
+    let p = err_from_is_err_and c.from_residual-in_err-planned.result c.from_residual-in_err-planned.ensures.1 in
+    let a = c.args.parts.now in
+    let steps = c.reserve.ensures.items in
+    rw (p.1, p.2) record {
+      stays = refl;
+      tasks = refl;
+      steps = steps;
+      endings = refl;
+      keeps = keeps_alike refl refl steps refl (still_keeps c.requires.keeps (subst (λ (v : View). Grown v c.plan_ahead.new.table) c.view.ensures c.in_err-planned.ensures.first) c.in_err-planned.ensures.right);
+      ok = tt;
+      narrow = tt;
+      why = elim c.in_err-planned.ensures.why [
+        | inl m ↦ spent_not_made c.args.kind c.args.change.now (state_of a) _ m.0 (subst (λ (v : View). NumbersAreSpent v.placements (changed a.design c.args.change.now)) c.view.ensures m.1)
+        | inr m ↦ memory_not_made c.args.kind c.args.change.now (state_of a) _ m
+      ];
+    }
+
+pub returns-in-Err : goal.returns-in-Err
+returns-in-Err c =
+    let a = c.args.parts.now in
+    let s = state_of a in
+    let x = c.args.change.now in
+    let r = c.in_ok-planned.planned.plan in
+    let w = arc_value r.view in
+    let q = over a x r c.view.result.now c.view.ensures c.in_ok-planned.ensures.plan in
+    let shown : arc_value c.in_ok-planned.planned.view ≡ w = c.in_ok-planned.ensures.view in
+    let at : c.deref.result.now ≡ w = c.deref.ensures ∙ shown in
+    let l = leads_by a x r c.requires.keeps c.requires.before c.requires.design q in
+    let g = widths_by a x r c.requires.keeps c.requires.design q in
+    let steps = c.reserve.ensures.items in
+    let n : length c.reserve.new.self.items ≡ length s.steps = ap length steps ∙ sym (length-reverse a.steps.items) in
+    record {
+      stays = refl;
+      tasks = refl;
+      steps = steps;
+      endings = refl;
+      keeps = keeps_alike refl refl steps refl (still_keeps c.requires.keeps (subst (λ (v : View). Grown v c.plan_ahead.new.table) c.view.ensures c.in_ok-planned.ensures.first) c.in_ok-planned.ensures.right);
+      ok = tt;
+      narrow = tt;
+      why = gather_not_made a.log s a.history x w refl refl l g (length c.reserve.new.self.items) n c.args.kind c.requires.top _ (subst (λ v. IsNotGathered a.scene v c.args.kind (length c.reserve.new.self.items) a.next (stood_by a.log c.args.kind a.history) c.in-Err.refusal) at c.in-Err.ensures.why);
+    }
+
+pub returns-in_default : goal.returns-in_default
+returns-in_default c =
+    let steps = c.reserve.ensures.items in
+    let made = c.make_room.ensures in
+    record {
+      stays = refl;
+      tasks = made.tasks;
+      steps = steps;
+      endings = made.endings;
+      keeps = keeps_alike refl made.tasks steps made.endings (still_keeps c.requires.keeps (subst (λ (v : View). Grown v c.plan_ahead.new.table) c.view.ensures c.in_ok-planned.ensures.first) c.in_ok-planned.ensures.right);
+      ok = tt;
+      narrow = tt;
+      why = memory_not_made c.args.kind c.args.change.now (state_of c.args.parts.now) _ refl;
+    }
+
+pub returns : goal.returns
+returns c =
     let a = c.args.parts.now in
     let x = c.args.change.now in
-    let w = arc_value c.in_ok-planned.planned.plan.view in
-    let q = over a x c.in_ok-planned.planned.plan c.view.result.now c.view.ensures c.in_ok-planned.ensures.plan in
+    let r = c.in_ok-planned.planned.plan in
+    let w = arc_value r.view in
+    let q = over a x r c.view.result.now c.view.ensures c.in_ok-planned.ensures.plan in
     let shown_view : arc_value c.in_ok-planned.planned.view ≡ w = c.in_ok-planned.ensures.view in
     let at : c.deref.result.now ≡ w = c.deref.ensures ∙ shown_view in
     let steps : c.reserve.new.self.items ≡ a.steps.items = c.reserve.ensures.items in
     let ends : c.make_room.new.endings.items ≡ a.endings.items = c.make_room.ensures.endings in
     let tasks : c.make_room.new.tasks.items ≡ a.tasks.items = c.make_room.ensures.tasks in
-    let l = leads_by a x c.in_ok-planned.planned.plan c.requires.keeps c.requires.before c.requires.design q in
+    let l = leads_by a x r c.requires.keeps c.requires.before c.requires.design q in
+    let widths = widths_by a x r c.requires.keeps c.requires.design q in
     record {
-      after_is = c.in_ok-planned.ensures.after;
-      view_is = shown_view;
-      leads = transport (λ i. Leads (shown a.opened a.design a.scene a.listed a.log (sym tasks i) a.next a.history (sym steps i) (sym ends i)) x w) l;
-      right = q.plan.right;
-      last = c.in_ok-planned.ensures.last;
-      either = either_by a x c.in_ok-planned.planned.plan c.requires.keeps q;
-      gathered = transport (λ i. IsGathered a.scene (at i) a.listed a.log (sym tasks i) (stood_by a.log c.args.kind a.history) a.next c.in-Ok.gathered.entry c.in-Ok.gathered.tasks c.in-Ok.gathered.shelf) c.in-Ok.ensures.ok;
-      few_steps = c.in-Ok.ensures.few;
-      enough = subst (λ (v : View). ¬ NumbersAreSpent v.placements (changed a.design x)) c.view.ensures c.in_ok-planned.ensures.enough;
-      room_steps = search rules;
-      room_endings = search rules;
-      room_tasks = search rules;
+      stays = refl;
+      tasks = tasks;
+      steps = steps;
+      endings = ends;
+      keeps = keeps_alike refl tasks steps ends (still_keeps c.requires.keeps (subst (λ (v : View). Grown v c.plan_ahead.new.table) c.view.ensures c.in_ok-planned.ensures.first) c.in_ok-planned.ensures.right);
+      ok = record {
+        after_is = c.in_ok-planned.ensures.after;
+        view_is = shown_view;
+        leads = transport (λ i. Leads (shown a.opened a.design a.scene a.listed a.log (sym tasks i) a.next a.history (sym steps i) (sym ends i)) x w) l;
+        right = q.plan.right;
+        last = c.in_ok-planned.ensures.last;
+        either = either_by a x r c.requires.keeps q;
+        gathered = transport (λ i. IsGathered a.scene (at i) a.listed a.log (sym tasks i) (stood_by a.log c.args.kind a.history) a.next c.in-Ok.gathered.entry c.in-Ok.gathered.tasks c.in-Ok.gathered.shelf) c.in-Ok.ensures.ok;
+        few_steps = c.in-Ok.ensures.few;
+        enough = subst (λ (v : View). ¬ NumbersAreSpent v.placements (changed a.design x)) c.view.ensures c.in_ok-planned.ensures.enough;
+        room_steps = omega (arith, c.in_ok-reserve.ensures.ok, c.in_ok-reserve.ensures.len);
+        room_endings = c.in-Ok-make_room.ensures.room_endings;
+        room_tasks = c.in-Ok-make_room.ensures.room_tasks;
+      };
+      narrow = λ edit.
+          let few = subst (λ v. (length (guards a.scene v) ≤ 20000) × (length (guards v a.scene) ≤ 20000)) at (c.in-Ok.ensures.narrow edit) in
+          record {
+            forth = _;
+            back = _;
+            forth_width = widths.0;
+            back_width = widths.1;
+            few_forth = few.0;
+            few_back = few.1;
+          };
+      why = tt;
     }
